@@ -1,0 +1,5 @@
+pub mod Stages
+pub mod Clean
+pub mod Moves
+pub mod Reports
+pub mod Joined

@@ -1,0 +1,226 @@
+-- What stands after one more call, stage by stage.
+use Rattle.std.proofs.Common.{◌≡◌, ◌≢◌, ℕ, ◌+◌, true, List, [], ◌∷◌, Some, Ok, Err, refl, sym, ap, ◌∙◌}
+use Rattle.control_ep.specs.declared.why.Why.{Why}
+use Rattle.control_ep.specs.declared.why.Why.TheVariants.{FlashFault}
+use Rattle.control_ep.specs.declared.answer.EpAnswer.TheVariants.{Ack, Nak, Packet, Stall}
+use Rattle.control_ep.specs.declared.answer.OutStep.TheVariants.{Answered, Leds, Offer}
+use Rattle.control_ep.specs.declared.answer.Verdict.TheVariants.{Done, Working, Busy, Refused}
+use Rattle.control_ep.specs.declared.answer.Effect.{Effect}
+use Rattle.control_ep.specs.declared.answer.Effect.TheVariants.{Nothing}
+use Rattle.control_ep.specs.declared.answer.DeviceView.{DeviceView}
+use Rattle.control_ep.specs.declared.request.Taken.{Taken}
+use Rattle.control_ep.specs.declared.endpoint.Stage.{Stage}
+use Rattle.control_ep.specs.declared.endpoint.Stage.TheVariants.{Rest, Sending, Taking, Waiting, Status, Stalled}
+use Rattle.control_ep.specs.declared.report.Received.TheVariants as Receiveds
+use Rattle.control_ep.specs.Requests.{request_of, transfer_of}
+use Rattle.control_ep.specs.declared.request.Transfer.{Transfer}
+use Rattle.control_ep.specs.Calls.{EpCall, Setup, Out, Judged, In, Settle, Fail, Reset}
+use Rattle.control_ep.specs.Packets.{packet_at}
+use Rattle.control_ep.specs.Stage.{calls_since, last_setup, first_stall, count_in, Settled, Failed, progress_of, stage_in, stage}
+use Rattle.control_ep.specs.Answers.{in_answer, in_effect, received_report, report_step, out_step, Ends}
+use Rattle.control_ep.specs.Stands.{is_offered, StandsFor}
+use Rattle.control_ep.proofs.Stages.{stage-is, stalled_again, stalled_again_out, sending_is, waiting_is, taking_is, status_confirmed, ended_others}
+use Rattle.control_ep.proofs.Clean.{offered_taking, clean, taking_unconfirmed, waiting_unconfirmed}
+use Rattle.arrayvec.specs.ArrayVec.{ArrayVec}
+
+pub in_stalled : (past : List EpCall) (s : Stage) (why : Why) → StandsFor past s → in_answer s ≡ Stall why → in_effect s ≡ Nothing
+    → StandsFor (In (Stall why) Nothing ∷ past) (Stalled why)
+unfolding stage
+in_stalled past s why h a e =
+    let again = stalled_again (first_stall (calls_since past)) (last_setup past) (progress_of (calls_since past)) why (ap in_answer (sym (h.stage ∙ stage-is past)) ∙ a) in
+    record {
+      answered = ((sym a ∙ ap in_answer h.stage, sym e ∙ ap in_effect h.stage), h.answered);
+      stage = rw again refl;
+    }
+
+pub in_sent : (past : List EpCall) (x : ArrayVec ℕ) (asked n : ℕ) (packet : ArrayVec ℕ) → StandsFor past (Sending x asked n)
+    → packet_at x.items asked n ≡ Some packet.items → StandsFor (In (Packet packet) Nothing ∷ past) (Sending x asked (n + 1))
+unfolding stage
+in_sent past x asked n packet h p =
+    let s = sending_is x asked n (first_stall (calls_since past)) (last_setup past) (progress_of (calls_since past)) (h.stage ∙ stage-is past) in
+    let a : Packet packet ≡ in_answer (Sending x asked n) = rw p refl in
+    record {
+      answered = ((a ∙ ap in_answer h.stage, ap in_effect h.stage), h.answered);
+      stage = rw (s.unstalled, s.begins, s.some, s.open_still, s.count) refl;
+    }
+
+pub in_confirmed : (past : List EpCall) (effect : Effect) → StandsFor past (Status effect)
+    → StandsFor (In (Packet (record { items = [] })) effect ∷ past) Rest
+unfolding stage
+in_confirmed past effect h = record {
+  answered = ((ap in_answer h.stage, ap in_effect h.stage), h.answered);
+  stage =
+      sym (status_confirmed effect (first_stall (calls_since past)) (last_setup past) (progress_of (calls_since past)) (count_in (calls_since past) + 1) (h.stage ∙ stage-is past));
+}
+
+pub in_waiting : (past : List EpCall) → StandsFor past Waiting → StandsFor (In Nak Nothing ∷ past) Waiting
+unfolding stage
+in_waiting past h =
+    let w = waiting_is (first_stall (calls_since past)) (last_setup past) (progress_of (calls_since past)) (h.stage ∙ stage-is past) in
+    record {
+      answered = ((ap in_answer h.stage, ap in_effect h.stage), h.answered);
+      stage = simp (w.unstalled, w.begins, w.is_taken, w.works);
+    }
+
+pub out_stalled : (past : List EpCall) (s : Stage) (packet : List ℕ) (why : Why) → StandsFor past s → out_step s packet ≡ Answered (Stall why)
+    → StandsFor (Out packet (Answered (Stall why)) ∷ past) (Stalled why)
+unfolding stage
+out_stalled past s packet why h a =
+    let again = stalled_again_out (first_stall (calls_since past)) (last_setup past) (progress_of (calls_since past)) packet why
+    (ap (λ x. out_step x packet) (sym (h.stage ∙ stage-is past)) ∙ a) in
+    record {
+      answered = (sym a ∙ ap (λ x. out_step x packet) h.stage, h.answered);
+      stage = rw again refl;
+    }
+
+pub out_closed : (past : List EpCall) (x : ArrayVec ℕ) (asked n : ℕ) → StandsFor past (Sending x asked n) → StandsFor (Out [] (Answered Ack) ∷ past) Rest
+unfolding stage
+out_closed past x asked n h =
+    let s = sending_is x asked n (first_stall (calls_since past)) (last_setup past) (progress_of (calls_since past)) (h.stage ∙ stage-is past) in
+    record {
+      answered = (ap (λ x. out_step x []) h.stage, h.answered);
+      stage = rw (s.unstalled, s.begins, s.some) refl;
+    }
+
+pub out_leds : (past : List EpCall) (kind : Taken) (packet : List ℕ) (leds : ℕ) → StandsFor past (Taking kind)
+    → received_report kind packet ≡ Ok (Receiveds.Leds leds) → StandsFor (Out packet (Leds leds) ∷ past) (Status Nothing)
+unfolding stage
+out_leds past kind packet leds h r =
+    let t = taking_is kind (first_stall (calls_since past)) (last_setup past) (progress_of (calls_since past)) (h.stage ∙ stage-is past) in
+    let idle = (clean past h.answered).idle t.not_taken in
+    let open_still = taking_unconfirmed past kind h.answered t in
+    record {
+      answered = (sym (ap report_step r) ∙ ap (λ x. out_step x packet) h.stage, h.answered);
+      stage = rw (t.unstalled, t.begins, idle, open_still) refl;
+    }
+
+pub out_offered : (past : List EpCall) (kind : Taken) (packet bytes : List ℕ) → StandsFor past (Taking kind)
+    → received_report kind packet ≡ Ok (Receiveds.Feature bytes) → StandsFor (Out packet (Offer bytes) ∷ past) (Taking kind)
+unfolding stage
+out_offered past kind packet bytes h r =
+    let t = taking_is kind (first_stall (calls_since past)) (last_setup past) (progress_of (calls_since past)) (h.stage ∙ stage-is past) in
+    record {
+      answered = (sym (ap report_step r) ∙ ap (λ x. out_step x packet) h.stage, h.answered);
+      stage = rw (t.unstalled, t.begins, t.not_taken) refl;
+    }
+
+pub judged_done : (past : List EpCall) (s : Stage) → StandsFor past s → is_offered past ≡ true → StandsFor (Judged Done Ack ∷ past) (Status Nothing)
+unfolding stage
+judged_done past s h o =
+    let offered = offered_taking past h.answered o in
+    let t = offered.1 in
+    let idle = (clean past h.answered).idle t.not_taken in
+    let open_still = taking_unconfirmed past offered.0 h.answered t in
+    record {
+      answered = ((o, refl), h.answered);
+      stage = rw (t.unstalled, t.begins, idle, open_still) refl;
+    }
+
+pub judged_working : (past : List EpCall) (s : Stage) → StandsFor past s → is_offered past ≡ true → StandsFor (Judged Working Ack ∷ past) Waiting
+unfolding stage
+judged_working past s h o =
+    let t = (offered_taking past h.answered o).1 in
+    record {
+      answered = ((o, refl), h.answered);
+      stage = rw (t.unstalled, t.begins) refl;
+    }
+
+pub judged_busy : (past : List EpCall) (s : Stage) → StandsFor past s → is_offered past ≡ true → StandsFor (Judged Busy Nak ∷ past) s
+unfolding stage
+judged_busy past s h o =
+    let offered = offered_taking past h.answered o in
+    let t = offered.1 in
+    let was : s ≡ Taking offered.0 = h.stage ∙ stage-is past ∙ rw (t.unstalled, t.begins, t.not_taken) refl in
+    record {
+      answered = ((o, refl), h.answered);
+      stage = was ∙ rw (t.unstalled, t.begins, t.not_taken) refl;
+    }
+
+pub judged_refused : (past : List EpCall) (s : Stage) (why : Why) → StandsFor past s → is_offered past ≡ true
+    → StandsFor (Judged (Refused why) (Stall why) ∷ past) (Stalled why)
+unfolding stage
+judged_refused past s why h o =
+    let t = (offered_taking past h.answered o).1 in
+    record {
+      answered = ((o, refl), h.answered);
+      stage = rw t.unstalled refl;
+    }
+
+settled_waiting : (past : List EpCall) → StandsFor past Waiting → StandsFor (Settle ∷ past) (Status Nothing)
+unfolding stage
+settled_waiting past h =
+    let w = waiting_is (first_stall (calls_since past)) (last_setup past) (progress_of (calls_since past)) (h.stage ∙ stage-is past) in
+    let open_still = waiting_unconfirmed past h.answered w in
+    record {
+      answered = (tt, h.answered);
+      stage = simp (w.unstalled, w.begins, w.is_taken, w.works, open_still);
+    }
+
+settled_others : (past : List EpCall) (s : Stage) → StandsFor past s → s ≢ Waiting → StandsFor (Settle ∷ past) s
+unfolding stage
+settled_others past s h n =
+    let was = h.stage ∙ stage-is past in
+    record {
+      answered = (tt, h.answered);
+      stage = was ∙ sym (ended_others (first_stall (calls_since past)) (last_setup past) (progress_of (calls_since past)) Settled (λ e. n (was ∙ sym e)));
+    }
+
+failed_waiting : (past : List EpCall) → StandsFor past Waiting → StandsFor (Fail ∷ past) (Stalled FlashFault)
+unfolding stage
+failed_waiting past h =
+    let w = waiting_is (first_stall (calls_since past)) (last_setup past) (progress_of (calls_since past)) (h.stage ∙ stage-is past) in
+    record {
+      answered = (tt, h.answered);
+      stage = simp (w.unstalled, w.begins, w.is_taken, w.works);
+    }
+
+failed_others : (past : List EpCall) (s : Stage) → StandsFor past s → s ≢ Waiting → StandsFor (Fail ∷ past) s
+unfolding stage
+failed_others past s h n =
+    let was = h.stage ∙ stage-is past in
+    record {
+      answered = (tt, h.answered);
+      stage = was ∙ sym (ended_others (first_stall (calls_since past)) (last_setup past) (progress_of (calls_since past)) Failed (λ e. n (was ∙ sym e)));
+    }
+
+pub settled : (past : List EpCall) (s new : Stage) → StandsFor past s → Ends s (Status Nothing) new → StandsFor (Settle ∷ past) new
+settled past Waiting new h e = rw e (settled_waiting past h)
+settled past Rest new h e = rw e (settled_others past Rest h (λ q. cc))
+settled past (Sending bytes asked sent) new h e = rw e (settled_others past (Sending bytes asked sent) h (λ q. cc))
+settled past (Taking taken) new h e = rw e (settled_others past (Taking taken) h (λ q. cc))
+settled past (Status effect) new h e = rw e (settled_others past (Status effect) h (λ q. cc))
+settled past (Stalled why) new h e = rw e (settled_others past (Stalled why) h (λ q. cc))
+
+pub failed : (past : List EpCall) (s new : Stage) → StandsFor past s → Ends s (Stalled FlashFault) new → StandsFor (Fail ∷ past) new
+failed past Waiting new h e = rw e (failed_waiting past h)
+failed past Rest new h e = rw e (failed_others past Rest h (λ q. cc))
+failed past (Sending bytes asked sent) new h e = rw e (failed_others past (Sending bytes asked sent) h (λ q. cc))
+failed past (Taking taken) new h e = rw e (failed_others past (Taking taken) h (λ q. cc))
+failed past (Status effect) new h e = rw e (failed_others past (Status effect) h (λ q. cc))
+failed past (Stalled why) new h e = rw e (failed_others past (Stalled why) h (λ q. cc))
+
+pub ends_others : (s next new : Stage) → Ends s next new → s ≢ Waiting → new ≡ s
+ends_others Waiting next new e n = absurd (n refl)
+ends_others Rest next new e n = e
+ends_others (Sending bytes asked sent) next new e n = e
+ends_others (Taking taken) next new e n = e
+ends_others (Status effect) next new e n = e
+ends_others (Stalled why) next new e n = e
+
+pub was_reset : (past : List EpCall) (s new : Stage) → StandsFor past s → StandsFor [] new → StandsFor (Reset ∷ past) new
+unfolding stage
+was_reset past s new h r = record { answered = (tt, h.answered); stage = r.stage }
+
+pub begun_served : (past : List EpCall) (s : Stage) (setup : List ℕ) (view : DeviceView) (transfer : Transfer) → StandsFor past s
+    → transfer_of (request_of setup) view ≡ Ok transfer → StandsFor (Setup setup view ∷ past) (stage_in transfer (request_of setup).length (progress_of []))
+unfolding stage
+begun_served past s setup view transfer h e = record { answered = (tt, h.answered); stage = rw e refl }
+
+pub begun_refused : (past : List EpCall) (s : Stage) (setup : List ℕ) (view : DeviceView) (why : Why) → StandsFor past s
+    → transfer_of (request_of setup) view ≡ Err why → StandsFor (Setup setup view ∷ past) (Stalled why)
+unfolding stage
+begun_refused past s setup view why h e = record { answered = (tt, h.answered); stage = rw e refl }
+
+pub nothing_begun : StandsFor [] Rest
+unfolding stage
+nothing_begun = record { answered = tt; stage = refl }

@@ -1,0 +1,181 @@
+-- The stage of the transfer under way, by looking back over the calls, newest first.
+use Rattle.std.specs.Prelude.{ℕ, ◌+◌, ◌==◌, ◌||◌, Bool, true, false, List, [], ◌∷◌, if◌then◌else◌, Option, Some, None, Result, Ok, Err}
+use Rattle.control_ep.specs.declared.why.Why.{Why}
+use Rattle.control_ep.specs.declared.why.Why.TheVariants.{FlashFault}
+use Rattle.control_ep.specs.declared.answer.EpAnswer.{EpAnswer}
+use Rattle.control_ep.specs.declared.answer.EpAnswer.TheVariants.{Ack, Nak, Packet, Stall}
+use Rattle.control_ep.specs.declared.answer.OutStep.TheVariants.{Answered, Leds}
+use Rattle.control_ep.specs.declared.answer.Verdict.TheVariants as Verdicts
+use Rattle.control_ep.specs.declared.answer.Effect.{Effect}
+use Rattle.control_ep.specs.declared.answer.Effect.TheVariants.{Nothing}
+use Rattle.control_ep.specs.declared.request.Transfer.{Transfer}
+use Rattle.control_ep.specs.declared.request.Transfer.TheVariants.{Reads, Takes, Sets}
+use Rattle.control_ep.specs.declared.endpoint.Stage.{Stage}
+use Rattle.control_ep.specs.declared.endpoint.Stage.TheVariants.{Rest, Sending, Taking, Waiting, Status, Stalled}
+use Rattle.control_ep.specs.Calls.{EpCall, Setup, Out, Judged, In, Settle, Fail, Reset}
+use Rattle.control_ep.specs.Requests.{request_of, transfer_of}
+
+-- the calls after the last SETUP or reset
+abbrev pub calls_since : List EpCall → List EpCall
+calls_since [] = []
+calls_since (Setup _ _ ∷ past) = []
+calls_since (Reset ∷ past) = []
+calls_since (Out packet step ∷ past) = Out packet step ∷ calls_since past
+calls_since (Judged verdict answer ∷ past) = Judged verdict answer ∷ calls_since past
+calls_since (In answer effect ∷ past) = In answer effect ∷ calls_since past
+calls_since (Settle ∷ past) = Settle ∷ calls_since past
+calls_since (Fail ∷ past) = Fail ∷ calls_since past
+
+-- the transfer that the last SETUP began, or why it was refused, and its wLength; none after a reset
+-- and at the start
+abbrev pub last_setup : List EpCall → Option (Result Transfer Why × ℕ)
+last_setup [] = None
+last_setup (Setup setup view ∷ past) = Some (transfer_of (request_of setup) view, (request_of setup).length)
+last_setup (Reset ∷ past) = None
+last_setup (Out _ _ ∷ past) = last_setup past
+last_setup (Judged _ _ ∷ past) = last_setup past
+last_setup (In _ _ ∷ past) = last_setup past
+last_setup (Settle ∷ past) = last_setup past
+last_setup (Fail ∷ past) = last_setup past
+
+abbrev pub reason_in : EpAnswer → Option Why
+reason_in (Stall why) = Some why
+reason_in Ack = None
+reason_in Nak = None
+reason_in (Packet _) = None
+
+-- why a packet was stalled, if it was
+abbrev pub stall_of : EpCall → Option Why
+stall_of (Out _ (Answered answer)) = reason_in answer
+stall_of (Judged _ answer) = reason_in answer
+stall_of (In answer _) = reason_in answer
+stall_of _ = None
+
+abbrev pub or_else : {A : Type 0} → Option A → Option A → Option A
+or_else (Some a) b = Some a
+or_else None b = b
+
+-- why the first packet of these that was stalled was
+abbrev pub first_stall : List EpCall → Option Why
+first_stall [] = None
+first_stall (call ∷ before) = or_else (first_stall before) (stall_of call)
+
+abbrev pub is_empty_out : EpCall → Bool
+is_empty_out (Out [] _) = true
+is_empty_out _ = false
+
+-- an empty OUT packet came
+abbrev pub is_closed : List EpCall → Bool
+is_closed [] = false
+is_closed (call ∷ before) = is_empty_out call || is_closed before
+
+-- how many IN packets came
+abbrev pub count_in : List EpCall → ℕ
+count_in [] = 0
+count_in (In _ _ ∷ before) = count_in before + 1
+count_in (_ ∷ before) = count_in before
+
+abbrev pub is_ack : EpAnswer → Bool
+is_ack Ack = true
+is_ack _ = false
+
+abbrev pub acknowledges : EpCall → Bool
+acknowledges (Out _ (Answered answer)) = is_ack answer
+acknowledges (Out _ (Leds _)) = true
+acknowledges (Judged _ answer) = is_ack answer
+acknowledges _ = false
+
+-- an OUT packet was acknowledged
+abbrev pub is_taken : List EpCall → Bool
+is_taken [] = false
+is_taken (call ∷ before) = acknowledges call || is_taken before
+
+pub data CommandState : Type 0 where
+  NoCommand : CommandState
+  Works : CommandState
+  Settled : CommandState
+  Failed : CommandState
+
+-- a command that works ends as the first end after it says
+abbrev pub state_after : CommandState → CommandState → CommandState
+state_after Works end = end
+state_after NoCommand end = NoCommand
+state_after Settled end = Settled
+state_after Failed end = Failed
+
+-- what became of the command that these calls began
+abbrev pub command_of : List EpCall → CommandState
+command_of [] = NoCommand
+command_of (Judged Verdicts.Working _ ∷ before) = Works
+command_of (Settle ∷ before) = state_after (command_of before) Settled
+command_of (Fail ∷ before) = state_after (command_of before) Failed
+command_of (_ ∷ before) = command_of before
+
+abbrev pub is_nil : List ℕ → Bool
+is_nil [] = true
+is_nil (_ ∷ _) = false
+
+abbrev pub is_empty_packet : EpAnswer → Bool
+is_empty_packet (Packet packet) = is_nil packet.items
+is_empty_packet _ = false
+
+abbrev pub is_empty_in : EpCall → Bool
+is_empty_in (In answer _) = is_empty_packet answer
+is_empty_in _ = false
+
+-- an IN packet was answered by the empty packet
+abbrev pub is_confirmed : List EpCall → Bool
+is_confirmed [] = false
+is_confirmed (call ∷ before) = is_empty_in call || is_confirmed before
+
+-- the status stage, until its packet was given
+abbrev pub until_confirmed : Bool → Effect → Stage
+until_confirmed true effect = Rest
+until_confirmed false effect = Status effect
+
+-- after a report was taken: the status stage, but for a command that works or failed
+abbrev pub after_command : CommandState → Bool → Stage
+after_command Works confirmed = Waiting
+after_command Failed confirmed = Stalled FlashFault
+after_command NoCommand confirmed = until_confirmed confirmed Nothing
+after_command Settled confirmed = until_confirmed confirmed Nothing
+
+-- what the calls since the last SETUP tell
+pub record Progress : Type 0 where
+  pub closed : Bool
+  pub sent : ℕ
+  pub taken : Bool
+  pub command : CommandState
+  pub confirmed : Bool
+
+abbrev pub progress_of : List EpCall → Progress
+progress_of calls = record {
+  closed = is_closed calls;
+  sent = count_in calls;
+  taken = is_taken calls;
+  command = command_of calls;
+  confirmed = is_confirmed calls;
+}
+
+-- the stage of a transfer none of whose packets was stalled
+abbrev pub stage_in : Transfer → ℕ → Progress → Stage
+stage_in (Reads bytes) length progress =
+    if length == 0 then until_confirmed progress.confirmed Nothing
+    else (if progress.closed then Rest else Sending bytes length progress.sent)
+stage_in (Takes taken) length progress = if progress.taken then after_command progress.command progress.confirmed else Taking taken
+stage_in (Sets effect) length progress = until_confirmed progress.confirmed effect
+
+-- no transfer, a refused one, or one that goes on
+abbrev pub stage_after : Option (Result Transfer Why × ℕ) → Progress → Stage
+stage_after None progress = Rest
+stage_after (Some (Err why, length)) progress = Stalled why
+stage_after (Some (Ok transfer, length)) progress = stage_in transfer length progress
+
+abbrev pub unless_stalled : Option Why → Stage → Stage
+unless_stalled (Some why) stage = Stalled why
+unless_stalled None stage = stage
+
+-- the stage: stalled from the first packet on that was; else as the SETUP and the calls since say
+unfoldable pub stage : List EpCall → Stage
+stage past =
+    unless_stalled (first_stall (calls_since past)) (stage_after (last_setup past) (progress_of (calls_since past)))

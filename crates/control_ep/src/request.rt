@@ -1,0 +1,266 @@
+//! What a SETUP packet asks for.
+
+ghost use Rattle.std.specs.Prelude.{◌≡◌, ◌≤◌, ◌/◌, ◌%◌, length};
+ghost use Rattle.control_ep.specs.declared.request.Transfer.{Transfer};
+ghost use Rattle.control_ep.specs.declared.why.Why.{Why};
+ghost use Rattle.control_ep.specs.Requests.{request_of, services, service_at, entry_at, device_descriptors, interface_descriptors, reports_read, idle_values, protocol_byte, reports_taken, length_of, id_of, idle_ids, idle_effect, protocols, protocol_effect, reads_or, takes_or, sets_or, transfer_by, transfer_of};
+
+use crate::{DeviceView, Effect, Why};
+use arrayvec::ArrayVec;
+use descriptor_build::{CONFIGURATION, DEVICE, HID, served_report};
+use reports::{IdleId, Protocol};
+
+/// The fields of a SETUP packet (USB 2.0 table 9-2).
+#[derive(Clone, Copy)]
+pub(crate) struct Request {
+    /// bmRequestType.
+    kind: u8,
+    /// bRequest.
+    code: u8,
+    /// wValue.
+    value: u16,
+    /// wIndex.
+    index: u16,
+    /// wLength.
+    pub(crate) length: u16,
+}
+
+/// The requests that are served.
+#[derive(Clone, Copy)]
+pub(crate) enum Service {
+    DeviceDescriptor,
+    InterfaceDescriptor,
+    GetReport,
+    GetIdle,
+    GetProtocol,
+    SetReport,
+    SetIdle,
+    SetProtocol,
+}
+
+/// The reports that SET_REPORT takes.
+#[derive(Clone, Copy)]
+pub(crate) enum Taken {
+    /// The LED byte after its Report ID.
+    LedsWithId,
+    /// The LED byte alone.
+    Leds,
+    /// The feature report.
+    Feature,
+}
+
+/// What a request that is served begins.
+#[derive(Drop)]
+pub(crate) enum Transfer {
+    /// A read of these bytes.
+    Reads(ArrayVec<u8, 256>),
+    /// A report from the host.
+    Takes(Taken),
+    /// No data, and this effect.
+    Sets(Effect),
+}
+
+impl Request {
+    /// The fields of a SETUP packet's bytes.
+    pub(crate) fn read(setup: [u8; 8]) -> Request
+        ensures { result ≡ request_of setup }
+    {
+        let [
+            kind,
+            code,
+            value_low,
+            value_high,
+            index_low,
+            index_high,
+            length_low,
+            length_high,
+        ] = setup;
+        Request {
+            kind,
+            code,
+            value: u16::from_le_bytes([value_low, value_high]),
+            index: u16::from_le_bytes([index_low, index_high]),
+            length: u16::from_le_bytes([length_low, length_high]),
+        }
+    }
+
+    /// The transfer that begins, or why the request is refused.
+    #[tactic(auto, unfolding(crate::specs::Requests::transfer_of))]
+    pub(crate) fn transfer(self, view: &DeviceView) -> Result<Transfer, Why>
+        ensures { result ≡ transfer_of self view.now }
+    {
+        let Some(service) = service_of(self.kind, self.code) else {
+            return Err(Why::UnknownRequest);
+        };
+        if self.kind != 0x80 && self.index != 0 {
+            return Err(Why::WrongInterface);
+        }
+        self.transfer_by(service, view)
+    }
+
+    /// The transfer of a request that is served, by its wValue and wLength.
+    fn transfer_by(self, service: Service, view: &DeviceView) -> Result<Transfer, Why>
+        ensures { result ≡ transfer_by service self view.now }
+    {
+        match service {
+            Service::DeviceDescriptor => device_descriptor(self.value),
+            Service::InterfaceDescriptor => interface_descriptor(self.value),
+            Service::GetReport => get_report(self.value, view),
+            Service::GetIdle => get_idle(self.value, view),
+            Service::GetProtocol => Ok(reads(&[protocol_byte(view.protocol)])),
+            Service::SetReport => set_report(self.value, self.length, view.protocol),
+            Service::SetIdle => set_idle(self.value, self.length),
+            Service::SetProtocol => set_protocol(self.value, self.length),
+        }
+    }
+}
+
+impl Taken {
+    /// How many bytes the report has.
+    pub(crate) fn length(self) -> usize
+        ensures { result ≡ length_of self }
+    {
+        match self {
+            Taken::LedsWithId => 2,
+            Taken::Leds => 1,
+            Taken::Feature => 6,
+        }
+    }
+}
+
+/// The request that bmRequestType and bRequest name.
+fn service_of(kind: u8, code: u8) -> Option<Service>
+    ensures { result ≡ service_at services kind code }
+{
+    match (kind, code) {
+        (0x80, 0x06) => Some(Service::DeviceDescriptor),
+        (0x81, 0x06) => Some(Service::InterfaceDescriptor),
+        (0xA1, 0x01) => Some(Service::GetReport),
+        (0xA1, 0x02) => Some(Service::GetIdle),
+        (0xA1, 0x03) => Some(Service::GetProtocol),
+        (0x21, 0x09) => Some(Service::SetReport),
+        (0x21, 0x0A) => Some(Service::SetIdle),
+        (0x21, 0x0B) => Some(Service::SetProtocol),
+        _ => None,
+    }
+}
+
+/// A read of these bytes.
+fn reads(bytes: &[u8]) -> Transfer
+    requires { length bytes.now ≤ 256 }
+    ensures { result ≡ Transfer.Reads (record { items = bytes.now }) }
+{
+    let mut reply = ArrayVec::new();
+    let _full = reply.try_extend_from_slice(bytes);
+    Transfer::Reads(reply)
+}
+
+/// GET_DESCRIPTOR of the device (USB 2.0 section 9.4.3).
+fn device_descriptor(value: u16) -> Result<Transfer, Why>
+    ensures { result ≡ reads_or Why.UnknownDescriptor (entry_at device_descriptors value) }
+{
+    match value {
+        0x0100 => Ok(reads(&DEVICE)),
+        0x0200 => Ok(reads(&CONFIGURATION)),
+        _ => Err(Why::UnknownDescriptor),
+    }
+}
+
+/// GET_DESCRIPTOR of the interface (HID 1.11 section 7.1.1).
+fn interface_descriptor(value: u16) -> Result<Transfer, Why>
+    ensures { result ≡ reads_or Why.UnknownDescriptor (entry_at interface_descriptors value) }
+{
+    match value {
+        0x2100 => Ok(reads(&HID)),
+        0x2200 => Ok(Transfer::Reads(served_report())),
+        _ => Err(Why::UnknownDescriptor),
+    }
+}
+
+/// GET_REPORT (HID 1.11 section 7.2.1).
+fn get_report(value: u16, view: &DeviceView) -> Result<Transfer, Why>
+    ensures { result ≡ reads_or Why.UnknownReport (entry_at (reports_read view.now view.now.protocol) value) }
+{
+    match (view.protocol, value) {
+        (Protocol::Report, 0x0101) => Ok(reads(&view.bitmap)),
+        (Protocol::Report, 0x0102) => Ok(reads(&view.consumer)),
+        (Protocol::Report, 0x0201) => Ok(reads(&[0x01, view.leds])),
+        (Protocol::Boot, 0x0100) => Ok(reads(&view.boot)),
+        (Protocol::Boot, 0x0200) => Ok(reads(&[view.leds])),
+        (_, 0x0303) => Ok(reads(&view.feature)),
+        _ => Err(Why::UnknownReport),
+    }
+}
+
+/// GET_IDLE (HID 1.11 section 7.2.3).
+fn get_idle(value: u16, view: &DeviceView) -> Result<Transfer, Why>
+    ensures { result ≡ reads_or Why.UnknownReport (entry_at (idle_values view.now) value) }
+{
+    match value {
+        0x0000 | 0x0001 => Ok(reads(&[view.idle_one])),
+        0x0002 => Ok(reads(&[view.idle_two])),
+        _ => Err(Why::UnknownReport),
+    }
+}
+
+/// The byte of a protocol in GET_PROTOCOL (HID 1.11 section 7.2.5).
+fn protocol_byte(protocol: Protocol) -> u8
+    ensures { result ≡ protocol_byte protocol }
+{
+    match protocol {
+        Protocol::Boot => 0,
+        Protocol::Report => 1,
+    }
+}
+
+/// SET_REPORT (HID 1.11 section 7.2.2).
+fn set_report(value: u16, length: u16, protocol: Protocol) -> Result<Transfer, Why>
+    ensures { result ≡ takes_or Why.UnknownReport length (entry_at (reports_taken protocol) value) }
+{
+    let taken = match (protocol, value) {
+        (Protocol::Report, 0x0201) => Taken::LedsWithId,
+        (Protocol::Boot, 0x0200) => Taken::Leds,
+        (_, 0x0303) => Taken::Feature,
+        _ => return Err(Why::UnknownReport),
+    };
+    if usize::from(length) != taken.length() {
+        return Err(Why::WrongLength);
+    }
+    Ok(Transfer::Takes(taken))
+}
+
+/// SET_IDLE (HID 1.11 section 7.2.4).
+fn set_idle(value: u16, length: u16) -> Result<Transfer, Why>
+    ensures { result ≡ sets_or Why.UnknownReport length (idle_effect (value / 256) (entry_at idle_ids (value % 256))) }
+{
+    let [id, duration] = value.to_le_bytes();
+    let id = match id {
+        0x00 => IdleId::All,
+        0x01 => IdleId::One,
+        0x02 => IdleId::Two,
+        _ => return Err(Why::UnknownReport),
+    };
+    without_data(length, Effect::Idle(id, duration))
+}
+
+/// SET_PROTOCOL (HID 1.11 section 7.2.6).
+fn set_protocol(value: u16, length: u16) -> Result<Transfer, Why>
+    ensures { result ≡ sets_or Why.BadProtocol length (protocol_effect (entry_at protocols value)) }
+{
+    let protocol = match value {
+        0x0000 => Protocol::Boot,
+        0x0001 => Protocol::Report,
+        _ => return Err(Why::BadProtocol),
+    };
+    without_data(length, Effect::SetProtocol(protocol))
+}
+
+/// A request that has an effect and no data.
+fn without_data(length: u16, effect: Effect) -> Result<Transfer, Why>
+    ensures { result ≡ sets_or Why.WrongLength length (Some effect) }
+{
+    if length != 0 {
+        return Err(Why::WrongLength);
+    }
+    Ok(Transfer::Sets(effect))
+}

@@ -1,0 +1,5 @@
+pub mod Rows
+pub mod Fed
+pub mod Again
+pub mod Feeding
+pub mod Newest

@@ -1,0 +1,5 @@
+pub mod Scans
+pub mod Samples
+pub mod Windows
+pub mod Kept
+pub mod Stands

@@ -1,0 +1,63 @@
+//! Debouncing of a matrix of 96 keys: scans in, edges and the keys that are down out. A contact
+//! bounces when it closes or opens, so a key takes a new value only after five equal samples in a
+//! row. One scan is one millisecond.
+#![tactic(auto)]
+
+ghost use Rattle.std.specs.Prelude.{◌≡◌, ◌/◌, ◌%◌, ◌<◌, ◌&&◌, ◌||◌, ◌==◌, ℕ, length, slice_index};
+ghost use Rattle.std.specs.Int.{bit_at};
+ghost use Rattle.debounce.specs.Scans.{has};
+
+pub mod debouncer;
+pub mod laws;
+#[cfg(test)]
+mod plain;
+#[cfg(test)]
+mod tests;
+
+pub use debouncer::{Debouncer, Edges};
+
+/// One look at the matrix, six rows of 16 keys: bit c of row r is set where key 16 * r + c is
+/// pressed.
+#[derive(Clone, Copy, Debug, PartialEq, Eq)]
+pub struct Scan {
+    pub rows: [u16; 6],
+}
+
+impl Scan {
+    /// A scan with no key pressed.
+    pub const NONE: Scan = Scan { rows: [0; 6] };
+
+    /// Whether this scan has a key, one of 0 to 95.
+    #[tactic(auto, unfolding(crate::specs::Scans::has))]
+    pub fn has(&self, key: u8) -> bool
+        requires { key < 96 }
+        ensures { result ≡ has self.now key }
+    {
+        (self.rows[key as usize / 16] >> (key % 16)) & 1 == 1
+    }
+
+    /// This scan, with a key too where `on` says so.
+    #[tactic(auto, unfolding(crate::specs::Scans::has))]
+    fn with(self, key: u8, on: bool) -> Scan
+        requires { key < 96 }
+        ensures { (other : ℕ) → other < 96
+            → has result other ≡ ((on && (other == key)) || has self other) }
+    {
+        if !on {
+            return self;
+        }
+        let mut rows = self.rows;
+        add_key(&mut rows, key);
+        Scan { rows }
+    }
+}
+
+/// Sets the bit of a key.
+fn add_key(rows: &mut [u16], key: u8)
+    requires six { length rows.old ≡ 6 }
+    requires in_range { key < 96 }
+    ensures { (other : ℕ) → other < 96 → (bit_at (slice_index rows.new (other / 16)) (other % 16) == 1)
+        ≡ ((other == key) || (bit_at (slice_index rows.old (other / 16)) (other % 16) == 1)) }
+{
+    rows[key as usize / 16] |= 1 << (key % 16);
+}

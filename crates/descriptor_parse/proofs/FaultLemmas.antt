@@ -1,0 +1,356 @@
+use Rattle.std.proofs.Common.{◌≡◌, ℕ, zero, suc, ◌+◌, ◌-◌, ◌<◌, ◌≤◌, List, [], ◌∷◌, length, drop, refl, arith, sym, ◌∙◌, ap, Bool, true, Some, None, Ok, Err, inl, inr, length-drop, ◌⊎◌}
+use Rattle.std.specs.Prelude.{Result, find, IsTrue, IfOk, IfErr, ◌&&◌, nat_le}
+use Rattle.std.specs.List.{list_all}
+use Rattle.std.proofs.lemmas.Bool.{cases_Bool, cases_lt, and_parts, leb-true}
+use Rattle.descriptor_parse.specs.declared.fault.ParseError.{ParseError}
+use Rattle.descriptor_parse.specs.declared.fault.ParseFault.{ParseFault}
+use Rattle.descriptor_parse.specs.declared.fault.ParseFault.TheVariants.{Truncated, Delimiter, PopEmpty, PushDeep, BadReportId, SizeTooLarge, CountTooLarge, EndWithoutCollection, CollectionDeep, UnpairedUsage, UsageInverted, LogicalInverted, TooManyFields, MixedIds, CollectionOpen, TooLong}
+use Rattle.descriptor_parse.specs.Fault.{number_of}
+use Rattle.descriptor_parse.specs.Items.{ItemValue, items_at, item_size, front_item}
+use Rattle.descriptor_parse.specs.Faults.{shows, fault_at, item_faults, onto, all_items, IsFaultAmong, IsFaultAtEnd, IsFaultless, IsFirst, IsItemAt}
+use Rattle.descriptor_parse.specs.Fields.{open_collections}
+use Rattle.descriptor_parse.specs.declared.state.State.{State}
+use Rattle.descriptor_parse.specs.StateStands.{StateStands, IsTaken, IsStopped}
+use Rattle.descriptor_parse.specs.Parse.{HasReached, Refuses, EndsBy}
+use Rattle.descriptor_parse.specs.declared.field.Kind.{Kind}
+use Rattle.descriptor_parse.specs.declared.field.Kind.TheVariants.{Input, Output, Feature}
+use Rattle.descriptor_parse.specs.declared.reports.Reports.{Reports}
+use Rattle.descriptor_parse.specs.Totals.{bits_in}
+use Rattle.descriptor_parse.specs.Descriptor.{DescriptorValue, Describes, bits_of}
+use Rattle.descriptor_parse.specs.DescriptorView.{value_of}
+use Rattle.descriptor_parse.proofs.ItemLemmas.{size_pos, items_none, items_short, items_more, items_next}
+
+-- ---- the least fault of an item
+
+-- each of these faults has a number of at least n
+abbrev pub all_from : ℕ → List ParseFault → Bool
+all_from n faults = list_all (λ fault. nat_le n (number_of fault)) faults
+
+abbrev pub is_rising : List ParseFault → Bool
+is_rising [] = true
+is_rising (fault ∷ faults) = all_from (number_of fault) faults && is_rising faults
+
+-- a fault is on the list
+abbrev pub IsOn : ParseFault → List ParseFault → Type 0
+IsOn fault [] = ⊥
+IsOn fault (first ∷ faults) = (fault ≡ first) ⊎ IsOn fault faults
+
+from_on : (n : ℕ) (faults : List ParseFault) (fault : ParseFault) → all_from n faults ≡ true → IsOn fault faults → n ≤ number_of fault
+from_on n [] fault a on = absurd on
+from_on n (first ∷ faults) fault a on =
+    elim on [
+      | inl e ↦ (let l : n ≤ number_of first = leb-true _ _ (and_parts _ _ a).0 in let s : number_of fault ≡ number_of first = ap number_of e in omega arith)
+      | inr more ↦ from_on n faults fault (and_parts _ _ a).1 more
+    ]
+
+-- what is found on a rising list is the least that passes
+found_least : (p : ParseFault → Bool) (faults : List ParseFault) (found other : ParseFault) → is_rising faults ≡ true
+    → find p faults ≡ Some found → IsOn other faults → p other ≡ true → number_of found ≤ number_of other
+found_least p [] found other r f on t = absurd on
+found_least p (first ∷ faults) found other r f on t =
+    elim (cases_Bool (p first)) [
+      | inl passes ↦ (let same : Some first ≡ Some found = (rw passes at f) in
+          let e : first ≡ found = cc in
+          elim on [
+            | inl o ↦ (let s : number_of other ≡ number_of found = ap number_of (o ∙ e) in omega arith)
+            | inr more ↦ (let l : number_of first ≤ number_of other = from_on (number_of first) faults other (and_parts _ _ r).0 more in let s : number_of first ≡ number_of found = ap number_of e in omega arith)
+          ])
+      | inr fails ↦ (let later : find p faults ≡ Some found = (rw fails at f) in
+          elim on [
+            | inl o ↦ absurd (let y : p first ≡ true = ap p (sym o) ∙ t in cc)
+            | inr more ↦ found_least p faults found other (and_parts _ _ r).1 later more t
+          ])
+    ]
+
+found_on : (p : ParseFault → Bool) (faults : List ParseFault) (found : ParseFault) → find p faults ≡ Some found → IsOn found faults × (p found ≡ true)
+found_on p [] found f = cc
+found_on p (first ∷ faults) found f =
+    elim (cases_Bool (p first)) [
+      | inl passes ↦ (let same : Some first ≡ Some found = (rw passes at f) in let e : first ≡ found = cc in (inl (sym e), ap p (sym e) ∙ passes))
+      | inr fails ↦ (let later : find p faults ≡ Some found = (rw fails at f) in let more = found_on p faults found later in (inr more.0, more.1))
+    ]
+
+found_none : (p : ParseFault → Bool) (faults : List ParseFault) (other : ParseFault) → find p faults ≡ None → IsOn other faults → p other ≡ true → ⊥
+found_none p [] other f on t = absurd on
+found_none p (first ∷ faults) other f on t =
+    elim (cases_Bool (p first)) [
+      | inl passes ↦ (let some : Some first ≡ None = (rw passes at f) in cc)
+      | inr fails ↦ (let later : find p faults ≡ None = (rw fails at f) in
+          elim on [
+            | inl o ↦ (let y : p first ≡ true = ap p (sym o) ∙ t in cc)
+            | inr more ↦ found_none p faults other later more t
+          ])
+    ]
+
+-- only the faults of the list show at an item
+shown_on : (before : List ItemValue) (item : ItemValue) (fault : ParseFault) → shows before item fault ≡ true → IsOn fault item_faults
+unfolding shows
+shown_on before item Delimiter t = inl refl
+shown_on before item PopEmpty t = inr (inl refl)
+shown_on before item PushDeep t = inr (inr (inl refl))
+shown_on before item BadReportId t = inr (inr (inr (inl refl)))
+shown_on before item SizeTooLarge t = inr (inr (inr (inr (inl refl))))
+shown_on before item CountTooLarge t = inr (inr (inr (inr (inr (inl refl)))))
+shown_on before item EndWithoutCollection t = inr (inr (inr (inr (inr (inr (inl refl))))))
+shown_on before item CollectionDeep t = inr (inr (inr (inr (inr (inr (inr (inl refl)))))))
+shown_on before item UnpairedUsage t = inr (inr (inr (inr (inr (inr (inr (inr (inl refl))))))))
+shown_on before item UsageInverted t = inr (inr (inr (inr (inr (inr (inr (inr (inr (inl refl)))))))))
+shown_on before item LogicalInverted t = inr (inr (inr (inr (inr (inr (inr (inr (inr (inr (inl refl))))))))))
+shown_on before item TooManyFields t = inr (inr (inr (inr (inr (inr (inr (inr (inr (inr (inr (inl refl)))))))))))
+shown_on before item MixedIds t = inr (inr (inr (inr (inr (inr (inr (inr (inr (inr (inr (inr (inl refl))))))))))))
+shown_on before item _ t = cc
+
+pub clean : (before : List ItemValue) (item : ItemValue) → fault_at before item ≡ None → (fault : ParseFault) → IsTrue (shows before item fault) → ⊥
+unfolding fault_at
+clean before item none fault t = found_none (shows before item) item_faults fault none (shown_on before item fault t) t
+
+pub least_shown : (before : List ItemValue) (item : ItemValue) (fault other : ParseFault) → fault_at before item ≡ Some fault
+    → shows before item other ≡ true → number_of fault ≤ number_of other
+unfolding fault_at
+least_shown before item fault other e t = found_least (shows before item) item_faults fault other refl e (shown_on before item other t) t
+
+small_on : (faults : List ParseFault) (fault : ParseFault) → list_all (λ f. nat_le (number_of f) 14) faults ≡ true → IsOn fault faults → number_of fault ≤ 14
+small_on [] fault a on = absurd on
+small_on (first ∷ faults) fault a on =
+    elim on [
+      | inl e ↦ (let l : number_of first ≤ 14 = leb-true _ _ (and_parts _ _ a).0 in let s : number_of fault ≡ number_of first = ap number_of e in omega arith)
+      | inr more ↦ small_on faults fault (and_parts _ _ a).1 more
+    ]
+
+-- the fault of an item shows, and is none of the text as a whole
+pub shown_fault : (before : List ItemValue) (item : ItemValue) (fault : ParseFault) → fault_at before item ≡ Some fault
+    → (shows before item fault ≡ true) × (number_of fault ≤ 14)
+unfolding fault_at
+shown_fault before item fault e =
+    let on = found_on (shows before item) item_faults fault e in (on.1, small_on item_faults fault refl on.0)
+
+-- ---- offsets
+
+-- faults among items from an offset on stand there or later
+pub among_from : (n offset : ℕ) (text : List ℕ) (before : List ItemValue) (fault : ParseFault) (at : ℕ) → length text ≤ n
+    → IsFaultAmong before (items_at offset text) fault at → offset ≤ at
+among_from zero offset text before fault at l f =
+    let none : items_at offset text ≡ [] = items_none offset text (omega arith) in
+    let f' : IsFaultAmong before [] fault at = (rw none at f) in absurd f'
+among_from (suc n) offset text before fault at l f =
+    elim (cases_lt 0 (length text)) [
+      | inr empty ↦ (let none : items_at offset text ≡ [] = items_none offset text (omega arith) in
+          let f' : IsFaultAmong before [] fault at = (rw none at f) in absurd f')
+      | inl some ↦ (elim (cases_lt (length text) (item_size text)) [
+        | inl short ↦ (let f' : IsFaultAmong before (Err (record { fault = Truncated; offset = offset }) ∷ []) fault at = (rw (items_short offset text some short) at f) in
+            let e : at ≡ offset = f'.1 in omega arith)
+        | inr whole ↦ (let size = item_size text in
+            let pos : 0 < size = size_pos text in
+            let len : length (drop size text) ≡ length text - size = length-drop size text in
+            let f' : IsFaultAmong before (Ok (front_item offset text) ∷ items_at (offset + size) (drop size text)) fault at = (rw (items_more offset text some whole) at f) in
+            elim f' [
+              | inl here ↦ (let e : at ≡ offset = here.1 in omega arith)
+              | inr later ↦ (let above : offset + size ≤ at = among_from n (offset + size) (drop size text) (front_item offset text ∷ before) fault at (omega arith) later in omega arith)
+            ])
+      ])
+    ]
+
+-- ---- how far a text was read
+
+pub reach_start : (text : List ℕ) (state : State) → StateStands [] state → HasReached text text 0 state
+unfolding all_items
+reach_start text state s = record {
+  before = [];
+  stands = s;
+  few = omega arith;
+  place = omega arith;
+  items = refl;
+  faults_left = λ fault at f. f;
+  faults_come = λ fault at f. f;
+}
+
+pub reach_more : (text rest after : List ℕ) (offset : ℕ) (item : ItemValue) (old new : State) (r : HasReached text rest offset old)
+    → 0 < length rest → item_size rest ≤ length rest → after ≡ drop (item_size rest) rest → item ≡ front_item offset rest
+    → IsTaken r.before item new → HasReached text after (offset + (length rest - length after)) new
+reach_more text rest after offset item old new r some whole a e taken =
+    let next : items_at offset rest ≡ Ok item ∷ items_at (offset + (length rest - length after)) after = items_next offset rest after item some whole a e in
+    let pos : 0 < item_size rest = size_pos rest in
+    let len : length after ≡ length rest - item_size rest = ap length a ∙ length-drop (item_size rest) rest in
+    let few = r.few in
+    let place = r.place in
+    record {
+      before = item ∷ r.before;
+      stands = taken.1;
+      few = omega arith;
+      place = omega arith;
+      items = r.items ∙ ap (onto r.before) next;
+      faults_left = λ fault at f.
+          (let f' : IsFaultAmong r.before (Ok item ∷ items_at (offset + (length rest - length after)) after) fault at = (rw next at (r.faults_left fault at f)) in
+          elim f' [ inl here ↦ absurd (clean r.before item taken.0 fault here.0) | inr later ↦ later ]);
+      faults_come = λ fault at f. r.faults_come fault at (rw next (inr f));
+    }
+
+-- where an item was reached, faults come no earlier
+ends_later : (text rest : List ℕ) (offset : ℕ) (state : State) (fault : ParseFault) (at : ℕ) → HasReached text rest offset state → 0 < length rest → offset ≤ 4096
+    → IsFaultAtEnd text fault at → (offset < at) ⊎ ((offset ≡ at) × (16 ≤ number_of fault))
+ends_later text rest offset state CollectionOpen at r some l f = let place = r.place in let e : at ≡ length text = f.1 in inl (omega arith)
+ends_later text rest offset state TooLong at r some l f =
+    let e : at ≡ 4096 = f.1 in
+    elim (cases_lt offset 4096) [ inl below ↦ inl (omega arith) | inr above ↦ inr (omega arith, omega arith) ]
+ends_later text rest offset state _ at r some l f = absurd f
+
+-- faults of a text from an item on, by what follows the item
+first_by : (text rest after : List ℕ) (offset : ℕ) (item : ItemValue) (old : State) (r : HasReached text rest offset old) (fault : ParseFault)
+    → 0 < length rest → offset ≤ 4096 → item_size rest ≤ length rest → after ≡ drop (item_size rest) rest → item ≡ front_item offset rest → number_of fault ≤ 16
+    → ((other : ParseFault) → shows r.before item other ≡ true → number_of fault ≤ number_of other)
+    → IsFirst text fault offset
+first_by text rest after offset item old r fault some l whole a e small least other at has =
+    let next : items_at offset rest ≡ Ok item ∷ items_at (offset + (length rest - length after)) after = items_next offset rest after item some whole a e in
+    let pos : 0 < item_size rest = size_pos rest in
+    let len : length after ≡ length rest - item_size rest = ap length a ∙ length-drop (item_size rest) rest in
+    elim has [
+      | inl among ↦ (let f : IsFaultAmong r.before (Ok item ∷ items_at (offset + (length rest - length after)) after) other at = (rw next at (r.faults_left other at among)) in
+          elim f [
+            | inl here ↦ (let stands_at : at ≡ item.offset = here.1 in let offset_is : item.offset ≡ offset = ap (λ i. i.offset) e in inr (omega arith, least other here.0))
+            | inr later ↦ (let above : offset + (length rest - length after) ≤ at = among_from (length after) _ after _ other at (omega arith) later in inl (omega arith))
+          ])
+      | inr end ↦ (elim (ends_later text rest offset old other at r some l end) [ inl later ↦ inl later | inr both ↦ inr (both.0, omega (arith, both.1)) ])
+    ]
+
+onto_keeps : (more : List (Result ItemValue ParseError)) (before : List ItemValue) (at : ℕ) → IsItemAt before at → IsItemAt (onto before more) at
+onto_keeps [] before at i = i
+onto_keeps (Ok item ∷ more) before at i = onto_keeps more (item ∷ before) at (inr i)
+onto_keeps (Err e ∷ more) before at i = i
+
+-- an item's first fault is the text's
+pub refuse_item : (text rest after : List ℕ) (offset : ℕ) (item : ItemValue) (old : State) (r : HasReached text rest offset old) (e : ParseError)
+    → 0 < length rest → offset ≤ 4096 → item_size rest ≤ length rest → after ≡ drop (item_size rest) rest → item ≡ front_item offset rest
+    → e.offset ≡ offset → IsStopped r.before item e.fault → Refuses text e
+refuse_item text rest after offset item old r e some l whole a i o stopped =
+    let next : items_at offset rest ≡ Ok item ∷ items_at (offset + (length rest - length after)) after = items_next offset rest after item some whole a i in
+    elim stopped [
+      | inl memory ↦ record {
+        first = λ n. absurd (n memory.0);
+        memory = λ m. (rw (r.items ∙ ap (onto r.before) next) (onto_keeps (items_at (offset + (length rest - length after)) after) (item ∷ r.before) e.offset (inl (ap (λ x. x.offset) i ∙ sym o))), (rw o (first_by text rest after offset item old r TooLong some l whole a i (omega arith) (λ other t. absurd (clean r.before item memory.1 other t)))));
+      }
+      | inr found ↦ (let shown = shown_fault r.before item e.fault found in
+          record {
+            first = λ n. (
+              inl (r.faults_come e.fault e.offset (rw next (inl (shown.0, o ∙ sym (ap (λ x. x.offset) i))))),
+              (rw o (first_by text rest after offset item old r e.fault some l whole a i (omega (arith, shown.1)) (λ other t. least_shown r.before item e.fault other found t))),
+            );
+            memory = λ m. absurd (let number : number_of e.fault ≡ 17 = ap number_of m in omega (arith, shown.1));
+          })
+    ]
+
+-- a text that ends within an item
+pub refuse_short : (text rest : List ℕ) (offset : ℕ) (old : State) (r : HasReached text rest offset old) (e : ParseError)
+    → 0 < length rest → offset ≤ 4096 → length rest < item_size rest → e ≡ record { fault = Truncated; offset = offset } → Refuses text e
+refuse_short text rest offset old r e some l short is =
+    let cut_off : items_at offset rest ≡ Err (record { fault = Truncated; offset = offset }) ∷ [] = items_short offset rest some short in
+    let fault_is : e.fault ≡ Truncated = ap (λ x. x.fault) is in
+    let offset_is : e.offset ≡ offset = ap (λ x. x.offset) is in
+    let one : number_of e.fault ≡ 1 = ap number_of fault_is in
+    record {
+      first = λ n. (
+        inl (r.faults_come e.fault e.offset (rw cut_off (fault_is, offset_is))),
+        λ other at has.
+            (elim has [
+              | inl among ↦ (let f : IsFaultAmong r.before (Err (record { fault = Truncated; offset = offset }) ∷ []) other at = (rw cut_off at (r.faults_left other at among)) in
+                  let there : at ≡ offset = f.1 in let same : number_of other ≡ 1 = ap number_of f.0 in inr (omega arith, omega arith))
+              | inr end ↦ (elim (ends_later text rest offset old other at r some l end) [ inl later ↦ inl (omega arith) | inr both ↦ inr (omega (arith, both.0), omega (arith, both.1)) ])
+            ]),
+      );
+      memory = λ m. absurd (let number : number_of e.fault ≡ 17 = ap number_of m in omega arith);
+    }
+
+at_end_long : (text : List ℕ) (other : ParseFault) (at : ℕ) → 4096 < length text → IsFaultAtEnd text other at → (4096 < at) ⊎ ((4096 ≡ at) × (16 ≤ number_of other))
+at_end_long text CollectionOpen at long f = let e : at ≡ length text = f.1 in inl (omega arith)
+at_end_long text TooLong at long f = let e : at ≡ 4096 = f.1 in inr (omega arith, omega arith)
+at_end_long text _ at long f = absurd f
+
+at_end_open : (text : List ℕ) (other : ParseFault) (at : ℕ) → length text ≤ 4096 → IsFaultAtEnd text other at → (length text < at) ⊎ ((length text ≡ at) × (15 ≤ number_of other))
+at_end_open text CollectionOpen at short f = let e : at ≡ length text = f.1 in inr (omega arith, omega arith)
+at_end_open text TooLong at short f = absurd (let l : 4096 < length text = f.0 in omega arith)
+at_end_open text _ at short f = absurd f
+
+no_end : (text : List ℕ) (other : ParseFault) (at : ℕ) → length text ≤ 4096 → open_collections (all_items text) ≡ 0 → IsFaultAtEnd text other at → ⊥
+no_end text CollectionOpen at short none f = let l : 0 < open_collections (all_items text) = f.0 in omega arith
+no_end text TooLong at short none f = let l : 4096 < length text = f.0 in omega arith
+no_end text _ at short none f = f
+
+-- where nothing is left, or what is left is past the greatest length
+abbrev pub IsAllRead : List ℕ → ℕ → Type 0
+IsAllRead rest offset = (length rest ≡ 0) ⊎ (4096 < offset)
+
+-- a text that is too long, or that ends within a collection
+pub refuse_end : (text rest : List ℕ) (offset : ℕ) (state : State) (r : HasReached text rest offset state) (e : ParseError)
+    → IsAllRead rest offset → EndsBy (length text) state e → Refuses text e
+refuse_end text rest offset state r e all ends =
+    let place = r.place in
+    elim ends [
+      | inl long ↦ rw long.1 (let past : 4096 < offset = (elim all [ inl none ↦ omega (arith, long.0) | inr above ↦ above ]) in
+          record {
+            first = λ n. (
+              inr (long.0, refl),
+              λ other at has.
+                  (elim has [
+                    | inl among ↦ (let f = r.faults_left other at among in let above : offset ≤ at = among_from (length rest) offset rest r.before other at (omega arith) f in inl (omega arith))
+                    | inr end ↦ at_end_long text other at long.0 end
+                  ]),
+            );
+            memory = λ m. cc;
+          })
+      | inr unclosed ↦ rw unclosed.2 (let none : length rest ≡ 0 = (elim all [ inl none ↦ none | inr above ↦ omega (arith, unclosed.0) ]) in
+          let nothing : items_at offset rest ≡ [] = items_none offset rest none in
+          let same : all_items text ≡ r.before = r.items ∙ ap (onto r.before) nothing in
+          let more : 0 < open_collections (all_items text) = (rw (same, ← r.stands.collections) unclosed.1) in
+          record {
+            first = λ n. (
+              inr (more, refl),
+              λ other at has.
+                  (elim has [
+                    | inl among ↦ (let f : IsFaultAmong r.before [] other at = (rw nothing at (r.faults_left other at among)) in absurd f)
+                    | inr end ↦ at_end_open text other at unclosed.0 end
+                  ]),
+            );
+            memory = λ m. cc;
+          })
+    ]
+
+bits_same : (reports : Reports) (kind : Kind) (id : ℕ) → bits_of (value_of reports) kind id ≡ bits_in reports.totals kind id
+bits_same reports Input id = refl
+bits_same reports Output id = refl
+bits_same reports Feature id = refl
+
+-- the whole text was read and shows no fault
+pub accept_end : (text rest : List ℕ) (offset : ℕ) (state : State) (r : HasReached text rest offset state)
+    → IsAllRead rest offset → length text ≤ 4096 → state.collections ≡ 0 → IsFaultless text × Describes (all_items text) (value_of state.reports)
+accept_end text rest offset state r all short closed =
+    let place = r.place in
+    let none : length rest ≡ 0 = (elim all [ inl none ↦ none | inr above ↦ omega arith ]) in
+    let nothing : items_at offset rest ≡ [] = items_none offset rest none in
+    let same : all_items text ≡ r.before = r.items ∙ ap (onto r.before) nothing in
+    let none_open : open_collections (all_items text) ≡ 0 = (rw (same, ← r.stands.collections) closed) in
+    let reports = r.stands.reports in (
+      λ fault at has.
+          (elim has [
+            | inl among ↦ (let f : IsFaultAmong r.before [] fault at = (rw nothing at (r.faults_left fault at among)) in absurd f)
+            | inr end ↦ no_end text fault at short none_open end
+          ]),
+      record {
+        fields = rw same reports.fields;
+        ranges = rw same reports.ranges;
+        uses_ids = rw same reports.has_ids;
+        bits = λ kind id. (rw same (bits_same state.reports kind id ∙ reports.bits kind id));
+      },
+    )
+
+-- what the answer at the end says
+pub ok_end : (text rest : List ℕ) (offset : ℕ) (state : State) (r : HasReached text rest offset state) → IsAllRead rest offset
+    → (result : Result DescriptorValue ParseError) → IfOk result (λ d. (length text ≤ 4096) × (state.collections ≡ 0) × (d ≡ value_of state.reports))
+    → {P : DescriptorValue → Type 0} → ((d : DescriptorValue) → IsFaultless text × Describes (all_items text) d → P d) → IfOk result P
+ok_end text rest offset state r all (Ok d) ok more =
+    more d (let both = accept_end text rest offset state r all ok.0 ok.1 in (both.0, rw ok.2 both.1))
+ok_end text rest offset state r all (Err e) ok more = tt
+
+pub err_end : (text rest : List ℕ) (offset : ℕ) (state : State) (r : HasReached text rest offset state) → IsAllRead rest offset
+    → (result : Result DescriptorValue ParseError) → IfErr result (EndsBy (length text) state)
+    → {P : ParseError → Type 0} → ((e : ParseError) → Refuses text e → P e) → IfErr result P
+err_end text rest offset state r all (Ok d) err more = tt
+err_end text rest offset state r all (Err e) err more = more e (refuse_end text rest offset state r e all err)

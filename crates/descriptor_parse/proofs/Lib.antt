@@ -1,0 +1,10 @@
+pub mod ItemLemmas
+pub mod Numbers
+pub mod TotalLemmas
+pub mod GlobalLemmas
+pub mod LocalLemmas
+pub mod ReportLemmas
+pub mod StateLemmas
+pub mod FaultLemmas
+pub mod UsageLemmas
+pub mod CutLemmas

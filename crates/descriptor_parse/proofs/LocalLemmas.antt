@@ -1,0 +1,113 @@
+use Rattle.std.proofs.Common.{◌≡◌, ℕ, ◌+◌, ◌*◌, ◌<◌, ◌≤◌, ◌^◌, List, [], ◌∷◌, ◌++◌, length, get_or, refl, arith, sym, ◌∙◌, ap, Bool, true, false, cond, map, Some, None}
+use Rattle.std.specs.Prelude.{Option, option_map}
+use Rattle.std.proofs.lemmas.List.{map-append}
+use Rattle.descriptor_parse.specs.declared.tag.Tag.{Tag}
+use Rattle.descriptor_parse.specs.declared.tag.Tag.TheVariants.{Main, Global, Local, Skipped}
+use Rattle.descriptor_parse.specs.declared.tag.LocalTag.TheVariants.{Usage, UsageMinimum, UsageMaximum, Delimiter}
+use Rattle.descriptor_parse.specs.declared.locals.Usage.TheVariants.{Short, Whole}
+use Rattle.descriptor_parse.specs.declared.locals.UsageRange.{UsageRange}
+use Rattle.descriptor_parse.specs.declared.locals.Locals.{Locals}
+use Rattle.descriptor_parse.specs.Items.{ItemValue}
+use Rattle.descriptor_parse.specs.Tags.{tag, is_main}
+use Rattle.descriptor_parse.specs.Globals.{unsigned}
+use Rattle.descriptor_parse.specs.Locals.{has_page, usage_number, unpaired, still_unpaired, usages_since_main, with_usages}
+use Rattle.descriptor_parse.specs.LocalsStand.{usage_of, usage_on, range_on, half_of, TakesHalf, TakesHalfAt, LocalsStand}
+
+-- two bytes make 16 bits
+pub unsigned_two : (bytes : List ℕ) → ((i : ℕ) → get_or bytes i 0 < 256) → length bytes ≤ 2 → unsigned bytes < 65536
+unsigned_two [] small l = omega arith
+unsigned_two (a ∷ []) small l = omega (arith, small 0)
+unsigned_two (a ∷ b ∷ []) small l = omega (arith, small 0, small 1)
+unsigned_two (a ∷ b ∷ c ∷ more) small l = absurd (omega arith)
+
+pub number_on : (page : ℕ) (bytes : List ℕ) → usage_on page (usage_of bytes) ≡ usage_number page bytes
+number_on page bytes =
+    elim (has_page bytes) as (λ b. usage_on page (cond b (Whole (unsigned bytes)) (Short (unsigned bytes))) ≡ cond b (unsigned bytes) (page * 2 ^ 16 + unsigned bytes))
+    [ true ↦ refl | false ↦ refl ]
+
+pub stand_new : (locals : Locals) → locals.half ≡ None → locals.usages.items ≡ [] → LocalsStand [] locals
+unfolding unpaired usages_since_main
+stand_new locals h u = record { half = h; usages = λ page. ap (map (range_on page)) u }
+
+ended : (t : Tag) (item : ItemValue) (half : Option ItemValue) (page : ℕ) (earlier : List (ℕ × ℕ)) → is_main t ≡ true
+    → (still_unpaired t item half ≡ None) × (with_usages page t item half earlier ≡ [])
+ended (Main m) item half page earlier e = (refl, refl)
+ended (Global g) item half page earlier e = cc
+ended (Local l) item half page earlier e = cc
+ended Skipped item half page earlier e = cc
+
+-- a Main item ends them
+pub stand_main : (before : List ItemValue) (item : ItemValue) (locals : Locals) → is_main (tag item) ≡ true
+    → locals.half ≡ None → locals.usages.items ≡ [] → LocalsStand (item ∷ before) locals
+unfolding unpaired usages_since_main
+stand_main before item locals m h u = record {
+  half = h ∙ sym (ap (option_map half_of) (ended (tag item) item (unpaired before) 0 [] m).0);
+  usages = λ page. ap (map (range_on page)) u ∙ sym (ended (tag item) item (unpaired before) page (usages_since_main page before) m).1;
+}
+
+-- no Main item, Usage, Usage Minimum or Usage Maximum
+abbrev pub is_silent : Tag → Bool
+is_silent (Global g) = true
+is_silent (Local Delimiter) = true
+is_silent Skipped = true
+is_silent _ = false
+
+silent : (t : Tag) (item : ItemValue) (half : Option ItemValue) (page : ℕ) (earlier : List (ℕ × ℕ)) → is_silent t ≡ true
+    → (still_unpaired t item half ≡ half) × (with_usages page t item half earlier ≡ earlier)
+silent (Global g) item half page earlier e = (refl, refl)
+silent (Local Delimiter) item half page earlier e = (refl, refl)
+silent Skipped item half page earlier e = (refl, refl)
+silent _ item half page earlier e = cc
+
+pub stand_silent : (before : List ItemValue) (item : ItemValue) (locals : Locals) → is_silent (tag item) ≡ true
+    → LocalsStand before locals → LocalsStand (item ∷ before) locals
+unfolding unpaired usages_since_main
+stand_silent before item locals m s = record {
+  half = s.half ∙ sym (ap (option_map half_of) (silent (tag item) item (unpaired before) 0 [] m).0);
+  usages = λ page. s.usages page ∙ sym (silent (tag item) item (unpaired before) page (usages_since_main page before) m).1;
+}
+
+-- one range more, on any page
+more_ranges : (page : ℕ) (old new : List UsageRange) (range : UsageRange) (earlier : List (ℕ × ℕ)) (a b : ℕ) → new ≡ old ++ range ∷ []
+    → map (range_on page) old ≡ earlier → usage_on page range.first ≡ a → usage_on page range.last ≡ b
+    → map (range_on page) new ≡ earlier ++ (a, b) ∷ []
+more_ranges page old new range earlier a b e m f g = ap (map (range_on page)) e ∙ map-append (range_on page) old (range ∷ []) ∙ rw (m, f, g) refl
+
+pub stand_usage : (before : List ItemValue) (item : ItemValue) (old new : Locals) → tag item ≡ Local Usage
+    → new.half ≡ old.half → new.usages.items ≡ old.usages.items ++ record { first = usage_of item.bytes; last = usage_of item.bytes } ∷ []
+    → LocalsStand before old → LocalsStand (item ∷ before) new
+unfolding unpaired usages_since_main
+stand_usage before item old new e h u s = record {
+  half = h ∙ s.half ∙ (rw e refl);
+  usages = λ page. more_ranges page _ _ _ _ _ _ u (s.usages page) (number_on page item.bytes) (number_on page item.bytes) ∙ (rw e refl);
+}
+
+-- a Minimum or Maximum
+pub stand_half : (before : List ItemValue) (item : ItemValue) (minimum : Bool) (half : Option ItemValue) (old new : Locals)
+    → tag item ≡ Local (cond minimum UsageMinimum UsageMaximum) → unpaired before ≡ half
+    → TakesHalf minimum (usage_of item.bytes) old new → LocalsStand before old → LocalsStand (item ∷ before) new
+unfolding unpaired usages_since_main
+stand_half before item true None old new e h t s =
+    let none : old.half ≡ None = s.half ∙ ap (option_map half_of) h in
+    let took : TakesHalfAt None true (usage_of item.bytes) old new = rw none at t in record {
+      half = took.0 ∙ (rw (e, h) (rw e refl));
+      usages = λ page. ap (map (range_on page)) took.1 ∙ s.usages page ∙ (rw (e, h) refl);
+    }
+stand_half before item false None old new e h t s =
+    let none : old.half ≡ None = s.half ∙ ap (option_map half_of) h in
+    let took : TakesHalfAt None false (usage_of item.bytes) old new = rw none at t in record {
+      half = took.0 ∙ (rw (e, h) (rw e refl));
+      usages = λ page. ap (map (range_on page)) took.1 ∙ s.usages page ∙ (rw (e, h) refl);
+    }
+stand_half before item true (Some other) old new e h t s =
+    let some : old.half ≡ Some (half_of other) = s.half ∙ ap (option_map half_of) h in
+    let took : TakesHalfAt (Some (half_of other)) true (usage_of item.bytes) old new = rw some at t in record {
+      half = took.0 ∙ (rw (e, h) refl);
+      usages = λ page. more_ranges page _ _ _ _ _ _ took.1 (s.usages page) (number_on page item.bytes) (number_on page other.bytes) ∙ (rw (e, h) refl);
+    }
+stand_half before item false (Some other) old new e h t s =
+    let some : old.half ≡ Some (half_of other) = s.half ∙ ap (option_map half_of) h in
+    let took : TakesHalfAt (Some (half_of other)) false (usage_of item.bytes) old new = rw some at t in record {
+      half = took.0 ∙ (rw (e, h) refl);
+      usages = λ page. more_ranges page _ _ _ _ _ _ took.1 (s.usages page) (number_on page other.bytes) (number_on page item.bytes) ∙ (rw (e, h) refl);
+    }

@@ -1,0 +1,178 @@
+use Rattle.std.proofs.Common.{◌≡◌, ℕ, zero, suc, ◌+◌, ◌-◌, ◌*◌, ◌%◌, ◌<◌, ◌≤◌, ◌^◌, min, List, [], ◌∷◌, length, refl, arith, sym, ◌∙◌, ap, Bool, true, false, cond, map}
+use Rattle.std.specs.Prelude.{◌==◌, ◌&&◌, ◌||◌, not}
+use Rattle.std.proofs.lemmas.Nat.{mul-le}
+use Rattle.std.proofs.lemmas.Bool.{and_parts, not-true}
+use Rattle.descriptor_parse.specs.declared.field.Kind.{Kind}
+use Rattle.descriptor_parse.specs.declared.globals.Globals.{Globals}
+use Rattle.descriptor_parse.specs.declared.locals.Locals.{Locals}
+use Rattle.descriptor_parse.specs.declared.reports.Reports.{Reports}
+use Rattle.descriptor_parse.specs.declared.tag.Tag.{Tag}
+use Rattle.descriptor_parse.specs.declared.tag.Tag.TheVariants.{Main, Global}
+use Rattle.descriptor_parse.specs.declared.tag.MainTag.TheVariants.{Data}
+use Rattle.descriptor_parse.specs.declared.tag.GlobalTag.{GlobalTag}
+use Rattle.descriptor_parse.specs.declared.tag.GlobalTag.TheVariants.{ReportId}
+use Rattle.descriptor_parse.specs.Items.{ItemValue}
+use Rattle.descriptor_parse.specs.Tags.{tag, same_kind, is_data, is_data_of, is_report_id}
+use Rattle.descriptor_parse.specs.Globals.{unsigned, in_force, usage_page, report_size, report_count, report_id}
+use Rattle.descriptor_parse.specs.Locals.{usages_since_main}
+use Rattle.descriptor_parse.specs.Fields.{is_constant, is_field, declared_field, fields, field_usages, report_bits, has_bare_data}
+use Rattle.descriptor_parse.specs.Totals.{bits_in}
+use Rattle.descriptor_parse.specs.GlobalsStand.{globals_of}
+use Rattle.descriptor_parse.specs.LocalsStand.{LocalsStand, range_on}
+use Rattle.descriptor_parse.specs.ReportsStand.{declares, field_by, Declares, FitsData, ReportsStand}
+
+pub stand_new : (reports : Reports) → ((kind : Kind) (id : ℕ) → bits_in reports.totals kind id ≡ 0) → reports.fields.items ≡ []
+    → reports.ranges.items ≡ [] → reports.has_ids ≡ false → reports.has_bare ≡ false → ReportsStand [] reports
+unfolding report_bits fields field_usages has_bare_data
+stand_new reports b f r i h = record {
+  bits = b;
+  small = λ kind id. omega arith;
+  fields = f;
+  ranges = ap (map (λ v. v.items)) r;
+  has_ids = i;
+  has_bare = h;
+}
+
+-- no data item, and no Report ID
+abbrev pub is_neutral : Tag → Bool
+is_neutral (Main (Data kind)) = false
+is_neutral (Global ReportId) = false
+is_neutral _ = true
+
+no_data : (t : Tag) → is_neutral t ≡ true → is_data t ≡ false
+no_data (Main (Data kind)) n = cc
+no_data _ n = refl
+
+no_data_of : (kind : Kind) (t : Tag) → is_data t ≡ false → is_data_of kind t ≡ false
+no_data_of kind (Main (Data other)) n = cc
+no_data_of kind _ n = refl
+
+no_id : (t : Tag) → is_neutral t ≡ true → is_report_id t ≡ false
+no_id (Global ReportId) n = cc
+no_id _ n = refl
+
+-- what is no data item leaves all but the use of IDs
+pub stand_no_data : (before : List ItemValue) (item : ItemValue) (old new : Reports) → is_data (tag item) ≡ false
+    → new.totals ≡ old.totals → new.fields.items ≡ old.fields.items → new.ranges.items ≡ old.ranges.items
+    → new.has_ids ≡ (is_report_id (tag item) || old.has_ids) → new.has_bare ≡ old.has_bare
+    → ReportsStand before old → ReportsStand (item ∷ before) new
+unfolding report_bits fields field_usages has_bare_data
+stand_no_data before item old new d t f r i h s = record {
+  bits = λ kind id. ap (λ x. bits_in x kind id) t ∙ s.bits kind id ∙ (rw (no_data_of kind (tag item) d) refl);
+  small = λ kind id. rw (no_data_of kind (tag item) d) (let l = s.small kind id in omega arith);
+  fields = f ∙ s.fields ∙ (rw d refl);
+  ranges = ap (map (λ v. v.items)) r ∙ s.ranges ∙ (rw d refl);
+  has_ids = i ∙ ap (λ b. is_report_id (tag item) || b) s.has_ids;
+  has_bare = h ∙ s.has_bare ∙ (rw d refl);
+}
+
+pub stand_neutral : (before : List ItemValue) (item : ItemValue) (reports : Reports) → is_neutral (tag item) ≡ true
+    → ReportsStand before reports → ReportsStand (item ∷ before) reports
+stand_neutral before item reports n s =
+    stand_no_data before item reports reports (no_data (tag item) n) refl refl refl (rw (no_id (tag item) n) refl) refl s
+
+-- a product of at most 1,024 times 1,024
+product_small : (a b : ℕ) → a ≤ 1024 → b ≤ 1024 → a * b ≤ 1048576
+product_small a b x y = mul-le a b 1024 1024 x y
+
+even_below_two : (r : ℕ) → r < 2 → (r == 0) ≡ not (r == 1)
+even_below_two zero l = refl
+even_below_two (suc zero) l = refl
+even_below_two (suc (suc r)) l = absurd (omega arith)
+
+even : (n : ℕ) → (n % 2 == 0) ≡ not (n % 2 == 1)
+even n = even_below_two (n % 2) (omega arith)
+
+total_at : (b : Bool) (old new bits product len : ℕ) → product ≤ 1048576 → bits ≤ 2 ^ 20 * len → len ≤ 4096 → old ≡ bits
+    → new ≡ cond b (min (2 ^ 64 - 1) (old + min product (2 ^ 64 - 1))) old
+    → (new ≡ cond b (bits + product) bits) × (cond b (bits + product) bits ≤ 2 ^ 20 * suc len)
+total_at true old new bits product len p s l e n = (omega arith, omega arith)
+total_at false old new bits product len p s l e n = (omega arith, omega arith)
+
+-- a data item declares a field by its own data and the Globals in force
+pub declares_field : (before : List ItemValue) (item : ItemValue) (kind : Kind) (g : Globals) → tag item ≡ Main (Data kind)
+    → g ≡ globals_of (in_force before) → declares (unsigned item.bytes) g ≡ is_field before item
+declares_field before item kind g e f = rw (e, f, even (unsigned item.bytes)) refl
+
+-- the totals after a data item
+total_more : (before : List ItemValue) (item : ItemValue) (kind : Kind) (g : Globals) (k : Kind) (i old new : ℕ) → tag item ≡ Main (Data kind)
+    → g ≡ globals_of (in_force before) → FitsData before item → length before ≤ 4096 → report_bits k i before ≤ 2 ^ 20 * length before
+    → old ≡ report_bits k i before
+    → new ≡ cond (same_kind k kind && g.id == i) (min (2 ^ 64 - 1) (old + min (g.size * g.count) (2 ^ 64 - 1))) old
+    → (new ≡ report_bits k i (item ∷ before)) × (report_bits k i (item ∷ before) ≤ 2 ^ 20 * length (item ∷ before))
+unfolding report_bits
+total_more before item kind g k i old new e f fits few small same n =
+    let test : (is_data_of k (tag item) && report_id before == i) ≡ (same_kind k kind && g.id == i) = rw (e, f) refl in
+    let product : g.size * g.count ≡ report_size before * report_count before = rw f refl in
+    let bound : g.size * g.count ≤ 1048576 = rw product (product_small _ _ fits.size fits.count) in
+    rw (test, ← product) (total_at (same_kind k kind && g.id == i) old new (report_bits k i before) (g.size * g.count) (length before) bound small few same n)
+
+-- the field that is declared
+same_field : (before : List ItemValue) (item : ItemValue) (kind : Kind) (bit : ℕ) (g : Globals) → tag item ≡ Main (Data kind)
+    → g ≡ globals_of (in_force before) → bit ≡ report_bits kind (report_id before) before
+    → field_by kind bit (unsigned item.bytes) g ≡ declared_field before item
+same_field before item kind bit g e f b = rw (f, b, e) refl
+
+or_bare : (a b : Bool) → (a || b) ≡ cond b true a
+or_bare true true = refl
+or_bare true false = refl
+or_bare false true = refl
+or_bare false false = refl
+
+-- a field is within the limits of fields
+within : (before : List ItemValue) (item : ItemValue) (g : Globals) → g ≡ globals_of (in_force before) → FitsData before item
+    → declares (unsigned item.bytes) g ≡ true → (g.size ≤ 32) × (g.count ≤ 1024)
+within before item g f fits d =
+    let size : g.size ≡ report_size before = ap (λ x. x.size) f in
+    let count : g.count ≡ report_count before = ap (λ x. x.count) f in
+    let evens : (unsigned item.bytes % 2 == 0) ≡ true = (and_parts _ _ d).0 in
+    let constant : is_constant item ≡ false = not-true _ (sym (even (unsigned item.bytes)) ∙ evens) in
+    let small : report_size before ≤ 32 = fits.field_size constant in
+    let few : report_count before ≤ 1024 = fits.count in
+    (omega arith, omega arith)
+
+-- a data item within the limits
+pub stand_data : (before : List ItemValue) (item : ItemValue) (kind : Kind) (g : Globals) (locals : Locals) (old mid new : Reports) (product : ℕ)
+    → tag item ≡ Main (Data kind) → g ≡ globals_of (in_force before) → LocalsStand before locals → FitsData before item → length before ≤ 4096
+    → Declares kind (unsigned item.bytes) g locals old mid
+    → product ≡ min (g.size * g.count) (2 ^ 64 - 1)
+    → ((k : Kind) (i : ℕ) → bits_in new.totals k i
+    ≡ cond (same_kind k kind && g.id == i) (min (2 ^ 64 - 1) (bits_in mid.totals k i + product)) (bits_in mid.totals k i))
+    → new.fields.items ≡ mid.fields.items → new.ranges.items ≡ mid.ranges.items → new.has_ids ≡ mid.has_ids
+    → new.has_bare ≡ (mid.has_bare || g.id == 0)
+    → ReportsStand before old → ReportsStand (item ∷ before) new
+unfolding fields field_usages has_bare_data
+stand_data before item kind g locals old mid new product e f ls fits few d p add fs rs ids bare s =
+    let field : declares (unsigned item.bytes) g ≡ is_field before item = declares_field before item kind g e f in
+    let more : (k : Kind) (i : ℕ) → (bits_in new.totals k i ≡ report_bits k i (item ∷ before)) × (report_bits k i (item ∷ before) ≤ 2 ^ 20 * length (item ∷ before)) =
+    λ k i. total_more before item kind g k i (bits_in mid.totals k i) (bits_in new.totals k i) e f fits few (s.small k i) (ap (λ t. bits_in t k i) d.totals ∙ s.bits k i) (add k i ∙ (rw p refl)) in
+    let id : g.id ≡ report_id before = ap (λ x. x.id) f in
+    let page : g.page ≡ usage_page before = ap (λ x. x.page) f in
+    let bit : bits_in old.totals kind g.id ≡ report_bits kind (report_id before) before = s.bits kind g.id ∙ ap (λ i. report_bits kind i before) id in
+    let declared : field_by kind (bits_in old.totals kind g.id) (unsigned item.bytes) g ≡ declared_field before item = same_field before item kind _ g e f bit in
+    let usages : map (range_on g.page) locals.usages.items ≡ usages_since_main (usage_page before) before = ls.usages g.page ∙ ap (λ p. usages_since_main p before) page in
+    record {
+      bits = λ k i. (more k i).0;
+      small = λ k i. (more k i).1;
+      fields = fs ∙ d.fields (within before item g f fits) ∙ (rw (field, s.fields, declared) refl);
+      ranges = ap (map (λ v. v.items)) rs ∙ d.ranges ∙ (rw (field, s.ranges, usages) refl);
+      has_ids = ids ∙ d.has_ids ∙ s.has_ids ∙ (rw e refl);
+      has_bare = bare ∙ ap (λ b. b || g.id == 0) (d.has_bare ∙ s.has_bare) ∙ or_bare (has_bare_data before) (g.id == 0) ∙ (rw (e, f) refl);
+    }
+
+-- a Report ID
+pub stand_noted_id : (before : List ItemValue) (item : ItemValue) (t : GlobalTag) (old new : Reports) → tag item ≡ Global t → t ≡ ReportId
+    → new.totals ≡ old.totals → new.fields.items ≡ old.fields.items → new.ranges.items ≡ old.ranges.items
+    → new.has_ids ≡ true → new.has_bare ≡ old.has_bare → ReportsStand before old → ReportsStand (item ∷ before) new
+stand_noted_id before item t old new e id a b c d f s =
+    let is : tag item ≡ Global ReportId = e ∙ ap Global id in
+    stand_no_data before item old new (ap is_data is) a b c (d ∙ (rw is refl)) f s
+
+neutral_global : (t : GlobalTag) → (t ≡ ReportId → ⊥) → is_neutral (Global t) ≡ true
+neutral_global ReportId n = absurd (n refl)
+neutral_global _ n = refl
+
+-- any other Global item
+pub stand_noted : (before : List ItemValue) (item : ItemValue) (t : GlobalTag) (reports : Reports) → tag item ≡ Global t → (t ≡ ReportId → ⊥)
+    → ReportsStand before reports → ReportsStand (item ∷ before) reports
+stand_noted before item t reports e n s = stand_neutral before item reports (ap is_neutral e ∙ neutral_global t n) s

@@ -1,0 +1,65 @@
+use Rattle.std.specs.Prelude.{ℕ, zero, suc, ◌+◌, ◌*◌, ◌^◌, ◌%◌, if◌then◌else◌, nat_lt, Bool, List, [], ◌∷◌, length, filter, ℤ, pos, ◌-ℤ◌, int_lt}
+use Rattle.descriptor_parse.specs.declared.tag.Tag.{Tag}
+use Rattle.descriptor_parse.specs.declared.tag.Tag.TheVariants.{Global}
+use Rattle.descriptor_parse.specs.declared.tag.GlobalTag.TheVariants.{Push, Pop}
+use Rattle.descriptor_parse.specs.Items.{ItemValue}
+use Rattle.descriptor_parse.specs.Tags.{tag, is_usage_page, is_logical_minimum, is_logical_maximum, is_report_size, is_report_id, is_report_count, is_push}
+
+-- Lists of items in this file and the next ones hold the items before one, newest first.
+
+-- Data are little-endian (HID 1.11, 6.2.2.2); no data are 0.
+abbrev pub unsigned : List ℕ → ℕ
+unsigned [] = 0
+unsigned (b ∷ bs) = b + 256 * unsigned bs
+
+-- two's complement
+unfoldable pub signed : List ℕ → ℤ
+signed bytes = if nat_lt (2 * unsigned bytes) (256 ^ length bytes) then pos (unsigned bytes) else pos (unsigned bytes) -ℤ pos (256 ^ length bytes)
+
+-- The items without each Push that was popped, its Pop and all between them, where so many Pops after them are
+-- still to meet their Push (6.2.2.7).
+abbrev pub kept : Tag → ℕ → ItemValue → (ℕ → List ItemValue) → List ItemValue
+kept (Global Pop) pops item earlier = earlier (suc pops)
+kept (Global Push) (suc pops) item earlier = earlier pops
+kept _ zero item earlier = item ∷ earlier zero
+kept _ (suc pops) item earlier = earlier (suc pops)
+
+unfoldable pub without_popped : List ItemValue → ℕ → List ItemValue
+without_popped [] pops = []
+without_popped (item ∷ before) pops = kept (tag item) pops item (without_popped before)
+
+-- the items whose Globals are in force after them all
+abbrev pub in_force : List ItemValue → List ItemValue
+in_force before = without_popped before 0
+
+-- the data of the latest item with such a tag; none if there is no such item
+abbrev pub latest : (Tag → Bool) → List ItemValue → List ℕ
+latest wanted [] = []
+latest wanted (item ∷ before) = if wanted (tag item) then item.bytes else latest wanted before
+
+-- a page has 16 bits
+abbrev pub usage_page : List ItemValue → ℕ
+usage_page before = unsigned (latest is_usage_page (in_force before)) % 2 ^ 16
+
+abbrev pub report_size : List ItemValue → ℕ
+report_size before = unsigned (latest is_report_size (in_force before))
+
+abbrev pub report_count : List ItemValue → ℕ
+report_count before = unsigned (latest is_report_count (in_force before))
+
+-- 0 if no Report ID is in force: no Report ID is 0
+abbrev pub report_id : List ItemValue → ℕ
+report_id before = unsigned (latest is_report_id (in_force before))
+
+abbrev pub logical_minimum : List ItemValue → ℤ
+logical_minimum before = signed (latest is_logical_minimum (in_force before))
+
+-- read as signed only under a negative minimum
+abbrev pub logical_maximum : List ItemValue → ℤ
+logical_maximum before =
+    let bytes = latest is_logical_maximum (in_force before) in
+    if int_lt (logical_minimum before) (pos 0) then signed bytes else pos (unsigned bytes)
+
+-- the Pushes that are still to be popped
+abbrev pub pushes : List ItemValue → ℕ
+pushes before = length (filter (λ item. is_push (tag item)) (in_force before))

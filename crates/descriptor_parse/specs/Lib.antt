@@ -1,0 +1,17 @@
+pub mod Fault
+pub mod Items
+pub mod ItemViews
+pub mod Tags
+pub mod Globals
+pub mod Locals
+pub mod Fields
+pub mod Faults
+pub mod Totals
+pub mod GlobalsStand
+pub mod LocalsStand
+pub mod ReportsStand
+pub mod StateStands
+pub mod Descriptor
+pub mod DescriptorView
+pub mod Parse
+pub mod Cut

@@ -1,0 +1,51 @@
+use Rattle.std.specs.Prelude.{◌≡◌, ℕ, ◌≤◌, ◌*◌, ◌/◌, ◌%◌, ◌^◌, ◌==◌, nat_lt, Bool, true, false, ◌&&◌, if◌then◌else◌, List, [], ◌∷◌, ◌++◌, length, map}
+use Rattle.descriptor_parse.specs.declared.field.Kind.{Kind}
+use Rattle.descriptor_parse.specs.declared.field.Field.{Field}
+use Rattle.descriptor_parse.specs.declared.globals.Globals.{Globals}
+use Rattle.descriptor_parse.specs.declared.reports.Reports.{Reports}
+use Rattle.descriptor_parse.specs.Items.{ItemValue}
+use Rattle.descriptor_parse.specs.Globals.{report_size, report_count}
+use Rattle.descriptor_parse.specs.Fields.{is_constant, fields, field_usages, report_bits, has_report_id, has_bare_data}
+use Rattle.descriptor_parse.specs.declared.locals.Locals.{Locals}
+use Rattle.descriptor_parse.specs.GlobalsStand.{max_of}
+use Rattle.descriptor_parse.specs.LocalsStand.{range_on}
+use Rattle.descriptor_parse.specs.Totals.{bits_in}
+
+abbrev pub declares : ℕ → Globals → Bool
+declares flags g = flags % 2 == 0 && (nat_lt 0 g.size && nat_lt 0 g.count)
+
+abbrev pub field_by : Kind → ℕ → ℕ → Globals → Field
+field_by kind bit flags g = record {
+  kind = kind;
+  id = g.id;
+  bit = bit;
+  size = g.size;
+  count = g.count;
+  min = g.min;
+  max = max_of g;
+  array = flags / 2 % 2 == 0;
+}
+
+-- A field more and its usages, if a data item declares one; nothing else changes.
+pub record Declares (kind : Kind) (flags : ℕ) (g : Globals) (locals : Locals) (old new : Reports) : Type 0 where
+  pub fields : (declares flags g ≡ true → (g.size ≤ 32) × (g.count ≤ 1024)) → new.fields.items
+      ≡ (if declares flags g then old.fields.items ++ field_by kind (bits_in old.totals kind g.id) flags g ∷ [] else old.fields.items)
+  pub ranges : map (λ v. v.items) new.ranges.items
+      ≡ (if declares flags g then map (λ v. v.items) old.ranges.items ++ map (range_on g.page) locals.usages.items ∷ [] else map (λ v. v.items) old.ranges.items)
+  pub totals : new.totals ≡ old.totals
+  pub has_ids : new.has_ids ≡ old.has_ids
+  pub has_bare : new.has_bare ≡ old.has_bare
+
+-- a data item within the limits
+pub record FitsData (before : List ItemValue) (item : ItemValue) : Type 0 where
+  pub size : report_size before ≤ 1024
+  pub field_size : is_constant item ≡ false → report_size before ≤ 32
+  pub count : report_count before ≤ 1024
+
+pub record ReportsStand (before : List ItemValue) (reports : Reports) : Type 0 where
+  pub bits : (kind : Kind) (id : ℕ) → bits_in reports.totals kind id ≡ report_bits kind id before
+  pub small : (kind : Kind) (id : ℕ) → report_bits kind id before ≤ 2 ^ 20 * length before
+  pub fields : reports.fields.items ≡ fields before
+  pub ranges : map (λ v. v.items) reports.ranges.items ≡ field_usages before
+  pub has_ids : reports.has_ids ≡ has_report_id before
+  pub has_bare : reports.has_bare ≡ has_bare_data before

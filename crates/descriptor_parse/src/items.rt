@@ -1,0 +1,138 @@
+//! A text as the list of its items.
+
+ghost use Rattle.std.specs.Prelude.{◌≡◌, ◌+◌, ◌^◌, ◌<◌, ◌≤◌, ℕ, List, length, drop, slice_index, MatchResult, IfOk, IfErr};
+ghost use Rattle.std.specs.Iterator.{YieldsFirstBy, item_count};
+ghost use Rattle.descriptor_parse.specs.Items.{data_size, head_size, item_size, front_item, items_at};
+ghost use Rattle.descriptor_parse.specs.declared.fault.ParseFault.{ParseFault};
+ghost use Rattle.descriptor_parse.specs.ItemViews.{item_view, result_view};
+
+use crate::fault::{ParseError, ParseFault};
+use std::marker::Model;
+
+/// The prefix of a long item.
+pub(crate) const LONG: u8 = 0xFE;
+
+/// An item of a report descriptor: the offset of its prefix in the text, the prefix, and the data.
+#[derive(Clone, Copy, Debug)]
+pub struct Item<'a> {
+    pub offset: usize,
+    pub prefix: u8,
+    pub bytes: &'a [u8],
+}
+
+/// The items of a text, one after the other, ended by the first that is not whole.
+#[derive(Drop)]
+pub struct Items<'a> {
+    rest: &'a [u8],
+    offset: usize,
+}
+
+impl<'a> Model for Items<'a> {
+    ghost use Rattle.std.specs.Prelude.{List, Result, ◌+◌, ◌^◌, ◌<◌, length};
+    ghost use Rattle.descriptor_parse.specs.Items.{ItemValue, items_at};
+    ghost use Rattle.descriptor_parse.specs.declared.fault.ParseError.{ParseError};
+
+    ghost Value = { List (Result ItemValue ParseError) };
+
+    ghost view = { λ s. items_at s.offset s.rest.now };
+
+    ghost invariant = { λ s. s.offset + length s.rest.now < 2 ^ 64 };
+}
+
+impl<'a> Items<'a> {
+    /// The items of `text`.
+    pub fn new(text: &'a [u8]) -> Items<'a>
+        ensures { result ≡ items_at 0 text.now }
+    {
+        Items {
+            rest: text,
+            offset: 0,
+        }
+    }
+}
+
+impl<'a> Iterator for Items<'a> {
+    type Item = Result<Item<'a>, ParseError>;
+
+    ghost next_gives = { YieldsFirstBy result_view (λ s. s) };
+
+    ghost remaining = { item_count (λ s. s) };
+
+    #[tactic(auto, using(crate::proofs::ItemLemmas::items_end, crate::proofs::ItemLemmas::items_short, crate::proofs::ItemLemmas::items_more))]
+    fn next(&mut self) -> Option<Result<Item<'a>, ParseError>> {
+        if self.rest.is_empty() {
+            return None;
+        }
+        match cut(self.offset, self.rest) {
+            Ok((item, rest)) => {
+                self.offset += self.rest.len() - rest.len();
+                self.rest = rest;
+                Some(Ok(item))
+            }
+            Err(error) => {
+                self.rest = &[];
+                Some(Err(error))
+            }
+        }
+    }
+}
+
+/// The item at the front of a text that stands at `offset`, and the text after it.
+pub(crate) fn cut(offset: usize, text: &[u8]) -> Result<(Item<'_>, &[u8]), ParseError>
+    requires { 0 < length text.now }
+    ensures size { MatchResult result
+        (λ _. item_size text.now ≤ length text.now)
+        (λ _. length text.now < item_size text.now) }
+    ensures item { IfOk result (λ r. item_view r.0 ≡ front_item offset text.now) }
+    ensures rest { IfOk result (λ r. r.1.now ≡ drop (item_size text.now) text.now) }
+    ensures cut_off { IfErr result (λ e. e ≡ record { fault = ParseFault.Truncated; offset = offset }) }
+{
+    let size = size_of_front(text);
+    if text.len() < size {
+        return Err(ParseError {
+            fault: ParseFault::Truncated,
+            offset,
+        });
+    }
+    let prefix = text[0];
+    let (whole, rest) = text.split_at(size);
+    let bytes = &whole[head(prefix)..];
+    Ok((
+        Item {
+            offset,
+            prefix,
+            bytes,
+        },
+        rest,
+    ))
+}
+
+/// How many bytes the item at the front of a text takes.
+fn size_of_front(text: &[u8]) -> usize
+    requires { 0 < length text.now }
+    ensures { result ≡ item_size text.now }
+{
+    match text {
+        [LONG, size, ..] => 3 + *size as usize,
+        [LONG] => 3,
+        [prefix, ..] => 1 + data_len(*prefix),
+        [] => 1,
+    }
+}
+
+/// How many bytes of an item come before its data.
+fn head(prefix: u8) -> usize
+    ensures { result ≡ head_size prefix }
+{
+    if prefix == LONG { 3 } else { 1 }
+}
+
+/// How many bytes of data follow the prefix of a short item.
+fn data_len(prefix: u8) -> usize
+    ensures { result ≡ data_size prefix }
+{
+    match prefix % 4 {
+        3 => 4,
+        size => size as usize,
+    }
+}

@@ -1,0 +1,28 @@
+//! The host's parser of HID report descriptors (HID 1.11, section 6.2.2).
+//!
+//! [`Items`] cuts a text into its items, whatever they say. [`parse`] reads a whole text: it gives the fields that the
+//! text declares, or its first fault. Nothing is trusted: any bytes may come.
+#![tactic(auto)]
+
+pub mod descriptor;
+pub mod fault;
+pub mod field;
+mod globals;
+pub mod items;
+pub mod laws;
+mod locals;
+mod number;
+mod reports;
+mod state;
+mod tag;
+mod text;
+mod totals;
+
+pub use descriptor::Descriptor;
+pub use fault::{ParseError, ParseFault};
+pub use field::{Field, Kind};
+pub use items::{Item, Items};
+pub use text::parse;
+
+#[cfg(test)]
+mod tests;

@@ -1,0 +1,180 @@
+//! The Local items since the latest Main item (HID 1.11, 6.2.2.8).
+
+ghost use Rattle.std.specs.Prelude.{◌≡◌, ◌≢◌, ◌≤◌, ◌<◌, ◌/◌, ℕ, List, [], ◌∷◌, true, OnOk, IfOk, length, map};
+ghost use Rattle.descriptor_parse.specs.Items.{ItemValue};
+ghost use Rattle.descriptor_parse.specs.Tags.{tag_of, is_main};
+ghost use Rattle.descriptor_parse.specs.Locals.{usage_number};
+ghost use Rattle.descriptor_parse.specs.LocalsStand.{LocalsStand, usage_of, usage_on, range_on, raw_of, are_alike, fault_of_pair, fault_of_local, TakesHalf};
+ghost use Rattle.descriptor_parse.specs.declared.tag.Tag.{Tag};
+ghost use Rattle.descriptor_parse.specs.declared.tag.LocalTag.{LocalTag};
+
+use crate::fault::ParseFault;
+use crate::number::unsigned;
+use crate::tag::LocalTag;
+use std::alloc::{AllocError, Global};
+
+/// A usage as it is written: with its page, or without.
+#[derive(Clone, Copy)]
+pub(crate) enum Usage {
+    Short(u16),
+    Whole(u32),
+}
+
+impl Usage {
+    /// The usage that these data write.
+    pub(crate) fn read(bytes: &[u8]) -> Usage
+        requires few { length bytes.now ≤ 4 }
+        requires not_three { length bytes.now ≢ 3 }
+        ensures { result ≡ usage_of bytes.now }
+    {
+        let number = unsigned(bytes);
+        if bytes.len() == 4 {
+            Usage::Whole(number)
+        } else {
+            Usage::Short(number as u16)
+        }
+    }
+
+    /// The number of the usage, where a short one is of this page.
+    pub(crate) fn on(self, page: u16) -> u32
+        ensures { result ≡ usage_on page self }
+    {
+        match self {
+            Usage::Short(id) => page as u32 * 0x1_0000 + id as u32,
+            Usage::Whole(number) => number,
+        }
+    }
+}
+
+/// A range of usages, its first and its last.
+#[derive(Clone, Copy)]
+pub(crate) struct UsageRange {
+    pub(crate) first: Usage,
+    pub(crate) last: Usage,
+}
+
+/// A Usage Minimum or Maximum that has not met its pair.
+#[derive(Clone, Copy)]
+pub(crate) struct Half {
+    pub(crate) minimum: bool,
+    pub(crate) usage: Usage,
+}
+
+/// The usages since the latest Main item, and the Minimum or Maximum that has not met its pair.
+#[derive(Drop)]
+pub(crate) struct Locals {
+    pub(crate) usages: Vec<UsageRange>,
+    pub(crate) half: Option<Half>,
+}
+
+impl Locals {
+    pub(crate) fn new(alloc: Global) -> Locals
+        ensures { LocalsStand [] result }
+    {
+        Locals {
+            usages: Vec::new(alloc),
+            half: None,
+        }
+    }
+
+    /// The fault of a Local item.
+    pub(crate) fn judge(&self, tag: LocalTag, usage: Usage) -> Option<ParseFault>
+        ensures { result ≡ fault_of_local tag usage self.now.half }
+    {
+        match (tag, self.half) {
+            (LocalTag::Delimiter, _) => Some(ParseFault::Delimiter),
+            (LocalTag::UsageMinimum, Some(half)) => pair_fault(!half.minimum, usage, half.usage),
+            (LocalTag::UsageMaximum, Some(half)) => pair_fault(half.minimum, half.usage, usage),
+            _ => None,
+        }
+    }
+
+    /// Takes a Local item.
+    pub(crate) fn take(&mut self, tag: LocalTag, usage: Usage) -> Result<(), AllocError>
+        ensures { OnOk result ((before : List ItemValue) (item : ItemValue) → tag_of item.prefix ≡ Tag.Local tag
+            → usage_of item.bytes ≡ usage → LocalsStand before self.old → LocalsStand (item ∷ before) self.new) }
+    {
+        match tag {
+            LocalTag::Usage => self.usages.push(UsageRange {
+                first: usage,
+                last: usage,
+            })?,
+            LocalTag::UsageMinimum => self.take_half(true, usage)?,
+            LocalTag::UsageMaximum => self.take_half(false, usage)?,
+            LocalTag::Delimiter => {}
+        }
+        Ok(())
+    }
+
+    /// Keeps a Minimum or Maximum, or makes it a range with its pair.
+    fn take_half(&mut self, minimum: bool, usage: Usage) -> Result<(), AllocError>
+        ensures { OnOk result (TakesHalf minimum usage self.old self.new) }
+    {
+        match self.half {
+            None => self.half = Some(Half { minimum, usage }),
+            Some(half) => {
+                let (first, last) = if minimum {
+                    (usage, half.usage)
+                } else {
+                    (half.usage, usage)
+                };
+                self.usages.push(UsageRange { first, last })?;
+                self.half = None;
+            }
+        }
+        Ok(())
+    }
+
+    /// Ends the Local items at a Main item.
+    pub(crate) fn clear(&mut self)
+        ensures { (before : List ItemValue) (item : ItemValue) → is_main (tag_of item.prefix) ≡ true → LocalsStand (item ∷ before) self.new }
+    {
+        self.usages.clear();
+        self.half = None;
+    }
+
+    /// The ranges, where short usages are of this page.
+    pub(crate) fn ranges(&self, alloc: Global, page: u16) -> Result<Vec<(u32, u32)>, AllocError>
+        ensures { IfOk result (λ v. v.items ≡ map (range_on page) self.now.usages.items) }
+    {
+        self.usages
+            .iter()
+            .map(|range| (range.first.on(page), range.last.on(page)))
+            .collect(alloc)
+    }
+}
+
+/// What is wrong with a pair.
+fn pair_fault(paired: bool, min: Usage, max: Usage) -> Option<ParseFault>
+    ensures { result ≡ fault_of_pair paired min max }
+{
+    if !paired || !matches(min, max) {
+        return Some(ParseFault::UnpairedUsage);
+    }
+    if raw(max) < raw(min) {
+        Some(ParseFault::UsageInverted)
+    } else {
+        None
+    }
+}
+
+/// Whether two usages have no page of their own, or the same one.
+fn matches(min: Usage, max: Usage) -> bool
+    ensures { result ≡ are_alike min max }
+{
+    match (min, max) {
+        (Usage::Short(_), Usage::Short(_)) => true,
+        (Usage::Whole(a), Usage::Whole(b)) => a / 0x1_0000 == b / 0x1_0000,
+        _ => false,
+    }
+}
+
+/// The number as it is written.
+fn raw(usage: Usage) -> u32
+    ensures { result ≡ raw_of usage }
+{
+    match usage {
+        Usage::Short(id) => id as u32,
+        Usage::Whole(number) => number,
+    }
+}

@@ -1,0 +1,127 @@
+//! What the data items declare.
+
+ghost use Rattle.std.specs.Prelude.{◌≡◌, ◌≤◌, ◌<◌, ◌^◌, ℕ, List, [], ◌∷◌, OnOk, length, map, true, false};
+ghost use Rattle.descriptor_parse.specs.Items.{ItemValue};
+ghost use Rattle.descriptor_parse.specs.Tags.{tag_of};
+ghost use Rattle.descriptor_parse.specs.Globals.{unsigned, in_force, report_size, report_count, usage_page};
+ghost use Rattle.descriptor_parse.specs.Locals.{usages_since_main};
+ghost use Rattle.descriptor_parse.specs.Fields.{is_constant};
+ghost use Rattle.descriptor_parse.specs.GlobalsStand.{globals_of};
+ghost use Rattle.descriptor_parse.specs.LocalsStand.{LocalsStand};
+ghost use Rattle.descriptor_parse.specs.ReportsStand.{ReportsStand, FitsData, Declares, declares, field_by};
+ghost use Rattle.descriptor_parse.specs.declared.tag.Tag.{Tag};
+ghost use Rattle.descriptor_parse.specs.declared.tag.MainTag.{MainTag};
+
+use crate::field::{Field, Kind};
+use crate::globals::Globals;
+use crate::locals::Locals;
+use crate::tag::GlobalTag;
+use crate::totals::Totals;
+use std::alloc::{AllocError, Global};
+
+/// The most bits of a place.
+pub(crate) const MAX_SIZE: u32 = 32;
+
+/// The most places of a field.
+pub(crate) const MAX_COUNT: u32 = 1024;
+
+/// The fields so far with their usages, the bits of each report, and whether report IDs are used.
+#[derive(Drop)]
+pub(crate) struct Reports {
+    pub(crate) totals: Totals,
+    pub(crate) fields: Vec<Field>,
+    pub(crate) ranges: Vec<Vec<(u32, u32)>>,
+    /// A Report ID item came.
+    pub(crate) has_ids: bool,
+    /// A data item came without a Report ID in force.
+    pub(crate) has_bare: bool,
+}
+
+impl Reports {
+    pub(crate) fn new(alloc: Global) -> Reports
+        ensures { ReportsStand [] result }
+    {
+        Reports {
+            totals: Totals::new(alloc),
+            fields: Vec::new(alloc),
+            ranges: Vec::new(alloc),
+            has_ids: false,
+            has_bare: false,
+        }
+    }
+
+    /// Notes a Global item: whether it is a Report ID.
+    pub(crate) fn note(&mut self, tag: GlobalTag)
+        ensures { (before : List ItemValue) (item : ItemValue) → tag_of item.prefix ≡ Tag.Global tag
+            → ReportsStand before self.old → ReportsStand (item ∷ before) self.new }
+    {
+        match tag {
+            GlobalTag::ReportId => self.has_ids = true,
+            _ => {}
+        }
+    }
+
+    /// Takes a data item that shows no fault.
+    pub(crate) fn take(
+        &mut self,
+        alloc: Global,
+        kind: Kind,
+        flags: u32,
+        globals: &Globals,
+        locals: &Locals,
+    ) -> Result<(), AllocError>
+        ensures { OnOk result ((before : List ItemValue) (item : ItemValue) → tag_of item.prefix ≡ Tag.Main (MainTag.Data kind)
+            → unsigned item.bytes ≡ flags → globals.now ≡ globals_of (in_force before) → LocalsStand before locals.now
+            → FitsData before item → length before ≤ 4096 → ReportsStand before self.old → ReportsStand (item ∷ before) self.new) }
+    {
+        self.declare(alloc, kind, flags, globals, locals)?;
+        let more = (globals.size as u64).saturating_mul(globals.count as u64);
+        self.totals.add(kind, globals.id, more)?;
+        self.has_bare |= globals.id == 0;
+        Ok(())
+    }
+
+    /// Adds the field of a data item, if it declares one.
+    fn declare(
+        &mut self,
+        alloc: Global,
+        kind: Kind,
+        flags: u32,
+        globals: &Globals,
+        locals: &Locals,
+    ) -> Result<(), AllocError>
+        ensures { OnOk result (Declares kind flags globals.now locals.now self.old self.new) }
+    {
+        if !declares(flags, globals) {
+            return Ok(());
+        }
+        let ranges = locals.ranges(alloc, globals.page)?;
+        let bit = self.totals.bits(kind, globals.id);
+        self.ranges.push(ranges)?;
+        self.fields.push(field(kind, bit, flags, globals))?;
+        Ok(())
+    }
+}
+
+/// Whether a data item declares a field.
+pub(crate) fn declares(flags: u32, globals: &Globals) -> bool
+    ensures { result ≡ declares flags globals.now }
+{
+    flags % 2 == 0 && globals.size > 0 && globals.count > 0
+}
+
+/// The field of a data item, whose size and count were found to fit.
+fn field(kind: Kind, bit: u64, flags: u32, globals: &Globals) -> Field
+    ensures { globals.now.size ≤ 32 → globals.now.count ≤ 1024 → result ≡ field_by kind bit flags globals.now }
+{
+    Field {
+        kind,
+        id: globals.id,
+        bit,
+        size: globals.size.min(MAX_SIZE) as u8,
+        count: globals.count.min(MAX_COUNT) as u16,
+        min: globals.min,
+        max: globals.max(),
+        array: flags / 2 % 2 == 0,
+    }
+}

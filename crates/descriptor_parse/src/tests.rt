@@ -1,0 +1,120 @@
+//! Texts and what they say, as tables of hex and of the lines that the program prints.
+
+mod faults;
+mod memory;
+mod readers;
+mod rows;
+mod same;
+mod slow;
+
+use crate::{Descriptor, Kind, parse};
+use std::alloc::Global;
+use std::process::Abort;
+use std::test::Fail;
+
+/// The report descriptor that the keyboard serves, 128 bytes.
+const SERVED: [u8; 128] = [
+    0x05, 0x01, 0x09, 0x06, 0xA1, 0x01, 0x85, 0x01, 0x05, 0x07, 0x19, 0xE0, 0x29, 0xE7, 0x15, 0x00,
+    0x25, 0x01, 0x75, 0x01, 0x95, 0x08, 0x81, 0x02, 0x19, 0x04, 0x29, 0xA4, 0x95, 0xA1, 0x81, 0x02,
+    0x95, 0x07, 0x81, 0x03, 0x05, 0x08, 0x19, 0x01, 0x29, 0x05, 0x95, 0x05, 0x91, 0x02, 0x95, 0x03,
+    0x91, 0x03, 0xC0, 0x05, 0x0C, 0x09, 0x01, 0xA1, 0x01, 0x85, 0x02, 0x15, 0x00, 0x25, 0x01, 0x75,
+    0x01, 0x95, 0x10, 0x09, 0xB0, 0x09, 0xB1, 0x09, 0xB2, 0x09, 0xB3, 0x09, 0xB4, 0x09, 0xB5, 0x09,
+    0xB6, 0x09, 0xB7, 0x09, 0xB8, 0x09, 0xCD, 0x09, 0xE2, 0x09, 0xE9, 0x09, 0xEA, 0x0A, 0x92, 0x01,
+    0x0A, 0x23, 0x02, 0x0A, 0x24, 0x02, 0x81, 0x02, 0xC0, 0x06, 0x00, 0xFF, 0x09, 0x01, 0xA1, 0x01,
+    0x85, 0x03, 0x09, 0x02, 0x15, 0x00, 0x26, 0xFF, 0x00, 0x75, 0x08, 0x95, 0x05, 0xB1, 0x02, 0xC0,
+];
+
+/// The bytes that words of hex digits write; `3*A100` writes three times `A1 00`.
+fn bytes(alloc: Global, words: &str) -> Result<Vec<u8>, Fail> {
+    let mut out = Vec::new(alloc);
+    for word in words.split(' ') {
+        let (count, digits) = match word.split_once("*") {
+            Some((count, digits)) => (count.parse::<u16>()?, digits),
+            None => (1, word),
+        };
+        for _ in 0..count {
+            push_hex(&mut out, digits)?;
+        }
+    }
+    Ok(out)
+}
+
+fn push_hex(out: &mut Vec<u8>, digits: &str) -> Result<(), Fail> {
+    for pair in digits.as_bytes().chunks(2) {
+        let high = pair.first().map_or(0, |b| digit(*b));
+        let low = pair.last().map_or(0, |b| digit(*b));
+        out.push(high.wrapping_mul(16).wrapping_add(low))?;
+    }
+    Ok(())
+}
+
+fn digit(byte: u8) -> u8 {
+    match byte {
+        b'0'..=b'9' => byte - b'0',
+        b'A'..=b'F' => byte - b'A' + 10,
+        _ => 0,
+    }
+}
+
+/// Compares the answer to each text of a table, whose lines are `WORDS = ANSWER`, or begin with `#`.
+fn check_table(rt: &impl Abort, alloc: Global, table: &str) -> Result<(), Fail> {
+    for line in table.lines() {
+        if let Some((words, want)) = line.split_once(" = ") {
+            let text = bytes(alloc, words)?;
+            let told = answer(alloc, &text)?;
+            assert_eq!(rt; told.as_str(), want, "{words}");
+        }
+    }
+    Ok(())
+}
+
+/// What `parse` says of a text: `N at OFFSET`, or a line for each field, joined by semicolons.
+fn answer(alloc: Global, text: &[u8]) -> Result<String, Fail> {
+    match parse(alloc, text) {
+        Ok(descriptor) => lines(alloc, &descriptor),
+        Err(error) => Ok(format!(in alloc; "{} at {}", error.fault.number(), error.offset)?),
+    }
+}
+
+/// The fields of a descriptor, a line each.
+fn lines(alloc: Global, descriptor: &Descriptor) -> Result<String, Fail> {
+    let mut out = String::new(alloc);
+    for (place, f) in descriptor.fields().iter().enumerate() {
+        if place > 0 {
+            out.push_str("; ")?;
+        }
+        let kind = match f.kind {
+            Kind::Input => "input",
+            Kind::Output => "output",
+            Kind::Feature => "feature",
+        };
+        let form = if f.array { "array" } else { "variable" };
+        let usages = usages(alloc, descriptor.ranges(place))?;
+        let line = format!(in alloc;
+            "{kind} {} {} {} {} {} {} {form} {usages}",
+            f.id, f.bit, f.size, f.count, f.min, f.max
+        )?;
+        out.push_str(&line)?;
+    }
+    Ok(out)
+}
+
+/// Ranges of usages, joined by commas.
+fn usages(alloc: Global, ranges: &[(u32, u32)]) -> Result<String, Fail> {
+    let mut out = String::new(alloc);
+    for (first, last) in ranges {
+        if !out.is_empty() {
+            out.push_str(",")?;
+        }
+        let range = if first == last {
+            format!(in alloc; "{first:08x}")?
+        } else {
+            format!(in alloc; "{first:08x}-{last:08x}")?
+        };
+        out.push_str(&range)?;
+    }
+    if out.is_empty() {
+        out.push_str("-")?;
+    }
+    Ok(out)
+}

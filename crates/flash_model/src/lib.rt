@@ -1,0 +1,71 @@
+//! NOR flash: pages of 512 slots of eight bytes. A program clears bits of one slot, an erase sets
+//! every bit of one page.
+//!
+//! `NorFlash` is the flash that the firmware writes to, with what each operation does to the bytes;
+//! `SimFlash` is one in memory.
+#![tactic(auto)]
+
+ghost use Rattle.std.specs.Prelude.{◌≡◌, ◌+◌, ◌%◌, ◌^◌, ◌<◌, ℕ, List, IsOk, OnOk, is_ok, if◌then◌else◌};
+ghost use Rattle.flash_model.specs.Image.{slot_at, page_count, IsImage};
+ghost use Rattle.flash_model.specs.Operations.{Programs, Erases};
+
+pub mod sim;
+
+pub use sim::{FlashError, SimFlash};
+
+/// A program or an erase that failed.
+#[derive(Clone, Copy, Debug, PartialEq, Eq)]
+pub struct FlashFault;
+
+/// NOR flash of 2 to 8 pages of 4,096 bytes. A page has 512 slots of eight bytes, and their number
+/// never changes.
+pub trait NorFlash {
+    /// The bytes of the pages, one page after the other.
+    ghost image: { Self → List ℕ };
+
+    /// How many programs and erases were made, modulo 2^64.
+    ghost operations: { Self → ℕ };
+
+    /// How many of them failed, modulo 2^64.
+    ghost faults: { Self → ℕ };
+
+    /// No operation fails from here on. Of hardware nothing makes this hold.
+    ghost is_faultless: { Self → Type 0 };
+
+    /// How many pages there are, 2 to 8.
+    fn pages(&self) -> usize
+        ensures count { result ≡ page_count (image self.now) }
+        ensures whole { IsImage (image self.now) };
+
+    /// The eight bytes of slot `slot`, 0 to 511, of page `page`, below `pages()`.
+    fn read_slot(&self, page: usize, slot: usize) -> [u8; 8]
+        requires in_pages { page < page_count (image self.now) }
+        requires in_page { slot < 512 }
+        ensures { result ≡ slot_at (image self.now) page slot };
+
+    /// Clears the bits of a slot that are clear in `bytes`. Slot `slot`, 0 to 511, of page `page`,
+    /// below `pages()`, then holds what it held, AND `bytes`; no other slot is touched.
+    ///
+    /// `FlashFault`: the operation failed. Nothing is promised of the bytes then.
+    fn program_slot(&mut self, page: usize, slot: usize, bytes: [u8; 8]) -> Result<(), FlashFault>
+        requires in_pages { page < page_count (image self.old) }
+        requires in_page { slot < 512 }
+        ensures programmed { OnOk result (Programs (image self.old) page slot bytes (image self.new)) }
+        ensures whole { IsImage (image self.new) }
+        ensures same_pages { page_count (image self.new) ≡ page_count (image self.old) }
+        ensures counted { operations self.new ≡ (operations self.old + 1) % 2 ^ 64 }
+        ensures faulted { faults self.new ≡ (if is_ok result then faults self.old else (faults self.old + 1) % 2 ^ 64) }
+        ensures faultless { is_faultless self.old → IsOk result × is_faultless self.new };
+
+    /// Sets every bit of page `page`, below `pages()`; no other page is touched.
+    ///
+    /// `FlashFault`: the operation failed. Nothing is promised of the bytes then.
+    fn erase_page(&mut self, page: usize) -> Result<(), FlashFault>
+        requires { page < page_count (image self.old) }
+        ensures erased { OnOk result (Erases (image self.old) page (image self.new)) }
+        ensures whole { IsImage (image self.new) }
+        ensures same_pages { page_count (image self.new) ≡ page_count (image self.old) }
+        ensures counted { operations self.new ≡ (operations self.old + 1) % 2 ^ 64 }
+        ensures faulted { faults self.new ≡ (if is_ok result then faults self.old else (faults self.old + 1) % 2 ^ 64) }
+        ensures faultless { is_faultless self.old → IsOk result × is_faultless self.new };
+}

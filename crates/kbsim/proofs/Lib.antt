@@ -1,0 +1,6 @@
+pub mod LineLemmas
+pub mod NumberLemmas
+pub mod PrintLemmas
+pub mod ReaderLemmas
+pub mod ScriptLemmas
+pub mod WordLemmas

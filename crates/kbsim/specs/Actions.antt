@@ -1,0 +1,17 @@
+-- The event of a line.
+use Rattle.std.specs.Prelude.{◌≡◌}
+use Rattle.kbsim.specs.declared.statement.Action.{Action}
+use Rattle.kbsim.specs.declared.statement.Action.TheVariants as action
+use Rattle.world.specs.declared.event.Event.{Event}
+use Rattle.world.specs.declared.event.Event.TheVariants as event
+
+-- the event that a line of one event stands for
+abbrev pub IsEventOf : Action → Event → Type 0
+IsEventOf (action.Setup packet) e = e ≡ event.Setup packet
+IsEventOf (action.Out packet) (event.OutPacket sent) = sent.items ≡ packet.items
+IsEventOf (action.Out packet) e = ⊥
+IsEventOf action.In e = e ≡ event.InPacket
+IsEventOf action.Work e = e ≡ event.Work
+IsEventOf action.Cut e = e ≡ event.Cut
+IsEventOf (action.Entry layer key) e = e ≡ event.Entry layer key
+IsEventOf (action.Slot page slot) e = e ≡ event.SlotAt page slot

@@ -1,0 +1,25 @@
+-- What a word of digits writes.
+use Rattle.std.specs.Prelude.{◌≡◌, ℕ, ◌*◌, ◌<◌, ◌≤◌, List, length, Ok}
+use Rattle.std.specs.List.{AllPass}
+use Rattle.std.specs.Str.Parse.{IsNumeral, digits_value}
+use Rattle.hex.specs.Hex.{decode_of, is_hex_digit}
+
+-- the word is the number n in 1 to 5 decimal digits
+abbrev pub WritesNumber : List ℕ → ℕ → Type 0
+WritesNumber word n = IsNumeral 10 word × (length word ≤ 5) × (digits_value 10 word ≡ n)
+
+-- the word is a number below a bound
+abbrev pub IsNumberBelow : ℕ → List ℕ → Type 0
+IsNumberBelow bound word = IsNumeral 10 word × (length word ≤ 5) × (digits_value 10 word < bound)
+
+-- the word is these bytes in hex, two digits a byte, in either case
+abbrev pub WritesBytes : List ℕ → List ℕ → Type 0
+WritesBytes word bytes = decode_of word ≡ Ok bytes
+
+-- the word is `least` to `most` bytes in hex
+pub record IsHexOf (least most : ℕ) (word : List ℕ) : Type 0 where
+  pub count : ℕ
+  pub pairs : length word ≡ 2 * count
+  pub enough : least ≤ count
+  pub no_more : count ≤ most
+  pub digits : AllPass is_hex_digit word

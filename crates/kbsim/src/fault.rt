@@ -1,0 +1,44 @@
+//! Why a script is not run to its end.
+
+use thiserror::Error;
+
+/// What is wrong with a line of a script. A line is checked in this order: its first word, the
+/// number of its words, and then each word from the left.
+#[derive(Clone, Copy, Debug, PartialEq, Eq, Error)]
+pub enum LineFault {
+    /// The first word begins no line of the language.
+    #[error("unknown word")]
+    UnknownWord,
+    /// There are more or fewer words than this line takes.
+    #[error("wrong words")]
+    WrongWords,
+    /// A word is no decimal number of 1 to 5 digits, or its number is out of its range.
+    #[error("bad number")]
+    BadNumber,
+    /// A word is not the hex digits of as many bytes as this line takes.
+    #[error("bad hex")]
+    BadHex,
+}
+
+/// Why a run ends before the end of its script.
+#[derive(Clone, Copy, Debug, PartialEq, Eq, Error)]
+pub enum RunError {
+    /// The number of pages is not 2 to 8. Nothing was read.
+    #[error("the flash has 2 to 8 pages")]
+    PageCount,
+    /// A line is not of the language. Lines are counted from 1. No event was run.
+    #[error("line {line}: {fault}")]
+    Line { line: usize, fault: LineFault },
+    /// The script is longer than 1,048,576 bytes.
+    #[error("the script is longer than 1048576 bytes")]
+    TooLong,
+    /// The reader failed, or was interrupted.
+    #[error("the script can't be read")]
+    Input,
+    /// The writer failed, or took no byte. Nothing was printed after that.
+    #[error("the output can't be written")]
+    Output,
+    /// A request for memory was refused.
+    #[error("out of memory")]
+    Memory,
+}

@@ -1,0 +1,180 @@
+//! Printing answers and faults.
+
+ghost use Rattle.std.specs.Prelude.{◌≡◌, [], OnOk};
+ghost use Rattle.std.specs.Io.KnownBytes.{Appends, Keeps, append_known};
+ghost use Rattle.kbsim.specs.Prints.{fault_line, fault_name};
+
+use crate::{Answer, LineFault, RunError, Work};
+use arrayvec::ArrayString;
+use std::fmt;
+use std::fmt::Write as _;
+use std::io::Write;
+
+/// Printed lines on their way to a writer, which gets them in pieces of at most 4,096 bytes.
+#[derive(Drop)]
+pub(crate) struct Printer<'w, W> {
+    writer: &'w mut W,
+    waiting: ArrayString<4096>,
+}
+
+/// The writer failed, or took no byte.
+#[derive(Clone, Copy, Debug, PartialEq, Eq)]
+pub(crate) struct WriterFault;
+
+impl<'w, W: Write> Printer<'w, W> {
+    pub(crate) fn new(writer: &'w mut W) -> Printer<'w, W>
+        ensures writer { result.writer ≡ writer.entry }
+        ensures empty { result.waiting.bytes ≡ [] }
+    {
+        Printer {
+            writer,
+            waiting: ArrayString::new(),
+        }
+    }
+
+    /// Prints the answer of a script's line.
+    pub(crate) fn answer(&mut self, line: usize, answer: &Answer) -> fmt::Result {
+        let shown = Shown(answer);
+        writeln!(self, "{line} {shown}")
+    }
+
+    /// Prints the line of a fault, if it has one.
+    pub(crate) fn fault(&mut self, error: RunError) -> fmt::Result
+        ensures printed { OnOk result (Appends
+            (append_known (W.contents self.old.writer.now) self.old.waiting.bytes)
+            (append_known (W.contents self.new.writer.now) self.new.waiting.bytes)
+            (fault_line error)) }
+        ensures same_writer { OnOk result (self.new.writer.ghost_name ≡ self.old.writer.ghost_name) }
+    {
+        match error {
+            RunError::PageCount | RunError::Output => Ok(()),
+            RunError::Line { line, fault } => {
+                let name = name_of(fault);
+                writeln!(self, "fault line {line}: {name}")
+            }
+            RunError::TooLong => writeln!(self, "fault too long"),
+            RunError::Input => writeln!(self, "fault input"),
+            RunError::Memory => writeln!(self, "fault memory"),
+        }
+    }
+
+    /// Gives the writer all that was printed.
+    pub(crate) fn finish(&mut self) -> Result<(), WriterFault>
+        ensures given { OnOk result (Keeps
+            (append_known (W.contents self.old.writer.now) self.old.waiting.bytes)
+            (W.contents self.new.writer.now)) }
+        ensures same_writer { OnOk result (self.new.writer.ghost_name ≡ self.old.writer.ghost_name) }
+    {
+        self.send()?;
+        self.writer.flush().map_err(|_| WriterFault)
+    }
+
+    fn send(&mut self) -> Result<(), WriterFault>
+        ensures given { OnOk result (Keeps
+            (append_known (W.contents self.old.writer.now) self.old.waiting.bytes)
+            (W.contents self.new.writer.now)) }
+        ensures empty { OnOk result (self.new.waiting.bytes ≡ []) }
+        ensures same_writer { self.new.writer.ghost_name ≡ self.old.writer.ghost_name }
+    {
+        write_whole(self.writer, self.waiting.as_str().as_bytes())?;
+        self.waiting.clear();
+        Ok(())
+    }
+}
+
+impl<W: Write> fmt::Write for Printer<'_, W> {
+    ghost write_str_gives = { λ s bs t. (t.writer.ghost_name ≡ s.writer.ghost_name)
+        × Appends (append_known (W.contents s.writer.now) s.waiting.bytes)
+        (append_known (W.contents t.writer.now) t.waiting.bytes) bs };
+
+    fn write_str(&mut self, text: &str) -> fmt::Result {
+        if self.waiting.try_push_str(text).is_ok() {
+            return Ok(());
+        }
+        self.send().map_err(|_| fmt::Error)?;
+        if self.waiting.try_push_str(text).is_ok() {
+            return Ok(());
+        }
+        write_whole(self.writer, text.as_bytes()).map_err(|_| fmt::Error)
+    }
+}
+
+/// Writes all these bytes. Any fault of the writer ends it, an interruption too.
+fn write_whole<W: Write>(writer: &mut W, bytes: &[u8]) -> Result<(), WriterFault>
+    ensures { OnOk result (Appends (W.contents writer.old) (W.contents writer.new) bytes.now) }
+{
+    let mut rest = bytes;
+    while !rest.is_empty() {
+        match writer.write(rest) {
+            Ok(taken) if taken > 0 => rest = &rest[taken..],
+            _ => return Err(WriterFault),
+        }
+    }
+    Ok(())
+}
+
+fn name_of(fault: LineFault) -> &'static str
+    ensures { result.now ≡ fault_name fault }
+{
+    match fault {
+        LineFault::UnknownWord => "unknown word",
+        LineFault::WrongWords => "wrong words",
+        LineFault::BadNumber => "bad number",
+        LineFault::BadHex => "bad hex",
+    }
+}
+
+/// An answer as scripts show it.
+#[derive(Drop)]
+struct Shown<'a>(&'a Answer);
+
+impl fmt::Display for Shown<'_> {
+    fn fmt<W: fmt::Write>(&self, f: &mut fmt::Formatter<W>) -> fmt::Result {
+        match self.0 {
+            Answer::Ack => write!(f, "ack"),
+            Answer::Nak => write!(f, "nak"),
+            Answer::Packet(bytes) if bytes.is_empty() => write!(f, "data -"),
+            Answer::Packet(bytes) => {
+                let digits = Digits(bytes.as_slice());
+                write!(f, "data {digits}")
+            }
+            Answer::Stall(why) => {
+                let number = *why as u8;
+                write!(f, "stall {number}")
+            }
+            Answer::Worked(work) => write!(f, "{}", outcome_of(*work)),
+            Answer::Restarted => write!(f, "restart"),
+            Answer::EntryIs(code) => {
+                let bits = code.bits();
+                write!(f, "{bits:04x}")
+            }
+            Answer::SlotIs(bytes) => {
+                let digits = Digits(bytes.as_slice());
+                write!(f, "{digits}")
+            }
+            Answer::NoSlot => write!(f, "no slot"),
+        }
+    }
+}
+
+fn outcome_of(work: Work) -> &'static str {
+    match work {
+        Work::Idle => "idle",
+        Work::Working => "working",
+        Work::Settled => "settled",
+        Work::Failed => "failed",
+    }
+}
+
+/// Bytes as hex digits.
+#[derive(Drop)]
+struct Digits<'a>(&'a [u8]);
+
+impl fmt::Display for Digits<'_> {
+    fn fmt<W: fmt::Write>(&self, f: &mut fmt::Formatter<W>) -> fmt::Result {
+        for byte in self.0 {
+            write!(f, "{byte:02x}")?;
+        }
+        Ok(())
+    }
+}

@@ -1,0 +1,28 @@
+//! Requests for memory that are refused. In a plain run none is; the test command can refuse one.
+
+use crate::{RunError, run_script};
+use arrayvec::ArrayVec;
+
+const SCRIPT: &[u8] = b"entry 0 0\nset 0 0 0005\nslot 0 1\ncut\nentry 0 0\n";
+
+const PRINTED: &[u8] = b"1 0004\n2 ack\n3 05000010faffffef\n4 restart\n5 0005\n";
+
+const REFUSED: &[u8] = b"fault memory\n";
+
+#[test]
+fn whole_lines_and_then_the_fault(rt: HostRuntime) {
+    let mut reader = SCRIPT;
+    let mut printed: ArrayVec<u8, 128> = ArrayVec::new();
+    let ended = run_script(rt.alloc(), 2, &mut reader, &mut printed);
+    if ended == Ok(()) {
+        assert_eq!(rt; printed.as_slice(), PRINTED);
+    } else {
+        assert_eq!(rt; ended, Err(RunError::Memory));
+        let front = printed.as_slice().strip_suffix(REFUSED);
+        assert!(rt; front.is_some_and(|lines| is_whole(lines) && PRINTED.starts_with(lines)));
+    }
+}
+
+fn is_whole(lines: &[u8]) -> bool {
+    lines.is_empty() || lines.last() == Some(&b'\n')
+}

@@ -1,0 +1,83 @@
+//! What the program does and the status that it ends with.
+
+ghost use Rattle.std.specs.Prelude.{◌≡◌, ◌≤◌, IfErr};
+
+use crate::command_line::{Request, read};
+use clap::Error;
+use clap::error::ErrorKind;
+use kbsim::run_script;
+use std::rt::Env;
+use std::{env, io};
+
+/// The status of a run that was done, and of help.
+const DONE: u8 = 0;
+
+/// The status of a run that met a fault.
+const FAULT: u8 = 1;
+
+/// The status of a refused command line.
+const REFUSED: u8 = 2;
+
+/// Does what the command line asks for. The answer is the program's exit status.
+pub fn status<R: Env + AllocGlobal + Input + Print + Eprint>(rt: &R) -> u8
+    ensures { result ≤ 2 }
+{
+    let words = match words(rt) {
+        Ok(words) => words,
+        Err(status) => return status,
+    };
+    match read(rt.alloc(), words.as_slice()) {
+        Ok(Request::Run { pages }) => run(rt, pages),
+        Err(error) => refuse(rt, &error),
+    }
+}
+
+fn run<R: AllocGlobal + Input + Print>(rt: &R, pages: usize) -> u8
+    ensures { result ≤ 1 }
+{
+    let mut reader = rt.reader();
+    let mut writer = io::writer(rt);
+    match run_script(rt.alloc(), pages, &mut reader, &mut writer) {
+        Ok(()) => DONE,
+        Err(_) => FAULT,
+    }
+}
+
+/// The words of the command line, the program's name first. The error is the exit status.
+fn words<R: Env + AllocGlobal + Print + Eprint>(rt: &R) -> Result<Vec<String>, u8>
+    ensures { IfErr result (λ status. status ≤ 2) }
+{
+    let words = match env::args(rt) {
+        Ok(words) => words,
+        Err(error) if error.kind() == io::ErrorKind::OutOfMemory => return Err(no_memory(rt)),
+        Err(_) => {
+            let _ = eprintln!(rt; "error: the command line is not text");
+            return Err(REFUSED);
+        }
+    };
+    words.collect(rt.alloc()).map_err(|_| no_memory(rt))
+}
+
+/// Says why there is nothing to run, or shows the help that was asked for.
+fn refuse<R: Print + Eprint>(rt: &R, error: &Error) -> u8
+    ensures { result ≤ 2 }
+{
+    if error.kind() == ErrorKind::OutOfMemory {
+        return no_memory(rt);
+    }
+    let printed = error.print(rt);
+    if error.use_stderr() {
+        REFUSED
+    } else if printed.is_ok() {
+        DONE
+    } else {
+        FAULT
+    }
+}
+
+fn no_memory<R: Print>(rt: &R) -> u8
+    ensures { result ≡ FAULT }
+{
+    let _ = println!(rt; "fault memory");
+    FAULT
+}

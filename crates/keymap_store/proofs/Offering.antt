@@ -1,0 +1,152 @@
+use Rattle.std.proofs.Common.{◌≡◌, ◌∙◌, ℕ, ◌+◌, ◌≤◌, ◌<◌, ◌⊎◌, refl, sym, ap, arith, List, [], ◌∷◌, ◌++◌, length, subst, inl, inr, Some, None}
+use Rattle.std.proofs.lemmas.List.{append-nil}
+use Rattle.layers.specs.declared.command.Command.{Command}
+use Rattle.layers.specs.Commands.{IsCommand, word_of}
+use Rattle.layers.specs.Copies.{IsNextChanged, IsDefaultFrom, AreCopies, places}
+use Rattle.layers.specs.Entries.{entry}
+use Rattle.layers.specs.Keymaps.{HasEntries, StandsFor}
+use Rattle.layers.proofs.Copying.{AreCopies-start, AreCopies-next, AreCopies-end, AreCopies-length, entry-copies}
+use Rattle.layers.proofs.Tables.{has_same}
+use Rattle.page_turnover.specs.declared.log.Target.{Target}
+use Rattle.page_turnover.specs.declared.log.Target.TheVariants.{Unread, Holds}
+use Rattle.page_turnover.specs.declared.log.Task.{Task}
+use Rattle.page_turnover.specs.declared.log.Task.TheVariants.{Rest, Append, Wait, Copy, Seal}
+use Rattle.page_turnover.specs.declared.log.stepping.Step.{Step}
+use Rattle.page_turnover.specs.declared.log.stepping.Step.TheVariants.{Idle, Moved, Committed, Failed}
+use Rattle.page_turnover.specs.Words.{words, HasRoom}
+use Rattle.page_turnover.specs.Value.{LogValue}
+use Rattle.page_turnover.specs.Log.{Describes}
+use Rattle.page_turnover.specs.Turn.{UnderWay, IsWaiting, IsPending, copies, offered, copied, with_copy, with_seal, target_page, next_seq}
+use Rattle.page_turnover.specs.Steps.{ErasesTarget, Copies, StepsFor, Steps, Moves, Commits, EndsAs}
+use Rattle.page_turnover.proofs.WordLists.{words_none}
+use Rattle.page_turnover.proofs.Endings.{waiting_count}
+use Rattle.keymap_store.specs.declared.store.Job.{Job}
+use Rattle.keymap_store.specs.declared.store.Job.TheVariants.{Resting, Appending, Turning}
+use Rattle.keymap_store.specs.Store.{OffersBelow, CanOfferIfWaiting, JobIs, working}
+
+-- the next entry that differs is offered, or the seal where there is none
+pub offered_next : (entries : ℕ → ℕ → ℕ) (image : List ℕ) (task : Task) (from place word : ℕ) (command : Command) → IsWaiting task → OffersBelow entries from image task → IsNextChanged entries from place command → IsCommand command → word ≡ word_of command → OffersBelow entries (place + 1) image (with_copy task word)
+offered_next entries image Rest from place word command w o n c e = absurd w
+offered_next entries image (Append other) from place word command w o n c e = absurd w
+offered_next entries image (Wait target) from place word command w o n c e = rw e (AreCopies-next entries from place command (copies image (Wait target)) o n c)
+offered_next entries image (Copy target other) from place word command w o n c e = absurd w
+offered_next entries image (Seal target) from place word command w o n c e = absurd w
+
+pub sealed_next : (entries : ℕ → ℕ → ℕ) (image : List ℕ) (task : Task) (from : ℕ) → from ≤ places → IsWaiting task → OffersBelow entries from image task → IsDefaultFrom entries from → OffersBelow entries from image (with_seal task)
+sealed_next entries image Rest from l w o d = absurd w
+sealed_next entries image (Append word) from l w o d = absurd w
+sealed_next entries image (Wait target) from l w o d = AreCopies-end entries from (copies image (Wait target)) l o d
+sealed_next entries image (Copy target word) from l w o d = absurd w
+sealed_next entries image (Seal target) from l w o d = absurd w
+
+-- a turn that does not wait has something pending
+pub pending_unless : (entries : ℕ → ℕ → ℕ) (from : ℕ) (image : List ℕ) (task : Task) → OffersBelow entries from image task → (IsWaiting task → ⊥) → IsPending task
+pending_unless entries from image Rest o n = absurd o
+pending_unless entries from image (Append word) o n = absurd o
+pending_unless entries from image (Wait target) o n = absurd (n tt)
+pending_unless entries from image (Copy target word) o n = tt
+pending_unless entries from image (Seal target) o n = tt
+
+-- fewer than 511 copies are made, since there are 384 places
+pub few_copies : (entries : ℕ → ℕ → ℕ) (from : ℕ) (image : List ℕ) (task : Task) → from ≤ places → UnderWay image task → OffersBelow entries from image task → CanOfferIfWaiting task
+few_copies entries from image Rest l u o = tt
+few_copies entries from image (Append word) l u o = tt
+few_copies entries from image (Wait target) l u o =
+    let count : length (copies image (Wait target)) ≡ copied target = waiting_count image target u.target_is in
+    let few : length (copies image (Wait target)) ≤ from = AreCopies-length entries from (copies image (Wait target)) o in
+    omega arith
+few_copies entries from image (Copy target word) l u o = tt
+few_copies entries from image (Seal target) l u o = tt
+
+-- a step that commits nothing keeps what was offered
+after_move : (entries : ℕ → ℕ → ℕ) (from : ℕ) (old : List ℕ) (before : LogValue) (task : Task) (new : List ℕ) (after : LogValue) → OffersBelow entries from old task → StepsFor task old before Moved new after → Moves old task new after.task → OffersBelow entries from new after.task
+after_move entries from old before Rest new after o s m = absurd o
+after_move entries from old before (Append word) new after o s m = absurd o
+after_move entries from old before (Wait target) new after o s m = let f = s.answer in cc
+after_move entries from old before (Copy target word) new after o s m =
+    let P : List ℕ → Type 0 = λ ws. AreCopies entries from ws in
+    let O : Task → Type 0 = λ t. OffersBelow entries from new t in
+    let C : Task → Type 0 = λ t. copies new t ++ offered t ≡ copies old (Copy target word) ++ word ∷ [] in
+    elim s [
+      | inl a ↦ (let t : after.task ≡ Copy (Holds 0) word = rw a.next refl in
+          subst O (sym t) (subst P (sym (subst C t m.copies_are)) o))
+      | inr a ↦ (let t : after.task ≡ Wait (Holds (copied target + 1)) = rw a.next refl in
+          subst O (sym t) (subst P (sym (sym (append-nil (copies new (Wait (Holds (copied target + 1))))) ∙ subst C t m.copies_are)) o))
+    ]
+after_move entries from old before (Seal target) new after o s m =
+    let P : List ℕ → Type 0 = λ ws. AreCopies entries places ws in
+    let O : Task → Type 0 = λ t. OffersBelow entries from new t in
+    let C : Task → Type 0 = λ t. copies new t ++ offered t ≡ copies old (Seal target) ++ [] in
+    elim s [
+      | inl a ↦ (let t : after.task ≡ Seal (Holds 0) = rw a.next refl in
+          subst O (sym t) (subst P (sym (sym (append-nil (copies new (Seal (Holds 0)))) ∙ subst C t m.copies_are ∙ append-nil (copies old (Seal target)))) o))
+      | inr a ↦ (let f = a.answer in cc)
+    ]
+
+pub moved_on : (entries : ℕ → ℕ → ℕ) (from : ℕ) (old : List ℕ) (before : LogValue) (step : Step) (new : List ℕ) (after : LogValue) → OffersBelow entries from old before.task → step ≡ Moved → EndsAs old before step new after → Moves old before.task new after.task → OffersBelow entries from new after.task
+moved_on entries from old before step new after o e ends m =
+    let S : Step → Type 0 = λ s. Steps old before s new after in
+    after_move entries from old before before.task new after o (subst S e (ends.done (λ f. cc))) m
+
+-- a turn's commit makes the copies the words, with room for more
+pub record Committed_turn (new : List ℕ) (keymap : List ℕ) : Type 0 where
+  pub stands : StandsFor (words new) keymap
+  pub room : HasRoom new
+
+turn_done : (entries : ℕ → ℕ → ℕ) (from : ℕ) (old : List ℕ) (task : Task) (new keymap : List ℕ) → OffersBelow entries from old task → HasEntries entries keymap → Commits old task new → Committed_turn new keymap
+turn_done entries from old Rest new keymap o h c = absurd o
+turn_done entries from old (Append word) new keymap o h c = absurd o
+turn_done entries from old (Wait target) new keymap o h c = absurd c
+turn_done entries from old (Copy target word) new keymap o h c = absurd c
+turn_done entries from old (Seal target) new keymap o h c =
+    let few : length (copies old (Seal target)) ≤ places = AreCopies-length entries places (copies old (Seal target)) o in
+    record {
+      stands = rw c.words_are (has_same entries (entry (copies old (Seal target))) keymap (λ layer key l k. sym (entry-copies entries (copies old (Seal target)) layer key o l k)) h);
+      room = record { page = target_page old; seq = next_seq old; is_active = c.active_is; free = c.rest 511 (omega arith) (omega arith) };
+    }
+
+pub committed_turn : (entries : ℕ → ℕ → ℕ) (from : ℕ) (old : List ℕ) (task : Task) (new keymap : List ℕ) → OffersBelow entries from old task → HasEntries entries keymap → Commits old task new → Committed_turn new keymap
+committed_turn = turn_done
+
+-- a new turn has offered nothing
+pub nothing_offered : (entries : ℕ → ℕ → ℕ) (image : List ℕ) → OffersBelow entries 0 image (Wait Unread)
+nothing_offered entries image = rw (words_none image (target_page image)) (AreCopies-start entries)
+
+-- a command works exactly where the log has something under way
+pub resting : (image : List ℕ) (log : LogValue) (job : Job) → JobIs image log job → log.task ≡ Rest → working job ≡ None
+resting image log Resting j e = refl
+resting image log (Appending command) j e = let f = j.0 in cc
+resting image log (Turning command from) j e = let O : Task → Type 0 = λ t. OffersBelow (entry (words image)) from image t in absurd (subst O e j.1)
+
+pub task_rests : (image : List ℕ) (log : LogValue) (job : Job) → JobIs image log job → working job ≡ None → log.task ≡ Rest
+task_rests image log Resting j e = j
+task_rests image log (Appending command) j e = cc
+task_rests image log (Turning command from) j e = cc
+
+copy_pending : (task : Task) (word : ℕ) → IsWaiting task → IsPending (with_copy task word)
+copy_pending Rest word w = absurd w
+copy_pending (Append other) word w = absurd w
+copy_pending (Wait target) word w = tt
+copy_pending (Copy target other) word w = absurd w
+copy_pending (Seal target) word w = absurd w
+
+seal_pending : (task : Task) → IsWaiting task → IsPending (with_seal task)
+seal_pending Rest w = absurd w
+seal_pending (Append word) w = absurd w
+seal_pending (Wait target) w = tt
+seal_pending (Copy target word) w = absurd w
+seal_pending (Seal target) w = absurd w
+
+-- what the log has after it was offered something
+
+pub offer_stands : (entries : ℕ → ℕ → ℕ) (image : List ℕ) (log after : LogValue) (from place word : ℕ) (command : Command) → IsWaiting log.task → OffersBelow entries from image log.task → IsNextChanged entries from place command → IsCommand command → word ≡ word_of command → after ≡ record log { task = with_copy log.task word } → OffersBelow entries (place + 1) image after.task × IsPending after.task
+offer_stands entries image log after from place word command w o n c e a =
+    let t : after.task ≡ with_copy log.task word = rw a refl in
+    let O : Task → Type 0 = λ x. OffersBelow entries (place + 1) image x × IsPending x in
+    subst O (sym t) (offered_next entries image log.task from place word command w o n c e, copy_pending log.task word w)
+
+pub seal_stands : (entries : ℕ → ℕ → ℕ) (image : List ℕ) (log after : LogValue) (from : ℕ) → from ≤ places → IsWaiting log.task → OffersBelow entries from image log.task → IsDefaultFrom entries from → after ≡ record log { task = with_seal log.task } → OffersBelow entries from image after.task × IsPending after.task
+seal_stands entries image log after from l w o d a =
+    let t : after.task ≡ with_seal log.task = rw a refl in
+    let O : Task → Type 0 = λ x. OffersBelow entries from image x × IsPending x in
+    subst O (sym t) (sealed_next entries image log.task from l w o d, seal_pending log.task w)

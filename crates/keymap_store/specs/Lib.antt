@@ -1,0 +1,4 @@
+pub mod Value
+pub mod Store
+pub mod Submits
+pub mod Works

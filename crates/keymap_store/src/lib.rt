@@ -1,0 +1,9 @@
+//! A keymap that lives in flash: in RAM it is the keymap of the flash's image, and a command is in
+//! flash before it is in RAM.
+#![tactic(auto)]
+
+mod store;
+#[cfg(test)]
+mod tests;
+
+pub use store::{Store, SubmitRefusal, Taken, Work};

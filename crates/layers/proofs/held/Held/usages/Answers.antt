@@ -1,0 +1,12 @@
+use Rattle.std.proofs.Common.{◌∙◌}
+use Rattle.layers.specs.Codes.{names_key_usage, names_consumer}
+use Rattle.layers.specs.Held.{code}
+use Rattle.layers.specs.HeldStands.{kept}
+use Rattle.layers.proofs.HeldKeys.{any_has-same}
+use Rattle.layers.proofs.held.Held.usages.Goals as goal
+
+pub returns-clause-keys : goal.returns-clause-keys
+returns-clause-keys c past usage h = c.named.ensures.keys usage ∙ any_has-same (kept c.self.inside.codes) (code past) (names_key_usage usage) (rw (← c.self.view_is) at h.each)
+
+pub returns-clause-consumer : goal.returns-clause-consumer
+returns-clause-consumer c past index h = c.named.ensures.consumer index ∙ any_has-same (kept c.self.inside.codes) (code past) (names_consumer index) (rw (← c.self.view_is) at h.each)

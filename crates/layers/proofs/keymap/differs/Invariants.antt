@@ -1,0 +1,6 @@
+use Rattle.std.proofs.Common.{◌≡◌, ◌<◌, ◌≤◌, ℕ, slice_index}
+use Rattle.layers.specs.Codes.{default_at}
+use Rattle.layers.proofs.keymap.differs.Given as goal
+
+abbrev pub invariant-loop-place : goal.invariant-loop-place
+invariant-loop-place l = (place : ℕ) → l.start ≤ place → place < l.place → slice_index l.codes place ≡ default_at place

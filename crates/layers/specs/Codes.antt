@@ -1,0 +1,60 @@
+-- The codes of a keymap, and the code that each key has at first.
+use Rattle.std.specs.Prelude.{ℕ, ◌+◌, ◌-◌, ◌/◌, ◌%◌, ◌==◌, ◌&&◌, ◌||◌, Bool, nat_le, nat_lt, if◌then◌else◌}
+
+-- how many layers and keys there are
+abbrev pub layers : ℕ
+layers = 4
+
+abbrev pub keys : ℕ
+keys = 96
+
+abbrev pub is_between : ℕ → ℕ → ℕ → Bool
+is_between low high n = nat_le low n && nat_le n high
+
+-- the code of a key that does nothing, and of one that does what the layer below says
+abbrev pub none : ℕ
+none = 0x0000
+
+abbrev pub transparent : ℕ
+transparent = 0x0001
+
+-- a usage of page 07h, letters to keypad
+abbrev pub is_key_usage : ℕ → Bool
+is_key_usage code = is_between 0x0004 0x00A4 code
+
+-- a modifier of page 07h
+abbrev pub is_modifier : ℕ → Bool
+is_modifier code = is_between 0x00E0 0x00E7 code
+
+-- a usage of page 0Ch, by its index in the list of 16
+abbrev pub is_consumer : ℕ → Bool
+is_consumer code = is_between 0x4000 0x400F code
+
+-- a layer, 1 to 3, that is active while the key is held
+abbrev pub is_momentary : ℕ → Bool
+is_momentary code = is_between 0x5001 0x5003 code
+
+abbrev pub is_code : ℕ → Bool
+is_code code =
+    (code == none) || (code == transparent) || is_key_usage code || is_modifier code || is_consumer code || is_momentary code
+
+-- a code names a usage of page 07h that is its own number
+abbrev pub names_key_usage : ℕ → ℕ → Bool
+names_key_usage usage code = (is_key_usage code || is_modifier code) && (code == usage)
+
+-- a code names the consumer usage of this index
+abbrev pub names_consumer : ℕ → ℕ → Bool
+names_consumer index code = is_consumer code && (code == 0x4000 + index)
+
+-- a code activates this layer
+abbrev pub activates : ℕ → ℕ → Bool
+activates layer code = is_momentary code && (code == 0x5000 + layer)
+
+-- layer 0 has the usages from 04h on and, from key 88 on, the modifiers; the others are transparent
+abbrev pub default_code : ℕ → ℕ → ℕ
+default_code layer key =
+    if layer == 0 then (if nat_lt key 88 then 0x04 + key else 0xE0 + (key - 88)) else transparent
+
+-- the default code of the entry at a place
+abbrev pub default_at : ℕ → ℕ
+default_at place = default_code (place / keys) (place % keys)

@@ -1,0 +1,55 @@
+-- The entries of a keymap by the commands that changed it: the last writer decides.
+use Rattle.std.specs.Prelude.{◌≡◌, ◌≢◌, ℕ, ◌<◌, ◌==◌, ◌&&◌, if◌then◌else◌, Option, Some, None, unwrap_or, List, [], ◌∷◌, All}
+use Rattle.std.specs.List.{filter_map}
+use Rattle.std.specs.Option.{option_and_then}
+use Rattle.layers.specs.Codes.{layers, keys, default_code}
+use Rattle.layers.specs.Commands.{command_of}
+use Rattle.layers.specs.declared.command.Command.{Command}
+use Rattle.layers.specs.declared.command.Command.TheVariants.{SetKey, ResetLayer, ResetAll}
+
+-- the code that a command gives a key on a layer, if it writes that entry
+abbrev pub written : Command → ℕ → ℕ → Option ℕ
+written (SetKey l k code) layer key = if (l == layer) && (k == key) then Some code else None
+written (ResetLayer l) layer key = if l == layer then Some (default_code layer key) else None
+written ResetAll layer key = Some (default_code layer key)
+
+abbrev pub or_else : Option ℕ → Option ℕ → Option ℕ
+or_else (Some code) other = Some code
+or_else None other = other
+
+-- what the last command that writes the entry gives it, if one does
+unfoldable pub last_written : List Command → ℕ → ℕ → Option ℕ
+last_written [] layer key = None
+last_written (command ∷ later) layer key = or_else (last_written later layer key) (written command layer key)
+
+-- entries after these commands, in order: the last writer's, else the old one
+unfoldable pub changed : (ℕ → ℕ → ℕ) → List Command → ℕ → ℕ → ℕ
+changed entries commands layer key = unwrap_or (last_written commands layer key) (entries layer key)
+
+-- the commands among words, in order; a word that is no command is passed over
+unfoldable pub commands_of : List ℕ → List Command
+commands_of words = filter_map command_of words
+
+-- the entry of a key on a layer by the words of a log
+unfoldable pub entry : List ℕ → ℕ → ℕ → ℕ
+entry words layer key = changed default_code (commands_of words) layer key
+
+-- what a word gives an entry, if it is a command that writes it
+abbrev pub written_by_word : ℕ → ℕ → ℕ → Option ℕ
+written_by_word word layer key = option_and_then (λ command. written command layer key) (command_of word)
+
+-- none of these words writes the entry
+abbrev pub NoneWrites : List ℕ → ℕ → ℕ → Type 0
+NoneWrites words layer key = All (λ word. written_by_word word layer key ≡ None) words
+
+-- some entry differs after the command
+pub record ChangesSome (entries : ℕ → ℕ → ℕ) (command : Command) : Type 0 where
+  pub layer : ℕ
+  pub key : ℕ
+  pub in_layers : layer < layers
+  pub in_keys : key < keys
+  pub differs : changed entries (command ∷ []) layer key ≢ entries layer key
+
+-- no entry differs after the command
+pub record ChangesNothing (entries : ℕ → ℕ → ℕ) (command : Command) : Type 0 where
+  pub each : (layer key : ℕ) → layer < layers → key < keys → changed entries (command ∷ []) layer key ≡ entries layer key

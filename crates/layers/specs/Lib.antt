@@ -1,0 +1,10 @@
+pub mod Codes
+pub mod Commands
+pub mod Entries
+pub mod Keymaps
+pub mod Copies
+pub mod Held
+pub mod Usages
+pub mod HeldStands
+pub mod Calls
+pub mod Resolved

@@ -1,0 +1,148 @@
+//! The table of codes.
+
+ghost use Rattle.std.specs.Prelude.{◌≡◌, ◌≢◌, ◌+◌, ◌*◌, ◌/◌, ◌%◌, ◌<◌, ◌≤◌, ℕ, List, [], ◌∷◌, ◌++◌, Some, length, slice_index, MatchBool, MatchOption, IfSome};
+ghost use Rattle.layers.specs.Codes.{layers, keys, default_code, default_at};
+ghost use Rattle.layers.specs.Commands.{command_of, IsCommand};
+ghost use Rattle.layers.specs.Entries.{changed, ChangesSome, ChangesNothing};
+ghost use Rattle.layers.specs.Copies.{IsNextChanged, IsDefaultFrom};
+ghost use Rattle.layers.specs.Keymaps.{code_at, place_of, HasEntries, StandsFor};
+
+use crate::code::KEYS;
+use crate::{Code, Command, KeyNo, LayerNo};
+use std::marker::Model;
+
+/// How many entries there are, on 4 layers.
+const ENTRIES: usize = 384;
+
+/// The code of each key on each layer.
+#[derive(Drop)]
+pub struct Keymap {
+    codes: [Code; ENTRIES],
+}
+
+impl Model for Keymap {
+    ghost use Rattle.std.specs.Prelude.{◌≡◌, ℕ, List, length};
+
+    ghost Value = { List ℕ };
+
+    ghost view = { λ m. m.codes };
+
+    ghost invariant = { λ m. length m.codes ≡ 384 };
+}
+
+impl Keymap {
+    /// The default keymap.
+    pub fn standard() -> Keymap
+        ensures entries { HasEntries default_code result }
+        ensures stands { StandsFor [] result }
+    {
+        let mut codes = [Code::TRANSPARENT; ENTRIES];
+        reset(&mut codes, 0, ENTRIES);
+        Keymap { codes }
+    }
+
+    /// The code of a key on a layer.
+    pub fn get(&self, layer: LayerNo, key: KeyNo) -> Code
+        ensures value { result ≡ code_at self.now layer key }
+        ensures entry { (entries : ℕ → ℕ → ℕ) → HasEntries entries self.now → result ≡ entries layer key }
+    {
+        self.codes[place(layer, key)]
+    }
+
+    /// Takes a command: the entries that it writes get their codes, the others stay.
+    pub fn apply(&mut self, command: Command)
+        ensures entries { (entries : ℕ → ℕ → ℕ) → HasEntries entries self.old → HasEntries (changed entries (command ∷ [])) self.new }
+        ensures stands { (words : List ℕ) (word : ℕ) → StandsFor words self.old → command_of word ≡ Some command → StandsFor (words ++ word ∷ []) self.new }
+    {
+        match command {
+            Command::SetKey { layer, key, code } => self.codes[place(layer, key)] = code,
+            Command::ResetLayer(layer) => {
+                let first = KEYS * layer.number() as usize;
+                reset(&mut self.codes, first, first + KEYS);
+            }
+            Command::ResetAll => reset(&mut self.codes, 0, ENTRIES),
+        }
+    }
+
+    /// Whether some entry would differ after the command.
+    pub fn changes(&self, command: Command) -> bool
+        ensures table { MatchBool result (ChangesSome (code_at self.now) command) (ChangesNothing (code_at self.now) command) }
+        ensures entries { (entries : ℕ → ℕ → ℕ) → HasEntries entries self.now → MatchBool result (ChangesSome entries command) (ChangesNothing entries command) }
+    {
+        match command {
+            Command::SetKey { layer, key, code } => self.codes[place(layer, key)] != code,
+            Command::ResetLayer(layer) => {
+                let first = KEYS * layer.number() as usize;
+                differs(&self.codes, first, first + KEYS)
+            }
+            Command::ResetAll => differs(&self.codes, 0, ENTRIES),
+        }
+    }
+
+    /// The first place at or after `from` whose entry differs from the default, with the command
+    /// that sets that entry; a place is 96 times the layer plus the key.
+    pub fn next_changed(&self, from: u16) -> Option<(u16, Command)>
+        ensures table { MatchOption result (IsDefaultFrom (code_at self.now) from) (λ r. IsNextChanged (code_at self.now) from r.0 r.1) }
+        ensures entries { (entries : ℕ → ℕ → ℕ) → HasEntries entries self.now → MatchOption result (IsDefaultFrom entries from) (λ r. IsNextChanged entries from r.0 r.1) }
+        ensures a_command { IfSome result (λ r. IsCommand r.1) }
+    {
+        for place in from..ENTRIES as u16 {
+            let code = self.codes[place as usize];
+            if code != Code::default_at(place as usize) {
+                return Some((place, set_key_at(place, code)));
+            }
+        }
+        None
+    }
+}
+
+/// The command that gives the entry at a place this code.
+fn set_key_at(place: u16, code: Code) -> Command
+    requires { place < 384 }
+    ensures value { result ≡ Command.SetKey (place / keys) (place % keys) code }
+    ensures a_command { IsCommand result }
+{
+    Command::SetKey {
+        layer: LayerNo::of_place(place),
+        key: KeyNo::of_place(place),
+        code,
+    }
+}
+
+/// Where the entry of a key on a layer stands.
+fn place(layer: LayerNo, key: KeyNo) -> usize
+    ensures value { result ≡ place_of layer key }
+    ensures within { result < 384 }
+    ensures in_layers { layer < layers }
+    ensures in_keys { key < keys }
+{
+    KEYS * layer.number() as usize + key.number() as usize
+}
+
+/// Gives the entries from `start` up to `end` their default codes.
+fn reset(codes: &mut [Code], start: usize, end: usize)
+    requires whole { length codes.old ≡ 384 }
+    requires ordered { start ≤ end }
+    requires within { end ≤ 384 }
+    ensures inside { (place : ℕ) → start ≤ place → place < end → slice_index codes.new place ≡ default_at place }
+    ensures below { (place : ℕ) → place < start → slice_index codes.new place ≡ slice_index codes.old place }
+    ensures above { (place : ℕ) → end ≤ place → slice_index codes.new place ≡ slice_index codes.old place }
+{
+    for place in start..end {
+        codes[place] = Code::default_at(place);
+    }
+}
+
+/// Whether some entry from `start` up to `end` is not its default code.
+fn differs(codes: &[Code], start: usize, end: usize) -> bool
+    requires whole { length codes.now ≡ 384 }
+    requires within { end ≤ 384 }
+    ensures { MatchBool result ((place : ℕ) × (start ≤ place) × (place < end) × (slice_index codes.now place ≢ default_at place)) ((place : ℕ) → start ≤ place → place < end → slice_index codes.now place ≡ default_at place) }
+{
+    for place in start..end {
+        if codes[place] != Code::default_at(place) {
+            return true;
+        }
+    }
+    false
+}

@@ -1,0 +1,45 @@
+//! What the definitions come to.
+
+ghost use Rattle.std.specs.Prelude.{◌≡◌, ◌≢◌, ◌↔◌, ◌≤◌, ◌<◌, ◌+◌, ◌++◌, ◌∷◌, [], ℕ, Bool, IsTrue, List, Option, None, Some, length};
+ghost use Rattle.layers.specs.Codes.{layers, keys, none, default_code};
+ghost use Rattle.layers.specs.Commands.{word_of, IsCommand};
+ghost use Rattle.layers.specs.Copies.{places, AreCopies, IsNextChanged, IsDefaultFrom};
+ghost use Rattle.layers.specs.Entries.{entry, written_by_word, NoneWrites};
+ghost use Rattle.layers.specs.Held.{any_has, resolved, code, HeldCall, Press, Release};
+ghost use Rattle.layers.specs.Keymaps.{code_at};
+ghost use Rattle.layers.specs.Resolved.{SomeHas, IsHighest, IsTransparent};
+ghost use Rattle.layers.specs.declared.command.Command.{Command};
+
+/// The entry of a key is what the last word that writes it gives it, and the default where no
+/// word writes it.
+pub fn last_writer()
+    ensures written { (before : List ℕ) (word : ℕ) (after : List ℕ) (layer key code : ℕ) → written_by_word word layer key ≡ Some code → NoneWrites after layer key → entry (before ++ word ∷ after) layer key ≡ code }
+    ensures default { (words : List ℕ) (layer key : ℕ) → NoneWrites words layer key → entry words layer key ≡ default_code layer key }
+{}
+
+/// The words of the commands that `next_changed` gives, one after the other from place 0 on, have
+/// the entries of the keymap; they are at most 384.
+pub fn copies()
+    ensures start { (entries : ℕ → ℕ → ℕ) → AreCopies entries 0 [] }
+    ensures next { (entries : ℕ → ℕ → ℕ) (from place : ℕ) (command : Command) (words : List ℕ) → AreCopies entries from words → IsNextChanged entries from place command → IsCommand command → AreCopies entries (place + 1) (words ++ word_of command ∷ []) }
+    ensures end { (entries : ℕ → ℕ → ℕ) (from : ℕ) (words : List ℕ) → from ≤ places → AreCopies entries from words → IsDefaultFrom entries from → AreCopies entries places words }
+    ensures same_entries { (entries : ℕ → ℕ → ℕ) (words : List ℕ) (layer key : ℕ) → AreCopies entries places words → layer < layers → key < keys → entry words layer key ≡ entries layer key }
+    ensures count { (entries : ℕ → ℕ → ℕ) (place : ℕ) (words : List ℕ) → AreCopies entries place words → length words ≤ place }
+{}
+
+/// A layer other than 0 is active, and a usage is in its set, where a held key has such a code. A
+/// code is that of the highest active layer where it is not transparent.
+pub fn held_keys()
+    ensures some_has { (codes : ℕ → Option ℕ) (test : ℕ → Bool) → IsTrue (any_has codes test) ↔ SomeHas codes test }
+    ensures highest { (entries : ℕ → ℕ → ℕ) (codes : ℕ → Option ℕ) (key layer : ℕ) → IsHighest entries codes key layer → resolved entries codes key ≡ entries layer key }
+    ensures transparent { (entries : ℕ → ℕ → ℕ) (codes : ℕ → Option ℕ) (key : ℕ) → IsTransparent entries codes key → resolved entries codes key ≡ none }
+{}
+
+/// A code is fixed at the press of its key and stays until the release of that key.
+pub fn fixed_at_press()
+    ensures pressed { (past : List HeldCall) (keymap : List ℕ) (key : ℕ) → code past key ≡ None → code (Press keymap key ∷ past) key ≡ Some (resolved (code_at keymap) (code past) key) }
+    ensures stays { (past : List HeldCall) (keymap : List ℕ) (key other is : ℕ) → code past key ≡ Some is → code (Press keymap other ∷ past) key ≡ Some is }
+    ensures released { (past : List HeldCall) (key : ℕ) → code (Release key ∷ past) key ≡ None }
+    ensures others_pressed { (past : List HeldCall) (keymap : List ℕ) (key other : ℕ) → key ≢ other → code (Press keymap other ∷ past) key ≡ code past key }
+    ensures others_released { (past : List HeldCall) (key other : ℕ) → key ≢ other → code (Release other ∷ past) key ≡ code past key }
+{}

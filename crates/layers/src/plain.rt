@@ -1,0 +1,49 @@
+//! The entry by its definition, slowly: for comparison with the table.
+
+ghost use Rattle.std.specs.Prelude.{◌≡◌, ℕ};
+ghost use Rattle.layers.specs.Codes.{default_code};
+ghost use Rattle.layers.specs.Entries.{entry, written_by_word};
+
+use crate::{Code, Command, KeyNo, LayerNo};
+
+/// The code that a word gives the entry, if it is a command that writes it.
+fn written(word: u32, layer: LayerNo, key: KeyNo) -> Option<Code>
+    ensures { result ≡ written_by_word word layer key }
+{
+    match Command::from_word(word)? {
+        Command::SetKey {
+            layer: l,
+            key: k,
+            code,
+        } => if l == layer && k == key {
+            Some(code)
+        } else {
+            None
+        },
+        Command::ResetLayer(l) => if l == layer {
+            Some(standard(layer, key))
+        } else {
+            None
+        },
+        Command::ResetAll => Some(standard(layer, key)),
+    }
+}
+
+/// The default code of a key on a layer.
+fn standard(layer: LayerNo, key: KeyNo) -> Code
+    ensures { result ≡ default_code layer key }
+{
+    Code::default_at(96 * layer.number() as usize + key.number() as usize)
+}
+
+/// The code of the last word that writes the entry, else the default.
+pub fn entry(words: &[u32], layer: LayerNo, key: KeyNo) -> Code
+    ensures { result ≡ entry words.now layer key }
+{
+    for later in 0..words.len() {
+        if let Some(code) = written(words[words.len() - 1 - later], layer, key) {
+            return code;
+        }
+    }
+    standard(layer, key)
+}

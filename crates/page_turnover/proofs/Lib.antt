@@ -1,0 +1,10 @@
+pub mod Headers
+pub mod Soundness
+pub mod WordLists
+pub mod Describing
+pub mod Operating
+pub mod Turns
+pub mod Kept
+pub mod Endings
+pub mod Effects
+pub mod Operates

@@ -1,0 +1,12 @@
+use Rattle.std.proofs.Common.{◌≡◌, ℕ, List, Option, MatchOption}
+use Rattle.page_turnover.specs.Active.{newest}
+use Rattle.page_turnover.specs.Usable.{IsSoundBelow, IsFirstUnsound}
+use Rattle.page_turnover.proofs.reading.read_headers.Given as goal
+
+-- what the pages below this one say
+pub record SoFar (image : List ℕ) (page : ℕ) (active : Option (ℕ × ℕ)) (unsound : Option ℕ) : Type 0 where
+  pub active_is : active ≡ newest image page
+  pub unsound_is : MatchOption unsound (IsSoundBelow image page) (λ p. IsFirstUnsound image p)
+
+abbrev pub invariant-loop-page : goal.invariant-loop-page
+invariant-loop-page g l = SoFar (g.F.NorFlash.image l.flash) l.page l.active l.unsound

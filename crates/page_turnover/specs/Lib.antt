@@ -1,0 +1,10 @@
+pub mod Header
+pub mod Active
+pub mod Words
+pub mod Usable
+pub mod Value
+pub mod Log
+pub mod Turn
+pub mod Steps
+pub mod Refusal
+pub mod Operates

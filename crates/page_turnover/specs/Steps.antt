@@ -1,0 +1,116 @@
+use Rattle.std.specs.Prelude.{◌≡◌, ◌≢◌, ℕ, ◌+◌, ◌%◌, ◌^◌, ◌⊎◌, List, [], ◌∷◌, ◌++◌, length, Some}
+use Rattle.records.specs.Slots.{encoded}
+use Rattle.flash_model.specs.Image.{IsImage}
+use Rattle.flash_model.specs.Operations.{Programs, Erases}
+use Rattle.page_turnover.specs.declared.log.ActivePage.{ActivePage}
+use Rattle.page_turnover.specs.declared.log.Target.{Target}
+use Rattle.page_turnover.specs.declared.log.Target.TheVariants.{Unread, Holds}
+use Rattle.page_turnover.specs.declared.log.Task.{Task}
+use Rattle.page_turnover.specs.declared.log.Task.TheVariants.{Rest, Append, Wait, Copy, Seal}
+use Rattle.page_turnover.specs.declared.log.stepping.Step.{Step}
+use Rattle.page_turnover.specs.declared.log.stepping.Step.TheVariants.{Idle, Moved, Committed, Failed}
+use Rattle.page_turnover.specs.Header.{header_word}
+use Rattle.page_turnover.specs.Active.{active}
+use Rattle.page_turnover.specs.Words.{words, FreeFrom, IsBlank}
+use Rattle.page_turnover.specs.Value.{LogValue}
+use Rattle.page_turnover.specs.Log.{Describes}
+use Rattle.page_turnover.specs.Turn.{target_page, next_seq, copied, copies, offered, IsPending}
+
+-- nothing is pending, and nothing changes
+pub record Idles (old : List ℕ) (before : LogValue) (step : Step) (new : List ℕ) (after : LogValue) : Type 0 where
+  pub answer : step ≡ Idle
+  pub same_image : new ≡ old
+  pub same_log : after ≡ before
+
+-- the word is programmed into the tail slot
+pub record Appends (old : List ℕ) (before : LogValue) (word : ℕ) (step : Step) (new : List ℕ) (after : LogValue) : Type 0 where
+  pub answer : step ≡ Committed
+  pub place : ActivePage
+  pub is_active : before.active ≡ Some place
+  pub programmed : Programs old place.page place.tail (encoded word) new
+  pub next : after ≡ record { active = Some (record { page = place.page; seq = place.seq; tail = place.tail + 1 }); unsound = before.unsound; task = Rest }
+
+-- a target that was not read yet and is not blank is erased, and what is pending stays so
+pub record ErasesTarget (old : List ℕ) (before : LogValue) (target : Target) (pending : Target → Task) (step : Step) (new : List ℕ) (after : LogValue) : Type 0 where
+  pub answer : step ≡ Moved
+  pub unread : target ≡ Unread
+  pub used : IsBlank old (target_page old) → ⊥
+  pub erased : Erases old (target_page old) new
+  pub next : after ≡ record before { task = pending (Holds 0) }
+
+-- a target that holds its copies, or is blank before the first
+abbrev pub IsReady : List ℕ → Target → Type 0
+IsReady image Unread = IsBlank image (target_page image)
+IsReady image (Holds n) = Unit {0}
+
+-- the word is programmed into the slot after the copies
+pub record Copies (old : List ℕ) (before : LogValue) (target : Target) (word : ℕ) (step : Step) (new : List ℕ) (after : LogValue) : Type 0 where
+  pub answer : step ≡ Moved
+  pub ready : IsReady old target
+  pub programmed : Programs old (target_page old) (copied target + 1) (encoded word) new
+  pub next : after ≡ record before { task = Wait (Holds (copied target + 1)) }
+
+-- the header is programmed into slot 0, and makes the target the active page
+pub record Seals (old : List ℕ) (before : LogValue) (target : Target) (step : Step) (new : List ℕ) (after : LogValue) : Type 0 where
+  pub answer : step ≡ Committed
+  pub ready : IsReady old target
+  pub programmed : Programs old (target_page old) 0 (encoded (header_word (next_seq old))) new
+  pub next : after ≡ record { active = Some (record { page = target_page old; seq = next_seq old; tail = copied target + 1 }); unsound = before.unsound; task = Rest }
+
+-- what a step that no fault ends does for a task: at most one operation, the log after it, and its answer
+abbrev pub StepsFor : Task → List ℕ → LogValue → Step → List ℕ → LogValue → Type 0
+StepsFor Rest old before step new after = Idles old before step new after
+StepsFor (Append word) old before step new after = Appends old before word step new after
+StepsFor (Wait target) old before step new after = Idles old before step new after
+StepsFor (Copy target word) old before step new after = ErasesTarget old before target (λ t. Copy t word) step new after ⊎ Copies old before target word step new after
+StepsFor (Seal target) old before step new after = ErasesTarget old before target Seal step new after ⊎ Seals old before target step new after
+
+abbrev pub Steps : List ℕ → LogValue → Step → List ℕ → LogValue → Type 0
+Steps old before step new after = StepsFor before.task old before step new after
+
+-- a step that commits nothing leaves the words and the active page, and no copy is lost or made twice
+pub record Moves (old : List ℕ) (before : Task) (new : List ℕ) (after : Task) : Type 0 where
+  pub words_are : words new ≡ words old
+  pub active_is : active new ≡ active old
+  pub copies_are : copies new after ++ offered after ≡ copies old before ++ offered before
+
+pub record CommitsWord (old : List ℕ) (word : ℕ) (new : List ℕ) : Type 0 where
+  pub words_are : words new ≡ words old ++ word ∷ []
+  pub active_is : active new ≡ active old
+
+-- the copies are the words of the new active page, whose other slots are Free
+pub record CommitsTurn (old : List ℕ) (before : Task) (new : List ℕ) : Type 0 where
+  pub words_are : words new ≡ copies old before
+  pub active_is : active new ≡ Some (target_page old, next_seq old)
+  pub rest : FreeFrom new (target_page old) (length (copies old before) + 1)
+
+-- what a commit does to the words
+abbrev pub Commits : List ℕ → Task → List ℕ → Type 0
+Commits old Rest new = ⊥
+Commits old (Append word) new = CommitsWord old word new
+Commits old (Wait target) new = ⊥
+Commits old (Copy target word) new = ⊥
+Commits old (Seal target) new = CommitsTurn old (Seal target) new
+
+-- how a step ends: with its effect, or with a fault, after which nothing is under way
+pub record EndsAs (old : List ℕ) (before : LogValue) (step : Step) (new : List ℕ) (after : LogValue) : Type 0 where
+  pub describes : Describes new after
+  pub done : step ≢ Failed → Steps old before step new after
+  pub rests : step ≡ Failed → after.task ≡ Rest
+  pub pending : step ≡ Failed → IsPending before.task
+
+-- a step makes one operation, or none if it answers Idle, and Failed alone is a fault
+pub record CountsAs (step : Step) (operations operations_after faults faults_after : ℕ) : Type 0 where
+  pub one : step ≢ Idle → operations_after ≡ (operations + 1) % 2 ^ 64
+  pub none : step ≡ Idle → operations_after ≡ operations
+  pub fault : step ≡ Failed → faults_after ≡ (faults + 1) % 2 ^ 64
+  pub no_fault : step ≢ Failed → faults_after ≡ faults
+
+-- how the erase of a turn's target ends
+pub record ErasesOrFails (old : List ℕ) (before : LogValue) (next : Task) (step : Step) (new : List ℕ) (after : LogValue) : Type 0 where
+  pub whole : IsImage new
+  pub answer : (step ≡ Moved) ⊎ (step ≡ Failed)
+  pub erased : step ≡ Moved → Erases old (target_page old) new
+  pub next_is : step ≡ Moved → after ≡ record before { task = next }
+  pub describes : step ≡ Failed → Describes new after
+  pub rests : step ≡ Failed → after.task ≡ Rest

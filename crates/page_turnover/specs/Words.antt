@@ -1,0 +1,60 @@
+use Rattle.std.specs.Prelude.{◌≡◌, ℕ, ◌-◌, ◌<◌, ◌≤◌, suc, zero, List, [], ◌∷◌, ◌++◌, Option, Some, None}
+use Rattle.records.specs.declared.Slot.{Slot}
+use Rattle.records.specs.declared.Slot.TheVariants.{Free, Good, Spoiled}
+use Rattle.records.specs.Slots.{slot_of}
+use Rattle.flash_model.specs.Image.{slot_at}
+use Rattle.page_turnover.specs.Active.{active}
+
+-- the word of a slot that is Good
+abbrev pub word_of : Slot → List ℕ
+word_of (Good word) = word ∷ []
+word_of Free = []
+word_of Spoiled = []
+
+-- the Good words of slots 1 to n of a page, in order
+unfoldable pub words_up_to : List ℕ → ℕ → ℕ → List ℕ
+words_up_to image page zero = []
+words_up_to image page (suc n) = words_up_to image page n ++ word_of (slot_of (slot_at image page (suc n)))
+
+-- the Good words of n slots from one on
+unfoldable pub words_after : List ℕ → ℕ → ℕ → ℕ → List ℕ
+words_after image page slot zero = []
+words_after image page slot (suc n) = word_of (slot_of (slot_at image page slot)) ++ words_after image page (suc slot) n
+
+-- the Good words of slots 1 to 511 of this page, if there is one
+abbrev pub words_on : List ℕ → Option (ℕ × ℕ) → List ℕ
+words_on image (Some place) = words_up_to image place.0 511
+words_on image None = []
+
+-- the words of an image: those of its active page
+unfoldable pub words : List ℕ → List ℕ
+words image = words_on image (active image)
+
+-- each slot from one on is Free
+abbrev pub FreeFrom : List ℕ → ℕ → ℕ → Type 0
+FreeFrom image page slot = (s : ℕ) → slot ≤ s → s < 512 → slot_of (slot_at image page s) ≡ Free
+
+-- each slot of a page is Free
+abbrev pub IsBlank : List ℕ → ℕ → Type 0
+IsBlank image page = FreeFrom image page 0
+
+-- one more than the greatest slot of a page that is not Free, where slot 0 is not Free
+pub record IsTail (image : List ℕ) (page tail : ℕ) : Type 0 where
+  pub low : 1 ≤ tail
+  pub high : tail ≤ 512
+  pub free : FreeFrom image page tail
+  pub used : 1 < tail → slot_of (slot_at image page (tail - 1)) ≡ Free → ⊥
+
+-- the tail of the active page
+pub record IsActiveTail (image : List ℕ) (tail : ℕ) : Type 0 where
+  pub page : ℕ
+  pub seq : ℕ
+  pub is_active : active image ≡ Some (page, seq)
+  pub is_tail : IsTail image page tail
+
+-- there is an active page, and its last slot is Free
+pub record HasRoom (image : List ℕ) : Type 0 where
+  pub page : ℕ
+  pub seq : ℕ
+  pub is_active : active image ≡ Some (page, seq)
+  pub free : slot_of (slot_at image page 511) ≡ Free

@@ -1,0 +1,93 @@
+//! What a log is asked to do.
+
+ghost use Rattle.std.specs.Prelude.{◌≡◌, ◌↔◌, ◌<◌, ◌^◌, ℕ, List, [], ◌∷◌, None, IsTrue, MatchResult};
+ghost use Rattle.page_turnover.specs.declared.log.Task.{Task};
+ghost use Rattle.page_turnover.specs.declared.log.Target.{Target};
+ghost use Rattle.page_turnover.specs.Turn.{IsWaiting, CanOffer, with_copy, with_seal};
+
+use super::{Log, Target, Task};
+use crate::header::LAST_SEQ;
+
+/// Why no turn was begun.
+#[derive(Clone, Copy, Debug, PartialEq, Eq)]
+pub enum TurnRefusal {
+    /// Slot 0 of a page is not sound.
+    Unsound,
+    /// The active page has the greatest sequence number, 0FFFFFFFh.
+    Worn,
+}
+
+impl Log {
+    ghost use Rattle.page_turnover.specs.Log.{Describes, HasTailRoom};
+    ghost use Rattle.page_turnover.specs.Refusal.{MayTurn, Refuses};
+
+    /// Takes a word to append; the next step programs it.
+    pub fn begin_append(&mut self, word: u32)
+        requires rests { self.old.task ≡ Task.Rest }
+        requires usable { self.old.unsound ≡ None }
+        requires room { HasTailRoom self.old }
+        ensures pending { self.new ≡ record self.old { task = Task.Append word } }
+        ensures describes { (image : List ℕ) → Describes image self.old → Describes image self.new }
+    {
+        self.task = Task::Append(word);
+    }
+
+    /// Begins a turn to the page after the active one, or to page 0 without one. The turn then wants
+    /// its copies and its seal. Refused are first `Unsound` and then `Worn`, and nothing changes.
+    pub fn begin_turn(&mut self) -> Result<(), TurnRefusal>
+        requires { self.old.task ≡ Task.Rest }
+        ensures begun { MatchResult result
+            (λ _. MayTurn self.old × (self.new ≡ record self.old { task = Task.Wait Target.Unread }))
+            (λ why. Refuses self.old why × (self.new ≡ self.old)) }
+        ensures describes { (image : List ℕ) → Describes image self.old → Describes image self.new }
+    {
+        self.may_turn()?;
+        self.task = Task::Wait(Target::Unread);
+        Ok(())
+    }
+
+    /// Whether a turn may begin, or the first reason why not.
+    fn may_turn(&self) -> Result<(), TurnRefusal>
+        ensures { MatchResult result (λ _. MayTurn self.now) (λ why. Refuses self.now why) }
+    {
+        if self.unsound.is_some() {
+            return Err(TurnRefusal::Unsound);
+        }
+        match self.active {
+            Some(active) if active.seq == LAST_SEQ => Err(TurnRefusal::Worn),
+            Some(_) | None => Ok(()),
+        }
+    }
+
+    /// Whether a turn is under way, and neither a copy nor its seal is pending.
+    pub fn wants(&self) -> bool
+        ensures { IsTrue result ↔ IsWaiting self.now.task }
+    {
+        match self.task {
+            Task::Wait(_) => true,
+            Task::Rest | Task::Append(_) | Task::Copy(..) | Task::Seal(_) => false,
+        }
+    }
+
+    /// Offers the next word to copy to a turn that wants one and has made fewer than 511 copies.
+    pub fn offer_copy(&mut self, word: u32)
+        requires { CanOffer self.old.task }
+        ensures pending { self.new ≡ record self.old { task = with_copy self.old.task word } }
+        ensures describes { (image : List ℕ) → Describes image self.old → Describes image self.new }
+    {
+        if let Task::Wait(target) = self.task {
+            self.task = Task::Copy(target, word);
+        }
+    }
+
+    /// Ends the copies of a turn that wants one: the header is next, and commits the turn.
+    pub fn seal(&mut self)
+        requires { IsWaiting self.old.task }
+        ensures pending { self.new ≡ record self.old { task = with_seal self.old.task } }
+        ensures describes { (image : List ℕ) → Describes image self.old → Describes image self.new }
+    {
+        if let Task::Wait(target) = self.task {
+            self.task = Task::Seal(target);
+        }
+    }
+}

@@ -1,0 +1,93 @@
+//! What a mount reads of a flash.
+
+ghost use Rattle.std.specs.Prelude.{◌≡◌, ◌-◌, ◌<◌, ◌≤◌, ℕ, Option, Some, None, IsTrue, ◌↔◌, MatchOption};
+ghost use Rattle.flash_model.specs.Image.{page_count, slot_at};
+ghost use Rattle.records.specs.Slots.{slot_of};
+ghost use Rattle.page_turnover.specs.Active.{active, newer};
+ghost use Rattle.page_turnover.specs.Words.{IsTail, IsBlank};
+ghost use Rattle.page_turnover.specs.Usable.{IsUsable, IsFirstUnsound};
+
+use crate::header::header_seq;
+use flash_model::NorFlash;
+use records::{Slot, classify, is_sound};
+
+/// What the slots 0 of all pages say.
+#[derive(Clone, Copy)]
+pub struct Headers {
+    /// The active page and its sequence number.
+    pub active: Option<(usize, u32)>,
+    /// The lowest page whose slot 0 is not sound.
+    pub unsound: Option<usize>,
+}
+
+/// Reads slot 0 of each page.
+pub fn read_headers<F: NorFlash>(flash: &F) -> Headers
+    ensures active { result.active ≡ active (F.image flash.now) }
+    ensures unsound { MatchOption result.unsound (IsUsable (F.image flash.now)) (λ page. IsFirstUnsound (F.image flash.now) page) }
+{
+    let mut active = None;
+    let mut unsound = None;
+    for page in 0..flash.pages() {
+        let header = flash.read_slot(page, 0);
+        active = newer(active, page, header_seq(classify(header)));
+        if unsound.is_none() && !is_sound(header) {
+            unsound = Some(page);
+        }
+    }
+    Headers { active, unsound }
+}
+
+/// The best page so far, or this one if its sequence number is greater.
+#[tactic(auto, unfolding(crate::specs::Active::newer))]
+fn newer(best: Option<(usize, u32)>, page: usize, seq: Option<u32>) -> Option<(usize, u32)>
+    ensures { result ≡ newer best page seq }
+{
+    match (best, seq) {
+        (_, None) => best,
+        (None, Some(seq)) => Some((page, seq)),
+        (Some((_, greatest)), Some(seq)) => {
+            if greatest < seq {
+                Some((page, seq))
+            } else {
+                best
+            }
+        }
+    }
+}
+
+/// One more than the greatest slot of a page that is not Free, and 1 where slots 1 to 511 are Free.
+pub fn tail<F: NorFlash>(flash: &F, page: usize) -> usize
+    requires { page < page_count (F.image flash.now) }
+    ensures { IsTail (F.image flash.now) page result }
+{
+    let mut tail = 512;
+    while tail > 1 && is_free(flash, page, tail - 1) {
+        tail -= 1;
+    }
+    tail
+}
+
+/// Whether a slot is Free.
+pub fn is_free<F: NorFlash>(flash: &F, page: usize, slot: usize) -> bool
+    requires in_pages { page < page_count (F.image flash.now) }
+    requires in_page { slot < 512 }
+    ensures { IsTrue result ↔ (slot_of (slot_at (F.image flash.now) page slot) ≡ Slot.Free) }
+{
+    match classify(flash.read_slot(page, slot)) {
+        Slot::Free => true,
+        Slot::Good(_) | Slot::Spoiled => false,
+    }
+}
+
+/// Whether each slot of a page is Free.
+pub fn is_blank<F: NorFlash>(flash: &F, page: usize) -> bool
+    requires { page < page_count (F.image flash.now) }
+    ensures { IsTrue result ↔ IsBlank (F.image flash.now) page }
+{
+    for slot in 0..512 {
+        if !is_free(flash, page, slot) {
+            return false;
+        }
+    }
+    true
+}

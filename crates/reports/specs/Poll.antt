@@ -1,0 +1,125 @@
+-- What a poll answers, by a look back over the poller's calls, newest first.
+use Rattle.std.specs.Prelude.{ℕ, ◌+◌, ◌*◌, ◌==◌, Bool, true, false, ◌&&◌, ◌||◌, not, List, [], ◌∷◌, Option, Some, None, is_some, unwrap_or, slice_index, if◌then◌else◌, nat_le}
+use Rattle.std.specs.Option.{option_map}
+use Rattle.std.specs.Str.{bytes_eq}
+use Rattle.reports.specs.declared.Protocol.{Protocol}
+use Rattle.reports.specs.declared.Protocol.TheVariants as protocol
+use Rattle.reports.specs.declared.IdleId.{IdleId}
+use Rattle.reports.specs.declared.IdleId.TheVariants as id
+use Rattle.reports.specs.declared.Input.{Input}
+use Rattle.reports.specs.declared.Input.TheVariants.{Boot, One, Two}
+use Rattle.reports.specs.Calls.{PollerCall, ticked, polled, idle_set, forgot, was_reset}
+use Rattle.reports.specs.Wanted.{wanted}
+
+-- whether bytes that were answered in this protocol are this report: there are IDs in report protocol
+-- alone
+abbrev pub is_report : Input → Protocol → List ℕ → Bool
+is_report Boot protocol.Boot bytes = true
+is_report Boot protocol.Report bytes = false
+is_report One protocol.Boot bytes = false
+is_report One protocol.Report bytes = slice_index bytes 0 == 1
+is_report Two protocol.Boot bytes = false
+is_report Two protocol.Report bytes = slice_index bytes 0 == 2
+
+-- the bytes of this report that the call answered
+abbrev pub sent_by : Input → PollerCall → Option (List ℕ)
+sent_by report (polled protocol (Some bytes)) =
+    if is_report report protocol bytes then Some bytes else None
+sent_by report (polled protocol None) = None
+sent_by report ticked = None
+sent_by report (idle_set which duration) = None
+sent_by report forgot = None
+sent_by report was_reset = None
+
+-- whether nothing that was sent before the call counts
+abbrev pub forgets : PollerCall → Bool
+forgets forgot = true
+forgets was_reset = true
+forgets ticked = false
+forgets (polled protocol answer) = false
+forgets (idle_set which duration) = false
+
+abbrev pub is_tick : PollerCall → Bool
+is_tick ticked = true
+is_tick (polled protocol answer) = false
+is_tick (idle_set which duration) = false
+is_tick forgot = false
+is_tick was_reset = false
+
+-- the last bytes sent of a report; those without usages if none were
+unfoldable pub last_bytes : Input → List PollerCall → List ℕ
+last_bytes report [] = wanted (λ _. false) (λ _. false) report
+last_bytes report (call ∷ past) =
+    if forgets call then wanted (λ _. false) (λ _. false) report
+    else unwrap_or (sent_by report call) (last_bytes report past)
+
+-- the ticks since a report was sent, or since what was sent was forgotten
+unfoldable pub age : Input → List PollerCall → ℕ
+age report [] = 0
+age report (call ∷ past) =
+    if forgets call || is_some (sent_by report call) then 0
+    else age report past + (if is_tick call then 1 else 0)
+
+-- which of the reports 1 and 2 was sent last
+unfoldable pub sent_last : List PollerCall → Option Input
+sent_last [] = None
+sent_last (call ∷ past) =
+    if forgets call then None else
+    (if is_some (sent_by One call) then Some One else
+    (if is_some (sent_by Two call) then Some Two else sent_last past))
+
+-- the idle values at the start, in units of 4 ms: 500 ms for ID 1 and the boot report, no repeats for
+-- ID 2
+abbrev pub default_idle : Input → ℕ
+default_idle Boot = 125
+default_idle One = 125
+default_idle Two = 0
+
+-- whether an idle request of this ID is for this report
+abbrev pub is_for : IdleId → Input → Bool
+is_for id.All report = true
+is_for id.One Boot = true
+is_for id.One One = true
+is_for id.One Two = false
+is_for id.Two Boot = false
+is_for id.Two One = false
+is_for id.Two Two = true
+
+-- the idle value of a report: the latest that was set since the start or the latest reset
+unfoldable pub idle_value : Input → List PollerCall → ℕ
+idle_value report [] = default_idle report
+idle_value report (was_reset ∷ past) = default_idle report
+idle_value report (idle_set which duration ∷ past) =
+    if is_for which report then duration else idle_value report past
+idle_value report (ticked ∷ past) = idle_value report past
+idle_value report (polled protocol answer ∷ past) = idle_value report past
+idle_value report (forgot ∷ past) = idle_value report past
+
+-- its wanted bytes are not the last ones
+abbrev pub is_changed : (Input → List ℕ) → List PollerCall → Input → Bool
+is_changed bytes past report = not (bytes_eq (bytes report) (last_bytes report past))
+
+-- its idle value is not 0, and as many milliseconds went by: a tick is one, the value's unit is four
+abbrev pub is_elapsed : List PollerCall → Input → Bool
+is_elapsed past report =
+    not (idle_value report past == 0) && nat_le (4 * idle_value report past) (age report past)
+
+-- of the reports 1 and 2 those that pass the test; if both do, the one that was not sent last
+abbrev pub one_of_two : (Input → Bool) → Option Input → Option Input
+one_of_two test (Some One) = if test Two then Some Two else (if test One then Some One else None)
+one_of_two test (Some Boot) = if test One then Some One else (if test Two then Some Two else None)
+one_of_two test (Some Two) = if test One then Some One else (if test Two then Some Two else None)
+one_of_two test None = if test One then Some One else (if test Two then Some Two else None)
+
+-- the report that a poll sends: a changed one, else an elapsed one
+abbrev pub chosen : Protocol → (Input → List ℕ) → List PollerCall → Option Input
+chosen protocol.Boot bytes past =
+    if is_changed bytes past Boot || is_elapsed past Boot then Some Boot else None
+chosen protocol.Report bytes past =
+    if is_changed bytes past One || is_changed bytes past Two
+    then one_of_two (is_changed bytes past) (sent_last past)
+    else one_of_two (is_elapsed past) (sent_last past)
+
+-- the answer of a poll that wants these bytes of each report
+unfoldable pub poll_answer : Protocol → (Input → List ℕ) → List PollerCall → Option (List ℕ)
+poll_answer protocol bytes past = option_map bytes (chosen protocol bytes past)

@@ -1,0 +1,49 @@
+//! Input reports: the bytes of each report for a set of usages, and which of them a poll sends.
+//! In report protocol a poll has nothing to send yet: only the boot report is made.
+#![tactic(auto)]
+
+use arrayvec::ArrayVec;
+
+pub mod bytes;
+pub mod laws;
+pub mod plain;
+pub mod poller;
+#[cfg(test)]
+mod tests;
+
+pub use bytes::boot;
+pub use poller::Poller;
+
+/// The bytes of one report, with its Report ID first where the protocol has IDs.
+pub type Report = ArrayVec<u8, 32>;
+
+/// The protocol that the host has chosen (HID 1.11 sections 7.2.5 and 7.2.6).
+#[derive(Clone, Copy, Debug, PartialEq, Eq)]
+pub enum Protocol {
+    /// The fixed layout of the boot keyboard (HID 1.11 appendix B.1).
+    Boot,
+    /// The layout of the report descriptor.
+    Report,
+}
+
+/// The reports that an idle request names by its Report ID (HID 1.11 sections 7.2.3 and 7.2.4).
+#[derive(Clone, Copy, Debug, PartialEq, Eq)]
+pub enum IdleId {
+    /// Report ID 0: all input reports.
+    All,
+    /// Report ID 1.
+    One,
+    /// Report ID 2.
+    Two,
+}
+
+/// An input report of the device.
+#[derive(Clone, Copy, Debug, PartialEq, Eq)]
+pub enum Input {
+    /// The boot keyboard's, 8 bytes, in boot protocol.
+    Boot,
+    /// The keys as a bitmap, 23 bytes with Report ID 1, in report protocol.
+    One,
+    /// The consumer usages, 3 bytes with Report ID 2, in report protocol.
+    Two,
+}

@@ -1,0 +1,12 @@
+pub mod Accepting
+pub mod Changing
+pub mod Effects
+pub mod Sessions
+pub mod Restarting
+pub mod Telling
+pub mod Storing
+pub mod Stages
+pub mod Standing
+pub mod Taking
+pub mod Working
+pub mod Running

@@ -1,0 +1,236 @@
+-- The packet of the data stage.
+use Rattle.std.proofs.Common.{◌≡◌, ◌≢◌, ℕ, ◌+◌, ◌*◌, ◌<◌, Bool, true, false, if◌then◌else◌, is_some, Option, Some, None, Result, Ok, Err, MatchResult, List, ◌∷◌, length, drop, get_or, slice_index, refl, ap, sym, ◌∙◌, subst, arith, inl, inr}
+use Rattle.std.proofs.lemmas.Bool.{cases_lt, cases_eq}
+use Rattle.std.proofs.lemmas.List.{get_or-drop}
+use Rattle.arrayvec.specs.ArrayVec.{ArrayVec}
+use Rattle.flash_model.specs.Sim.{SimValue}
+use Rattle.layers.specs.Commands.{command_read}
+use Rattle.layers.specs.Entries.{ChangesNothing, ChangesSome}
+use Rattle.layers.specs.declared.code.KeymapError.{KeymapError}
+use Rattle.layers.specs.declared.command.Command.{Command}
+use Rattle.page_turnover.specs.Usable.{IsUsable}
+use Rattle.world.specs.declared.event.Event.TheVariants.{OutPacket}
+use Rattle.world.specs.declared.event.Answer.{Answer}
+use Rattle.world.specs.declared.event.Answer.TheVariants.{Ack, Nak, Packet, Stall, Worked, Restarted, EntryIs, SlotIs, NoSlot}
+use Rattle.world.specs.declared.event.Why.{Why}
+use Rattle.world.specs.declared.event.Why.TheVariants.{UnknownReport, ShortData, LongData}
+use Rattle.world.specs.declared.transfer.Stage.{Stage}
+use Rattle.world.specs.declared.transfer.Stage.TheVariants.{Taking, Waiting, Status, Stalled}
+use Rattle.world.specs.History.{Step, image_after, keymap}
+use Rattle.world.specs.Fate.{changes}
+use Rattle.world.specs.Feature.{Where, yes, no, why_not, report_length, report_id, TakesRecord, FeatureAnswer, ReadAnswer, CommandAnswer, command_in}
+use Rattle.world.specs.Transfer.{stage}
+use Rattle.world.specs.Commands.{accepts, working}
+use Rattle.world.specs.Lawful.{OutAnswer}
+use Rattle.world.specs.Holds.{Holds}
+use Rattle.world.specs.Value.{WorldValue}
+use Rattle.world.specs.Stands.{StandsFor, TakesCommand}
+use Rattle.world.proofs.Changing.{changes-some, changes-nothing}
+use Rattle.world.proofs.Sessions.{orderly, working_after, after_takes, AfterTaken, now_works, changed_nothing}
+use Rattle.world.proofs.Stages.{stage-taken, stage_taken}
+use Rattle.world.proofs.Standing.{step_of, in_stage, stands_out, stands_quiet, stands_after_stall}
+
+-- what is read of a packet, by its length and its first byte
+pub record PayloadRead (packet : List ℕ) (result : Result (List ℕ) Why) : Type 0 where
+  pub short : length packet < report_length → result ≡ Err ShortData
+  pub long : report_length < length packet → result ≡ Err LongData
+  pub other : length packet ≡ report_length → slice_index packet 0 ≢ report_id → result ≡ Err UnknownReport
+  pub taken : length packet ≡ report_length → slice_index packet 0 ≡ report_id → result ≡ Ok (drop 1 packet)
+
+same_why : (result : Result (List ℕ) Why) (a b : Why) → result ≡ Err a → result ≡ Err b → b ≡ a
+same_why result a b e f = cc
+
+not_ok : (result : Result (List ℕ) Why) (why : Why) (payload : List ℕ) → result ≡ Err why → result ≡ Ok payload → ⊥
+not_ok result why payload e f = cc
+
+-- a packet that is refused
+pub refused_packet : (image : List ℕ) (busy : Bool) (packet : List ℕ) (why : Why) (result : Result (List ℕ) Why) → PayloadRead packet result → result ≡ Err why → FeatureAnswer image busy packet (Stall why)
+refused_packet image busy packet why result r e =
+    elim (cases_lt (length packet) report_length) [
+      | inl short ↦ yes short (ap Stall (same_why result ShortData why (r.short short) e))
+      | inr fits ↦ no (λ short. absurd (omega arith)) (elim (cases_lt report_length (length packet)) [
+        | inl long ↦ yes long (ap Stall (same_why result LongData why (r.long long) e))
+        | inr whole ↦ (let exact : length packet ≡ report_length = omega arith in
+            no (λ long. absurd (omega arith)) (elim (cases_eq (slice_index packet 0) report_id) [
+              | inl id ↦ absurd (not_ok result why (drop 1 packet) e (r.taken exact id))
+              | inr other ↦ yes other (ap Stall (same_why result UnknownReport why (r.other exact other) e))
+            ]))
+      ])
+    ]
+
+-- a packet that has the length and the ID
+pub record IsFeature (packet payload : List ℕ) : Type 0 where
+  pub exact : length packet ≡ report_length
+  pub id : slice_index packet 0 ≡ report_id
+  pub rest : payload ≡ drop 1 packet
+
+some_payload : (result : Result (List ℕ) Why) (a b : List ℕ) → result ≡ Ok a → result ≡ Ok b → a ≡ b
+some_payload result a b e f = cc
+
+pub is_feature : (packet payload : List ℕ) (result : Result (List ℕ) Why) → PayloadRead packet result → result ≡ Ok payload → IsFeature packet payload
+is_feature packet payload result r e =
+    elim (cases_lt (length packet) report_length) [
+      | inl short ↦ absurd (not_ok result ShortData payload (r.short short) e)
+      | inr fits ↦ elim (cases_lt report_length (length packet)) [
+        | inl long ↦ absurd (not_ok result LongData payload (r.long long) e)
+        | inr whole ↦ (let exact : length packet ≡ report_length = omega arith in
+            elim (cases_eq (slice_index packet 0) report_id) [
+              | inl id ↦ record { exact = exact; id = id; rest = some_payload result payload (drop 1 packet) e (r.taken exact id) }
+              | inr other ↦ absurd (not_ok result UnknownReport payload (r.other exact other) e)
+            ])
+      ]
+    ]
+
+past_checks : (image : List ℕ) (busy : Bool) (packet payload : List ℕ) (answer : Answer) → IsFeature packet payload → Where (busy ≡ true) (answer ≡ Nak) (ReadAnswer image (command_in packet) answer) → FeatureAnswer image busy packet answer
+past_checks image busy packet payload answer f w =
+    let exact : length packet ≡ report_length = f.exact in
+    no (λ short. absurd (omega arith)) (no (λ long. absurd (omega arith)) (no (λ other. other f.id) w))
+
+-- the command of the payload is that of the packet
+pub same_command : (packet payload : List ℕ) → payload ≡ drop 1 packet
+    → command_read (get_or payload 0 0) (get_or payload 1 0) (get_or payload 2 0) (get_or payload 3 0 + 256 * get_or payload 4 0) ≡ command_in packet
+same_command packet payload e =
+    rw (e, get_or-drop 1 packet 0 0, get_or-drop 1 packet 1 0, get_or-drop 1 packet 2 0, get_or-drop 1 packet 3 0, get_or-drop 1 packet 4 0) refl
+
+pub read_ok : (read : Result Command KeymapError) (result : Result Command Why) (command : Command) → MatchResult read (λ c. result ≡ Ok c) (λ error. result ≡ Err (why_not error)) → result ≡ Ok command → read ≡ Ok command
+read_ok (Ok c) result command m e = cc
+read_ok (Err error) result command m e = cc
+
+pub record ReadsError (read : Result Command KeymapError) (why : Why) : Type 0 where
+  pub error : KeymapError
+  pub is : read ≡ Err error
+  pub why_is : why ≡ why_not error
+
+pub read_err : (read : Result Command KeymapError) (result : Result Command Why) (why : Why) → MatchResult read (λ c. result ≡ Ok c) (λ error. result ≡ Err (why_not error)) → result ≡ Err why → ReadsError read why
+read_err (Ok c) result why m e = cc
+read_err (Err error) result why m e = record { error = error; is = refl; why_is = cc }
+
+-- a packet that is refused before its command is read
+pub stands_refused : (start : List ℕ) (past : List Step) (packet : ArrayVec ℕ) (why : Why) (result : Result (List ℕ) Why) (old : WorldValue) → StandsFor start past old → old.stage ≡ Taking
+    → PayloadRead packet.items result → result ≡ Err why → StandsFor start (step_of (OutPacket packet) (Stall why) old ∷ past) (in_stage (Stalled why) old)
+stands_refused start past packet why result old s e r f =
+    stands_out start past packet why Taking old s e (λ v g. cc) (refused_packet (image_after start past) (is_some (working start past)) packet.items why result r f)
+
+not_working : (start : List ℕ) (past : List Step) (old : WorldValue) → StandsFor start past old → old.store.working ≡ None → is_some (working start past) ≡ true → ⊥
+not_working start past old s n b =
+    let none : working start past ≡ None = sym s.works ∙ n in
+    let bad : is_some (working start past) ≡ false = rw none refl in
+    cc
+
+-- numbers that are no command
+pub stands_unread : (start : List ℕ) (past : List Step) (packet : ArrayVec ℕ) (payload : List ℕ) (why : Why) (old : WorldValue) → StandsFor start past old → old.stage ≡ Taking → old.store.working ≡ None
+    → IsFeature packet.items payload → ReadsError (command_in packet.items) why → StandsFor start (step_of (OutPacket packet) (Stall why) old ∷ past) (in_stage (Stalled why) old)
+stands_unread start past packet payload why old s e n f r =
+    stands_out start past packet why Taking old s e (λ v g. cc)
+    (past_checks (image_after start past) (is_some (working start past)) packet.items payload (Stall why) f
+    (no (not_working start past old s n) (subst (λ (x : Result Command KeymapError). ReadAnswer (image_after start past) x (Stall why)) (sym r.is) (ap Stall r.why_is))))
+
+-- the device is busy
+pub stands_busy : (start : List ℕ) (past : List Step) (packet : ArrayVec ℕ) (payload : List ℕ) (old : WorldValue) → StandsFor start past old → old.stage ≡ Taking → is_some old.store.working ≡ true
+    → IsFeature packet.items payload → StandsFor start (step_of (OutPacket packet) Nak old ∷ past) old
+stands_busy start past packet payload old s e b f =
+    stands_quiet start past (OutPacket packet) Nak old s (record { goes_on = refl; opens_none = refl; ends_none = record { keeps = λ x. refl }; takes_none = refl }) refl refl (
+      subst (λ (x : Stage). OutAnswer x (image_after start past) (working start past) packet.items Nak) (sym e ∙ s.transfer)
+          (past_checks (image_after start past) (is_some (working start past)) packet.items payload Nak f (yes (ap is_some (sym s.works) ∙ b) refl)),
+      s.flash,
+    )
+
+stage_if : (b : Bool) → stage_taken b ≡ (if b then Waiting else Status)
+stage_if true = refl
+stage_if false = refl
+
+-- a command that is handed in
+acked : (start : List ℕ) (past : List Step) (packet : ArrayVec ℕ) (payload : List ℕ) (command : Command) (old new : WorldValue) → StandsFor start past old → old.stage ≡ Taking → old.store.working ≡ None
+    → IsFeature packet.items payload → command_in packet.items ≡ Ok command → TakesCommand old.flash.image command Ack old new
+    → StandsFor start (step_of (OutPacket packet) Ack new ∷ past) new
+unfolding accepts
+acked start past packet payload command old new s e n f c t =
+    let step : Step = step_of (OutPacket packet) Ack new in
+    let same : new.flash.image ≡ image_after start past = ap (λ (x : SimValue). x.image) t.flash ∙ s.flash in
+    let taking : stage start past ≡ Taking = sym s.transfer ∙ e in
+    let accepted : accepts start past step ≡ Some command = rw (taking, c) refl in
+    let change : changes (keymap old.flash.image) command ≡ changes (keymap (image_after start past)) command = ap (λ (image : List ℕ). changes (keymap image) command) s.flash in
+    record {
+      flash = refl;
+      store = subst (λ (image : List ℕ). Holds image new.store) (sym (ap (λ (x : SimValue). x.image) t.flash)) t.holds;
+      works = t.outcome.1 ∙ ap (λ (b : Bool). if b then Some command else None) change
+          ∙ by_taken (after_takes start past step command (orderly start past s.answered) refl (record { keeps = λ x. refl }) accepted same (not_working start past old s n));
+      transfer = t.outcome.0 ∙ ap (λ (b : Bool). if b then Waiting else Status) change ∙ sym (stage_if (changes (keymap (image_after start past)) command))
+          ∙ sym (stage-taken start step past packet.items command s.answered refl refl refl refl c taking);
+      answered = (
+        (
+          subst (λ (x : Stage). OutAnswer x (image_after start past) (working start past) packet.items Ack) (sym taking)
+              (past_checks (image_after start past) (is_some (working start past)) packet.items payload Ack f
+              (no (not_working start past old s n) (subst (λ (x : Result Command KeymapError). ReadAnswer (image_after start past) x Ack) (sym c)
+              (subst (λ (image : List ℕ). CommandAnswer image command Ack) s.flash t.answer_is)))),
+          same,
+        ),
+        s.answered,
+      );
+    }
+  where
+    by_taken : AfterTaken start past (step_of (OutPacket packet) Ack new) command
+        → (if changes (keymap (image_after start past)) command then Some command else None) ≡ working start (step_of (OutPacket packet) Ack new ∷ past)
+    by_taken (now_works b h) = rw b (sym (working_after start past (step_of (OutPacket packet) Ack new) (Some command) h))
+    by_taken (changed_nothing b h) = rw b (sym (working_after start past (step_of (OutPacket packet) Ack new) None h))
+
+-- a world by its fields
+world_is : (new old : WorldValue) (now : Stage) → new.stage ≡ now → new.flash ≡ old.flash → (let w : WorldValue = record { stage = now; store = new.store; flash = old.flash } in new ≡ w)
+world_is new old now s f = ap (λ (x : Stage). let w : WorldValue = record { stage = x; store = new.store; flash = new.flash } in w) s ∙ ap (λ (x : SimValue). let w : WorldValue = record { stage = now; store = new.store; flash = x } in w) f
+
+refused_command : (start : List ℕ) (past : List Step) (packet : ArrayVec ℕ) (payload : List ℕ) (command : Command) (why : Why) (old new : WorldValue) → StandsFor start past old → old.stage ≡ Taking → old.store.working ≡ None
+    → IsFeature packet.items payload → command_in packet.items ≡ Ok command → TakesCommand old.flash.image command (Stall why) old new
+    → StandsFor start (step_of (OutPacket packet) (Stall why) new ∷ past) new
+refused_command start past packet payload command why old new s e n f c t =
+    let mid : WorldValue = record { stage = old.stage; store = new.store; flash = old.flash } in
+    let before : StandsFor start past mid = record {
+      flash = s.flash;
+      store = subst (λ (image : List ℕ). Holds image new.store) s.flash t.holds;
+      works = t.outcome.1 ∙ sym n ∙ s.works;
+      transfer = s.transfer;
+      answered = s.answered;
+    } in
+    let told : StandsFor start (step_of (OutPacket packet) (Stall why) mid ∷ past) (in_stage (Stalled why) mid) =
+    stands_out start past packet why Taking mid before e (λ v g. cc)
+    (past_checks (image_after start past) (is_some (working start past)) packet.items payload (Stall why) f
+    (no (not_working start past old s n) (subst (λ (x : Result Command KeymapError). ReadAnswer (image_after start past) x (Stall why)) (sym c)
+    (subst (λ (image : List ℕ). CommandAnswer image command (Stall why)) s.flash t.answer_is)))) in
+    stands_after_stall start past (OutPacket packet) why (Stall why) mid new refl (world_is new old (Stalled why) t.outcome.0 t.flash) told
+
+pub stands_command : (start : List ℕ) (past : List Step) (packet : ArrayVec ℕ) (payload : List ℕ) (command : Command) (answer : Answer) (old new : WorldValue) → StandsFor start past old → old.stage ≡ Taking → old.store.working ≡ None
+    → IsFeature packet.items payload → command_in packet.items ≡ Ok command → TakesCommand old.flash.image command answer old new
+    → StandsFor start (step_of (OutPacket packet) answer new ∷ past) new
+stands_command start past packet payload command Ack old new s e n f c t = acked start past packet payload command old new s e n f c t
+stands_command start past packet payload command (Stall why) old new s e n f c t = refused_command start past packet payload command why old new s e n f c t
+stands_command start past packet payload command Nak old new s e n f c t = absurd t.outcome
+stands_command start past packet payload command (Packet p) old new s e n f c t = absurd t.outcome
+stands_command start past packet payload command (Worked work) old new s e n f c t = absurd t.outcome
+stands_command start past packet payload command Restarted old new s e n f c t = absurd t.outcome
+stands_command start past packet payload command (EntryIs code) old new s e n f c t = absurd t.outcome
+stands_command start past packet payload command (SlotIs bytes) old new s e n f c t = absurd t.outcome
+stands_command start past packet payload command NoSlot old new s e n f c t = absurd t.outcome
+
+some_and_nothing : (entries : ℕ → ℕ → ℕ) (command : Command) → ChangesSome entries command → ChangesNothing entries command → ⊥
+some_and_nothing entries command s n = s.differs (n.each s.layer s.key s.in_layers s.in_keys)
+
+-- a command that changes nothing, and one that works
+pub takes_settled : (image : List ℕ) (command : Command) (old new : WorldValue) → Holds image new.store → new.flash ≡ old.flash → IsUsable image → ChangesNothing (keymap image) command
+    → new.stage ≡ Status → new.store.working ≡ None → TakesCommand image command Ack old new
+takes_settled image command old new h f u n s w =
+    let nothing : changes (keymap image) command ≡ false = changes-nothing (keymap image) command n in
+    record { answer_is = no (λ v. v u) (yes n refl); holds = h; flash = f; outcome = (rw nothing s, rw nothing w) }
+
+pub takes_working : (image : List ℕ) (command : Command) (old new : WorldValue) → Holds image new.store → new.flash ≡ old.flash → IsUsable image → ChangesSome (keymap image) command → TakesRecord image
+    → new.stage ≡ Waiting → new.store.working ≡ Some command → TakesCommand image command Ack old new
+takes_working image command old new h f u c r s w =
+    let something : changes (keymap image) command ≡ true = changes-some (keymap image) command c in
+    record {
+      answer_is = no (λ v. v u) (no (some_and_nothing (keymap image) command c) (no (λ v. v r) refl));
+      holds = h;
+      flash = f;
+      outcome = (rw something s, rw something w);
+    }
+
+pub not_busy : (w : Option Command) → is_some w ≡ false → w ≡ None
+not_busy None e = refl
+not_busy (Some command) e = cc

@@ -1,0 +1,5 @@
+use Rattle.world.proofs.Restarting.{shows_settled}
+use Rattle.world.proofs.laws.looks_show_settled.Goals as goal
+
+pub returns : goal.returns
+returns c start history h = shows_settled start history h

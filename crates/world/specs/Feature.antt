@@ -1,0 +1,65 @@
+-- The data packet of the feature report that carries a command, and the checks that it has to pass.
+use Rattle.std.specs.Prelude.{◌≡◌, ◌≢◌, ℕ, ◌+◌, ◌*◌, ◌<◌, Bool, true, None, Result, Ok, Err, List, length, slice_index}
+use Rattle.layers.specs.Commands.{command_read}
+use Rattle.layers.specs.Entries.{ChangesNothing}
+use Rattle.layers.specs.declared.code.KeymapError.{KeymapError}
+use Rattle.layers.specs.declared.code.KeymapError.TheVariants.{BadOperation as bad_operation, BadLayer as bad_layer, BadKey as bad_key, BadCode as bad_code}
+use Rattle.layers.specs.declared.command.Command.{Command}
+use Rattle.page_turnover.specs.Active.{active}
+use Rattle.page_turnover.specs.Words.{HasRoom, IsBlank}
+use Rattle.page_turnover.specs.Usable.{IsUsable}
+use Rattle.world.specs.declared.event.Why.{Why}
+use Rattle.world.specs.declared.event.Why.TheVariants.{UnknownReport, BadOperation, BadLayer, BadKey, BadCode, Unsound, Worn, ShortData, LongData}
+use Rattle.world.specs.declared.event.Answer.{Answer}
+use Rattle.world.specs.declared.event.Answer.TheVariants.{Ack, Nak, Stall}
+use Rattle.world.specs.History.{keymap}
+
+-- the report's bytes: its ID, the operation, layer, key, and the code, low byte first
+abbrev pub report_id : ℕ
+report_id = 3
+
+abbrev pub report_length : ℕ
+report_length = 6
+
+-- the command that a packet carries, or the first of its numbers that is none
+abbrev pub command_in : List ℕ → Result Command KeymapError
+command_in packet =
+    command_read (slice_index packet 1) (slice_index packet 2) (slice_index packet 3) (slice_index packet 4 + 256 * slice_index packet 5)
+
+-- the refusal of a number that is none
+abbrev pub why_not : KeymapError → Why
+why_not bad_operation = BadOperation
+why_not bad_layer = BadLayer
+why_not bad_key = BadKey
+why_not bad_code = BadCode
+
+-- where p holds, q; else r
+pub data Where (p q r : Type 0) : Type 0 where
+  yes : p → q → Where p q r
+  no : (p → ⊥) → r → Where p q r
+
+-- a record can be added without an erase or a copy: the active page has room, or there is none and page 0 is blank
+pub data TakesRecord (image : List ℕ) : Type 0 where
+  with_room : HasRoom image → TakesRecord image
+  on_blank : active image ≡ None → IsBlank image 0 → TakesRecord image
+
+-- the answer to a well-formed command on an image
+abbrev pub CommandAnswer : List ℕ → Command → Answer → Type 0
+CommandAnswer image command answer =
+    Where (IsUsable image → ⊥) (answer ≡ Stall Unsound)
+    (Where (ChangesNothing (keymap image) command) (answer ≡ Ack)
+    (Where (TakesRecord image → ⊥) (answer ≡ Stall Worn)
+    (answer ≡ Ack)))
+
+abbrev pub ReadAnswer : List ℕ → Result Command KeymapError → Answer → Type 0
+ReadAnswer image (Err error) answer = answer ≡ Stall (why_not error)
+ReadAnswer image (Ok command) answer = CommandAnswer image command answer
+
+-- the answer to a feature packet: the first check that it does not pass decides
+abbrev pub FeatureAnswer : List ℕ → Bool → List ℕ → Answer → Type 0
+FeatureAnswer image busy packet answer =
+    Where (length packet < report_length) (answer ≡ Stall ShortData)
+    (Where (report_length < length packet) (answer ≡ Stall LongData)
+    (Where (slice_index packet 0 ≢ report_id) (answer ≡ Stall UnknownReport)
+    (Where (busy ≡ true) (answer ≡ Nak)
+    (ReadAnswer image (command_in packet) answer))))

@@ -1,0 +1,11 @@
+pub mod History
+pub mod Feature
+pub mod Fate
+pub mod Transfer
+pub mod Commands
+pub mod Restart
+pub mod Lawful
+pub mod Acknowledged
+pub mod Holds
+pub mod Value
+pub mod Stands

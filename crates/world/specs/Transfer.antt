@@ -1,0 +1,181 @@
+-- The stage of the control transfer, by looking back to the SETUP packet that began it (USB 2.0, section 8.5.3).
+use Rattle.std.specs.Prelude.{ℕ, ◌||◌, ◌==◌, Bool, true, false, if◌then◌else◌, Option, None, Some, Result, Ok, Err, List, [], ◌∷◌, length}
+use Rattle.std.specs.Str.{bytes_eq}
+use Rattle.layers.specs.declared.code.KeymapError.{KeymapError}
+use Rattle.layers.specs.declared.command.Command.{Command}
+use Rattle.world.specs.declared.event.Event.{Event}
+use Rattle.world.specs.declared.event.Event.TheVariants.{Setup, OutPacket, InPacket, Work, Cut, Entry, SlotAt}
+use Rattle.world.specs.declared.event.Answer.{Answer}
+use Rattle.world.specs.declared.event.Answer.TheVariants.{Ack, Nak, Packet, Stall, Worked, Restarted, EntryIs, SlotIs, NoSlot}
+use Rattle.world.specs.declared.event.Work.{Work as WorkAnswer}
+use Rattle.world.specs.declared.event.Work.TheVariants.{Idle, Working, Settled, Failed}
+use Rattle.world.specs.declared.event.Why.{Why}
+use Rattle.world.specs.declared.event.Why.TheVariants.{UnknownRequest, FlashFault}
+use Rattle.world.specs.declared.transfer.Stage.{Stage}
+use Rattle.world.specs.declared.transfer.Stage.TheVariants.{Rest, Taking, Waiting, Status, Stalled}
+use Rattle.world.specs.History.{Step, image_after, keymap}
+use Rattle.world.specs.Feature.{command_in}
+use Rattle.world.specs.Fate.{Fate, works, settled, failed, fate}
+
+-- SET_REPORT of feature report 3, of six bytes, to interface 0 (HID 1.11, section 7.2.2)
+abbrev pub set_feature : List ℕ
+set_feature = 0x21 ∷ 0x09 ∷ 0x03 ∷ 0x03 ∷ 0x00 ∷ 0x00 ∷ 0x06 ∷ 0x00 ∷ []
+
+-- why a SETUP packet is refused, if it is: that request alone is served
+abbrev pub refusal_of : List ℕ → Option Why
+refusal_of setup = if bytes_eq setup set_feature then None else Some UnknownRequest
+
+-- an event that ends the transfer in progress, with the SETUP packet that begins the next one; a start begins none
+abbrev pub opening_of : Event → Option (Option (List ℕ))
+opening_of (Setup bytes) = Some (Some bytes)
+opening_of Cut = Some None
+opening_of (OutPacket packet) = None
+opening_of InPacket = None
+opening_of Work = None
+opening_of (Entry layer key) = None
+opening_of (SlotAt page slot) = None
+
+-- the SETUP packet of the transfer, if it began with one
+abbrev pub setup_here : Option (Option (List ℕ)) → Option (List ℕ) → Option (List ℕ)
+setup_here (Some opening) before = opening
+setup_here None before = before
+
+abbrev pub setup_of : List Step → Option (List ℕ)
+setup_of [] = None
+setup_of (step ∷ before) = setup_here (opening_of step.event) (setup_of before)
+
+-- the steps of the transfer, newest first
+abbrev pub steps_here : Option (Option (List ℕ)) → List Step → List Step
+steps_here (Some opening) steps = []
+steps_here None steps = steps
+
+abbrev pub transfer : List Step → List Step
+transfer [] = []
+transfer (step ∷ before) = steps_here (opening_of step.event) (step ∷ transfer before)
+
+-- the reason of a stall
+abbrev pub stall_in : Answer → Option Why
+stall_in (Stall why) = Some why
+stall_in Ack = None
+stall_in Nak = None
+stall_in (Packet packet) = None
+stall_in (Worked work) = None
+stall_in Restarted = None
+stall_in (EntryIs code) = None
+stall_in (SlotIs bytes) = None
+stall_in NoSlot = None
+
+abbrev pub first_of : {A : Type 0} → Option A → Option A → Option A
+first_of (Some first) later = Some first
+first_of None later = later
+
+-- the reason of the first stall among steps
+abbrev pub first_stall : List Step → Option Why
+first_stall [] = None
+first_stall (step ∷ before) = first_of (first_stall before) (stall_in step.answer)
+
+-- an IN token was answered by the empty packet
+abbrev pub is_empty_packet : Answer → Bool
+is_empty_packet (Packet packet) = length packet.items == 0
+is_empty_packet Ack = false
+is_empty_packet Nak = false
+is_empty_packet (Stall why) = false
+is_empty_packet (Worked work) = false
+is_empty_packet Restarted = false
+is_empty_packet (EntryIs code) = false
+is_empty_packet (SlotIs bytes) = false
+is_empty_packet NoSlot = false
+
+abbrev pub is_ended : List Step → Bool
+is_ended [] = false
+is_ended (step ∷ before) = is_empty_packet step.answer || is_ended before
+
+-- the bytes of an OUT packet that was acknowledged
+abbrev pub is_ack : Answer → Bool
+is_ack Ack = true
+is_ack Nak = false
+is_ack (Packet packet) = false
+is_ack (Stall why) = false
+is_ack (Worked work) = false
+is_ack Restarted = false
+is_ack (EntryIs code) = false
+is_ack (SlotIs bytes) = false
+is_ack NoSlot = false
+
+abbrev pub bytes_taken : Event → Answer → Option (List ℕ)
+bytes_taken (OutPacket packet) answer = if is_ack answer then Some packet.items else None
+bytes_taken (Setup bytes) answer = None
+bytes_taken InPacket answer = None
+bytes_taken Work answer = None
+bytes_taken Cut answer = None
+bytes_taken (Entry layer key) answer = None
+bytes_taken (SlotAt page slot) answer = None
+
+-- the first OUT packet of the transfer that was acknowledged
+pub record DataPacket : Type 0 where
+  pub bytes : List ℕ
+  -- the flash when it came
+  pub image : List ℕ
+  -- the steps since, newest first
+  pub since : List Step
+
+abbrev pub data_from : List ℕ → Option (List ℕ) → Option DataPacket
+data_from image (Some bytes) = Some (record { bytes = bytes; image = image; since = [] })
+data_from image None = None
+
+abbrev pub data_here : Option DataPacket → Step → List ℕ → Option DataPacket
+data_here (Some packet) step image = Some (record { bytes = packet.bytes; image = packet.image; since = step ∷ packet.since })
+data_here None step image = data_from image (bytes_taken step.event step.answer)
+
+abbrev pub data_unless : Option (Option (List ℕ)) → Option DataPacket → Option DataPacket
+data_unless (Some opening) packet = None
+data_unless None packet = packet
+
+abbrev pub data_packet : List ℕ → List Step → Option DataPacket
+data_packet start [] = None
+data_packet start (step ∷ before) =
+    data_unless (opening_of step.event) (data_here (data_packet start before) step (image_after start before))
+
+-- what has become of the command that it carried
+abbrev pub fate_in : List ℕ → List Step → Result Command KeymapError → Fate
+fate_in image since (Ok command) = fate (keymap image) command since
+fate_in image since (Err error) = settled
+
+-- the stage after the data stage
+abbrev pub stage_after_data : Fate → Bool → Stage
+stage_after_data works ended = Waiting
+stage_after_data failed ended = Stalled FlashFault
+stage_after_data settled true = Rest
+stage_after_data settled false = Status
+
+abbrev pub stage_of_data : Option DataPacket → Bool → Stage
+stage_of_data None ended = Taking
+stage_of_data (Some packet) ended = stage_after_data (fate_in packet.image packet.since (command_in packet.bytes)) ended
+
+abbrev pub stage_unless : Option Why → Stage → Stage
+stage_unless (Some why) stage = Stalled why
+stage_unless None stage = stage
+
+abbrev pub stage_of_setup : Option (List ℕ) → Stage → Stage
+stage_of_setup None stage = Rest
+stage_of_setup (Some setup) stage = stage_unless (refusal_of setup) stage
+
+-- the first of these that applies: a packet was stalled, the first one decides; no SETUP packet since the start; the
+-- SETUP packet is refused; no data packet was acknowledged yet; its command works, or failed; the status stage was
+-- answered; the status stage is still to come
+unfoldable pub stage : List ℕ → List Step → Stage
+stage start past =
+    stage_unless (first_stall (transfer past))
+    (stage_of_setup (setup_of past)
+    (stage_of_data (data_packet start past) (is_ended (transfer past))))
+
+-- what a step of the flash work makes of the stage
+abbrev pub stage_worked : WorkAnswer → Stage → Stage
+stage_worked Settled Waiting = Status
+stage_worked Failed Waiting = Stalled FlashFault
+stage_worked Idle Waiting = Waiting
+stage_worked Working Waiting = Waiting
+stage_worked work Rest = Rest
+stage_worked work Taking = Taking
+stage_worked work Status = Status
+stage_worked work (Stalled why) = Stalled why
