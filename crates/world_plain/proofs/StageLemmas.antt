@@ -1,0 +1,112 @@
+-- The stage by its parts, and the data packet after one step more.
+use Rattle.std.proofs.Common.{◌≡◌, ℕ, Bool, true, false, if◌then◌else◌, is_some, Option, Some, None, Result, Ok, Err, List, [], ◌∷◌, refl, ap, sym, ◌∙◌}
+use Rattle.std.specs.Str.{bytes_eq}
+use Rattle.layers.specs.declared.code.KeymapError.{KeymapError}
+use Rattle.layers.specs.declared.command.Command.{Command}
+use Rattle.std.specs.Result.{result_ok}
+use Rattle.world.specs.declared.event.Why.{Why}
+use Rattle.world.specs.declared.event.Why.TheVariants.{UnknownRequest}
+use Rattle.world.specs.declared.transfer.Stage.{Stage}
+use Rattle.world.specs.declared.transfer.Stage.TheVariants.{Rest, Taking, Stalled}
+use Rattle.world.specs.History.{Step, image_after, keymap}
+use Rattle.world.specs.Feature.{command_in}
+use Rattle.world.specs.Fate.{Fate, works, settled, ended_by, fate}
+use Rattle.world.specs.Transfer.{set_feature, opening_of, setup_of, transfer, first_stall, is_ended, bytes_taken, DataPacket, data_packet, data_here, fate_in, stage_after_data, stage_of_data, stage_unless, stage_of_setup, stage}
+use Rattle.world.specs.Commands.{accepts, command_of_read, in_data_stage}
+use Rattle.layers.specs.Entries.{ChangesSome, ChangesNothing}
+use Rattle.world.proofs.Accepting.{fate-more, ended_by-settled}
+use Rattle.world.proofs.Changing.{changes-some, changes-nothing}
+use Rattle.world_plain.specs.Records.{data_fate, fate_at_first}
+
+parts : (start : List ℕ) (past : List Step) (stalled : Option Why) (setup : Option (List ℕ)) (data_stage : Stage) → first_stall (transfer past) ≡ stalled → setup_of past ≡ setup
+    → stage_of_data (data_packet start past) (is_ended (transfer past)) ≡ data_stage → stage start past ≡ stage_unless stalled (stage_of_setup setup data_stage)
+unfolding stage
+parts start past stalled setup data_stage e f g = rw (e, f, g) refl
+
+pub stage-stalled : (start : List ℕ) (past : List Step) (why : Why) → Some why ≡ first_stall (transfer past) → Stalled why ≡ stage start past
+stage-stalled start past why e = sym (parts start past (Some why) (setup_of past) (stage_of_data (data_packet start past) (is_ended (transfer past))) (sym e) refl refl)
+
+pub stage-rest : (start : List ℕ) (past : List Step) → None ≡ first_stall (transfer past) → None ≡ setup_of past → Rest ≡ stage start past
+stage-rest start past e f = sym (parts start past None None (stage_of_data (data_packet start past) (is_ended (transfer past))) (sym e) (sym f) refl)
+
+served_if : (served : Bool) (setup : List ℕ) (data_stage : Stage) → served ≡ bytes_eq setup set_feature
+    → stage_of_setup (Some setup) data_stage ≡ stage_unless (if served then None else Some UnknownRequest) data_stage
+served_if served setup data_stage e = ap (λ (b : Bool). stage_unless (if b then None else Some UnknownRequest) data_stage) (sym e)
+
+pub stage-unknown : (start : List ℕ) (past : List Step) (setup : List ℕ) → None ≡ first_stall (transfer past) → Some setup ≡ setup_of past → false ≡ bytes_eq setup set_feature
+    → Stalled UnknownRequest ≡ stage start past
+stage-unknown start past setup e f g =
+    sym (parts start past None (Some setup) (stage_of_data (data_packet start past) (is_ended (transfer past))) (sym e) (sym f) refl
+    ∙ served_if false setup (stage_of_data (data_packet start past) (is_ended (transfer past))) g)
+
+pub stage-taking : (start : List ℕ) (past : List Step) (setup : List ℕ) → None ≡ first_stall (transfer past) → Some setup ≡ setup_of past → true ≡ bytes_eq setup set_feature
+    → data_packet start past ≡ None → Taking ≡ stage start past
+stage-taking start past setup e f g d =
+    sym (parts start past None (Some setup) Taking (sym e) (sym f) (rw d refl) ∙ served_if true setup Taking g)
+
+by_data : (d : Option DataPacket) (f : Fate) (ended : Bool) → data_fate d ≡ Some f → stage_of_data d ended ≡ stage_after_data f ended
+by_data None f ended e = cc
+by_data (Some packet) f ended e =
+    let same : fate_in packet.image packet.since (command_in packet.bytes) ≡ f = cc in
+    ap (λ (x : Fate). stage_after_data x ended) same
+
+pub stage-with_data : (start : List ℕ) (past : List Step) (setup : List ℕ) (f : Fate) (ended : Bool) → None ≡ first_stall (transfer past) → Some setup ≡ setup_of past
+    → true ≡ bytes_eq setup set_feature → data_fate (data_packet start past) ≡ Some f → ended ≡ is_ended (transfer past) → stage_after_data f ended ≡ stage start past
+stage-with_data start past setup f ended e h g d t =
+    sym (parts start past None (Some setup) (stage_after_data f ended) (sym e) (sym h)
+    (by_data (data_packet start past) f (is_ended (transfer past)) d ∙ ap (stage_after_data f) (sym t))
+    ∙ served_if true setup (stage_after_data f ended) g)
+
+fate_in-more : (image : List ℕ) (step : Step) (since : List Step) (read : Result Command KeymapError) → fate_in image (step ∷ since) read ≡ ended_by step.answer (fate_in image since read)
+fate_in-more image step since (Ok command) = fate-more (keymap image) command step since
+fate_in-more image step since (Err error) = sym (ended_by-settled step.answer)
+
+here : (d : Option DataPacket) (step : Step) (image : List ℕ) (f : Fate) → data_fate d ≡ Some f → data_fate (data_here d step image) ≡ Some (ended_by step.answer f)
+here None step image f e = cc
+here (Some packet) step image f e =
+    let same : fate_in packet.image packet.since (command_in packet.bytes) ≡ f = cc in
+    ap (λ (x : Fate). Some x) (fate_in-more packet.image step packet.since (command_in packet.bytes)) ∙ ap (λ (x : Fate). Some (ended_by step.answer x)) same
+
+no_opening : (o p : Option (Option (List ℕ))) → o ≡ p → is_some o ≡ false → p ≡ None
+no_opening None p e n = sym e
+no_opening (Some x) p e n = cc
+
+-- one step more of the same transfer
+pub data-more : (start : List ℕ) (step : Step) (before : List Step) (f : Fate) (o : Option (Option (List ℕ))) → o ≡ opening_of step.event → is_some o ≡ false
+    → data_fate (data_packet start before) ≡ Some f → data_fate (data_packet start (step ∷ before)) ≡ Some (ended_by step.answer f)
+data-more start step before f o e n d =
+    rw (no_opening o (opening_of step.event) e n) (here (data_packet start before) step (image_after start before) f d)
+
+-- the data packet
+pub data-first : (start : List ℕ) (step : Step) (before : List Step) (bytes : List ℕ) (o : Option (Option (List ℕ))) → o ≡ opening_of step.event → is_some o ≡ false
+    → data_packet start before ≡ None → bytes_taken step.event step.answer ≡ Some bytes → data_fate (data_packet start (step ∷ before)) ≡ Some (fate_at_first (image_after start before) bytes)
+data-first start step before bytes o e n d b = rw (no_opening o (opening_of step.event) e n, d, b) refl
+
+pub fate-changes : (entries : ℕ → ℕ → ℕ) (command : Command) → ChangesSome entries command → works ≡ fate entries command []
+fate-changes entries command s = rw (changes-some entries command s) refl
+
+pub fate-changes_nothing : (entries : ℕ → ℕ → ℕ) (command : Command) → ChangesNothing entries command → settled ≡ fate entries command []
+fate-changes_nothing entries command s = rw (changes-nothing entries command s) refl
+
+pub in_read : (image : List ℕ) (packet : List ℕ) (read : Result Command KeymapError) (command : Command) → Some command ≡ result_ok read → fate_in image [] read ≡ fate (keymap image) command []
+in_read image packet (Ok c) command e = let same : c ≡ command = cc in ap (λ (x : Command). fate (keymap image) x []) same
+in_read image packet (Err error) command e = cc
+
+pub none_read : (image : List ℕ) (read : Result Command KeymapError) → None ≡ result_ok read → fate_in image [] read ≡ settled
+none_read image (Ok c) e = cc
+none_read image (Err error) e = refl
+
+read_ok : (read : Result Command KeymapError) → result_ok read ≡ command_of_read read
+read_ok (Ok c) = refl
+read_ok (Err e) = refl
+
+-- what a step accepts, by the stage and its packet
+pub accepts-packet : (start : List ℕ) (before : List Step) (step : Step) (bytes : List ℕ) (at : Stage) → at ≡ stage start before → bytes_taken step.event step.answer ≡ Some bytes
+    → in_data_stage at (result_ok (command_in bytes)) ≡ accepts start before step
+unfolding accepts
+accepts-packet start before step bytes at s b = rw (← s, b, ← read_ok (command_in bytes)) refl
+
+pub accepts-no_packet : (start : List ℕ) (before : List Step) (step : Step) (at : Stage) → at ≡ stage start before → bytes_taken step.event step.answer ≡ None
+    → in_data_stage at None ≡ accepts start before step
+unfolding accepts
+accepts-no_packet start before step at s b = rw (← s, b) refl
