@@ -88,22 +88,31 @@ verdict_answer Working = Ack
 verdict_answer Busy = Nak
 verdict_answer (Refused why) = Stall why
 
+-- P holds where the answer is NAK
 abbrev pub IfNak : EpAnswer → Type 0 → Type 0
 IfNak Nak P = P
 IfNak Ack P = Unit {0}
 IfNak (Packet _) P = Unit {0}
 IfNak (Stall _) P = Unit {0}
 
+-- P holds of the reason of a STALL
 abbrev pub IfStall : EpAnswer → (Why → Type 0) → Type 0
 IfStall (Stall why) P = P why
 IfStall Ack P = Unit {0}
 IfStall Nak P = Unit {0}
 IfStall (Packet _) P = Unit {0}
 
+-- P holds of the answer to an OUT packet that needs no verdict and sets no LEDs
 abbrev pub IfAnswered : OutStep → (EpAnswer → Type 0) → Type 0
 IfAnswered (Answered answer) P = P answer
 IfAnswered (Leds _) P = Unit {0}
 IfAnswered (Offer _) P = Unit {0}
+
+-- P holds where the packet waits for its verdict
+abbrev pub IfOffer : OutStep → Type 0 → Type 0
+IfOffer (Offer _) P = P
+IfOffer (Answered _) P = Unit {0}
+IfOffer (Leds _) P = Unit {0}
 
 -- only a transfer that waits goes on by the end of a command
 abbrev pub Ends : Stage → Stage → Stage → Type 0

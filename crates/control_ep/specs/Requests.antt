@@ -1,19 +1,15 @@
--- The requests that are served, what each wValue stands for, and the order in which a SETUP is checked
--- (USB 2.0 sections 9.3 and 9.4.3, HID 1.11 section 7).
-use Rattle.std.specs.Prelude.{ℕ, ◌+◌, ◌*◌, ◌/◌, ◌%◌, ◌==◌, ◌&&◌, not, List, [], ◌∷◌, if◌then◌else◌, slice_index, Option, Some, None, Result, Ok, Err}
+-- The requests that are served, and the order in which a SETUP packet is checked (USB 2.0 sections 9.3 and
+-- 9.4.3, HID 1.11 section 7).
+use Rattle.std.specs.Prelude.{ℕ, ◌+◌, ◌*◌, ◌/◌, ◌%◌, ◌==◌, ◌&&◌, not, Bool, true, List, [], ◌∷◌, if◌then◌else◌, slice_index, Option, Some, None, Result, Ok, Err}
 use Rattle.descriptor_build.specs.Served.{device_bytes, configuration_bytes, hid_bytes, report_bytes}
 use Rattle.reports.specs.declared.Protocol.{Protocol}
 use Rattle.reports.specs.declared.Protocol.TheVariants as Protocols
-use Rattle.reports.specs.declared.IdleId.{IdleId}
 use Rattle.reports.specs.declared.IdleId.TheVariants as Idles
 use Rattle.control_ep.specs.declared.why.Why.{Why}
 use Rattle.control_ep.specs.declared.why.Why.TheVariants.{UnknownRequest, WrongInterface, UnknownDescriptor, UnknownReport, WrongLength, BadProtocol}
-use Rattle.control_ep.specs.declared.answer.Effect.{Effect}
 use Rattle.control_ep.specs.declared.answer.Effect.TheVariants.{Idle, SetProtocol}
 use Rattle.control_ep.specs.declared.answer.DeviceView.{DeviceView}
 use Rattle.control_ep.specs.declared.request.Request.{Request}
-use Rattle.control_ep.specs.declared.request.Service.{Service}
-use Rattle.control_ep.specs.declared.request.Service.TheVariants as Services
 use Rattle.control_ep.specs.declared.request.Taken.{Taken}
 use Rattle.control_ep.specs.declared.request.Taken.TheVariants as Takens
 use Rattle.control_ep.specs.declared.request.Transfer.{Transfer}
@@ -23,7 +19,7 @@ use Rattle.control_ep.specs.declared.request.Transfer.TheVariants.{Reads, Takes,
 abbrev pub word_at : List ℕ → ℕ → ℕ
 word_at bytes i = slice_index bytes i + 256 * slice_index bytes (i + 1)
 
--- bmRequestType, bRequest, wValue, wIndex, wLength
+-- bmRequestType, bRequest, wValue, wIndex, wLength (USB 2.0 table 9-2)
 abbrev pub request_of : List ℕ → Request
 request_of setup = record {
   kind = slice_index setup 0;
@@ -33,73 +29,93 @@ request_of setup = record {
   length = word_at setup 6;
 }
 
--- the first entry under a key
-abbrev pub entry_at : {A : Type 0} → List (ℕ × A) → ℕ → Option A
-entry_at [] key = None
-entry_at (row ∷ rows) key = if key == row.0 then Some row.1 else entry_at rows key
+-- the data of a read
+abbrev pub reads : List ℕ → Transfer
+reads bytes = Reads (record { items = bytes })
 
--- the requests that are served, by bmRequestType and bRequest
-abbrev pub services : List (ℕ × ℕ × Service)
-services =
-    (0x80, 0x06, Services.DeviceDescriptor) ∷
-    (0x81, 0x06, Services.InterfaceDescriptor) ∷
-    (0xA1, 0x01, Services.GetReport) ∷
-    (0xA1, 0x02, Services.GetIdle) ∷
-    (0xA1, 0x03, Services.GetProtocol) ∷
-    (0x21, 0x09, Services.SetReport) ∷
-    (0x21, 0x0A, Services.SetIdle) ∷
-    (0x21, 0x0B, Services.SetProtocol) ∷ []
-
-abbrev pub service_at : List (ℕ × ℕ × Service) → ℕ → ℕ → Option Service
-service_at [] kind code = None
-service_at (row ∷ rows) kind code =
-    if (kind == row.0) && (code == row.1) then Some row.2 else service_at rows kind code
-
--- GET_DESCRIPTOR: the type in the high byte
-abbrev pub device_descriptors : List (ℕ × List ℕ)
+-- GET_DESCRIPTOR (USB 2.0 section 9.4.3, HID 1.11 section 7.1.1) by wValue: the type in the high byte, the
+-- index, 0, in the low one
+abbrev pub device_descriptors : List (ℕ × Transfer)
 device_descriptors =
-    (0x0100, device_bytes) ∷
-    (0x0200, configuration_bytes) ∷ []
+    (0x0100, reads device_bytes) ∷
+    (0x0200, reads configuration_bytes) ∷ []
 
-abbrev pub interface_descriptors : List (ℕ × List ℕ)
+abbrev pub interface_descriptors : List (ℕ × Transfer)
 interface_descriptors =
-    (0x2100, hid_bytes) ∷
-    (0x2200, report_bytes) ∷ []
+    (0x2100, reads hid_bytes) ∷
+    (0x2200, reads report_bytes) ∷ []
 
--- GET_REPORT: the type (1 input, 2 output, 3 feature) in the high byte, the Report ID in the low one
-abbrev pub reports_read : DeviceView → Protocol → List (ℕ × List ℕ)
+-- GET_REPORT (HID 1.11 section 7.2.1) by wValue: the type (1 input, 2 output, 3 feature) in the high byte, the
+-- Report ID, or 0, in the low one
+abbrev pub reports_read : DeviceView → Protocol → List (ℕ × Transfer)
 reports_read view Protocols.Report =
-    (0x0101, view.bitmap) ∷
-    (0x0102, view.consumer) ∷
-    (0x0201, 0x01 ∷ view.leds ∷ []) ∷
-    (0x0303, view.feature) ∷ []
+    (0x0101, reads view.bitmap) ∷
+    (0x0102, reads view.consumer) ∷
+    (0x0201, reads (0x01 ∷ view.leds ∷ [])) ∷
+    (0x0303, reads view.feature) ∷ []
 reports_read view Protocols.Boot =
-    (0x0100, view.boot) ∷
-    (0x0200, view.leds ∷ []) ∷
-    (0x0303, view.feature) ∷ []
+    (0x0100, reads view.boot) ∷
+    (0x0200, reads (view.leds ∷ [])) ∷
+    (0x0303, reads view.feature) ∷ []
 
--- GET_IDLE: the Report ID; ID 0 has the value of ID 1
-abbrev pub idle_values : DeviceView → List (ℕ × List ℕ)
+-- GET_IDLE (HID 1.11 section 7.2.3) by wValue: the Report ID; ID 0 has the value of ID 1
+abbrev pub idle_values : DeviceView → List (ℕ × Transfer)
 idle_values view =
-    (0x0000, view.idle_one ∷ []) ∷
-    (0x0001, view.idle_one ∷ []) ∷
-    (0x0002, view.idle_two ∷ []) ∷ []
+    (0x0000, reads (view.idle_one ∷ [])) ∷
+    (0x0001, reads (view.idle_one ∷ [])) ∷
+    (0x0002, reads (view.idle_two ∷ [])) ∷ []
 
--- GET_PROTOCOL
+-- GET_PROTOCOL (HID 1.11 section 7.2.5)
 abbrev pub protocol_byte : Protocol → ℕ
 protocol_byte Protocols.Boot = 0
 protocol_byte Protocols.Report = 1
 
--- SET_REPORT: as GET_REPORT
-abbrev pub reports_taken : Protocol → List (ℕ × Taken)
+-- SET_REPORT (HID 1.11 section 7.2.2) by wValue: as in GET_REPORT
+abbrev pub reports_taken : Protocol → List (ℕ × Transfer)
 reports_taken Protocols.Report =
-    (0x0201, Takens.LedsWithId) ∷
-    (0x0303, Takens.Feature) ∷ []
+    (0x0201, Takes Takens.LedsWithId) ∷
+    (0x0303, Takes Takens.Feature) ∷ []
 reports_taken Protocols.Boot =
-    (0x0200, Takens.Leds) ∷
-    (0x0303, Takens.Feature) ∷ []
+    (0x0200, Takes Takens.Leds) ∷
+    (0x0303, Takes Takens.Feature) ∷ []
 
--- the length of such a report
+-- SET_IDLE (HID 1.11 section 7.2.4) by wValue's low byte, the Report ID; the duration is the high byte
+abbrev pub idle_effects : ℕ → List (ℕ × Transfer)
+idle_effects duration =
+    (0x00, Sets (Idle Idles.All duration)) ∷
+    (0x01, Sets (Idle Idles.One duration)) ∷
+    (0x02, Sets (Idle Idles.Two duration)) ∷ []
+
+-- SET_PROTOCOL (HID 1.11 section 7.2.6) by wValue
+abbrev pub protocol_effects : List (ℕ × Transfer)
+protocol_effects =
+    (0x0000, Sets (SetProtocol Protocols.Boot)) ∷
+    (0x0001, Sets (SetProtocol Protocols.Report)) ∷ []
+
+-- what stands beside the number in a table; this reason where it is not there
+abbrev pub named : Why → List (ℕ × Transfer) → ℕ → Result Transfer Why
+named why [] number = Err why
+named why (row ∷ rows) number = if number == row.0 then Ok row.1 else named why rows number
+
+-- the table of requests: bmRequestType, bRequest, and what wValue asks for
+abbrev pub requests : DeviceView → ℕ → List (ℕ × ℕ × Result Transfer Why)
+requests view value =
+    (0x80, 0x06, named UnknownDescriptor device_descriptors value) ∷  -- GET_DESCRIPTOR
+    (0x81, 0x06, named UnknownDescriptor interface_descriptors value) ∷  -- GET_DESCRIPTOR
+    (0xA1, 0x01, named UnknownReport (reports_read view view.protocol) value) ∷  -- GET_REPORT
+    (0xA1, 0x02, named UnknownReport (idle_values view) value) ∷  -- GET_IDLE
+    (0xA1, 0x03, Ok (reads (protocol_byte view.protocol ∷ []))) ∷  -- GET_PROTOCOL
+    (0x21, 0x09, named UnknownReport (reports_taken view.protocol) value) ∷  -- SET_REPORT
+    (0x21, 0x0A, named UnknownReport (idle_effects (value / 256)) (value % 256)) ∷  -- SET_IDLE
+    (0x21, 0x0B, named BadProtocol protocol_effects value) ∷ []  -- SET_PROTOCOL
+
+-- the row of bmRequestType and bRequest
+abbrev pub asked_at : List (ℕ × ℕ × Result Transfer Why) → ℕ → ℕ → Option (Result Transfer Why)
+asked_at [] kind code = None
+asked_at (row ∷ rows) kind code =
+    if (kind == row.0) && (code == row.1) then Some row.2 else asked_at rows kind code
+
+-- the length of a report that is taken
 abbrev pub length_of : Taken → ℕ
 length_of Takens.LedsWithId = 2
 length_of Takens.Leds = 1
@@ -111,60 +127,24 @@ id_of Takens.LedsWithId = Some 0x01
 id_of Takens.Leds = None
 id_of Takens.Feature = Some 0x03
 
--- SET_IDLE: the Report ID in the low byte
-abbrev pub idle_ids : List (ℕ × IdleId)
-idle_ids =
-    (0x00, Idles.All) ∷
-    (0x01, Idles.One) ∷
-    (0x02, Idles.Two) ∷ []
+-- a read takes every wLength, a report from the host its own length, a request without data 0
+abbrev pub takes_length : Transfer → ℕ → Bool
+takes_length (Reads _) length = true
+takes_length (Takes taken) length = length == length_of taken
+takes_length (Sets _) length = length == 0
 
--- SET_PROTOCOL
-abbrev pub protocols : List (ℕ × Protocol)
-protocols =
-    (0x0000, Protocols.Boot) ∷
-    (0x0001, Protocols.Report) ∷ []
+abbrev pub with_length : Result Transfer Why → ℕ → Result Transfer Why
+with_length (Err why) length = Err why
+with_length (Ok transfer) length = if takes_length transfer length then Ok transfer else Err WrongLength
 
-abbrev pub reads_or : Why → Option (List ℕ) → Result Transfer Why
-reads_or why None = Err why
-reads_or why (Some bytes) = Ok (Reads (record { items = bytes }))
-
--- a report is taken where wLength is its length
-abbrev pub takes_or : Why → ℕ → Option Taken → Result Transfer Why
-takes_or why length None = Err why
-takes_or why length (Some taken) = if length == length_of taken then Ok (Takes taken) else Err WrongLength
-
--- a request without data has wLength 0
-abbrev pub sets_or : Why → ℕ → Option Effect → Result Transfer Why
-sets_or why length None = Err why
-sets_or why length (Some effect) = if length == 0 then Ok (Sets effect) else Err WrongLength
-
-abbrev pub idle_effect : ℕ → Option IdleId → Option Effect
-idle_effect duration None = None
-idle_effect duration (Some id) = Some (Idle id duration)
-
-abbrev pub protocol_effect : Option Protocol → Option Effect
-protocol_effect None = None
-protocol_effect (Some protocol) = Some (SetProtocol protocol)
-
--- what wValue and then wLength give
-abbrev pub transfer_by : Service → Request → DeviceView → Result Transfer Why
-transfer_by Services.DeviceDescriptor request view = reads_or UnknownDescriptor (entry_at device_descriptors request.value)
-transfer_by Services.InterfaceDescriptor request view = reads_or UnknownDescriptor (entry_at interface_descriptors request.value)
-transfer_by Services.GetReport request view = reads_or UnknownReport (entry_at (reports_read view view.protocol) request.value)
-transfer_by Services.GetIdle request view = reads_or UnknownReport (entry_at (idle_values view) request.value)
-transfer_by Services.GetProtocol request view = Ok (Reads (record { items = protocol_byte view.protocol ∷ [] }))
-transfer_by Services.SetReport request view = takes_or UnknownReport request.length (entry_at (reports_taken view.protocol) request.value)
-transfer_by Services.SetIdle request view =
-    sets_or UnknownReport request.length (idle_effect (request.value / 256) (entry_at idle_ids (request.value % 256)))
-transfer_by Services.SetProtocol request view = sets_or BadProtocol request.length (protocol_effect (entry_at protocols request.value))
-
--- the checks of a SETUP in their order: the request, the interface (not of a request to the device), the rest
-abbrev pub service_transfer : Option Service → Request → DeviceView → Result Transfer Why
-service_transfer None request view = Err UnknownRequest
-service_transfer (Some service) request view =
+-- the checks of a SETUP packet in their order: bmRequestType and bRequest, the interface (not of a request to
+-- the device), wValue, wLength
+abbrev pub checked : Option (Result Transfer Why) → Request → Result Transfer Why
+checked None request = Err UnknownRequest
+checked (Some asked) request =
     if not (request.kind == 0x80) && not (request.index == 0) then Err WrongInterface
-    else transfer_by service request view
+    else with_length asked request.length
 
--- the transfer that a SETUP begins, or why it is refused
+-- the transfer that a SETUP packet begins, or why it is refused
 unfoldable pub transfer_of : Request → DeviceView → Result Transfer Why
-transfer_of request view = service_transfer (service_at services request.kind request.code) request view
+transfer_of request view = checked (asked_at (requests view request.value) request.kind request.code) request

@@ -4,16 +4,16 @@ use crate::Why;
 use arrayvec::ArrayVec;
 use reports::{IdleId, Protocol};
 
-/// The answer to a packet of endpoint 0.
+/// The answer to a packet of endpoint 0 (USB 2.0 section 8.5.3).
 #[derive(Debug, Drop, PartialEq, Eq)]
 pub enum EpAnswer {
     /// The packet is acknowledged.
     Ack,
-    /// Not now: the host tries again.
+    /// Not now: nothing has changed, and the host tries again.
     Nak,
     /// A data packet of at most 8 bytes.
     Packet(ArrayVec<u8, 8>),
-    /// The transfer is refused.
+    /// The transfer is refused, and each further packet of it for the same reason.
     Stall(Why),
 }
 
@@ -22,31 +22,34 @@ pub enum EpAnswer {
 pub enum OutStep {
     /// The packet is answered.
     Answered(EpAnswer),
-    /// An output report: the packet is acknowledged, and these are the LEDs, bits 0 to 4.
+    /// An output report: the packet is acknowledged, and these are the LEDs, usages 01h to 05h of
+    /// page 08h in bits 0 to 4.
     Leds(u8),
-    /// A feature report without its Report ID: operation, layer, key, code low, code high. Its answer
-    /// is that of `ControlEp::verdict`.
+    /// A feature report of six bytes without its Report ID: operation, layer, key, code low, code high.
+    /// Nothing has changed; the packet's answer is that of `ControlEp::verdict`.
     Offer([u8; 5]),
 }
 
 /// What becomes of a feature report that was offered.
 #[derive(Clone, Copy, Debug, PartialEq, Eq)]
 pub enum Verdict {
-    /// It is done already.
+    /// It is done already: acknowledged, and the status packet is due.
     Done,
-    /// Its command works, until `ControlEp::settle` or `ControlEp::fail`.
+    /// Its command works, until `ControlEp::settle` or `ControlEp::fail`: acknowledged, and the status
+    /// packet is `Nak` until then.
     Working,
-    /// Another command works: not now.
+    /// Another command works: `Nak`, and the report can be sent again.
     Busy,
-    /// It is refused.
+    /// It is refused: `Stall`.
     Refused(Why),
 }
 
 /// What the status packet of a transfer brings about.
 #[derive(Clone, Copy, Debug, PartialEq, Eq)]
 pub enum Effect {
+    /// No change.
     Nothing,
-    /// An idle value changes, in units of 4 ms (HID 1.11 section 7.2.4).
+    /// An idle value changes, in units of 4 ms, 0 for no repeats (HID 1.11 section 7.2.4).
     Idle(IdleId, u8),
     /// The protocol is chosen (HID 1.11 section 7.2.6).
     SetProtocol(Protocol),
@@ -55,6 +58,7 @@ pub enum Effect {
 /// What a SETUP packet is answered from: the device at that moment.
 #[derive(Clone, Copy, Debug, PartialEq, Eq)]
 pub struct DeviceView {
+    /// Which reports exist, and the answer of GET_PROTOCOL.
     pub protocol: Protocol,
     /// The idle value of Report ID 1, in units of 4 ms.
     pub idle_one: u8,
@@ -62,7 +66,7 @@ pub struct DeviceView {
     pub idle_two: u8,
     /// The LEDs, bits 0 to 4.
     pub leds: u8,
-    /// The feature report, with its Report ID 3.
+    /// The feature report: its Report ID 3, 0, layer, key, code low, code high.
     pub feature: [u8; 6],
     /// The input report of Report ID 1, with the ID.
     pub bitmap: [u8; 23],

@@ -68,10 +68,11 @@ fn first_stage(transfer: Transfer, length: u16) -> Stage
 impl ControlEp {
     ghost use Rattle.control_ep.specs.declared.endpoint.Stage.{Stage};
     ghost use Rattle.control_ep.specs.Stage.{stage};
-    ghost use Rattle.control_ep.specs.Answers.{in_answer, in_effect, out_step, verdict_answer, IfNak, IfStall, IfAnswered, Ends};
+    ghost use Rattle.control_ep.specs.Answers.{in_answer, in_effect, out_step, verdict_answer, IfNak, IfStall, IfAnswered, IfOffer, Ends};
     ghost use Rattle.control_ep.specs.Stands.{StandsFor, is_offered};
 
-    /// No transfer is under way.
+    /// An endpoint at its start: no transfer is under way, and an IN or OUT packet is answered by
+    /// `Stall(WrongStage)` until a SETUP packet comes.
     #[tactic(auto, using(crate::proofs::Moves::nothing_begun))]
     pub fn new() -> ControlEp
         ensures { StandsFor [] result }
@@ -79,9 +80,13 @@ impl ControlEp {
         ControlEp { stage: Stage::Rest }
     }
 
-    /// Takes a SETUP packet of 8 bytes (USB 2.0 section 9.3), which is always acknowledged and ends the
-    /// transfer under way. A request that is refused leaves the new transfer stalled. What is read is
-    /// what `view` has now.
+    /// Takes a SETUP packet of 8 bytes (USB 2.0 sections 8.5.3 and 9.3), which is always acknowledged and
+    /// ends the transfer under way, also one that waits for a command. What is read is what `view` has
+    /// now. A request that is refused leaves the new transfer stalled, by the first of these that holds:
+    /// `UnknownRequest` where bmRequestType and bRequest are not served; `WrongInterface` where wIndex is
+    /// not 0, but for requests to the device; `UnknownDescriptor`, `UnknownReport` or `BadProtocol` where
+    /// wValue names none; `WrongLength` where wLength is not the report's length in SET_REPORT, or not 0
+    /// in SET_IDLE and SET_PROTOCOL.
     pub fn setup(&mut self, setup: [u8; 8], view: &DeviceView)
         ensures { (past : List EpCall) → StandsFor past self.old
             → StandsFor (Setup setup view.now ∷ past) self.new }
@@ -93,9 +98,10 @@ impl ControlEp {
         };
     }
 
-    /// Takes an IN packet (USB 2.0 section 8.5.3): the next data packet, the empty packet of the status
-    /// stage with what it brings about, `Nak` while a command works, or a `Stall`, which leaves the
-    /// transfer stalled.
+    /// Takes an IN packet (USB 2.0 section 8.5.3): the next data packet of at most 8 bytes, the empty
+    /// packet of the status stage with what it brings about, `Nak` while the transfer's command works, or
+    /// a `Stall`, which leaves the transfer stalled: for the reason of a transfer that is stalled already
+    /// (`FlashFault` where its command failed), and with `WrongStage` where no IN packet is due.
     #[tactic(auto, using(crate::proofs::Moves::in_confirmed))]
     pub fn in_packet(&mut self) -> (EpAnswer, Effect)
         ensures answer { (past : List EpCall) → StandsFor past self.old
@@ -105,8 +111,9 @@ impl ControlEp {
         ensures stands { (past : List EpCall) → StandsFor past self.old
             → StandsFor (In result.0 result.1 ∷ past) self.new }
         ensures nak { IfNak result.0 (self.new ≡ self.old) }
-        ensures stall { IfStall result.0 (λ why. (self.new ≡ Stage.Stalled why)
-            × (result.1 ≡ Effect.Nothing)) }
+        ensures nak_effect { IfNak result.0 (result.1 ≡ Effect.Nothing) }
+        ensures stall { IfStall result.0 (λ why. self.new ≡ Stage.Stalled why) }
+        ensures stall_effect { IfStall result.0 (λ _. result.1 ≡ Effect.Nothing) }
     {
         match &mut self.stage {
             Stage::Sending { bytes, asked, sent } => match packet_at(
@@ -131,13 +138,17 @@ impl ControlEp {
         }
     }
 
-    /// Takes an OUT packet (USB 2.0 section 8.5.3): a report is taken or offered, an empty packet ends a
-    /// read, and any other packet is answered by a `Stall`, which leaves the transfer stalled.
+    /// Takes an OUT packet (USB 2.0 section 8.5.3): an output report is taken, a feature report is offered
+    /// and changes nothing before its verdict, and an empty packet ends a read. Any other packet is
+    /// answered by a `Stall`, which leaves the transfer stalled: where a report is due, in this order,
+    /// with `ShortData` and `LongData` for another length than wLength, and `UnknownReport` for another
+    /// Report ID; for the reason of a transfer that is stalled already; else with `WrongStage`.
     pub fn out(&mut self, packet: &[u8]) -> OutStep
         ensures step { (past : List EpCall) → StandsFor past self.old
             → result ≡ out_step (stage past) packet.now }
         ensures stands { (past : List EpCall) → StandsFor past self.old
             → StandsFor (Out packet.now result ∷ past) self.new }
+        ensures offer { IfOffer result (self.new ≡ self.old) }
         ensures stall { IfAnswered result (λ answer.
             IfStall answer (λ why. self.new ≡ Stage.Stalled why)) }
     {
@@ -151,6 +162,7 @@ impl ControlEp {
             → result ≡ out_step (stage past) packet.now }
         ensures stands { (past : List EpCall) → StandsFor past self.old
             → StandsFor (Out packet.now result ∷ past) self.new }
+        ensures offer { IfOffer result (self.new ≡ self.old) }
         ensures stall { IfAnswered result (λ answer.
             IfStall answer (λ why. self.new ≡ Stage.Stalled why)) }
     {
@@ -174,7 +186,8 @@ impl ControlEp {
     }
 
     /// The answer to the packet that `out` has just offered; to be called next after the offer, and
-    /// only then. `Busy` leaves the report to be sent again.
+    /// only then. `Done` and `Working` are `Ack`, `Busy` is `Nak` and leaves the report to be sent again,
+    /// and `Refused` is a `Stall` with its reason, which leaves the transfer stalled.
     #[tactic(auto, using(crate::proofs::Moves::judged_done, crate::proofs::Moves::judged_working, crate::proofs::Moves::judged_busy))]
     pub fn verdict(&mut self, verdict: Verdict) -> EpAnswer
         ensures answer { result ≡ verdict_answer verdict }
@@ -192,7 +205,7 @@ impl ControlEp {
     }
 
     /// The command that works has settled: the status packet of its transfer is due, if the transfer
-    /// still waits for it.
+    /// still waits for it. Any other transfer stays as it is.
     pub fn settle(&mut self)
         ensures stands { (past : List EpCall) → StandsFor past self.old
             → StandsFor (Settle ∷ past) self.new }
@@ -201,7 +214,8 @@ impl ControlEp {
         self.end_command(Stage::Status(Effect::Nothing));
     }
 
-    /// The command that works has failed: its transfer is stalled, if it still waits for it.
+    /// The command that works has failed: its transfer is stalled with `FlashFault`, if it still waits
+    /// for it. Any other transfer stays as it is.
     pub fn fail(&mut self)
         ensures stands { (past : List EpCall) → StandsFor past self.old
             → StandsFor (Fail ∷ past) self.new }
@@ -210,7 +224,7 @@ impl ControlEp {
         self.end_command(Stage::Stalled(Why::FlashFault));
     }
 
-    /// A bus reset: no transfer is under way.
+    /// A bus reset (USB 2.0 section 7.1.7.5): no transfer is under way, as in an endpoint at its start.
     pub fn reset(&mut self)
         ensures { (past : List EpCall) → StandsFor past self.old
             → StandsFor (Reset ∷ past) self.new }

@@ -13,6 +13,8 @@ mod packets;
 mod report;
 mod request;
 #[cfg(test)]
+mod request_tests;
+#[cfg(test)]
 mod tests;
 mod why;
 

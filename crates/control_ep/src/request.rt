@@ -3,7 +3,7 @@
 ghost use Rattle.std.specs.Prelude.{◌≡◌, ◌≤◌, ◌/◌, ◌%◌, length};
 ghost use Rattle.control_ep.specs.declared.request.Transfer.{Transfer};
 ghost use Rattle.control_ep.specs.declared.why.Why.{Why};
-ghost use Rattle.control_ep.specs.Requests.{request_of, services, service_at, entry_at, device_descriptors, interface_descriptors, reports_read, idle_values, protocol_byte, reports_taken, length_of, id_of, idle_ids, idle_effect, protocols, protocol_effect, reads_or, takes_or, sets_or, transfer_by, transfer_of};
+ghost use Rattle.control_ep.specs.Requests.{request_of, requests, asked_at, device_descriptors, interface_descriptors, reports_read, idle_values, protocol_byte, reports_taken, length_of, takes_length, idle_effects, protocol_effects, reads, named, transfer_of};
 
 use crate::{DeviceView, Effect, Why};
 use arrayvec::ArrayVec;
@@ -23,19 +23,6 @@ pub(crate) struct Request {
     index: u16,
     /// wLength.
     pub(crate) length: u16,
-}
-
-/// The requests that are served.
-#[derive(Clone, Copy)]
-pub(crate) enum Service {
-    DeviceDescriptor,
-    InterfaceDescriptor,
-    GetReport,
-    GetIdle,
-    GetProtocol,
-    SetReport,
-    SetIdle,
-    SetProtocol,
 }
 
 /// The reports that SET_REPORT takes.
@@ -84,33 +71,54 @@ impl Request {
         }
     }
 
-    /// The transfer that begins, or why the request is refused.
+    /// The transfer that begins, or why the request is refused. In this order: `UnknownRequest` by
+    /// bmRequestType and bRequest, `WrongInterface` by wIndex, but for requests to the device, the
+    /// reason of a wValue that names nothing, and `WrongLength` by wLength.
     #[tactic(auto, unfolding(crate::specs::Requests::transfer_of))]
     pub(crate) fn transfer(self, view: &DeviceView) -> Result<Transfer, Why>
         ensures { result ≡ transfer_of self view.now }
     {
-        let Some(service) = service_of(self.kind, self.code) else {
+        let Some(asked) = self.asked(view) else {
             return Err(Why::UnknownRequest);
         };
         if self.kind != 0x80 && self.index != 0 {
             return Err(Why::WrongInterface);
         }
-        self.transfer_by(service, view)
+        let transfer = asked?;
+        if !transfer.takes_length(self.length) {
+            return Err(Why::WrongLength);
+        }
+        Ok(transfer)
     }
 
-    /// The transfer of a request that is served, by its wValue and wLength.
-    fn transfer_by(self, service: Service, view: &DeviceView) -> Result<Transfer, Why>
-        ensures { result ≡ transfer_by service self view.now }
+    /// What wValue asks for; none where bmRequestType and bRequest are not served.
+    fn asked(self, view: &DeviceView) -> Option<Result<Transfer, Why>>
+        ensures { result ≡ asked_at (requests view.now self.value) self.kind self.code }
     {
-        match service {
-            Service::DeviceDescriptor => device_descriptor(self.value),
-            Service::InterfaceDescriptor => interface_descriptor(self.value),
-            Service::GetReport => get_report(self.value, view),
-            Service::GetIdle => get_idle(self.value, view),
-            Service::GetProtocol => Ok(reads(&[protocol_byte(view.protocol)])),
-            Service::SetReport => set_report(self.value, self.length, view.protocol),
-            Service::SetIdle => set_idle(self.value, self.length),
-            Service::SetProtocol => set_protocol(self.value, self.length),
+        match (self.kind, self.code) {
+            (0x80, 0x06) => Some(device_descriptor(self.value)),
+            (0x81, 0x06) => Some(interface_descriptor(self.value)),
+            (0xA1, 0x01) => Some(get_report(self.value, view)),
+            (0xA1, 0x02) => Some(get_idle(self.value, view)),
+            (0xA1, 0x03) => Some(Ok(reads(&[protocol_byte(view.protocol)]))),
+            (0x21, 0x09) => Some(set_report(self.value, view.protocol)),
+            (0x21, 0x0A) => Some(set_idle(self.value)),
+            (0x21, 0x0B) => Some(set_protocol(self.value)),
+            _ => None,
+        }
+    }
+}
+
+impl Transfer {
+    /// Whether its request takes this wLength: a read takes each, a report from the host its own
+    /// length, and a request without data 0.
+    fn takes_length(&self, length: u16) -> bool
+        ensures { result ≡ takes_length self.now length }
+    {
+        match self {
+            Transfer::Reads(_) => true,
+            Transfer::Takes(taken) => usize::from(length) == taken.length(),
+            Transfer::Sets(_) => length == 0,
         }
     }
 }
@@ -128,27 +136,10 @@ impl Taken {
     }
 }
 
-/// The request that bmRequestType and bRequest name.
-fn service_of(kind: u8, code: u8) -> Option<Service>
-    ensures { result ≡ service_at services kind code }
-{
-    match (kind, code) {
-        (0x80, 0x06) => Some(Service::DeviceDescriptor),
-        (0x81, 0x06) => Some(Service::InterfaceDescriptor),
-        (0xA1, 0x01) => Some(Service::GetReport),
-        (0xA1, 0x02) => Some(Service::GetIdle),
-        (0xA1, 0x03) => Some(Service::GetProtocol),
-        (0x21, 0x09) => Some(Service::SetReport),
-        (0x21, 0x0A) => Some(Service::SetIdle),
-        (0x21, 0x0B) => Some(Service::SetProtocol),
-        _ => None,
-    }
-}
-
 /// A read of these bytes.
 fn reads(bytes: &[u8]) -> Transfer
     requires { length bytes.now ≤ 256 }
-    ensures { result ≡ Transfer.Reads (record { items = bytes.now }) }
+    ensures { result ≡ reads bytes.now }
 {
     let mut reply = ArrayVec::new();
     let _full = reply.try_extend_from_slice(bytes);
@@ -157,7 +148,7 @@ fn reads(bytes: &[u8]) -> Transfer
 
 /// GET_DESCRIPTOR of the device (USB 2.0 section 9.4.3).
 fn device_descriptor(value: u16) -> Result<Transfer, Why>
-    ensures { result ≡ reads_or Why.UnknownDescriptor (entry_at device_descriptors value) }
+    ensures { result ≡ named Why.UnknownDescriptor device_descriptors value }
 {
     match value {
         0x0100 => Ok(reads(&DEVICE)),
@@ -168,7 +159,7 @@ fn device_descriptor(value: u16) -> Result<Transfer, Why>
 
 /// GET_DESCRIPTOR of the interface (HID 1.11 section 7.1.1).
 fn interface_descriptor(value: u16) -> Result<Transfer, Why>
-    ensures { result ≡ reads_or Why.UnknownDescriptor (entry_at interface_descriptors value) }
+    ensures { result ≡ named Why.UnknownDescriptor interface_descriptors value }
 {
     match value {
         0x2100 => Ok(reads(&HID)),
@@ -179,7 +170,7 @@ fn interface_descriptor(value: u16) -> Result<Transfer, Why>
 
 /// GET_REPORT (HID 1.11 section 7.2.1).
 fn get_report(value: u16, view: &DeviceView) -> Result<Transfer, Why>
-    ensures { result ≡ reads_or Why.UnknownReport (entry_at (reports_read view.now view.now.protocol) value) }
+    ensures { result ≡ named Why.UnknownReport (reports_read view.now view.now.protocol) value }
 {
     match (view.protocol, value) {
         (Protocol::Report, 0x0101) => Ok(reads(&view.bitmap)),
@@ -194,7 +185,7 @@ fn get_report(value: u16, view: &DeviceView) -> Result<Transfer, Why>
 
 /// GET_IDLE (HID 1.11 section 7.2.3).
 fn get_idle(value: u16, view: &DeviceView) -> Result<Transfer, Why>
-    ensures { result ≡ reads_or Why.UnknownReport (entry_at (idle_values view.now) value) }
+    ensures { result ≡ named Why.UnknownReport (idle_values view.now) value }
 {
     match value {
         0x0000 | 0x0001 => Ok(reads(&[view.idle_one])),
@@ -214,8 +205,8 @@ fn protocol_byte(protocol: Protocol) -> u8
 }
 
 /// SET_REPORT (HID 1.11 section 7.2.2).
-fn set_report(value: u16, length: u16, protocol: Protocol) -> Result<Transfer, Why>
-    ensures { result ≡ takes_or Why.UnknownReport length (entry_at (reports_taken protocol) value) }
+fn set_report(value: u16, protocol: Protocol) -> Result<Transfer, Why>
+    ensures { result ≡ named Why.UnknownReport (reports_taken protocol) value }
 {
     let taken = match (protocol, value) {
         (Protocol::Report, 0x0201) => Taken::LedsWithId,
@@ -223,15 +214,12 @@ fn set_report(value: u16, length: u16, protocol: Protocol) -> Result<Transfer, W
         (_, 0x0303) => Taken::Feature,
         _ => return Err(Why::UnknownReport),
     };
-    if usize::from(length) != taken.length() {
-        return Err(Why::WrongLength);
-    }
     Ok(Transfer::Takes(taken))
 }
 
 /// SET_IDLE (HID 1.11 section 7.2.4).
-fn set_idle(value: u16, length: u16) -> Result<Transfer, Why>
-    ensures { result ≡ sets_or Why.UnknownReport length (idle_effect (value / 256) (entry_at idle_ids (value % 256))) }
+fn set_idle(value: u16) -> Result<Transfer, Why>
+    ensures { result ≡ named Why.UnknownReport (idle_effects (value / 256)) (value % 256) }
 {
     let [id, duration] = value.to_le_bytes();
     let id = match id {
@@ -240,27 +228,17 @@ fn set_idle(value: u16, length: u16) -> Result<Transfer, Why>
         0x02 => IdleId::Two,
         _ => return Err(Why::UnknownReport),
     };
-    without_data(length, Effect::Idle(id, duration))
+    Ok(Transfer::Sets(Effect::Idle(id, duration)))
 }
 
 /// SET_PROTOCOL (HID 1.11 section 7.2.6).
-fn set_protocol(value: u16, length: u16) -> Result<Transfer, Why>
-    ensures { result ≡ sets_or Why.BadProtocol length (protocol_effect (entry_at protocols value)) }
+fn set_protocol(value: u16) -> Result<Transfer, Why>
+    ensures { result ≡ named Why.BadProtocol protocol_effects value }
 {
     let protocol = match value {
         0x0000 => Protocol::Boot,
         0x0001 => Protocol::Report,
         _ => return Err(Why::BadProtocol),
     };
-    without_data(length, Effect::SetProtocol(protocol))
-}
-
-/// A request that has an effect and no data.
-fn without_data(length: u16, effect: Effect) -> Result<Transfer, Why>
-    ensures { result ≡ sets_or Why.WrongLength length (Some effect) }
-{
-    if length != 0 {
-        return Err(Why::WrongLength);
-    }
-    Ok(Transfer::Sets(effect))
+    Ok(Transfer::Sets(Effect::SetProtocol(protocol)))
 }

@@ -1,4 +1,4 @@
-//! Transfers packet by packet, and each pair of bmRequestType and bRequest against a plain table.
+//! Transfers packet by packet.
 
 use crate::*;
 use arrayvec::ArrayVec;
@@ -7,7 +7,7 @@ use reports::{IdleId, Protocol};
 use std::process::Abort;
 
 /// A device at its start, with entry (0, 0) selected.
-const STARTED: DeviceView = DeviceView {
+pub(crate) const STARTED: DeviceView = DeviceView {
     protocol: Protocol::Report,
     idle_one: 0x7D,
     idle_two: 0x00,
@@ -19,7 +19,7 @@ const STARTED: DeviceView = DeviceView {
 };
 
 /// The same device in boot protocol.
-const BOOTED: DeviceView = DeviceView {
+pub(crate) const BOOTED: DeviceView = DeviceView {
     protocol: Protocol::Boot,
     idle_one: 0x7D,
     idle_two: 0x00,
@@ -31,32 +31,32 @@ const BOOTED: DeviceView = DeviceView {
 };
 
 /// SET_REPORT of the feature report.
-const SET_FEATURE: u64 = 0x2109030300000600;
+pub(crate) const SET_FEATURE: u64 = 0x2109030300000600;
 
 /// SetKey(0, 0, 0005).
 const SET_KEY: [u8; 6] = [0x03, 0x01, 0x00, 0x00, 0x05, 0x00];
 
 /// An endpoint that took a SETUP, whose 8 bytes are written as one number.
-fn after_setup(setup: u64, view: &DeviceView) -> ControlEp {
+pub(crate) fn after_setup(setup: u64, view: &DeviceView) -> ControlEp {
     let mut ep = ControlEp::new();
     ep.setup(setup.to_be_bytes(), view);
     ep
 }
 
 /// The answer to an IN packet that brings nothing about.
-fn answer_in(rt: &impl Abort, ep: &mut ControlEp) -> EpAnswer {
+pub(crate) fn answer_in(rt: &impl Abort, ep: &mut ControlEp) -> EpAnswer {
     let (answer, effect) = ep.in_packet();
     assert_eq!(rt; effect, Effect::Nothing);
     answer
 }
 
-fn packet(bytes: &[u8]) -> EpAnswer {
+pub(crate) fn packet(bytes: &[u8]) -> EpAnswer {
     let mut packet = ArrayVec::new();
     let _full = packet.try_extend_from_slice(bytes);
     EpAnswer::Packet(packet)
 }
 
-fn stalled(why: Why) -> OutStep {
+pub(crate) fn stalled(why: Why) -> OutStep {
     OutStep::Answered(EpAnswer::Stall(why))
 }
 
@@ -88,42 +88,65 @@ fn numbers_its_reasons(rt: HostRuntime) {
     assert_eq!(rt; Why::from(KeymapError::BadCode), Why::BadCode);
 }
 
+/// The packets of the report descriptor.
+const REPORT: [[u8; 8]; 16] = [
+    [0x05, 0x01, 0x09, 0x06, 0xA1, 0x01, 0x85, 0x01],
+    [0x05, 0x07, 0x19, 0xE0, 0x29, 0xE7, 0x15, 0x00],
+    [0x25, 0x01, 0x75, 0x01, 0x95, 0x08, 0x81, 0x02],
+    [0x19, 0x04, 0x29, 0xA4, 0x95, 0xA1, 0x81, 0x02],
+    [0x95, 0x07, 0x81, 0x03, 0x05, 0x08, 0x19, 0x01],
+    [0x29, 0x05, 0x95, 0x05, 0x91, 0x02, 0x95, 0x03],
+    [0x91, 0x03, 0xC0, 0x05, 0x0C, 0x09, 0x01, 0xA1],
+    [0x01, 0x85, 0x02, 0x15, 0x00, 0x25, 0x01, 0x75],
+    [0x01, 0x95, 0x10, 0x09, 0xB0, 0x09, 0xB1, 0x09],
+    [0xB2, 0x09, 0xB3, 0x09, 0xB4, 0x09, 0xB5, 0x09],
+    [0xB6, 0x09, 0xB7, 0x09, 0xB8, 0x09, 0xCD, 0x09],
+    [0xE2, 0x09, 0xE9, 0x09, 0xEA, 0x0A, 0x92, 0x01],
+    [0x0A, 0x23, 0x02, 0x0A, 0x24, 0x02, 0x81, 0x02],
+    [0xC0, 0x06, 0x00, 0xFF, 0x09, 0x01, 0xA1, 0x01],
+    [0x85, 0x03, 0x09, 0x02, 0x15, 0x00, 0x26, 0xFF],
+    [0x00, 0x75, 0x08, 0x95, 0x05, 0xB1, 0x02, 0xC0],
+];
+
 #[test]
 fn sends_the_report_descriptor(rt: HostRuntime) {
-    // 255 and 128 bytes asked for: 16 packets, and an empty one after them where more was asked for.
-    for (setup, after) in [
-        (0x810600220000FF00, packet(&[])),
-        (0x8106002200008000, EpAnswer::Stall(Why::WrongStage)),
+    // wLength 255, 129, 128, 16 and 20: that many whole packets, and what comes after them.
+    for (setup, whole, after) in [
+        (0x810600220000FF00, 16, packet(&[])),
+        (0x8106002200008100, 16, packet(&[])),
+        (0x8106002200008000, 16, EpAnswer::Stall(Why::WrongStage)),
+        (0x8106002200001000, 2, EpAnswer::Stall(Why::WrongStage)),
+        (0x8106002200001400, 2, packet(&[0x25, 0x01, 0x75, 0x01])),
     ] {
         let mut ep = after_setup(setup, &STARTED);
-        for number in 0..16 {
-            let answer = answer_in(&rt, &mut ep);
-            match number {
-                0 => assert_eq!(rt;
-                    answer,
-                    packet(&[0x05, 0x01, 0x09, 0x06, 0xA1, 0x01, 0x85, 0x01])
-                ),
-                15 => assert_eq!(rt;
-                    answer,
-                    packet(&[0x00, 0x75, 0x08, 0x95, 0x05, 0xB1, 0x02, 0xC0])
-                ),
-                _ => assert!(rt; matches!(answer, EpAnswer::Packet(bytes) if bytes.is_full())),
-            }
+        for bytes in REPORT.iter().take(whole) {
+            assert_eq!(rt; answer_in(&rt, &mut ep), packet(bytes));
         }
         assert_eq!(rt; answer_in(&rt, &mut ep), after);
+        assert_eq!(rt; answer_in(&rt, &mut ep), EpAnswer::Stall(Why::WrongStage));
     }
 }
 
 #[test]
 fn an_empty_out_packet_ends_a_read(rt: HostRuntime) {
+    // After none of the 17 packets, some, or all, but not after an IN packet too many.
+    for count in 0..20 {
+        let mut ep = after_setup(0x810600220000FF00, &STARTED);
+        for _ in 0..count {
+            let _sent = answer_in(&rt, &mut ep);
+        }
+        let step = ep.out(&[]);
+        if count <= 17 {
+            assert_eq!(rt; step, OutStep::Answered(EpAnswer::Ack));
+        } else {
+            assert_eq!(rt; step, stalled(Why::WrongStage));
+        }
+        assert_eq!(rt; ep.out(&[]), stalled(Why::WrongStage));
+        assert_eq!(rt; answer_in(&rt, &mut ep), EpAnswer::Stall(Why::WrongStage));
+    }
+    // A packet that holds a byte ends no read.
     let mut ep = after_setup(0x810600220000FF00, &STARTED);
-    assert!(rt; matches!(answer_in(&rt, &mut ep), EpAnswer::Packet(_)));
-    assert_eq!(rt; ep.out(&[]), OutStep::Answered(EpAnswer::Ack));
-    assert_eq!(rt; ep.out(&[]), stalled(Why::WrongStage));
-    // One IN packet too many, and the OUT packet is out of place too.
-    let mut ep = after_setup(0x8006000200000100, &STARTED);
-    assert_eq!(rt; answer_in(&rt, &mut ep), packet(&[0x09]));
-    assert_eq!(rt; answer_in(&rt, &mut ep), EpAnswer::Stall(Why::WrongStage));
+    assert_eq!(rt; ep.out(&[0x00]), stalled(Why::WrongStage));
     assert_eq!(rt; ep.out(&[]), stalled(Why::WrongStage));
 }
 
@@ -140,8 +163,6 @@ fn reads_in_report_protocol(rt: HostRuntime) {
             0x8106002100000900,
             [0x09, 0x21, 0x11, 0x01, 0x00, 0x01, 0x22, 0x80].as_slice(),
         ),
-        // Nothing asked for: the status packet.
-        (0x8106002200000000, [].as_slice()),
         (0xA101010100000800, [0x01; 8].as_slice()),
         (0xA101020100000300, [0x02, 0x20, 0x00].as_slice()),
         (0xA101010200000200, [0x01, 0x00].as_slice()),
@@ -156,6 +177,39 @@ fn reads_in_report_protocol(rt: HostRuntime) {
     ] {
         let mut ep = after_setup(setup, &STARTED);
         assert_eq!(rt; answer_in(&rt, &mut ep), packet(bytes));
+        assert_eq!(rt; ep.out(&[]), OutStep::Answered(EpAnswer::Ack));
+    }
+}
+
+#[test]
+fn a_read_of_nothing_goes_to_its_status_packet(rt: HostRuntime) {
+    for setup in [
+        0x8006000100000000,
+        0x8106002200000000,
+        0xA101030300000000,
+        0xA102010000000000,
+        0xA103000000000000,
+    ] {
+        let mut ep = after_setup(setup, &STARTED);
+        assert_eq!(rt; answer_in(&rt, &mut ep), packet(&[]));
+        assert_eq!(rt; answer_in(&rt, &mut ep), EpAnswer::Stall(Why::WrongStage));
+        let mut ep = after_setup(setup, &STARTED);
+        assert_eq!(rt; ep.out(&[]), stalled(Why::WrongStage));
+    }
+}
+
+#[test]
+fn reads_the_idle_value_that_was_set(rt: HostRuntime) {
+    let mut ep = after_setup(0x210A000000000000, &STARTED);
+    assert_eq!(rt;
+        ep.in_packet(),
+        (packet(&[]), Effect::Idle(IdleId::All, 0x00))
+    );
+    let mut silent = STARTED;
+    silent.idle_one = 0x00;
+    for id in [0x00, 0x01] {
+        ep.setup([0xA1, 0x02, id, 0x00, 0x00, 0x00, 0x01, 0x00], &silent);
+        assert_eq!(rt; answer_in(&rt, &mut ep), packet(&[0x00]));
     }
 }
 
@@ -259,8 +313,11 @@ fn refuses_a_feature_report(rt: HostRuntime) {
     }
     let mut ep = after_setup(SET_FEATURE, &STARTED);
     assert_eq!(rt; answer_in(&rt, &mut ep), EpAnswer::Stall(Why::WrongStage));
+    // Before any SETUP packet.
     let mut ep = ControlEp::new();
     assert_eq!(rt; answer_in(&rt, &mut ep), EpAnswer::Stall(Why::WrongStage));
+    let mut ep = ControlEp::new();
+    assert_eq!(rt; ep.out(&[]), stalled(Why::WrongStage));
 }
 
 #[test]
@@ -272,6 +329,37 @@ fn takes_leds(rt: HostRuntime) {
     assert_eq!(rt; ep.out(&[0xFF]), OutStep::Leds(0x1F));
     ep.reset();
     assert_eq!(rt; answer_in(&rt, &mut ep), EpAnswer::Stall(Why::WrongStage));
+    for (setup, view, packet, why) in [
+        (
+            0x2109010200000200,
+            &STARTED,
+            [0x01].as_slice(),
+            Why::ShortData,
+        ),
+        (
+            0x2109010200000200,
+            &STARTED,
+            [0x01, 0x02, 0x00].as_slice(),
+            Why::LongData,
+        ),
+        (
+            0x2109010200000200,
+            &STARTED,
+            [0x02, 0x01].as_slice(),
+            Why::UnknownReport,
+        ),
+        (0x2109000200000100, &BOOTED, [].as_slice(), Why::ShortData),
+        (
+            0x2109000200000100,
+            &BOOTED,
+            [0x01, 0x02].as_slice(),
+            Why::LongData,
+        ),
+    ] {
+        let mut ep = after_setup(setup, view);
+        assert_eq!(rt; ep.out(packet), stalled(why));
+        assert_eq!(rt; answer_in(&rt, &mut ep), EpAnswer::Stall(why));
+    }
 }
 
 #[test]
@@ -313,14 +401,70 @@ fn waits_for_a_command(rt: HostRuntime) {
     assert_eq!(rt; answer_in(&rt, &mut ep), EpAnswer::Stall(Why::WrongStage));
 }
 
-#[test]
-fn a_failed_command_stalls(rt: HostRuntime) {
+/// An endpoint whose transfer waits for a command.
+fn waiting(rt: &impl Abort) -> ControlEp {
     let mut ep = after_setup(SET_FEATURE, &STARTED);
     assert_eq!(rt;
         ep.out(&SET_KEY),
         OutStep::Offer([0x01, 0x00, 0x00, 0x05, 0x00])
     );
     assert_eq!(rt; ep.verdict(Verdict::Working), EpAnswer::Ack);
+    ep
+}
+
+#[test]
+fn a_command_keeps_feature_reports_waiting(rt: HostRuntime) {
+    let mut ep = waiting(&rt);
+    for op in [0x00, 0x01, 0x02, 0x03, 0x04, 0xFF] {
+        // The first of these SETUP packets comes while the transfer waits.
+        ep.setup(SET_FEATURE.to_be_bytes(), &STARTED);
+        for _ in 0..2 {
+            assert_eq!(rt;
+                ep.out(&[0x03, op, 0x00, 0x00, 0x05, 0x00]),
+                OutStep::Offer([op, 0x00, 0x00, 0x05, 0x00])
+            );
+            assert_eq!(rt; ep.verdict(Verdict::Busy), EpAnswer::Nak);
+        }
+        assert_eq!(rt; answer_in(&rt, &mut ep), EpAnswer::Stall(Why::WrongStage));
+    }
+    // What has another form is stalled, and an LED report is taken.
+    for (packet, why) in [
+        ([0x03, 0x04, 0x00, 0x00, 0x05].as_slice(), Why::ShortData),
+        (
+            [0x03, 0x04, 0x00, 0x00, 0x05, 0x00, 0x00].as_slice(),
+            Why::LongData,
+        ),
+        (
+            [0x01, 0x04, 0x00, 0x00, 0x05, 0x00].as_slice(),
+            Why::UnknownReport,
+        ),
+    ] {
+        ep.setup(SET_FEATURE.to_be_bytes(), &STARTED);
+        assert_eq!(rt; ep.out(packet), stalled(why));
+        assert_eq!(rt; ep.out(&SET_KEY), stalled(why));
+    }
+    ep.setup(0x2109010200000200_u64.to_be_bytes(), &STARTED);
+    assert_eq!(rt; ep.out(&[0x01, 0x02]), OutStep::Leds(0x02));
+    assert_eq!(rt; answer_in(&rt, &mut ep), packet(&[]));
+}
+
+#[test]
+fn a_setup_ends_a_transfer_that_waits(rt: HostRuntime) {
+    let mut ep = waiting(&rt);
+    assert_eq!(rt; answer_in(&rt, &mut ep), EpAnswer::Nak);
+    ep.setup(0xA103000000000100_u64.to_be_bytes(), &STARTED);
+    ep.fail();
+    assert_eq!(rt; answer_in(&rt, &mut ep), packet(&[0x01]));
+    assert_eq!(rt; ep.out(&[]), OutStep::Answered(EpAnswer::Ack));
+    let mut ep = waiting(&rt);
+    ep.reset();
+    ep.settle();
+    assert_eq!(rt; answer_in(&rt, &mut ep), EpAnswer::Stall(Why::WrongStage));
+}
+
+#[test]
+fn a_failed_command_stalls(rt: HostRuntime) {
+    let mut ep = waiting(&rt);
     ep.fail();
     assert_eq!(rt; answer_in(&rt, &mut ep), EpAnswer::Stall(Why::FlashFault));
     assert_eq!(rt; ep.out(&SET_KEY), stalled(Why::FlashFault));
@@ -328,14 +472,10 @@ fn a_failed_command_stalls(rt: HostRuntime) {
 
 #[test]
 fn a_command_outlives_its_transfer(rt: HostRuntime) {
-    let mut ep = after_setup(SET_FEATURE, &STARTED);
-    assert_eq!(rt;
-        ep.out(&SET_KEY),
-        OutStep::Offer([0x01, 0x00, 0x00, 0x05, 0x00])
-    );
-    assert_eq!(rt; ep.verdict(Verdict::Working), EpAnswer::Ack);
+    let mut ep = waiting(&rt);
     // A packet out of place stalls the transfer for good.
     assert_eq!(rt; ep.out(&SET_KEY), stalled(Why::WrongStage));
+    assert_eq!(rt; answer_in(&rt, &mut ep), EpAnswer::Stall(Why::WrongStage));
     ep.settle();
     assert_eq!(rt; answer_in(&rt, &mut ep), EpAnswer::Stall(Why::WrongStage));
     // A SETUP ends it; the end of the command is then told to nobody.
@@ -345,91 +485,4 @@ fn a_command_outlives_its_transfer(rt: HostRuntime) {
         ep.in_packet(),
         (packet(&[]), Effect::SetProtocol(Protocol::Boot))
     );
-}
-
-/// With wValue and wLength 0: the reason of a STALL, or the effect of the status packet.
-const WITHOUT_DATA: [(u8, u8, Result<Effect, Why>); 8] = [
-    (0x80, 0x06, Err(Why::UnknownDescriptor)),
-    (0x81, 0x06, Err(Why::UnknownDescriptor)),
-    (0xA1, 0x01, Err(Why::UnknownReport)),
-    (0xA1, 0x02, Ok(Effect::Nothing)),
-    (0xA1, 0x03, Ok(Effect::Nothing)),
-    (0x21, 0x09, Err(Why::UnknownReport)),
-    (0x21, 0x0A, Ok(Effect::Idle(IdleId::All, 0x00))),
-    (0x21, 0x0B, Ok(Effect::SetProtocol(Protocol::Boot))),
-];
-
-/// With wValue 0100h and wLength 1, in boot protocol: the reason of a STALL, or the byte that is read.
-const WITH_DATA: [(u8, u8, Result<u8, Why>); 8] = [
-    (0x80, 0x06, Ok(0x12)),
-    (0x81, 0x06, Err(Why::UnknownDescriptor)),
-    (0xA1, 0x01, Ok(0x00)),
-    (0xA1, 0x02, Err(Why::UnknownReport)),
-    (0xA1, 0x03, Ok(0x00)),
-    (0x21, 0x09, Err(Why::UnknownReport)),
-    (0x21, 0x0A, Err(Why::WrongLength)),
-    (0x21, 0x0B, Err(Why::BadProtocol)),
-];
-
-/// What a table says of a request with this wIndex.
-fn wanted<T: Copy>(
-    table: &[(u8, u8, Result<T, Why>)],
-    kind: u8,
-    code: u8,
-    index: u8,
-) -> Result<T, Why> {
-    for (row_kind, row_code, wanted) in table {
-        if *row_kind == kind && *row_code == code {
-            return if kind != 0x80 && index != 0 {
-                Err(Why::WrongInterface)
-            } else {
-                *wanted
-            };
-        }
-    }
-    Err(Why::UnknownRequest)
-}
-
-#[test]
-fn answers_each_request_without_data(rt: HostRuntime) {
-    for kind in 0..=u8::MAX {
-        for code in 0..=u8::MAX {
-            for index in 0..2 {
-                let mut ep = ControlEp::new();
-                ep.setup([kind, code, 0x00, 0x00, index, 0x00, 0x00, 0x00], &STARTED);
-                match wanted(&WITHOUT_DATA, kind, code, index) {
-                    Ok(effect) => {
-                        assert_eq!(rt; ep.in_packet(), (packet(&[]), effect));
-                        assert_eq!(rt; ep.out(&[]), stalled(Why::WrongStage));
-                    }
-                    Err(why) => {
-                        assert_eq!(rt; answer_in(&rt, &mut ep), EpAnswer::Stall(why));
-                        assert_eq!(rt; ep.out(&[]), stalled(why));
-                    }
-                }
-            }
-        }
-    }
-}
-
-#[test]
-fn answers_each_request_with_data(rt: HostRuntime) {
-    for kind in 0..=u8::MAX {
-        for code in 0..=u8::MAX {
-            for index in 0..2 {
-                let mut ep = ControlEp::new();
-                ep.setup([kind, code, 0x00, 0x01, index, 0x00, 0x01, 0x00], &BOOTED);
-                match wanted(&WITH_DATA, kind, code, index) {
-                    Ok(byte) => {
-                        assert_eq!(rt; answer_in(&rt, &mut ep), packet(&[byte]));
-                        assert_eq!(rt; ep.out(&[]), OutStep::Answered(EpAnswer::Ack));
-                    }
-                    Err(why) => {
-                        assert_eq!(rt; answer_in(&rt, &mut ep), EpAnswer::Stall(why));
-                        assert_eq!(rt; ep.out(&[]), stalled(why));
-                    }
-                }
-            }
-        }
-    }
 }

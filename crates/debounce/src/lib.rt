@@ -36,9 +36,9 @@ impl Scan {
         (self.rows[key as usize / 16] >> (key % 16)) & 1 == 1
     }
 
-    /// This scan, with a key too where `on` says so.
+    /// This scan, with a key, one of 0 to 95, too where `on` says so.
     #[tactic(auto, unfolding(crate::specs::Scans::has))]
-    fn with(self, key: u8, on: bool) -> Scan
+    pub fn with(self, key: u8, on: bool) -> Scan
         requires { key < 96 }
         ensures { (other : ℕ) → other < 96
             → has result other ≡ ((on && (other == key)) || has self other) }

@@ -16,22 +16,37 @@ mod tests;
 
 pub use served::{CONFIGURATION, DEVICE, HID, SERVED_REPORT_LEN, served_report};
 
-/// A short item of a report descriptor (HID 1.11 section 6.2.2.2).
+/// A short item of a report descriptor (HID 1.11 section 6.2.2.2): Main items (6.2.2.4), Global items
+/// (6.2.2.7) and Local items (6.2.2.8).
 #[derive(Clone, Copy, Debug, PartialEq, Eq)]
 pub enum ReportSpec {
+    /// Global: the page of the usages.
     UsagePage(u16),
+    /// Local: a usage of the page.
     Usage(u16),
+    /// Local: the first usage of a range.
     UsageMin(u16),
+    /// Local: the last usage of a range.
     UsageMax(u16),
+    /// Global: the least value of a field.
     LogicalMin(i32),
+    /// Global: the greatest value of a field.
     LogicalMax(i32),
+    /// Global: bits of a field.
     ReportSize(u8),
+    /// Global: how many fields a data item has.
     ReportCount(u16),
+    /// Global: the ID that a report begins with.
     ReportId(u8),
+    /// Main: a collection of this type begins.
     Collection(u8),
+    /// Main: the collection ends.
     EndCollection,
+    /// Main: fields of an input report, with these flags.
     Input(u8),
+    /// Main: fields of an output report, with these flags.
     Output(u8),
+    /// Main: fields of a feature report, with these flags.
     Feature(u8),
 }
 
@@ -39,9 +54,10 @@ pub enum ReportSpec {
 #[derive(Clone, Copy, Debug, PartialEq, Eq)]
 pub struct TooLong;
 
-/// The items' bytes in order: each a prefix and its data, little-endian. Logical extents take the
-/// fewest of 1, 2 and 4 bytes that hold them signed, End Collection none, all other items the fewest
-/// of 1 and 2 that hold them unsigned. `TooLong` exactly where that is more than 256 bytes.
+/// The items' bytes in order: each a prefix and its data, little-endian (HID 1.11 section 6.2.2.2).
+/// Logical extents take the fewest of 1, 2 and 4 bytes that hold them signed, End Collection none, all
+/// other items the fewest of 1 and 2 that hold them unsigned. `TooLong` exactly where that is more than
+/// 256 bytes.
 pub fn build(specs: &[ReportSpec]) -> Result<ArrayVec<u8, 256>, TooLong>
     ensures fits { IsOk result ↔ (length (descriptor_bytes specs.now) ≤ 256) }
     ensures bytes { IfOk result (λ built. built.items ≡ descriptor_bytes specs.now) }

@@ -4,14 +4,15 @@ use Rattle.std.specs.List.{list_all}
 use Rattle.std.proofs.lemmas.Bool.{cases_Bool, cases_lt, and_parts, leb-true}
 use Rattle.descriptor_parse.specs.declared.fault.ParseError.{ParseError}
 use Rattle.descriptor_parse.specs.declared.fault.ParseFault.{ParseFault}
-use Rattle.descriptor_parse.specs.declared.fault.ParseFault.TheVariants.{Truncated, Delimiter, PopEmpty, PushDeep, BadReportId, SizeTooLarge, CountTooLarge, EndWithoutCollection, CollectionDeep, UnpairedUsage, UsageInverted, LogicalInverted, TooManyFields, MixedIds, CollectionOpen, TooLong}
+use Rattle.descriptor_parse.specs.declared.fault.ParseFault.TheVariants.{Truncated, Delimiter, PopEmpty, PushDeep, BadReportId, SizeTooLarge, CountTooLarge, EndWithoutCollection, CollectionDeep, UnpairedUsage, UsageInverted, LogicalInverted, TooManyFields, MixedIds, CollectionOpen, TooLong, Memory}
 use Rattle.descriptor_parse.specs.Fault.{number_of}
 use Rattle.descriptor_parse.specs.Items.{ItemValue, items_at, item_size, front_item}
-use Rattle.descriptor_parse.specs.Faults.{shows, fault_at, item_faults, onto, all_items, IsFaultAmong, IsFaultAtEnd, IsFaultless, IsFirst, IsItemAt}
+use Rattle.descriptor_parse.specs.Tags.{tag}
+use Rattle.descriptor_parse.specs.Faults.{shows, fault_at, item_faults, onto, all_items, IsFaultAmong, IsFaultAtEnd, HasFault, IsFaultless, IsFirst, wants_memory, WantsMemoryAt}
 use Rattle.descriptor_parse.specs.Fields.{open_collections}
 use Rattle.descriptor_parse.specs.declared.state.State.{State}
-use Rattle.descriptor_parse.specs.StateStands.{StateStands, IsTaken, IsStopped}
-use Rattle.descriptor_parse.specs.Parse.{HasReached, Refuses, EndsBy}
+use Rattle.descriptor_parse.specs.StateStands.{StateStands}
+use Rattle.descriptor_parse.specs.Parse.{HasReached, Refuses, EndsOpen}
 use Rattle.descriptor_parse.specs.declared.field.Kind.{Kind}
 use Rattle.descriptor_parse.specs.declared.field.Kind.TheVariants.{Input, Output, Feature}
 use Rattle.descriptor_parse.specs.declared.reports.Reports.{Reports}
@@ -166,8 +167,8 @@ reach_start text state s = record {
 
 pub reach_more : (text rest after : List ℕ) (offset : ℕ) (item : ItemValue) (old new : State) (r : HasReached text rest offset old)
     → 0 < length rest → item_size rest ≤ length rest → after ≡ drop (item_size rest) rest → item ≡ front_item offset rest
-    → IsTaken r.before item new → HasReached text after (offset + (length rest - length after)) new
-reach_more text rest after offset item old new r some whole a e taken =
+    → fault_at r.before item ≡ None → StateStands (item ∷ r.before) new → HasReached text after (offset + (length rest - length after)) new
+reach_more text rest after offset item old new r some whole a e none stands =
     let next : items_at offset rest ≡ Ok item ∷ items_at (offset + (length rest - length after)) after = items_next offset rest after item some whole a e in
     let pos : 0 < item_size rest = size_pos rest in
     let len : length after ≡ length rest - item_size rest = ap length a ∙ length-drop (item_size rest) rest in
@@ -175,13 +176,13 @@ reach_more text rest after offset item old new r some whole a e taken =
     let place = r.place in
     record {
       before = item ∷ r.before;
-      stands = taken.1;
+      stands = stands;
       few = omega arith;
       place = omega arith;
       items = r.items ∙ ap (onto r.before) next;
       faults_left = λ fault at f.
           (let f' : IsFaultAmong r.before (Ok item ∷ items_at (offset + (length rest - length after)) after) fault at = (rw next at (r.faults_left fault at f)) in
-          elim f' [ inl here ↦ absurd (clean r.before item taken.0 fault here.0) | inr later ↦ later ]);
+          elim f' [ inl here ↦ absurd (clean r.before item none fault here.0) | inr later ↦ later ]);
       faults_come = λ fault at f. r.faults_come fault at (rw next (inr f));
     }
 
@@ -194,12 +195,20 @@ ends_later text rest offset state TooLong at r some l f =
     elim (cases_lt offset 4096) [ inl below ↦ inl (omega arith) | inr above ↦ inr (omega arith, omega arith) ]
 ends_later text rest offset state _ at r some l f = absurd f
 
+-- where an item was reached before the greatest length, faults of the whole text come later
+ends_after : (text rest : List ℕ) (offset : ℕ) (state : State) (fault : ParseFault) (at : ℕ) → HasReached text rest offset state → 0 < length rest → offset < 4096
+    → IsFaultAtEnd text fault at → offset < at
+ends_after text rest offset state CollectionOpen at r some l f = let place = r.place in let e : at ≡ length text = f.1 in omega arith
+ends_after text rest offset state TooLong at r some l f = let e : at ≡ 4096 = f.1 in omega arith
+ends_after text rest offset state _ at r some l f = absurd f
+
 -- faults of a text from an item on, by what follows the item
 first_by : (text rest after : List ℕ) (offset : ℕ) (item : ItemValue) (old : State) (r : HasReached text rest offset old) (fault : ParseFault)
-    → 0 < length rest → offset ≤ 4096 → item_size rest ≤ length rest → after ≡ drop (item_size rest) rest → item ≡ front_item offset rest → number_of fault ≤ 16
+    → 0 < length rest → item_size rest ≤ length rest → after ≡ drop (item_size rest) rest → item ≡ front_item offset rest
+    → ((other : ParseFault) (at : ℕ) → IsFaultAtEnd text other at → (offset < at) ⊎ ((offset ≡ at) × (number_of fault ≤ number_of other)))
     → ((other : ParseFault) → shows r.before item other ≡ true → number_of fault ≤ number_of other)
     → IsFirst text fault offset
-first_by text rest after offset item old r fault some l whole a e small least other at has =
+first_by text rest after offset item old r fault some whole a e ends least other at has =
     let next : items_at offset rest ≡ Ok item ∷ items_at (offset + (length rest - length after)) after = items_next offset rest after item some whole a e in
     let pos : 0 < item_size rest = size_pos rest in
     let len : length after ≡ length rest - item_size rest = ap length a ∙ length-drop (item_size rest) rest in
@@ -209,55 +218,76 @@ first_by text rest after offset item old r fault some l whole a e small least ot
             | inl here ↦ (let stands_at : at ≡ item.offset = here.1 in let offset_is : item.offset ≡ offset = ap (λ i. i.offset) e in inr (omega arith, least other here.0))
             | inr later ↦ (let above : offset + (length rest - length after) ≤ at = among_from (length after) _ after _ other at (omega arith) later in inl (omega arith))
           ])
-      | inr end ↦ (elim (ends_later text rest offset old other at r some l end) [ inl later ↦ inl later | inr both ↦ inr (both.0, omega (arith, both.1)) ])
+      | inr end ↦ ends other at end
     ]
 
-onto_keeps : (more : List (Result ItemValue ParseError)) (before : List ItemValue) (at : ℕ) → IsItemAt before at → IsItemAt (onto before more) at
-onto_keeps [] before at i = i
-onto_keeps (Ok item ∷ more) before at i = onto_keeps more (item ∷ before) at (inr i)
-onto_keeps (Err e ∷ more) before at i = i
+wanting_keeps : (more : List (Result ItemValue ParseError)) (before : List ItemValue) (at : ℕ) → WantsMemoryAt before at → WantsMemoryAt (onto before more) at
+wanting_keeps [] before at i = i
+wanting_keeps (Ok item ∷ more) before at i = wanting_keeps more (item ∷ before) at (inr i)
+wanting_keeps (Err e ∷ more) before at i = i
+
+-- the answers that are none of memory
+refuse_fault : (text : List ℕ) (fault : ParseFault) (offset : ℕ) → HasFault text fault offset → IsFirst text fault offset → number_of fault ≤ 16
+    → Refuses text (record { fault = fault; offset = offset })
+refuse_fault text fault offset has first small = record {
+  first = λ n. (has, first);
+  memory = λ m. absurd (let number : number_of fault ≡ 17 = ap number_of m in omega arith);
+}
 
 -- an item's first fault is the text's
-pub refuse_item : (text rest after : List ℕ) (offset : ℕ) (item : ItemValue) (old : State) (r : HasReached text rest offset old) (e : ParseError)
+pub refuse_item : (text rest after : List ℕ) (offset : ℕ) (item : ItemValue) (old : State) (r : HasReached text rest offset old) (fault : ParseFault)
     → 0 < length rest → offset ≤ 4096 → item_size rest ≤ length rest → after ≡ drop (item_size rest) rest → item ≡ front_item offset rest
-    → e.offset ≡ offset → IsStopped r.before item e.fault → Refuses text e
-refuse_item text rest after offset item old r e some l whole a i o stopped =
+    → fault_at r.before item ≡ Some fault → Refuses text (record { fault = fault; offset = offset })
+refuse_item text rest after offset item old r fault some l whole a i found =
     let next : items_at offset rest ≡ Ok item ∷ items_at (offset + (length rest - length after)) after = items_next offset rest after item some whole a i in
-    elim stopped [
-      | inl memory ↦ record {
-        first = λ n. absurd (n memory.0);
-        memory = λ m. (rw (r.items ∙ ap (onto r.before) next) (onto_keeps (items_at (offset + (length rest - length after)) after) (item ∷ r.before) e.offset (inl (ap (λ x. x.offset) i ∙ sym o))), (rw o (first_by text rest after offset item old r TooLong some l whole a i (omega arith) (λ other t. absurd (clean r.before item memory.1 other t)))));
-      }
-      | inr found ↦ (let shown = shown_fault r.before item e.fault found in
-          record {
-            first = λ n. (
-              inl (r.faults_come e.fault e.offset (rw next (inl (shown.0, o ∙ sym (ap (λ x. x.offset) i))))),
-              (rw o (first_by text rest after offset item old r e.fault some l whole a i (omega (arith, shown.1)) (λ other t. least_shown r.before item e.fault other found t))),
-            );
-            memory = λ m. absurd (let number : number_of e.fault ≡ 17 = ap number_of m in omega (arith, shown.1));
-          })
-    ]
+    let shown = shown_fault r.before item fault found in
+    refuse_fault text fault offset
+    (inl (r.faults_come fault offset (rw next (inl (shown.0, sym (ap (λ x. x.offset) i))))))
+    (first_by text rest after offset item old r fault some whole a i
+    (λ other at end.
+    (elim (ends_later text rest offset old other at r some l end) [ inl later ↦ inl later | inr both ↦ inr (both.0, omega (arith, both.1, shown.1)) ]))
+    (λ other t. least_shown r.before item fault other found t))
+    (omega (arith, shown.1))
+
+-- a growth that was refused at an item without a fault
+pub refuse_growth : (text rest after : List ℕ) (offset : ℕ) (item : ItemValue) (old : State) (r : HasReached text rest offset old)
+    → 0 < length rest → offset < 4096 → item_size rest ≤ length rest → after ≡ drop (item_size rest) rest → item ≡ front_item offset rest
+    → fault_at r.before item ≡ None → IsTrue (wants_memory (tag item) r.before) → Refuses text (record { fault = Memory; offset = offset })
+refuse_growth text rest after offset item old r some l whole a i none wants =
+    let next : items_at offset rest ≡ Ok item ∷ items_at (offset + (length rest - length after)) after = items_next offset rest after item some whole a i in
+    record {
+      first = λ n. absurd (n refl);
+      memory = λ m. (
+        (rw (r.items ∙ ap (onto r.before) next) (wanting_keeps (items_at (offset + (length rest - length after)) after) (item ∷ r.before) offset (inl (wants, ap (λ x. x.offset) i)))),
+        first_by text rest after offset item old r Memory some whole a i (λ other at end. inl (ends_after text rest offset old other at r some l end))
+            (λ other t. absurd (clean r.before item none other t)),
+      );
+    }
+
+-- a text that is too long, at whose greatest length an item without a fault begins
+pub refuse_at_limit : (text rest after : List ℕ) (offset : ℕ) (item : ItemValue) (old : State) (r : HasReached text rest offset old)
+    → 4096 < length text → 0 < length rest → offset ≡ 4096 → item_size rest ≤ length rest → after ≡ drop (item_size rest) rest → item ≡ front_item offset rest
+    → fault_at r.before item ≡ None → Refuses text (record { fault = TooLong; offset = 4096 })
+refuse_at_limit text rest after offset item old r long some l whole a i none =
+    refuse_fault text TooLong 4096 (inr (long, refl))
+    (rw l at (first_by text rest after offset item old r TooLong some whole a i
+    (λ other at end. ends_later text rest offset old other at r some (omega arith) end)
+    (λ other t. absurd (clean r.before item none other t))))
+    (omega arith)
 
 -- a text that ends within an item
-pub refuse_short : (text rest : List ℕ) (offset : ℕ) (old : State) (r : HasReached text rest offset old) (e : ParseError)
-    → 0 < length rest → offset ≤ 4096 → length rest < item_size rest → e ≡ record { fault = Truncated; offset = offset } → Refuses text e
-refuse_short text rest offset old r e some l short is =
+pub refuse_short : (text rest : List ℕ) (offset : ℕ) (old : State) (r : HasReached text rest offset old)
+    → 0 < length rest → offset ≤ 4096 → length rest < item_size rest → Refuses text (record { fault = Truncated; offset = offset })
+refuse_short text rest offset old r some l short =
     let cut_off : items_at offset rest ≡ Err (record { fault = Truncated; offset = offset }) ∷ [] = items_short offset rest some short in
-    let fault_is : e.fault ≡ Truncated = ap (λ x. x.fault) is in
-    let offset_is : e.offset ≡ offset = ap (λ x. x.offset) is in
-    let one : number_of e.fault ≡ 1 = ap number_of fault_is in
-    record {
-      first = λ n. (
-        inl (r.faults_come e.fault e.offset (rw cut_off (fault_is, offset_is))),
-        λ other at has.
-            (elim has [
-              | inl among ↦ (let f : IsFaultAmong r.before (Err (record { fault = Truncated; offset = offset }) ∷ []) other at = (rw cut_off at (r.faults_left other at among)) in
-                  let there : at ≡ offset = f.1 in let same : number_of other ≡ 1 = ap number_of f.0 in inr (omega arith, omega arith))
-              | inr end ↦ (elim (ends_later text rest offset old other at r some l end) [ inl later ↦ inl (omega arith) | inr both ↦ inr (omega (arith, both.0), omega (arith, both.1)) ])
-            ]),
-      );
-      memory = λ m. absurd (let number : number_of e.fault ≡ 17 = ap number_of m in omega arith);
-    }
+    refuse_fault text Truncated offset (inl (r.faults_come Truncated offset (rw cut_off (refl, refl))))
+    (λ other at has.
+    (elim has [
+      | inl among ↦ (let f : IsFaultAmong r.before (Err (record { fault = Truncated; offset = offset }) ∷ []) other at = (rw cut_off at (r.faults_left other at among)) in
+          let there : at ≡ offset = f.1 in let same : number_of other ≡ 1 = ap number_of f.0 in inr (omega arith, omega arith))
+      | inr end ↦ (elim (ends_later text rest offset old other at r some l end) [ inl later ↦ inl later | inr both ↦ inr (both.0, omega (arith, both.1)) ])
+    ]))
+    (omega arith)
 
 at_end_long : (text : List ℕ) (other : ParseFault) (at : ℕ) → 4096 < length text → IsFaultAtEnd text other at → (4096 < at) ⊎ ((4096 ≡ at) × (16 ≤ number_of other))
 at_end_long text CollectionOpen at long f = let e : at ≡ length text = f.1 in inl (omega arith)
@@ -274,44 +304,32 @@ no_end text CollectionOpen at short none f = let l : 0 < open_collections (all_i
 no_end text TooLong at short none f = let l : 4096 < length text = f.0 in omega arith
 no_end text _ at short none f = f
 
--- where nothing is left, or what is left is past the greatest length
-abbrev pub IsAllRead : List ℕ → ℕ → Type 0
-IsAllRead rest offset = (length rest ≡ 0) ⊎ (4096 < offset)
+-- a text that is too long, none of whose items begins at the greatest length
+pub refuse_past : (text rest : List ℕ) (offset : ℕ) (state : State) (r : HasReached text rest offset state)
+    → 4096 < length text → 4096 < offset → Refuses text (record { fault = TooLong; offset = 4096 })
+refuse_past text rest offset state r long past =
+    refuse_fault text TooLong 4096 (inr (long, refl))
+    (λ other at has.
+    (elim has [
+      | inl among ↦ (let f = r.faults_left other at among in let above : offset ≤ at = among_from (length rest) offset rest r.before other at (omega arith) f in inl (omega arith))
+      | inr end ↦ at_end_long text other at long end
+    ]))
+    (omega arith)
 
--- a text that is too long, or that ends within a collection
-pub refuse_end : (text rest : List ℕ) (offset : ℕ) (state : State) (r : HasReached text rest offset state) (e : ParseError)
-    → IsAllRead rest offset → EndsBy (length text) state e → Refuses text e
-refuse_end text rest offset state r e all ends =
-    let place = r.place in
-    elim ends [
-      | inl long ↦ rw long.1 (let past : 4096 < offset = (elim all [ inl none ↦ omega (arith, long.0) | inr above ↦ above ]) in
-          record {
-            first = λ n. (
-              inr (long.0, refl),
-              λ other at has.
-                  (elim has [
-                    | inl among ↦ (let f = r.faults_left other at among in let above : offset ≤ at = among_from (length rest) offset rest r.before other at (omega arith) f in inl (omega arith))
-                    | inr end ↦ at_end_long text other at long.0 end
-                  ]),
-            );
-            memory = λ m. cc;
-          })
-      | inr unclosed ↦ rw unclosed.2 (let none : length rest ≡ 0 = (elim all [ inl none ↦ none | inr above ↦ omega (arith, unclosed.0) ]) in
-          let nothing : items_at offset rest ≡ [] = items_none offset rest none in
-          let same : all_items text ≡ r.before = r.items ∙ ap (onto r.before) nothing in
-          let more : 0 < open_collections (all_items text) = (rw (same, ← r.stands.collections) unclosed.1) in
-          record {
-            first = λ n. (
-              inr (more, refl),
-              λ other at has.
-                  (elim has [
-                    | inl among ↦ (let f : IsFaultAmong r.before [] other at = (rw nothing at (r.faults_left other at among)) in absurd f)
-                    | inr end ↦ at_end_open text other at unclosed.0 end
-                  ]),
-            );
-            memory = λ m. cc;
-          })
-    ]
+-- a text that ends within a collection
+pub refuse_open : (text rest : List ℕ) (offset : ℕ) (state : State) (r : HasReached text rest offset state)
+    → length rest ≡ 0 → length text ≤ 4096 → 0 < state.collections → Refuses text (record { fault = CollectionOpen; offset = length text })
+refuse_open text rest offset state r none short open_ones =
+    let nothing : items_at offset rest ≡ [] = items_none offset rest none in
+    let same : all_items text ≡ r.before = r.items ∙ ap (onto r.before) nothing in
+    let more : 0 < open_collections (all_items text) = (rw (same, ← r.stands.collections) open_ones) in
+    refuse_fault text CollectionOpen (length text) (inr (more, refl))
+    (λ other at has.
+    (elim has [
+      | inl among ↦ (let f : IsFaultAmong r.before [] other at = (rw nothing at (r.faults_left other at among)) in absurd f)
+      | inr end ↦ at_end_open text other at short end
+    ]))
+    (omega arith)
 
 bits_same : (reports : Reports) (kind : Kind) (id : ℕ) → bits_of (value_of reports) kind id ≡ bits_in reports.totals kind id
 bits_same reports Input id = refl
@@ -320,10 +338,8 @@ bits_same reports Feature id = refl
 
 -- the whole text was read and shows no fault
 pub accept_end : (text rest : List ℕ) (offset : ℕ) (state : State) (r : HasReached text rest offset state)
-    → IsAllRead rest offset → length text ≤ 4096 → state.collections ≡ 0 → IsFaultless text × Describes (all_items text) (value_of state.reports)
-accept_end text rest offset state r all short closed =
-    let place = r.place in
-    let none : length rest ≡ 0 = (elim all [ inl none ↦ none | inr above ↦ omega arith ]) in
+    → length rest ≡ 0 → length text ≤ 4096 → state.collections ≡ 0 → IsFaultless text × Describes (all_items text) (value_of state.reports)
+accept_end text rest offset state r none short closed =
     let nothing : items_at offset rest ≡ [] = items_none offset rest none in
     let same : all_items text ≡ r.before = r.items ∙ ap (onto r.before) nothing in
     let none_open : open_collections (all_items text) ≡ 0 = (rw (same, ← r.stands.collections) closed) in
@@ -342,15 +358,15 @@ accept_end text rest offset state r all short closed =
     )
 
 -- what the answer at the end says
-pub ok_end : (text rest : List ℕ) (offset : ℕ) (state : State) (r : HasReached text rest offset state) → IsAllRead rest offset
-    → (result : Result DescriptorValue ParseError) → IfOk result (λ d. (length text ≤ 4096) × (state.collections ≡ 0) × (d ≡ value_of state.reports))
+pub ok_end : (text rest : List ℕ) (offset : ℕ) (state : State) (r : HasReached text rest offset state) → length rest ≡ 0 → length text ≤ 4096
+    → (result : Result DescriptorValue ParseError) → IfOk result (λ d. (state.collections ≡ 0) × (d ≡ value_of state.reports))
     → {P : DescriptorValue → Type 0} → ((d : DescriptorValue) → IsFaultless text × Describes (all_items text) d → P d) → IfOk result P
-ok_end text rest offset state r all (Ok d) ok more =
-    more d (let both = accept_end text rest offset state r all ok.0 ok.1 in (both.0, rw ok.2 both.1))
-ok_end text rest offset state r all (Err e) ok more = tt
+ok_end text rest offset state r none short (Ok d) ok more =
+    more d (let both = accept_end text rest offset state r none short ok.0 in (both.0, rw ok.1 both.1))
+ok_end text rest offset state r none short (Err e) ok more = tt
 
-pub err_end : (text rest : List ℕ) (offset : ℕ) (state : State) (r : HasReached text rest offset state) → IsAllRead rest offset
-    → (result : Result DescriptorValue ParseError) → IfErr result (EndsBy (length text) state)
+pub err_end : (text rest : List ℕ) (offset : ℕ) (state : State) (r : HasReached text rest offset state) → length rest ≡ 0 → length text ≤ 4096
+    → (result : Result DescriptorValue ParseError) → IfErr result (EndsOpen (length text) state)
     → {P : ParseError → Type 0} → ((e : ParseError) → Refuses text e → P e) → IfErr result P
-err_end text rest offset state r all (Ok d) err more = tt
-err_end text rest offset state r all (Err e) err more = more e (refuse_end text rest offset state r e all err)
+err_end text rest offset state r none short (Ok d) err more = tt
+err_end text rest offset state r none short (Err e) err more = more e (rw err.1 (refuse_open text rest offset state r none short err.0))

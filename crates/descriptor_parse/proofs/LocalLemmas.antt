@@ -1,6 +1,7 @@
-use Rattle.std.proofs.Common.{◌≡◌, ℕ, ◌+◌, ◌*◌, ◌<◌, ◌≤◌, ◌^◌, List, [], ◌∷◌, ◌++◌, length, get_or, refl, arith, sym, ◌∙◌, ap, Bool, true, false, cond, map, Some, None}
-use Rattle.std.specs.Prelude.{Option, option_map}
-use Rattle.std.proofs.lemmas.List.{map-append}
+use Rattle.std.proofs.Common.{◌≡◌, ℕ, ◌+◌, ◌*◌, ◌%◌, ◌<◌, ◌≤◌, ◌^◌, List, [], ◌∷◌, ◌++◌, length, get_or, refl, arith, sym, ◌∙◌, ap, Bool, true, false, cond, map, Some, None, inl, inr}
+use Rattle.std.specs.Prelude.{Option, option_map, ◌==◌, slice_get}
+use Rattle.std.proofs.lemmas.List.{map-append, append-nil}
+use Rattle.std.proofs.lemmas.Bool.{cases_lt, ne_eqb, eq-eqb}
 use Rattle.descriptor_parse.specs.declared.tag.Tag.{Tag}
 use Rattle.descriptor_parse.specs.declared.tag.Tag.TheVariants.{Main, Global, Local, Skipped}
 use Rattle.descriptor_parse.specs.declared.tag.LocalTag.TheVariants.{Usage, UsageMinimum, UsageMaximum, Delimiter}
@@ -10,7 +11,7 @@ use Rattle.descriptor_parse.specs.declared.locals.Locals.{Locals}
 use Rattle.descriptor_parse.specs.Items.{ItemValue}
 use Rattle.descriptor_parse.specs.Tags.{tag, is_main}
 use Rattle.descriptor_parse.specs.Globals.{unsigned}
-use Rattle.descriptor_parse.specs.Locals.{has_page, usage_number, unpaired, still_unpaired, usages_since_main, with_usages}
+use Rattle.descriptor_parse.specs.Locals.{has_page, usage_number, since_main, halves, without_partner, unpaired, range_made, ranges_made, usages_since_main}
 use Rattle.descriptor_parse.specs.LocalsStand.{usage_of, usage_on, range_on, half_of, TakesHalf, TakesHalfAt, LocalsStand}
 
 -- two bytes make 16 bits
@@ -24,6 +25,61 @@ pub number_on : (page : ℕ) (bytes : List ℕ) → usage_on page (usage_of byte
 number_on page bytes =
     elim (has_page bytes) as (λ b. usage_on page (cond b (Whole (unsigned bytes)) (Short (unsigned bytes))) ≡ cond b (unsigned bytes) (page * 2 ^ 16 + unsigned bytes))
     [ true ↦ refl | false ↦ refl ]
+
+-- ---- one item more
+
+-- the Minimum or Maximum without a partner, by the latest item
+abbrev pub still_unpaired : Tag → ItemValue → Option ItemValue → Option ItemValue
+still_unpaired (Main m) item earlier = None
+still_unpaired (Local UsageMinimum) item None = Some item
+still_unpaired (Local UsageMinimum) item (Some half) = None
+still_unpaired (Local UsageMaximum) item None = Some item
+still_unpaired (Local UsageMaximum) item (Some half) = None
+still_unpaired _ item earlier = earlier
+
+-- a Minimum or Maximum more, after a list of them
+one_half : (item : ItemValue) (earlier : List ItemValue)
+    → cond (length (item ∷ earlier) % 2 == 1) (slice_get (item ∷ earlier) 0) None
+    ≡ still_unpaired (Local UsageMinimum) item (cond (length earlier % 2 == 1) (slice_get earlier 0) None)
+one_half item [] = refl
+one_half item (first ∷ earlier) =
+    elim (cases_lt (length (first ∷ earlier) % 2) 1) [
+      | inl even ↦ (let now : (length (first ∷ earlier) % 2 == 1) ≡ false = ne_eqb _ _ (omega arith) in let next : (length (item ∷ first ∷ earlier) % 2 == 1) ≡ true = eq-eqb _ _ (omega arith) in rw (now, next) refl)
+      | inr odd ↦ (let now : (length (first ∷ earlier) % 2 == 1) ≡ true = eq-eqb _ _ (omega arith) in let next : (length (item ∷ first ∷ earlier) % 2 == 1) ≡ false = ne_eqb _ _ (omega arith) in rw (now, next) refl)
+    ]
+
+step_by : (t : Tag) (item : ItemValue) (before : List ItemValue) → tag item ≡ t
+    → without_partner (since_main (item ∷ before)) ≡ still_unpaired t item (without_partner (since_main before))
+step_by (Main m) item before e = rw e refl
+step_by (Global g) item before e = rw e (rw e refl)
+step_by (Local Usage) item before e = rw e (rw e refl)
+step_by (Local UsageMinimum) item before e = rw e (rw e (one_half item (halves (since_main before))))
+step_by (Local UsageMaximum) item before e = rw e (rw e (one_half item (halves (since_main before))))
+step_by (Local Delimiter) item before e = rw e (rw e refl)
+step_by Skipped item before e = rw e (rw e refl)
+
+pub unpaired_step : (item : ItemValue) (before : List ItemValue) → unpaired (item ∷ before) ≡ still_unpaired (tag item) item (unpaired before)
+unfolding unpaired
+unpaired_step item before = step_by (tag item) item before refl
+
+-- the usages, by the latest item
+abbrev pub with_usages : ℕ → Tag → ItemValue → Option ItemValue → List (ℕ × ℕ) → List (ℕ × ℕ)
+with_usages page (Main m) item half earlier = []
+with_usages page t item half earlier = earlier ++ range_made page t item half
+
+usages_by : (page : ℕ) (t : Tag) (item : ItemValue) (before : List ItemValue) → tag item ≡ t
+    → ranges_made page (since_main (item ∷ before)) ≡ with_usages page t item (without_partner (since_main before)) (ranges_made page (since_main before))
+usages_by page (Main m) item before e = rw e refl
+usages_by page (Global g) item before e = rw e (rw e refl)
+usages_by page (Local l) item before e = rw e (rw e refl)
+usages_by page Skipped item before e = rw e (rw e refl)
+
+pub usages_step : (page : ℕ) (item : ItemValue) (before : List ItemValue)
+    → usages_since_main page (item ∷ before) ≡ with_usages page (tag item) item (unpaired before) (usages_since_main page before)
+unfolding unpaired usages_since_main
+usages_step page item before = usages_by page (tag item) item before refl
+
+-- ---- what the parser keeps of them
 
 pub stand_new : (locals : Locals) → locals.half ≡ None → locals.usages.items ≡ [] → LocalsStand [] locals
 unfolding unpaired usages_since_main
@@ -39,10 +95,9 @@ ended Skipped item half page earlier e = cc
 -- a Main item ends them
 pub stand_main : (before : List ItemValue) (item : ItemValue) (locals : Locals) → is_main (tag item) ≡ true
     → locals.half ≡ None → locals.usages.items ≡ [] → LocalsStand (item ∷ before) locals
-unfolding unpaired usages_since_main
 stand_main before item locals m h u = record {
-  half = h ∙ sym (ap (option_map half_of) (ended (tag item) item (unpaired before) 0 [] m).0);
-  usages = λ page. ap (map (range_on page)) u ∙ sym (ended (tag item) item (unpaired before) page (usages_since_main page before) m).1;
+  half = h ∙ sym (ap (option_map half_of) (unpaired_step item before ∙ (ended (tag item) item (unpaired before) 0 [] m).0));
+  usages = λ page. ap (map (range_on page)) u ∙ sym (usages_step page item before ∙ (ended (tag item) item (unpaired before) page (usages_since_main page before) m).1);
 }
 
 -- no Main item, Usage, Usage Minimum or Usage Maximum
@@ -54,17 +109,16 @@ is_silent _ = false
 
 silent : (t : Tag) (item : ItemValue) (half : Option ItemValue) (page : ℕ) (earlier : List (ℕ × ℕ)) → is_silent t ≡ true
     → (still_unpaired t item half ≡ half) × (with_usages page t item half earlier ≡ earlier)
-silent (Global g) item half page earlier e = (refl, refl)
-silent (Local Delimiter) item half page earlier e = (refl, refl)
-silent Skipped item half page earlier e = (refl, refl)
+silent (Global g) item half page earlier e = (refl, append-nil earlier)
+silent (Local Delimiter) item half page earlier e = (refl, append-nil earlier)
+silent Skipped item half page earlier e = (refl, append-nil earlier)
 silent _ item half page earlier e = cc
 
 pub stand_silent : (before : List ItemValue) (item : ItemValue) (locals : Locals) → is_silent (tag item) ≡ true
     → LocalsStand before locals → LocalsStand (item ∷ before) locals
-unfolding unpaired usages_since_main
 stand_silent before item locals m s = record {
-  half = s.half ∙ sym (ap (option_map half_of) (silent (tag item) item (unpaired before) 0 [] m).0);
-  usages = λ page. s.usages page ∙ sym (silent (tag item) item (unpaired before) page (usages_since_main page before) m).1;
+  half = s.half ∙ sym (ap (option_map half_of) (unpaired_step item before ∙ (silent (tag item) item (unpaired before) 0 [] m).0));
+  usages = λ page. s.usages page ∙ sym (usages_step page item before ∙ (silent (tag item) item (unpaired before) page (usages_since_main page before) m).1);
 }
 
 -- one range more, on any page
@@ -76,38 +130,36 @@ more_ranges page old new range earlier a b e m f g = ap (map (range_on page)) e 
 pub stand_usage : (before : List ItemValue) (item : ItemValue) (old new : Locals) → tag item ≡ Local Usage
     → new.half ≡ old.half → new.usages.items ≡ old.usages.items ++ record { first = usage_of item.bytes; last = usage_of item.bytes } ∷ []
     → LocalsStand before old → LocalsStand (item ∷ before) new
-unfolding unpaired usages_since_main
 stand_usage before item old new e h u s = record {
-  half = h ∙ s.half ∙ (rw e refl);
-  usages = λ page. more_ranges page _ _ _ _ _ _ u (s.usages page) (number_on page item.bytes) (number_on page item.bytes) ∙ (rw e refl);
+  half = h ∙ s.half ∙ (rw (unpaired_step item before, e) refl);
+  usages = λ page. more_ranges page _ _ _ _ _ _ u (s.usages page) (number_on page item.bytes) (number_on page item.bytes) ∙ (rw (usages_step page item before, e) refl);
 }
 
 -- a Minimum or Maximum
 pub stand_half : (before : List ItemValue) (item : ItemValue) (minimum : Bool) (half : Option ItemValue) (old new : Locals)
     → tag item ≡ Local (cond minimum UsageMinimum UsageMaximum) → unpaired before ≡ half
     → TakesHalf minimum (usage_of item.bytes) old new → LocalsStand before old → LocalsStand (item ∷ before) new
-unfolding unpaired usages_since_main
 stand_half before item true None old new e h t s =
     let none : old.half ≡ None = s.half ∙ ap (option_map half_of) h in
     let took : TakesHalfAt None true (usage_of item.bytes) old new = rw none at t in record {
-      half = took.0 ∙ (rw (e, h) (rw e refl));
-      usages = λ page. ap (map (range_on page)) took.1 ∙ s.usages page ∙ (rw (e, h) refl);
+      half = took.0 ∙ (rw (unpaired_step item before, e, h) (rw e refl));
+      usages = λ page. ap (map (range_on page)) took.1 ∙ s.usages page ∙ (rw (usages_step page item before, e, h) (sym (append-nil (usages_since_main page before))));
     }
 stand_half before item false None old new e h t s =
     let none : old.half ≡ None = s.half ∙ ap (option_map half_of) h in
     let took : TakesHalfAt None false (usage_of item.bytes) old new = rw none at t in record {
-      half = took.0 ∙ (rw (e, h) (rw e refl));
-      usages = λ page. ap (map (range_on page)) took.1 ∙ s.usages page ∙ (rw (e, h) refl);
+      half = took.0 ∙ (rw (unpaired_step item before, e, h) (rw e refl));
+      usages = λ page. ap (map (range_on page)) took.1 ∙ s.usages page ∙ (rw (usages_step page item before, e, h) (sym (append-nil (usages_since_main page before))));
     }
 stand_half before item true (Some other) old new e h t s =
     let some : old.half ≡ Some (half_of other) = s.half ∙ ap (option_map half_of) h in
     let took : TakesHalfAt (Some (half_of other)) true (usage_of item.bytes) old new = rw some at t in record {
-      half = took.0 ∙ (rw (e, h) refl);
-      usages = λ page. more_ranges page _ _ _ _ _ _ took.1 (s.usages page) (number_on page item.bytes) (number_on page other.bytes) ∙ (rw (e, h) refl);
+      half = took.0 ∙ (rw (unpaired_step item before, e, h) refl);
+      usages = λ page. more_ranges page _ _ _ _ _ _ took.1 (s.usages page) (number_on page item.bytes) (number_on page other.bytes) ∙ (rw (usages_step page item before, e, h) refl);
     }
 stand_half before item false (Some other) old new e h t s =
     let some : old.half ≡ Some (half_of other) = s.half ∙ ap (option_map half_of) h in
     let took : TakesHalfAt (Some (half_of other)) false (usage_of item.bytes) old new = rw some at t in record {
-      half = took.0 ∙ (rw (e, h) refl);
-      usages = λ page. more_ranges page _ _ _ _ _ _ took.1 (s.usages page) (number_on page other.bytes) (number_on page item.bytes) ∙ (rw (e, h) refl);
+      half = took.0 ∙ (rw (unpaired_step item before, e, h) refl);
+      usages = λ page. more_ranges page _ _ _ _ _ _ took.1 (s.usages page) (number_on page other.bytes) (number_on page item.bytes) ∙ (rw (usages_step page item before, e, h) refl);
     }

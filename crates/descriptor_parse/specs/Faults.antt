@@ -1,17 +1,18 @@
-use Rattle.std.specs.Prelude.{◌≡◌, ℕ, ◌<◌, ◌≤◌, ◌==◌, if◌then◌else◌, nat_lt, nat_le, Bool, false, not, ◌&&◌, ◌||◌, IsTrue, ◌⊎◌, List, [], ◌∷◌, length, find, int_lt, Option, Result, Ok, Err}
+use Rattle.std.specs.Prelude.{◌≡◌, ℕ, ◌<◌, ◌≤◌, ◌==◌, if◌then◌else◌, nat_lt, nat_le, Bool, true, false, not, ◌&&◌, ◌||◌, IsTrue, ◌⊎◌, List, [], ◌∷◌, length, find, int_lt, Option, is_some, Result, Ok, Err}
 use Rattle.descriptor_parse.specs.declared.fault.ParseError.{ParseError}
 use Rattle.descriptor_parse.specs.declared.fault.ParseFault.{ParseFault}
-use Rattle.descriptor_parse.specs.declared.fault.ParseFault.TheVariants.{Delimiter, PopEmpty, PushDeep, BadReportId, SizeTooLarge, CountTooLarge, EndWithoutCollection, CollectionDeep, UnpairedUsage, UsageInverted, LogicalInverted, TooManyFields, MixedIds, CollectionOpen, TooLong}
+use Rattle.descriptor_parse.specs.declared.fault.ParseFault.TheVariants.{Delimiter, PopEmpty, PushDeep, BadReportId, SizeTooLarge, CountTooLarge, EndWithoutCollection, CollectionDeep, UnpairedUsage, UsageInverted, LogicalInverted, TooManyFields, MixedIds, CollectionOpen, TooLong, Memory}
 use Rattle.descriptor_parse.specs.declared.tag.Tag.{Tag}
-use Rattle.descriptor_parse.specs.declared.tag.Tag.TheVariants.{Main, Global}
+use Rattle.descriptor_parse.specs.declared.tag.Tag.TheVariants.{Main, Global, Local}
 use Rattle.descriptor_parse.specs.declared.tag.MainTag.TheVariants.{Data}
-use Rattle.descriptor_parse.specs.declared.tag.GlobalTag.TheVariants.{ReportId}
+use Rattle.descriptor_parse.specs.declared.tag.GlobalTag.TheVariants.{ReportId, Push}
+use Rattle.descriptor_parse.specs.declared.tag.LocalTag.TheVariants.{Usage, UsageMinimum, UsageMaximum}
 use Rattle.descriptor_parse.specs.Fault.{number_of}
 use Rattle.descriptor_parse.specs.Items.{ItemValue, items_at}
 use Rattle.descriptor_parse.specs.Tags.{tag, is_data, is_collection, is_end_collection, is_report_id, is_push, is_pop, is_delimiter}
 use Rattle.descriptor_parse.specs.Globals.{unsigned, report_size, report_count, report_id, logical_minimum, logical_maximum, pushes}
 use Rattle.descriptor_parse.specs.Locals.{unpaired, breaks_pair, is_inverted}
-use Rattle.descriptor_parse.specs.Fields.{is_constant, is_array, is_field, fields, has_report_id, has_bare_data, open_collections}
+use Rattle.descriptor_parse.specs.Fields.{is_constant, is_array, is_field, takes_bit, fields, has_report_id, has_bare_data, open_collections}
 
 -- a Report ID after a data item without one in force, or such a data item after a Report ID
 abbrev pub mixes_ids : Tag → List ItemValue → Bool
@@ -82,11 +83,21 @@ IsFirst text fault offset = (other : ParseFault) (at : ℕ) → HasFault text ot
 abbrev pub IsFirstFault : List ℕ → ParseError → Type 0
 IsFirstFault text e = HasFault text e.fault e.offset × IsFirst text e.fault e.offset
 
--- an item begins at an offset
-abbrev pub IsItemAt : List ItemValue → ℕ → Type 0
-IsItemAt [] at = ⊥
-IsItemAt (item ∷ before) at = (item.offset ≡ at) ⊎ IsItemAt before at
+-- What is kept of an item for later ones may want memory: of a Push the Globals in force, of a Usage and of the second
+-- of a pair a range, of a data item that takes a bit the length of its report, and its field.
+abbrev pub wants_memory : Tag → List ItemValue → Bool
+wants_memory (Global Push) before = true
+wants_memory (Local Usage) before = true
+wants_memory (Local UsageMinimum) before = is_some (unpaired before)
+wants_memory (Local UsageMaximum) before = is_some (unpaired before)
+wants_memory (Main (Data kind)) before = takes_bit before
+wants_memory _ before = false
 
--- An item begins there, and no fault stands at it or before it, except that the text may be too long.
-abbrev pub IsItemWithoutFault : List ℕ → ℕ → Type 0
-IsItemWithoutFault text offset = IsItemAt (all_items text) offset × IsFirst text TooLong offset
+-- an item that may want memory begins at an offset
+abbrev pub WantsMemoryAt : List ItemValue → ℕ → Type 0
+WantsMemoryAt [] at = ⊥
+WantsMemoryAt (item ∷ before) at = (IsTrue (wants_memory (tag item) before) × (item.offset ≡ at)) ⊎ WantsMemoryAt before at
+
+-- An item that may want memory begins there, and each fault of the text comes after it.
+abbrev pub MayWantMemory : List ℕ → ℕ → Type 0
+MayWantMemory text offset = WantsMemoryAt (all_items text) offset × IsFirst text Memory offset

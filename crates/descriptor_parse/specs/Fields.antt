@@ -26,9 +26,13 @@ report_bits kind id (item ∷ before) =
     then report_bits kind id before + report_size before * report_count before
     else report_bits kind id before
 
+-- a data item after these takes a bit
+abbrev pub takes_bit : List ItemValue → Bool
+takes_bit before = nat_lt 0 (report_size before) && nat_lt 0 (report_count before)
+
 -- A data item that is not Constant and takes a bit declares a field.
 abbrev pub is_field : List ItemValue → ItemValue → Bool
-is_field before item = is_data (tag item) && (not (is_constant item) && (nat_lt 0 (report_size before) && nat_lt 0 (report_count before)))
+is_field before item = is_data (tag item) && (not (is_constant item) && takes_bit before)
 
 abbrev pub kind_of : Tag → Kind
 kind_of (Main (Data kind)) = kind

@@ -1,4 +1,4 @@
-use Rattle.std.specs.Prelude.{◌≡◌, ℕ, ◌+◌, ◌*◌, ◌/◌, ◌^◌, ◌==◌, nat_lt, if◌then◌else◌, Bool, true, false, not, ◌||◌, List, [], ◌∷◌, ◌++◌, map, option_map, Option, Some, None}
+use Rattle.std.specs.Prelude.{◌≡◌, ℕ, ◌+◌, ◌*◌, ◌/◌, ◌^◌, ◌==◌, nat_lt, if◌then◌else◌, Bool, true, false, not, ◌||◌, List, [], ◌∷◌, ◌++◌, map, option_map, Option, Some, None, is_some}
 use Rattle.descriptor_parse.specs.declared.fault.ParseFault.{ParseFault}
 use Rattle.descriptor_parse.specs.declared.fault.ParseFault.TheVariants.{Delimiter, UnpairedUsage, UsageInverted}
 use Rattle.descriptor_parse.specs.declared.tag.LocalTag.{LocalTag}
@@ -45,6 +45,12 @@ fault_of_local LocalTag.Delimiter usage half = Some Delimiter
 fault_of_local UsageMinimum usage (Some half) = fault_of_pair (not half.minimum) usage half.usage
 fault_of_local UsageMaximum usage (Some half) = fault_of_pair half.minimum half.usage usage
 fault_of_local _ usage half = None
+
+-- an item that adds a range
+abbrev pub adds_range : LocalTag → Option Half → Bool
+adds_range LocalTag.Usage half = true
+adds_range LocalTag.Delimiter half = false
+adds_range _ half = is_some half
 
 -- a range of these two
 abbrev pub range_from : Bool → Usage → Usage → UsageRange

@@ -11,8 +11,12 @@ use Rattle.descriptor_parse.specs.GlobalsStand.{max_of}
 use Rattle.descriptor_parse.specs.LocalsStand.{range_on}
 use Rattle.descriptor_parse.specs.Totals.{bits_in}
 
+-- a data item under these Globals takes a bit
+abbrev pub fills : Globals → Bool
+fills g = nat_lt 0 g.size && nat_lt 0 g.count
+
 abbrev pub declares : ℕ → Globals → Bool
-declares flags g = flags % 2 == 0 && (nat_lt 0 g.size && nat_lt 0 g.count)
+declares flags g = flags % 2 == 0 && fills g
 
 abbrev pub field_by : Kind → ℕ → ℕ → Globals → Field
 field_by kind bit flags g = record {

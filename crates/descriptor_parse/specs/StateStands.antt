@@ -1,6 +1,6 @@
-use Rattle.std.specs.Prelude.{◌≡◌, ℕ, ◌≤◌, ◌/◌, ◌%◌, ◌==◌, nat_lt, nat_le, not, ◌&&◌, ◌||◌, ◌⊎◌, if◌then◌else◌, List, ◌∷◌, length, filter, int_lt, Option, Some, None, is_some, Result, MatchResult}
+use Rattle.std.specs.Prelude.{◌≡◌, ℕ, ◌≤◌, ◌/◌, ◌%◌, ◌==◌, nat_lt, nat_le, not, ◌&&◌, ◌||◌, if◌then◌else◌, List, length, filter, int_lt, Option, Some, None, is_some}
 use Rattle.descriptor_parse.specs.declared.fault.ParseFault.{ParseFault}
-use Rattle.descriptor_parse.specs.declared.fault.ParseFault.TheVariants.{PopEmpty, PushDeep, BadReportId, SizeTooLarge, CountTooLarge, EndWithoutCollection, CollectionDeep, UnpairedUsage, LogicalInverted, TooManyFields, MixedIds, Memory}
+use Rattle.descriptor_parse.specs.declared.fault.ParseFault.TheVariants.{PopEmpty, PushDeep, BadReportId, SizeTooLarge, CountTooLarge, EndWithoutCollection, CollectionDeep, UnpairedUsage, LogicalInverted, TooManyFields, MixedIds}
 use Rattle.descriptor_parse.specs.declared.tag.MainTag.{MainTag}
 use Rattle.descriptor_parse.specs.declared.tag.MainTag.TheVariants.{Data, Collection, EndCollection}
 use Rattle.descriptor_parse.specs.declared.tag.GlobalTag.{GlobalTag}
@@ -9,7 +9,6 @@ use Rattle.descriptor_parse.specs.declared.state.State.{State}
 use Rattle.descriptor_parse.specs.Items.{ItemValue}
 use Rattle.descriptor_parse.specs.Tags.{tag, is_collection, is_end_collection}
 use Rattle.descriptor_parse.specs.Fields.{open_collections}
-use Rattle.descriptor_parse.specs.Faults.{fault_at}
 use Rattle.descriptor_parse.specs.GlobalsStand.{GlobalsStand, max_of}
 use Rattle.descriptor_parse.specs.LocalsStand.{LocalsStand}
 use Rattle.descriptor_parse.specs.ReportsStand.{ReportsStand, declares}
@@ -22,16 +21,10 @@ pub record StateStands (before : List ItemValue) (state : State) : Type 0 where
   pub collections : state.collections ≡ open_collections before
   pub balanced : length (filter (λ item. is_end_collection (tag item)) before) ≤ length (filter (λ item. is_collection (tag item)) before)
 
--- the item shows no fault, and the state stands for it too
-abbrev pub IsTaken : List ItemValue → ItemValue → State → Type 0
-IsTaken before item state = (fault_at before item ≡ None) × StateStands (item ∷ before) state
-
--- a growth was refused at an item without a fault, or this is its first fault
-abbrev pub IsStopped : List ItemValue → ItemValue → ParseFault → Type 0
-IsStopped before item fault = ((fault ≡ Memory) × (fault_at before item ≡ None)) ⊎ (fault_at before item ≡ Some fault)
-
-abbrev pub Steps : List ItemValue → ItemValue → Result (Unit {0}) ParseFault → State → Type 0
-Steps before item result state = MatchResult result (λ _. IsTaken before item state) (IsStopped before item)
+-- a data item
+abbrev pub IsData : MainTag → Type 0
+IsData (Data kind) = Unit
+IsData _ = ⊥
 
 -- What the state shows of an item's faults; the proofs show that it is `fault_at`.
 abbrev pub fault_of_data : ℕ → State → Option ParseFault

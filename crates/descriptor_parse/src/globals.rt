@@ -1,6 +1,6 @@
 //! The Global items in force, and those that were pushed (HID 1.11, 6.2.2.7).
 
-ghost use Rattle.std.specs.Prelude.{◌≡◌, ◌≢◌, ◌≤◌, ◌<◌, ℕ, List, [], ◌∷◌, OnOk, length, int_lt, if◌then◌else◌, pos};
+ghost use Rattle.std.specs.Prelude.{◌≡◌, ◌≢◌, ◌≤◌, ◌<◌, ℕ, List, [], ◌∷◌, OnOk, OnErr, length, int_lt, if◌then◌else◌, pos};
 ghost use Rattle.descriptor_parse.specs.Items.{ItemValue};
 ghost use Rattle.descriptor_parse.specs.Tags.{tag_of};
 ghost use Rattle.descriptor_parse.specs.Globals.{unsigned, pushes};
@@ -89,10 +89,11 @@ impl GlobalStack {
     /// Takes a Global item.
     pub(crate) fn take(&mut self, tag: GlobalTag, bytes: &[u8]) -> Result<(), AllocError>
         requires { length bytes.now ≤ 4 }
-        ensures { OnOk result ((before : List ItemValue) (item : ItemValue) → tag_of item.prefix ≡ Tag.Global tag
+        ensures taken { OnOk result ((before : List ItemValue) (item : ItemValue) → tag_of item.prefix ≡ Tag.Global tag
             → item.bytes ≡ bytes.now → (tag ≡ GlobalTag.Pop → 0 < pushes before)
             → (tag ≡ GlobalTag.ReportId → unsigned item.bytes < 256)
             → GlobalsStand before self.old → GlobalsStand (item ∷ before) self.new) }
+        ensures refused { OnErr result (tag ≡ GlobalTag.Push) }
     {
         match tag {
             GlobalTag::Push => self.saved.push(self.now)?,

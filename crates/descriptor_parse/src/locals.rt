@@ -1,10 +1,10 @@
 //! The Local items since the latest Main item (HID 1.11, 6.2.2.8).
 
-ghost use Rattle.std.specs.Prelude.{◌≡◌, ◌≢◌, ◌≤◌, ◌<◌, ◌/◌, ℕ, List, [], ◌∷◌, true, OnOk, IfOk, length, map};
+ghost use Rattle.std.specs.Prelude.{◌≡◌, ◌≢◌, ◌≤◌, ◌<◌, ◌/◌, ℕ, List, [], ◌∷◌, OnOk, IfOk, OnErr, IsSome, IsTrue, length, map};
 ghost use Rattle.descriptor_parse.specs.Items.{ItemValue};
-ghost use Rattle.descriptor_parse.specs.Tags.{tag_of, is_main};
+ghost use Rattle.descriptor_parse.specs.Tags.{tag_of};
 ghost use Rattle.descriptor_parse.specs.Locals.{usage_number};
-ghost use Rattle.descriptor_parse.specs.LocalsStand.{LocalsStand, usage_of, usage_on, range_on, raw_of, are_alike, fault_of_pair, fault_of_local, TakesHalf};
+ghost use Rattle.descriptor_parse.specs.LocalsStand.{LocalsStand, usage_of, usage_on, range_on, raw_of, are_alike, fault_of_pair, fault_of_local, adds_range, TakesHalf};
 ghost use Rattle.descriptor_parse.specs.declared.tag.Tag.{Tag};
 ghost use Rattle.descriptor_parse.specs.declared.tag.LocalTag.{LocalTag};
 
@@ -91,8 +91,9 @@ impl Locals {
 
     /// Takes a Local item.
     pub(crate) fn take(&mut self, tag: LocalTag, usage: Usage) -> Result<(), AllocError>
-        ensures { OnOk result ((before : List ItemValue) (item : ItemValue) → tag_of item.prefix ≡ Tag.Local tag
+        ensures taken { OnOk result ((before : List ItemValue) (item : ItemValue) → tag_of item.prefix ≡ Tag.Local tag
             → usage_of item.bytes ≡ usage → LocalsStand before self.old → LocalsStand (item ∷ before) self.new) }
+        ensures refused { OnErr result (IsTrue (adds_range tag self.old.half)) }
     {
         match tag {
             LocalTag::Usage => self.usages.push(UsageRange {
@@ -108,7 +109,8 @@ impl Locals {
 
     /// Keeps a Minimum or Maximum, or makes it a range with its pair.
     fn take_half(&mut self, minimum: bool, usage: Usage) -> Result<(), AllocError>
-        ensures { OnOk result (TakesHalf minimum usage self.old self.new) }
+        ensures taken { OnOk result (TakesHalf minimum usage self.old self.new) }
+        ensures refused { OnErr result (IsSome self.old.half) }
     {
         match self.half {
             None => self.half = Some(Half { minimum, usage }),
@@ -127,7 +129,8 @@ impl Locals {
 
     /// Ends the Local items at a Main item.
     pub(crate) fn clear(&mut self)
-        ensures { (before : List ItemValue) (item : ItemValue) → is_main (tag_of item.prefix) ≡ true → LocalsStand (item ∷ before) self.new }
+        ensures usages { self.new.usages.items ≡ [] }
+        ensures half { self.new.half ≡ None }
     {
         self.usages.clear();
         self.half = None;

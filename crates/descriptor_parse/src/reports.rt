@@ -1,6 +1,6 @@
 //! What the data items declare.
 
-ghost use Rattle.std.specs.Prelude.{◌≡◌, ◌≤◌, ◌<◌, ◌^◌, ℕ, List, [], ◌∷◌, OnOk, length, map, true, false};
+ghost use Rattle.std.specs.Prelude.{◌≡◌, ◌≤◌, ◌<◌, ◌^◌, ℕ, List, [], ◌∷◌, OnOk, OnErr, IsTrue, length, map, true, false};
 ghost use Rattle.descriptor_parse.specs.Items.{ItemValue};
 ghost use Rattle.descriptor_parse.specs.Tags.{tag_of};
 ghost use Rattle.descriptor_parse.specs.Globals.{unsigned, in_force, report_size, report_count, usage_page};
@@ -8,7 +8,7 @@ ghost use Rattle.descriptor_parse.specs.Locals.{usages_since_main};
 ghost use Rattle.descriptor_parse.specs.Fields.{is_constant};
 ghost use Rattle.descriptor_parse.specs.GlobalsStand.{globals_of};
 ghost use Rattle.descriptor_parse.specs.LocalsStand.{LocalsStand};
-ghost use Rattle.descriptor_parse.specs.ReportsStand.{ReportsStand, FitsData, Declares, declares, field_by};
+ghost use Rattle.descriptor_parse.specs.ReportsStand.{ReportsStand, FitsData, Declares, declares, fills, field_by};
 ghost use Rattle.descriptor_parse.specs.declared.tag.Tag.{Tag};
 ghost use Rattle.descriptor_parse.specs.declared.tag.MainTag.{MainTag};
 
@@ -70,9 +70,10 @@ impl Reports {
         globals: &Globals,
         locals: &Locals,
     ) -> Result<(), AllocError>
-        ensures { OnOk result ((before : List ItemValue) (item : ItemValue) → tag_of item.prefix ≡ Tag.Main (MainTag.Data kind)
+        ensures taken { OnOk result ((before : List ItemValue) (item : ItemValue) → tag_of item.prefix ≡ Tag.Main (MainTag.Data kind)
             → unsigned item.bytes ≡ flags → globals.now ≡ globals_of (in_force before) → LocalsStand before locals.now
             → FitsData before item → length before ≤ 4096 → ReportsStand before self.old → ReportsStand (item ∷ before) self.new) }
+        ensures refused { OnErr result (IsTrue (fills globals.now)) }
     {
         self.declare(alloc, kind, flags, globals, locals)?;
         let more = (globals.size as u64).saturating_mul(globals.count as u64);
@@ -90,7 +91,8 @@ impl Reports {
         globals: &Globals,
         locals: &Locals,
     ) -> Result<(), AllocError>
-        ensures { OnOk result (Declares kind flags globals.now locals.now self.old self.new) }
+        ensures declared { OnOk result (Declares kind flags globals.now locals.now self.old self.new) }
+        ensures refused { OnErr result (IsTrue (fills globals.now)) }
     {
         if !declares(flags, globals) {
             return Ok(());

@@ -1,28 +1,26 @@
 //! What the parser keeps between two items.
 
-ghost use Rattle.std.specs.Prelude.{◌≡◌, ◌≢◌, ◌≤◌, ◌<◌, ℕ, List, [], ◌∷◌, OnOk, IfErr, length, if◌then◌else◌};
+ghost use Rattle.std.specs.Prelude.{◌≡◌, ◌≢◌, ◌≤◌, ◌<◌, ℕ, List, [], ◌∷◌, OnOk, OnErr, IsTrue, length, if◌then◌else◌};
 ghost use Rattle.descriptor_parse.specs.Items.{ItemValue};
 ghost use Rattle.descriptor_parse.specs.ItemViews.{item_view};
 ghost use Rattle.descriptor_parse.specs.Tags.{tag_of};
 ghost use Rattle.descriptor_parse.specs.Globals.{unsigned};
 ghost use Rattle.descriptor_parse.specs.Fields.{open_collections};
-ghost use Rattle.descriptor_parse.specs.ReportsStand.{FitsData};
-ghost use Rattle.descriptor_parse.specs.LocalsStand.{usage_of};
-ghost use Rattle.descriptor_parse.specs.StateStands.{StateStands, IsTaken, IsStopped, Steps, fault_of_data, fault_of_main, fault_of_global};
+ghost use Rattle.descriptor_parse.specs.Faults.{fault_at, wants_memory};
+ghost use Rattle.descriptor_parse.specs.ReportsStand.{FitsData, fills};
+ghost use Rattle.descriptor_parse.specs.StateStands.{StateStands, IsData, fault_of_data, fault_of_main, fault_of_global};
 ghost use Rattle.descriptor_parse.specs.declared.tag.Tag.{Tag};
 ghost use Rattle.descriptor_parse.specs.declared.tag.MainTag.{MainTag};
 ghost use Rattle.descriptor_parse.specs.declared.tag.GlobalTag.{GlobalTag};
-ghost use Rattle.descriptor_parse.specs.declared.tag.LocalTag.{LocalTag};
-ghost use Rattle.descriptor_parse.specs.declared.fault.ParseFault.{ParseFault};
 
-use crate::fault::{ParseError, ParseFault};
+use crate::fault::ParseFault;
 use crate::field::Kind;
 use crate::globals::GlobalStack;
 use crate::items::{Item, LONG};
 use crate::locals::{Locals, Usage};
 use crate::number::unsigned;
 use crate::reports::{MAX_COUNT, MAX_SIZE, Reports, declares};
-use crate::tag::{GlobalTag, LocalTag, MainTag, Tag};
+use crate::tag::{GlobalTag, MainTag, Tag};
 use std::alloc::{AllocError, Global};
 
 /// The most bits of a Constant item's place.
@@ -56,71 +54,20 @@ impl State {
         }
     }
 
-    /// Takes one whole item: its first fault, or the growth that it is refused, is the error.
-    pub(crate) fn step(&mut self, alloc: Global, item: &Item<'_>) -> Result<(), ParseError>
+    /// The first fault of a whole item.
+    pub(crate) fn judge(&self, item: &Item<'_>) -> Option<ParseFault>
         requires few { item.now.prefix ≢ 254 → length item.now.bytes.now ≤ 4 }
         requires not_three { item.now.prefix ≢ 254 → length item.now.bytes.now ≢ 3 }
-        ensures ok { (before : List ItemValue) → StateStands before self.old → length before ≤ 4096
-            → OnOk result (IsTaken before (item_view item.now) self.new) }
-        ensures err { (before : List ItemValue) → StateStands before self.old → length before ≤ 4096
-            → IfErr result (λ e. IsStopped before (item_view item.now) e.fault × (e.offset ≡ item.now.offset)) }
+        ensures { (before : List ItemValue) → StateStands before self.now → result ≡ fault_at before (item_view item.now) }
     {
         if item.prefix == LONG {
-            return Ok(());
+            return None;
         }
-        match self.take(alloc, Tag::of(item.prefix), item.bytes) {
-            Ok(()) => Ok(()),
-            Err(fault) => Err(ParseError {
-                fault,
-                offset: item.offset,
-            }),
-        }
-    }
-
-    /// Takes an item by its kind.
-    fn take(&mut self, alloc: Global, tag: Tag, bytes: &[u8]) -> Result<(), ParseFault>
-        requires few { length bytes.now ≤ 4 }
-        requires not_three { length bytes.now ≢ 3 }
-        ensures { (before : List ItemValue) (item : ItemValue) → tag_of item.prefix ≡ tag → item.bytes ≡ bytes.now
-            → StateStands before self.old → length before ≤ 4096 → Steps before item result self.new }
-    {
-        match tag {
-            Tag::Main(tag) => self.take_main(alloc, tag, unsigned(bytes)),
-            Tag::Global(tag) => self.take_global(tag, bytes),
-            Tag::Local(tag) => self.take_local(tag, Usage::read(bytes)),
-            Tag::Skipped => Ok(()),
-        }
-    }
-
-    fn take_local(&mut self, tag: LocalTag, usage: Usage) -> Result<(), ParseFault>
-        ensures { (before : List ItemValue) (item : ItemValue) → tag_of item.prefix ≡ Tag.Local tag → usage_of item.bytes ≡ usage
-            → StateStands before self.old → Steps before item result self.new }
-    {
-        match self.locals.judge(tag, usage) {
-            Some(fault) => return Err(fault),
-            None => {}
-        }
-        match self.locals.take(tag, usage) {
-            Ok(()) => Ok(()),
-            Err(_) => Err(ParseFault::Memory),
-        }
-    }
-
-    fn take_global(&mut self, tag: GlobalTag, bytes: &[u8]) -> Result<(), ParseFault>
-        requires { length bytes.now ≤ 4 }
-        ensures { (before : List ItemValue) (item : ItemValue) → tag_of item.prefix ≡ Tag.Global tag → item.bytes ≡ bytes.now
-            → StateStands before self.old → Steps before item result self.new }
-    {
-        match self.judge_global(tag, unsigned(bytes)) {
-            Some(fault) => return Err(fault),
-            None => {}
-        }
-        match self.globals.take(tag, bytes) {
-            Ok(()) => {
-                self.reports.note(tag);
-                Ok(())
-            }
-            Err(_) => Err(ParseFault::Memory),
+        match Tag::of(item.prefix) {
+            Tag::Main(tag) => self.judge_main(tag, unsigned(item.bytes)),
+            Tag::Global(tag) => self.judge_global(tag, unsigned(item.bytes)),
+            Tag::Local(tag) => self.locals.judge(tag, Usage::read(item.bytes)),
+            Tag::Skipped => None,
         }
     }
 
@@ -134,30 +81,6 @@ impl State {
             GlobalTag::ReportId if value == 0 || value > 255 => Some(ParseFault::BadReportId),
             GlobalTag::ReportId if self.reports.has_bare => Some(ParseFault::MixedIds),
             _ => None,
-        }
-    }
-
-    fn take_main(&mut self, alloc: Global, tag: MainTag, flags: u32) -> Result<(), ParseFault>
-        ensures { (before : List ItemValue) (item : ItemValue) → tag_of item.prefix ≡ Tag.Main tag → unsigned item.bytes ≡ flags
-            → StateStands before self.old → length before ≤ 4096 → Steps before item result self.new }
-    {
-        match self.judge_main(tag, flags) {
-            Some(fault) => return Err(fault),
-            None => {}
-        }
-        match tag {
-            MainTag::Data(kind) => match self.take_data(alloc, kind, flags) {
-                Ok(()) => Ok(()),
-                Err(_) => Err(ParseFault::Memory),
-            },
-            MainTag::Collection => {
-                self.open_collection();
-                Ok(())
-            }
-            MainTag::EndCollection => {
-                self.close_collection();
-                Ok(())
-            }
         }
     }
 
@@ -205,11 +128,61 @@ impl State {
         None
     }
 
+    /// Takes a whole item that shows no fault.
+    pub(crate) fn take(&mut self, alloc: Global, item: &Item<'_>) -> Result<(), AllocError>
+        requires few { item.now.prefix ≢ 254 → length item.now.bytes.now ≤ 4 }
+        requires not_three { item.now.prefix ≢ 254 → length item.now.bytes.now ≢ 3 }
+        ensures taken { OnOk result ((before : List ItemValue) → StateStands before self.old → length before ≤ 4096
+            → fault_at before (item_view item.now) ≡ None → StateStands (item_view item.now ∷ before) self.new) }
+        ensures refused { (before : List ItemValue) → StateStands before self.old
+            → OnErr result (IsTrue (wants_memory (tag_of item.now.prefix) before)) }
+    {
+        if item.prefix == LONG {
+            return Ok(());
+        }
+        match Tag::of(item.prefix) {
+            Tag::Main(tag) => self.take_main(alloc, tag, unsigned(item.bytes)),
+            Tag::Global(tag) => self.take_global(tag, item.bytes),
+            Tag::Local(tag) => self.locals.take(tag, Usage::read(item.bytes)),
+            Tag::Skipped => Ok(()),
+        }
+    }
+
+    fn take_global(&mut self, tag: GlobalTag, bytes: &[u8]) -> Result<(), AllocError>
+        requires { length bytes.now ≤ 4 }
+        ensures taken { OnOk result ((before : List ItemValue) (item : ItemValue) → tag_of item.prefix ≡ Tag.Global tag → item.bytes ≡ bytes.now
+            → StateStands before self.old → fault_at before item ≡ None → StateStands (item ∷ before) self.new) }
+        ensures refused { OnErr result (tag ≡ GlobalTag.Push) }
+    {
+        self.globals.take(tag, bytes)?;
+        self.reports.note(tag);
+        Ok(())
+    }
+
+    fn take_main(&mut self, alloc: Global, tag: MainTag, flags: u32) -> Result<(), AllocError>
+        ensures taken { OnOk result ((before : List ItemValue) (item : ItemValue) → tag_of item.prefix ≡ Tag.Main tag → unsigned item.bytes ≡ flags
+            → StateStands before self.old → length before ≤ 4096 → fault_at before item ≡ None → StateStands (item ∷ before) self.new) }
+        ensures refused { OnErr result (IsData tag × IsTrue (fills self.old.globals.now)) }
+    {
+        match tag {
+            MainTag::Data(kind) => self.take_data(alloc, kind, flags),
+            MainTag::Collection => {
+                self.open_collection();
+                Ok(())
+            }
+            MainTag::EndCollection => {
+                self.close_collection();
+                Ok(())
+            }
+        }
+    }
+
     /// Takes a data item that shows no fault.
     fn take_data(&mut self, alloc: Global, kind: Kind, flags: u32) -> Result<(), AllocError>
-        ensures { OnOk result ((before : List ItemValue) (item : ItemValue) → tag_of item.prefix ≡ Tag.Main (MainTag.Data kind)
+        ensures taken { OnOk result ((before : List ItemValue) (item : ItemValue) → tag_of item.prefix ≡ Tag.Main (MainTag.Data kind)
             → unsigned item.bytes ≡ flags → FitsData before item → length before ≤ 4096
             → StateStands before self.old → StateStands (item ∷ before) self.new) }
+        ensures refused { OnErr result (IsTrue (fills self.old.globals.now)) }
     {
         self.reports
             .take(alloc, kind, flags, &self.globals.now, &self.locals)?;

@@ -25,50 +25,62 @@ const SERVED: [u8; 128] = [
 ];
 
 /// The bytes that words of hex digits write; `3*A100` writes three times `A1 00`.
-fn bytes(alloc: Global, words: &str) -> Result<Vec<u8>, Fail> {
+fn bytes(rt: &impl Abort, alloc: Global, words: &str) -> Result<Vec<u8>, Fail> {
     let mut out = Vec::new(alloc);
     for word in words.split(' ') {
         let (count, digits) = match word.split_once("*") {
             Some((count, digits)) => (count.parse::<u16>()?, digits),
             None => (1, word),
         };
+        assert!(rt; !digits.is_empty() && digits.len() % 2 == 0, "{words}");
         for _ in 0..count {
-            push_hex(&mut out, digits)?;
+            push_hex(rt, &mut out, digits)?;
         }
     }
     Ok(out)
 }
 
-fn push_hex(out: &mut Vec<u8>, digits: &str) -> Result<(), Fail> {
+fn push_hex(rt: &impl Abort, out: &mut Vec<u8>, digits: &str) -> Result<(), Fail> {
     for pair in digits.as_bytes().chunks(2) {
-        let high = pair.first().map_or(0, |b| digit(*b));
-        let low = pair.last().map_or(0, |b| digit(*b));
-        out.push(high.wrapping_mul(16).wrapping_add(low))?;
+        let mut byte = 0u8;
+        for letter in pair {
+            byte = byte.wrapping_mul(16).wrapping_add(digit(rt, *letter));
+        }
+        out.push(byte)?;
     }
     Ok(())
 }
 
-fn digit(byte: u8) -> u8 {
-    match byte {
-        b'0'..=b'9' => byte - b'0',
-        b'A'..=b'F' => byte - b'A' + 10,
-        _ => 0,
+fn digit(rt: &impl Abort, letter: u8) -> u8 {
+    match letter {
+        b'0'..=b'9' => letter - b'0',
+        b'A'..=b'F' => letter - b'A' + 10,
+        _ => panic!(rt; "{letter} is no hex digit"),
     }
 }
 
-/// Compares the answer to each text of a table, whose lines are `WORDS = ANSWER`, or begin with `#`.
+/// Compares the answer to each text of a table, whose lines are `WORDS = ANSWER`, or begin with `#`, with the one
+/// that is written there, and that to a short text with the slow program's too.
 fn check_table(rt: &impl Abort, alloc: Global, table: &str) -> Result<(), Fail> {
     for line in table.lines() {
-        if let Some((words, want)) = line.split_once(" = ") {
-            let text = bytes(alloc, words)?;
-            let told = answer(alloc, &text)?;
-            assert_eq!(rt; told.as_str(), want, "{words}");
+        if line.starts_with("#") {
+            continue;
+        }
+        let (words, want) = match line.split_once(" = ") {
+            Some(parts) => parts,
+            None => panic!(rt; "no answer in {line}"),
+        };
+        let text = bytes(rt, alloc, words)?;
+        let told = answer(alloc, &text)?;
+        assert_eq!(rt; told.as_str(), want, "{words}");
+        if text.len() <= SERVED.len() {
+            same::check(rt, alloc, &text)?;
         }
     }
     Ok(())
 }
 
-/// What `parse` says of a text: `N at OFFSET`, or a line for each field, joined by semicolons.
+/// What `parse` says of a text: `N at OFFSET`, `no fields`, or a line for each field, joined by semicolons.
 fn answer(alloc: Global, text: &[u8]) -> Result<String, Fail> {
     match parse(alloc, text) {
         Ok(descriptor) => lines(alloc, &descriptor),
@@ -79,6 +91,9 @@ fn answer(alloc: Global, text: &[u8]) -> Result<String, Fail> {
 /// The fields of a descriptor, a line each.
 fn lines(alloc: Global, descriptor: &Descriptor) -> Result<String, Fail> {
     let mut out = String::new(alloc);
+    if descriptor.fields().is_empty() {
+        out.push_str("no fields")?;
+    }
     for (place, f) in descriptor.fields().iter().enumerate() {
         if place > 0 {
             out.push_str("; ")?;

@@ -1,6 +1,6 @@
 //! The bits of each report.
 
-ghost use Rattle.std.specs.Prelude.{◌≡◌, ◌≢◌, ◌+◌, ◌-◌, ◌^◌, ◌<◌, ℕ, min, OnOk, slice_index, if◌then◌else◌, ◌&&◌, ◌==◌};
+ghost use Rattle.std.specs.Prelude.{◌≡◌, ◌≢◌, ◌+◌, ◌-◌, ◌^◌, ◌<◌, ℕ, min, OnOk, OnErr, slice_index, if◌then◌else◌, ◌&&◌, ◌==◌};
 ghost use Rattle.descriptor_parse.specs.Tags.{same_kind};
 ghost use Rattle.descriptor_parse.specs.declared.field.Kind.{Kind};
 ghost use Rattle.descriptor_parse.specs.Totals.{bits_in};
@@ -39,10 +39,11 @@ impl Totals {
         table.get(id as usize).copied().unwrap_or(0)
     }
 
-    /// Adds to the bits of a report.
+    /// Adds to the bits of a report; to add none takes no memory.
     pub(crate) fn add(&mut self, kind: Kind, id: u8, more: u64) -> Result<(), AllocError>
-        ensures { OnOk result ((k : Kind) (i : ℕ) → bits_in self.new k i
+        ensures added { OnOk result ((k : Kind) (i : ℕ) → bits_in self.new k i
             ≡ (if same_kind k kind && id == i then min (2 ^ 64 - 1) (bits_in self.old k i + more) else bits_in self.old k i)) }
+        ensures refused { OnErr result (0 < more) }
     {
         match kind {
             Kind::Input => add_at(&mut self.input, id as usize, more),
@@ -52,12 +53,16 @@ impl Totals {
     }
 }
 
-/// Adds to the number at a place, with zeros up to it where the table is shorter.
+/// Adds to the number at a place, with zeros up to it where the table is shorter; to add nothing takes no memory.
 #[tactic(auto, using(crate::proofs::TotalLemmas::padded, crate::proofs::TotalLemmas::added_at))]
 fn add_at(table: &mut Vec<u64>, place: usize, more: u64) -> Result<(), AllocError>
-    ensures { OnOk result ((i : ℕ) → slice_index table.new.items i
+    ensures added { OnOk result ((i : ℕ) → slice_index table.new.items i
         ≡ (if place == i then min (2 ^ 64 - 1) (slice_index table.old.items i + more) else slice_index table.old.items i)) }
+    ensures refused { OnErr result (0 < more) }
 {
+    if more == 0 {
+        return Ok(());
+    }
     while table.len() <= place {
         table.push(0)?;
     }

@@ -7,6 +7,8 @@ use Rattle.world.specs.declared.event.Event.TheVariants as event
 
 -- the event that a line of one event stands for
 abbrev pub IsEventOf : Action → Event → Type 0
+IsEventOf (action.Scan scan) e = e ≡ event.Scan scan
+IsEventOf action.Poll e = e ≡ event.Poll
 IsEventOf (action.Setup packet) e = e ≡ event.Setup packet
 IsEventOf (action.Out packet) (event.OutPacket sent) = sent.items ≡ packet.items
 IsEventOf (action.Out packet) e = ⊥

@@ -1,5 +1,7 @@
 pub mod Actions
+pub mod Keys
 pub mod Numbers
+pub mod Outputs
 pub mod Prints
 pub mod Readers
 pub mod Scripts

@@ -12,6 +12,10 @@ WritesNumber word n = IsNumeral 10 word × (length word ≤ 5) × (digits_value 
 abbrev pub IsNumberBelow : ℕ → List ℕ → Type 0
 IsNumberBelow bound word = IsNumeral 10 word × (length word ≤ 5) × (digits_value 10 word < bound)
 
+-- the word is a number of scans, 1 to 10,000
+abbrev pub IsCount : List ℕ → Type 0
+IsCount word = IsNumberBelow 10001 word × (0 < digits_value 10 word)
+
 -- the word is these bytes in hex, two digits a byte, in either case
 abbrev pub WritesBytes : List ℕ → List ℕ → Type 0
 WritesBytes word bytes = decode_of word ≡ Ok bytes

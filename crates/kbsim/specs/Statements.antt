@@ -1,6 +1,8 @@
 -- The lines of a script: what each one says, and which fault it has.
-use Rattle.std.specs.Prelude.{◌≡◌, ◌≢◌, ℕ, ◌<◌, ◌≤◌, ◌⊎◌, List, [], ◌∷◌, length, codes, ◌+◌, ◌*◌, Result, MatchResult}
-use Rattle.kbsim.specs.Numbers.{WritesNumber, IsNumberBelow, WritesBytes, IsHexOf}
+use Rattle.std.specs.Prelude.{◌≡◌, ◌≢◌, ℕ, ◌<◌, ◌≤◌, ◌⊎◌, List, [], ◌∷◌, length, map, codes, ◌+◌, ◌*◌, Result, MatchResult}
+use Rattle.std.specs.Int.NonZero.{non_zero_u16_get}
+use Rattle.kbsim.specs.Keys.{WritesScan}
+use Rattle.kbsim.specs.Numbers.{WritesNumber, IsNumberBelow, IsCount, WritesBytes, IsHexOf}
 use Rattle.kbsim.specs.declared.fault.LineFault.{LineFault}
 use Rattle.kbsim.specs.declared.fault.LineFault.TheVariants.{UnknownWord, WrongWords, BadNumber, BadHex}
 use Rattle.kbsim.specs.declared.statement.Action.TheVariants as action
@@ -11,6 +13,9 @@ use Rattle.kbsim.specs.declared.statement.Statement.TheVariants as statement
 
 -- the first word of a line
 abbrev pub spelling : Keyword → List ℕ
+spelling keyword.Scan = codes "scan"
+spelling keyword.Scans = codes "scans"
+spelling keyword.Poll = codes "poll"
 spelling keyword.Setup = codes "setup"
 spelling keyword.Out = codes "out"
 spelling keyword.In = codes "in"
@@ -24,32 +29,46 @@ spelling keyword.Set = codes "set"
 pub data Kind : Type 0 where
   -- a decimal number below this bound
   Number : ℕ → Kind
+  -- a number of scans
+  Count : Kind
   -- this many bytes in hex, at least and at most
   Bytes : ℕ → ℕ → Kind
 
 abbrev pub IsOfKind : Kind → List ℕ → Type 0
 IsOfKind (Number bound) word = IsNumberBelow bound word
+IsOfKind Count word = IsCount word
 IsOfKind (Bytes least most) word = IsHexOf least most word
 
 abbrev pub fault_of : Kind → LineFault
 fault_of (Number bound) = BadNumber
+fault_of Count = BadNumber
 fault_of (Bytes least most) = BadHex
 
--- the words that may follow a first word, on a flash of so many pages
-abbrev pub kinds : ℕ → Keyword → List Kind
-kinds pages keyword.Setup = Bytes 8 8 ∷ []
-kinds pages keyword.Out = Bytes 1 8 ∷ []
-kinds pages keyword.In = []
-kinds pages keyword.Work = []
-kinds pages keyword.Cut = []
-kinds pages keyword.Entry = Number 4 ∷ Number 96 ∷ []
-kinds pages keyword.Slot = Number pages ∷ Number 512 ∷ []
-kinds pages keyword.Set = Number 256 ∷ Number 256 ∷ Bytes 2 2 ∷ []
+-- one number of a key for each of these words
+abbrev pub key_kinds : List (List ℕ) → List Kind
+key_kinds words = map (λ _. Number 96) words
 
--- how many words may follow: one for each kind, but `out` may stand alone too
+-- what each of the words after a first word is to be, on a flash of so many pages
+abbrev pub kinds : ℕ → Keyword → List (List ℕ) → List Kind
+kinds pages keyword.Scan arguments = key_kinds arguments
+kinds pages keyword.Scans [] = []
+kinds pages keyword.Scans (count ∷ keys) = Count ∷ key_kinds keys
+kinds pages keyword.Poll arguments = []
+kinds pages keyword.Setup arguments = Bytes 8 8 ∷ []
+kinds pages keyword.Out arguments = Bytes 1 8 ∷ []
+kinds pages keyword.In arguments = []
+kinds pages keyword.Work arguments = []
+kinds pages keyword.Cut arguments = []
+kinds pages keyword.Entry arguments = Number 4 ∷ Number 96 ∷ []
+kinds pages keyword.Slot arguments = Number pages ∷ Number 512 ∷ []
+kinds pages keyword.Set arguments = Number 256 ∷ Number 256 ∷ Bytes 2 2 ∷ []
+
+-- how many words may follow: one for each kind, but `out` may stand alone too, and a scan names up to 96 keys
 abbrev pub Takes : Keyword → List (List ℕ) → Type 0
 Takes keyword.Out arguments = length arguments ≤ 1
-Takes k arguments = length arguments ≡ length (kinds 0 k)
+Takes keyword.Scan arguments = length arguments ≤ 96
+Takes keyword.Scans arguments = (1 ≤ length arguments) × (length arguments ≤ 97)
+Takes k arguments = length arguments ≡ length (kinds 0 k arguments)
 
 -- the first word that is not of its kind gives this fault
 abbrev pub FirstBad : List Kind → List (List ℕ) → LineFault → Type 0
@@ -61,8 +80,8 @@ FirstBad (k ∷ ks) (w ∷ ws) fault = (¬ (IsOfKind k w) × (fault ≡ fault_of
 abbrev pub IsArgumentFault : ℕ → Keyword → List (List ℕ) → LineFault → Type 0
 IsArgumentFault pages k arguments UnknownWord = ⊥
 IsArgumentFault pages k arguments WrongWords = ¬ (Takes k arguments)
-IsArgumentFault pages k arguments BadNumber = Takes k arguments × FirstBad (kinds pages k) arguments BadNumber
-IsArgumentFault pages k arguments BadHex = Takes k arguments × FirstBad (kinds pages k) arguments BadHex
+IsArgumentFault pages k arguments BadNumber = Takes k arguments × FirstBad (kinds pages k arguments) arguments BadNumber
+IsArgumentFault pages k arguments BadHex = Takes k arguments × FirstBad (kinds pages k arguments) arguments BadHex
 
 -- the fault of a line: its first word, the number of its words, and then each word from the left
 abbrev pub IsFault : ℕ → List (List ℕ) → LineFault → Type 0
@@ -72,6 +91,12 @@ IsFault pages (name ∷ arguments) fault = (k : Keyword) × (spelling k ≡ name
 
 -- the words that say a statement
 abbrev pub Says : ℕ → Statement → List (List ℕ) → Type 0
+Says pages (statement.One (action.Scan scan)) words =
+    (ks : List (List ℕ)) × (words ≡ codes "scan" ∷ ks) × (length ks ≤ 96) × WritesScan ks scan
+Says pages (statement.One action.Poll) words = words ≡ codes "poll" ∷ []
+Says pages (statement.Scans count scan) words =
+    (n : List ℕ) × (ks : List (List ℕ)) × (words ≡ codes "scans" ∷ n ∷ ks) × (length ks ≤ 96)
+    × WritesNumber n (non_zero_u16_get count) × (non_zero_u16_get count ≤ 10000) × WritesScan ks scan
 Says pages (statement.One (action.Setup packet)) words =
     (w : List ℕ) × (words ≡ codes "setup" ∷ w ∷ []) × WritesBytes w packet
 Says pages (statement.One (action.Out packet)) words =

@@ -6,6 +6,7 @@
 
 mod fault;
 mod input;
+mod keys;
 mod lines;
 mod number;
 mod print;
@@ -18,4 +19,4 @@ mod words;
 
 pub use fault::{LineFault, RunError};
 pub use run::run_script;
-pub use world::{Answer, Event, Why, Work, World};
+pub use world::{Answer, Event, Reading, Why, Work, World};

@@ -1,11 +1,13 @@
 //! Reading the numbers and the bytes that words write.
 
 ghost use Rattle.std.specs.Prelude.{◌≡◌, ◌≤◌, ◌<◌, length, IfOk, MatchResult};
-ghost use Rattle.kbsim.specs.Numbers.{WritesNumber, IsNumberBelow, WritesBytes, IsHexOf};
+ghost use Rattle.std.specs.Int.NonZero.{non_zero_u16_get};
+ghost use Rattle.kbsim.specs.Numbers.{WritesNumber, IsNumberBelow, IsCount, WritesBytes, IsHexOf};
 
 use crate::LineFault;
 use arrayvec::ArrayVec;
 use hex::FromHex;
+use std::num::NonZeroU16;
 
 /// The most digits of a decimal number.
 const MOST_DIGITS: usize = 5;
@@ -65,5 +67,17 @@ pub(crate) fn packet(word: &[u8]) -> Result<ArrayVec<u8, 8>, LineFault>
     match hex::decode_to_slice(word, packet.as_mut_slice()) {
         Ok(()) => Ok(packet),
         Err(_) => Err(LineFault::BadHex),
+    }
+}
+
+/// The number of scans, 1 to 10,000, that a word writes; `BadNumber` otherwise.
+pub(crate) fn count(word: &[u8]) -> Result<NonZeroU16, LineFault>
+    ensures { MatchResult result
+        (λ n. WritesNumber word.now (non_zero_u16_get n) × (0 < non_zero_u16_get n) × (non_zero_u16_get n ≤ 10000))
+        (λ f. (f ≡ LineFault.BadNumber) × ¬ (IsCount word.now)) }
+{
+    match NonZeroU16::new(number(word, 10_001)? as u16) {
+        Some(count) => Ok(count),
+        None => Err(LineFault::BadNumber),
     }
 }

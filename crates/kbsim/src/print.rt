@@ -1,10 +1,10 @@
 //! Printing answers and faults.
 
-ghost use Rattle.std.specs.Prelude.{◌≡◌, [], OnOk};
+ghost use Rattle.std.specs.Prelude.{◌≡◌, [], Some, OnOk};
 ghost use Rattle.std.specs.Io.KnownBytes.{Appends, Keeps, append_known};
-ghost use Rattle.kbsim.specs.Prints.{fault_line, fault_name};
+ghost use Rattle.kbsim.specs.Prints.{fault_line, fault_name, in_hex, outcome_name, printed_line, shown, shown_reading};
 
-use crate::{Answer, LineFault, RunError, Work};
+use crate::{Answer, LineFault, Reading, RunError, Work};
 use arrayvec::ArrayString;
 use std::fmt;
 use std::fmt::Write as _;
@@ -33,7 +33,13 @@ impl<'w, W: Write> Printer<'w, W> {
     }
 
     /// Prints the answer of a script's line.
-    pub(crate) fn answer(&mut self, line: usize, answer: &Answer) -> fmt::Result {
+    pub(crate) fn answer(&mut self, line: usize, answer: &Answer) -> fmt::Result
+        ensures printed { OnOk result (Appends
+            (append_known (W.contents self.old.writer.now) self.old.waiting.bytes)
+            (append_known (W.contents self.new.writer.now) self.new.waiting.bytes)
+            (printed_line line answer.now)) }
+        ensures same_writer { OnOk result (self.new.writer.ghost_name ≡ self.old.writer.ghost_name) }
+    {
         let shown = Shown(answer);
         writeln!(self, "{line} {shown}")
     }
@@ -129,8 +135,17 @@ fn name_of(fault: LineFault) -> &'static str
 struct Shown<'a>(&'a Answer);
 
 impl fmt::Display for Shown<'_> {
+    ghost output = { λ s. Some (shown s.0.now) };
+
+    #[tactic(auto, unfolding(crate::specs::Prints::shown))]
     fn fmt<W: fmt::Write>(&self, f: &mut fmt::Formatter<W>) -> fmt::Result {
         match self.0 {
+            Answer::Done => write!(f, "ok"),
+            Answer::Sent { bytes, reading } => {
+                let digits = Digits(bytes.as_slice());
+                let read = reading_of(reading);
+                write!(f, "report {digits} {read}")
+            }
             Answer::Ack => write!(f, "ack"),
             Answer::Nak => write!(f, "nak"),
             Answer::Packet(bytes) if bytes.is_empty() => write!(f, "data -"),
@@ -145,8 +160,9 @@ impl fmt::Display for Shown<'_> {
             Answer::Worked(work) => write!(f, "{}", outcome_of(*work)),
             Answer::Restarted => write!(f, "restart"),
             Answer::EntryIs(code) => {
-                let bits = code.bits();
-                write!(f, "{bits:04x}")
+                let bytes = code.bits().to_be_bytes();
+                let digits = Digits(bytes.as_slice());
+                write!(f, "{digits}")
             }
             Answer::SlotIs(bytes) => {
                 let digits = Digits(bytes.as_slice());
@@ -157,7 +173,17 @@ impl fmt::Display for Shown<'_> {
     }
 }
 
-fn outcome_of(work: Work) -> &'static str {
+fn reading_of(reading: &Reading) -> &'static str
+    ensures { result.now ≡ shown_reading reading.now }
+{
+    match reading {
+        Reading::Unread => "unread",
+    }
+}
+
+fn outcome_of(work: Work) -> &'static str
+    ensures { result.now ≡ outcome_name work }
+{
     match work {
         Work::Idle => "idle",
         Work::Working => "working",
@@ -171,8 +197,12 @@ fn outcome_of(work: Work) -> &'static str {
 struct Digits<'a>(&'a [u8]);
 
 impl fmt::Display for Digits<'_> {
+    ghost output = { λ d. Some (in_hex d.0.now) };
+
     fn fmt<W: fmt::Write>(&self, f: &mut fmt::Formatter<W>) -> fmt::Result {
-        for byte in self.0 {
+        let bytes = self.0;
+        for byte in bytes {
+            let byte = *byte;
             write!(f, "{byte:02x}")?;
         }
         Ok(())

@@ -1,9 +1,14 @@
 //! Running a script.
 
-ghost use Rattle.std.specs.Prelude.{◌≡◌, ◌≢◌, ◌%◌, ◌/◌, ◌<◌, ◌≤◌, [], ◌∷◌, slice_index, ◌↔◌, ◌⊎◌, IfErr, IfSome, OnOk};
-ghost use Rattle.std.specs.Io.KnownBytes.{Appends, append_known};
+ghost use Rattle.std.specs.Prelude.{◌≡◌, ◌≢◌, ◌<◌, ◌≤◌, ℕ, List, [], slice_index, length, ◌↔◌, ◌⊎◌, IfOk, IfErr, IfSome, OnOk, IsTrue};
+ghost use Rattle.std.specs.Int.NonZero.{non_zero_u16_get};
+ghost use Rattle.std.specs.Str.Lines.{lines};
+ghost use Rattle.std.specs.Io.KnownBytes.{Appends, Keeps, append_known};
+ghost use Rattle.world.specs.Stands.{StandsFor};
+ghost use Rattle.kbsim.specs.Outputs.{set_report, blank, IsFlashWork, LineRuns, IsRepeated, IsRefusedSet, IsTakenSet, IsRun, IsOutput, GoesOn, Takes};
 ghost use Rattle.kbsim.specs.Prints.{fault_line};
-ghost use Rattle.kbsim.specs.Scripts.{IsEarly, IsSound, IsRunFault};
+ghost use Rattle.kbsim.specs.Readers.{longest};
+ghost use Rattle.kbsim.specs.Scripts.{IsEarly, IsSound, IsRunFault, Script};
 
 use crate::input::read_text;
 use crate::print::Printer;
@@ -14,8 +19,10 @@ use arrayvec::ArrayVec;
 use flash_model::SimFlash;
 use std::alloc::{AllocError, Global};
 use std::io::{Read, Write};
+use std::num::NonZeroU16;
+use std::slice;
 
-/// More steps than any command's flash work takes: an erase, a copy of each of the 384 entries,
+/// The most steps that a command's flash work takes: an erase, a copy of each of the 384 entries,
 /// a header and a record.
 const MOST_STEPS: u16 = 387;
 
@@ -43,6 +50,8 @@ pub fn run_script<R: Read, W: Write>(
     ensures unread { result ≡ Err RunError.PageCount → R.remaining reader.new ≡ R.remaining reader.old }
     ensures unwritten { result ≡ Err RunError.PageCount → W.contents writer.new ≡ W.contents writer.old }
     ensures sound { OnOk result (IfSome (R.remaining reader.old) (IsSound pages)) }
+    ensures printed { OnOk result (IfSome (R.remaining reader.old) (λ script. (text : List ℕ)
+        × IsOutput pages script text × Appends (W.contents writer.old) (W.contents writer.new) text)) }
     ensures refused { IfErr result (λ e. IsRunFault pages (R.remaining reader.old) e) }
     ensures fault_alone { IfErr result (λ e. IsEarly e → Appends (W.contents writer.old) (W.contents writer.new) (fault_line e)) }
 {
@@ -70,6 +79,10 @@ fn report<W: Write>(
         (fault_line e)) }
     ensures same_writer { IfErr outcome (λ e. e ≢ RunError.Output → result ≡ Err e →
         printer.new.writer.ghost_name ≡ printer.old.writer.ghost_name) }
+    ensures given { OnOk result (Keeps
+        (append_known (W.contents printer.old.writer.now) printer.old.waiting.bytes)
+        (W.contents printer.new.writer.now)) }
+    ensures same_writer_given { OnOk result (printer.new.writer.ghost_name ≡ printer.old.writer.ghost_name) }
 {
     if let Err(error) = outcome {
         if error == RunError::Output || printer.fault(error).is_err() {
@@ -85,7 +98,8 @@ fn report<W: Write>(
 /// What the lines of the script say that a reader gives.
 fn read_script<R: Read>(alloc: Global, pages: usize, reader: &mut R) -> Result<Vec<Line>, RunError>
     requires { pages ≤ 256 }
-    ensures sound { OnOk result (IfSome (R.remaining reader.old) (IsSound pages)) }
+    ensures read { IfOk result (λ said. IfSome (R.remaining reader.old) (λ text.
+        (length text ≤ longest) × Script pages 1 (lines text) said.items)) }
     ensures refused { IfErr result (λ e. IsRunFault pages (R.remaining reader.old) e) }
     ensures counted { result ≢ Err RunError.PageCount }
 {
@@ -102,7 +116,12 @@ fn perform<W: Write>(
 ) -> Result<(), RunError>
     requires two { 2 ≤ pages }
     requires eight { pages ≤ 8 }
-    ensures { IfErr result (λ e. (e ≡ RunError.Memory) ⊎ (e ≡ RunError.Output)) }
+    ensures printed { OnOk result ((text : List ℕ) × IsRun pages lines.now text × Appends
+        (append_known (W.contents printer.old.writer.now) printer.old.waiting.bytes)
+        (append_known (W.contents printer.new.writer.now) printer.new.waiting.bytes)
+        text) }
+    ensures same_writer { OnOk result (printer.new.writer.ghost_name ≡ printer.old.writer.ghost_name) }
+    ensures late { IfErr result (λ e. (e ≡ RunError.Memory) ⊎ (e ≡ RunError.Output)) }
 {
     let mut world = blank_world(alloc, pages)?;
     let mut answers = Vec::new(alloc);
@@ -110,9 +129,9 @@ fn perform<W: Write>(
         let Ok(answer) = run_line(&mut world, &line.statement, &mut answers) else {
             return Err(RunError::Memory);
         };
-        if printer.answer(line.number, &answer).is_err() {
+        let Ok(()) = printer.answer(line.number, &answer) else {
             return Err(RunError::Output);
-        }
+        };
     }
     Ok(())
 }
@@ -121,7 +140,8 @@ fn perform<W: Write>(
 fn blank_world(alloc: Global, pages: usize) -> Result<World, RunError>
     requires two { 2 ≤ pages }
     requires eight { pages ≤ 8 }
-    ensures { IfErr result (λ e. e ≡ RunError.Memory) }
+    ensures starts { IfOk result (λ world. StandsFor (blank pages) [] world) }
+    ensures memory { IfErr result (λ e. e ≡ RunError.Memory) }
 {
     let Ok(flash) = SimFlash::new(alloc, pages) else {
         return Err(RunError::Memory);
@@ -134,18 +154,40 @@ fn run_line(
     world: &mut World,
     statement: &Statement,
     answers: &mut Vec<Answer>,
-) -> Result<Answer, AllocError> {
+) -> Result<Answer, AllocError>
+    ensures { IfOk result (λ answer. GoesOn (λ steps. LineRuns statement.now steps answer) world.old world.new) }
+{
     match statement {
-        Statement::One(action) => take(world, action.event()?, answers),
+        Statement::One(action) => take(world, &action.event()?, answers),
+        Statement::Scans { count, scan } => repeat(world, &Event::Scan(*scan), *count, answers),
         Statement::Set { layer, key, code } => set(world, [*layer, *key], *code, answers),
     }
 }
 
 /// Takes one event.
-fn take(world: &mut World, event: Event, answers: &mut Vec<Answer>) -> Result<Answer, AllocError> {
+fn take(world: &mut World, event: &Event, answers: &mut Vec<Answer>) -> Result<Answer, AllocError>
+    ensures { IfOk result (λ answer. Takes event.now answer world.old world.new) }
+{
     answers.clear();
-    world.run(&[event], answers)?;
+    world.run(slice::from_ref(event), answers)?;
     answers.pop().ok_or(AllocError)
+}
+
+/// Takes an event `count` times. It is built once, however often it is taken. The answer is the
+/// last one.
+fn repeat(
+    world: &mut World,
+    event: &Event,
+    count: NonZeroU16,
+    answers: &mut Vec<Answer>,
+) -> Result<Answer, AllocError>
+    ensures { IfOk result (λ answer. GoesOn (λ steps.
+        IsRepeated event.now (non_zero_u16_get count) steps answer) world.old world.new) }
+{
+    for _again in 1..count.get() {
+        take(world, event, answers)?;
+    }
+    take(world, event, answers)
 }
 
 /// Sets an entry by a feature report, and takes the steps of its flash work. The answer is that
@@ -155,30 +197,64 @@ fn set(
     place: [u8; 2],
     code: u16,
     answers: &mut Vec<Answer>,
-) -> Result<Answer, AllocError> {
-    let setup = take(world, Event::Setup(SET_FEATURE), answers)?;
-    if setup != Answer::Ack {
-        return Ok(setup);
+) -> Result<Answer, AllocError>
+    ensures { IfOk result (λ answer. GoesOn (λ steps.
+        IsRefusedSet (slice_index place 0) (slice_index place 1) code steps answer
+        ⊎ IsTakenSet (slice_index place 0) (slice_index place 1) code steps answer) world.old world.new) }
+{
+    // A SETUP packet is always acknowledged.
+    take(world, &Event::Setup(SET_FEATURE), answers)?;
+    let told = take(world, &Event::OutPacket(command(place, code)), answers)?;
+    if !is_ack(&told) {
+        return Ok(told);
     }
-    let accepted = take(world, Event::OutPacket(command(place, code)), answers)?;
-    if accepted != Answer::Ack {
-        return Ok(accepted);
-    }
-    for _ in 0..MOST_STEPS {
-        if take(world, Event::Work, answers)? != Answer::Worked(Work::Working) {
-            break;
-        }
-    }
-    let status = take(world, Event::InPacket, answers)?;
-    if status == Answer::Packet(ArrayVec::new()) {
+    work_off(world, answers)?;
+    let status = take(world, &Event::InPacket, answers)?;
+    if is_success(&status) {
         return Ok(Answer::Ack);
     }
     Ok(status)
 }
 
+fn is_ack(answer: &Answer) -> bool
+    ensures { IsTrue result ↔ (answer.now ≡ Answer.Ack) }
+{
+    matches!(answer, Answer::Ack)
+}
+
+/// Whether a status stage succeeded: it is the empty packet then.
+fn is_success(answer: &Answer) -> bool
+    ensures { IsTrue result ↔ (answer.now ≡ Answer.Packet (record { items = [] })) }
+{
+    match answer {
+        Answer::Packet(bytes) => bytes.is_empty(),
+        _ => false,
+    }
+}
+
+/// Whether a step of the flash work needs another one.
+fn needs_more(answer: &Answer) -> bool
+    ensures { IsTrue result ↔ (answer.now ≡ Answer.Worked Work.Working) }
+{
+    matches!(answer, Answer::Worked(Work::Working))
+}
+
+/// Takes steps of the flash work until one needs no more.
+fn work_off(world: &mut World, answers: &mut Vec<Answer>) -> Result<(), AllocError>
+    ensures { OnOk result (GoesOn IsFlashWork world.old world.new) }
+{
+    for _step in 0..MOST_STEPS {
+        let answer = take(world, &Event::Work, answers)?;
+        if !needs_more(&answer) {
+            return Ok(());
+        }
+    }
+    Ok(())
+}
+
 /// The feature report that sets an entry to a code.
 fn command(place: [u8; 2], code: u16) -> ArrayVec<u8, 8>
-    ensures { result.items ≡ 3 ∷ 1 ∷ slice_index place 0 ∷ slice_index place 1 ∷ code % 256 ∷ code / 256 ∷ [] }
+    ensures { result.items ≡ set_report (slice_index place 0) (slice_index place 1) code }
 {
     let [layer, key] = place;
     let [low, high] = code.to_le_bytes();

@@ -5,16 +5,25 @@ ghost use Rattle.kbsim.specs.Actions.{IsEventOf};
 ghost use Rattle.kbsim.specs.Statements.{spelling, Reads, IsFault, Says};
 ghost use Rattle.kbsim.specs.Words.{words};
 
-use crate::number::{byte, bytes, number, packet};
+use crate::keys::keys;
+use crate::number::{byte, bytes, count, number, packet};
 use crate::words::Words;
 use crate::{Event, LineFault};
 use arrayvec::ArrayVec;
+use debounce::Scan;
 use layers::{KeyNo, LayerNo};
 use std::alloc::AllocError;
+use std::num::NonZeroU16;
+
+/// The most keys that a scan names.
+const MOST_KEYS: usize = 96;
 
 /// The first word of a line.
 #[derive(Clone, Copy)]
 pub(crate) enum Keyword {
+    Scan,
+    Scans,
+    Poll,
     Setup,
     Out,
     In,
@@ -33,6 +42,9 @@ impl Keyword {
             (λ k. spelling k ≡ word.now) }
     {
         match word {
+            b"scan" => Some(Keyword::Scan),
+            b"scans" => Some(Keyword::Scans),
+            b"poll" => Some(Keyword::Poll),
             b"setup" => Some(Keyword::Setup),
             b"out" => Some(Keyword::Out),
             b"in" => Some(Keyword::In),
@@ -51,6 +63,8 @@ impl Keyword {
 pub(crate) enum Statement {
     /// One event.
     One(Action),
+    /// Equal scans, so many.
+    Scans { count: NonZeroU16, scan: Scan },
     /// A whole feature transfer that sets an entry, with the flash work that it takes.
     Set { layer: u8, key: u8, code: u16 },
 }
@@ -58,6 +72,10 @@ pub(crate) enum Statement {
 /// A line of one event.
 #[derive(Debug, PartialEq, Eq, Drop)]
 pub(crate) enum Action {
+    /// A scan of the matrix.
+    Scan(Scan),
+    /// A poll of endpoint 1.
+    Poll,
     /// A SETUP packet.
     Setup([u8; 8]),
     /// An OUT data packet.
@@ -80,6 +98,8 @@ impl Action {
         ensures { IfOk result (λ event. IsEventOf self.now event) }
     {
         Ok(match self {
+            Action::Scan(scan) => Event::Scan(*scan),
+            Action::Poll => Event::Poll,
             Action::Setup(packet) => Event::Setup(*packet),
             Action::Out(packet) => Event::OutPacket(packet.clone()?),
             Action::In => Event::InPacket,
@@ -119,6 +139,9 @@ impl Statement {
         ensures { Reads pages keyword (words rest.entry.rest.now) result }
     {
         match keyword {
+            Keyword::Scan => scan(rest),
+            Keyword::Scans => scans(rest),
+            Keyword::Poll => alone(rest, Action::Poll),
             Keyword::Setup => setup(rest),
             Keyword::Out => out(rest),
             Keyword::In => alone(rest, Action::In),
@@ -129,6 +152,23 @@ impl Statement {
             Keyword::Set => set(rest),
         }
     }
+}
+
+fn scan(rest: Words<'_>) -> Result<Statement, LineFault>
+    ensures { (pages : ℕ) → Reads pages Keyword.Scan (words rest.entry.rest.now) result }
+{
+    rest.at_most(MOST_KEYS)?;
+    Ok(Statement::One(Action::Scan(keys(rest)?)))
+}
+
+fn scans(mut rest: Words<'_>) -> Result<Statement, LineFault>
+    ensures { (pages : ℕ) → Reads pages Keyword.Scans (words rest.entry.rest.now) result }
+{
+    let word = rest.word()?;
+    rest.at_most(MOST_KEYS)?;
+    let count = count(word)?;
+    let scan = keys(rest)?;
+    Ok(Statement::Scans { count, scan })
 }
 
 fn setup(mut rest: Words<'_>) -> Result<Statement, LineFault>

@@ -6,8 +6,10 @@ use std::test::Fail;
 
 mod faults;
 mod memory;
+mod scans;
 mod streams;
 mod transfers;
+mod turnover;
 
 /// Runs a script of these lines on a flash of this many pages. Each stands beside what it prints
 /// after its number.
@@ -18,7 +20,19 @@ fn side_by_side<R: AllocGlobal + Abort>(
 ) -> Result<(), Fail> {
     let mut script = String::new(rt.alloc());
     let mut expected = String::new(rt.alloc());
-    let mut number = 0u32;
+    add_lines(rt, &mut script, &mut expected, 0, lines)?;
+    prints(rt, pages, script.as_bytes(), Ok(()), expected.as_bytes())
+}
+
+/// Adds these lines to a script after so many others, and what they print to what is expected.
+fn add_lines<R: AllocGlobal + Abort>(
+    rt: &R,
+    script: &mut String,
+    expected: &mut String,
+    before: u32,
+    lines: &[(&str, &str)],
+) -> Result<(), Fail> {
+    let mut number = before;
     for (line, answer) in lines {
         number = number.saturating_add(1);
         script.push_str(line)?;
@@ -26,7 +40,7 @@ fn side_by_side<R: AllocGlobal + Abort>(
         let printed = format!(in rt.alloc(); "{number} {answer}\n")?;
         expected.push_str(printed.as_str())?;
     }
-    prints(rt, pages, script.as_bytes(), Ok(()), expected.as_bytes())
+    Ok(())
 }
 
 /// Runs a script and compares how it ends and all that it prints.

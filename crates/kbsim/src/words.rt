@@ -1,6 +1,6 @@
 //! Cutting a line into words.
 
-ghost use Rattle.std.specs.Prelude.{◌≡◌, ◌≢◌, ◌∷◌, [], MatchResult};
+ghost use Rattle.std.specs.Prelude.{◌≡◌, ◌≢◌, ◌<◌, ◌≤◌, ◌∷◌, [], length, MatchResult};
 ghost use Rattle.std.specs.Iterator.{YieldsFirstBy, item_count};
 ghost use Rattle.std.specs.List.{position_or_len, prefix_len};
 ghost use Rattle.kbsim.specs.Words.{is_blank, words};
@@ -61,6 +61,20 @@ impl<'a> Words<'a> {
             Some(_) => Err(LineFault::WrongWords),
             None => Ok(()),
         }
+    }
+
+    /// `WrongWords` where more than `most` words are left.
+    pub(crate) fn at_most(mut self, most: usize) -> Result<(), LineFault>
+        ensures { MatchResult result
+            (λ _. length (words self.entry.rest.now) ≤ most)
+            (λ f. (f ≡ LineFault.WrongWords) × (most < length (words self.entry.rest.now))) }
+    {
+        for _word in 0..most {
+            let Some(_) = self.next() else {
+                return Ok(());
+            };
+        }
+        self.end()
     }
 }
 

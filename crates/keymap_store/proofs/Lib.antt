@@ -1,3 +1,4 @@
 pub mod Offering
+pub mod Counting
 pub mod WordsRead
 pub mod Working

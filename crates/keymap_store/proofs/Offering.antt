@@ -1,4 +1,4 @@
-use Rattle.std.proofs.Common.{◌≡◌, ◌∙◌, ℕ, ◌+◌, ◌≤◌, ◌<◌, ◌⊎◌, refl, sym, ap, arith, List, [], ◌∷◌, ◌++◌, length, subst, inl, inr, Some, None}
+use Rattle.std.proofs.Common.{◌≡◌, ◌∙◌, ℕ, ◌+◌, ◌≤◌, refl, sym, arith, List, [], ◌∷◌, ◌++◌, length, subst, inl, inr, None}
 use Rattle.std.proofs.lemmas.List.{append-nil}
 use Rattle.layers.specs.declared.command.Command.{Command}
 use Rattle.layers.specs.Commands.{IsCommand, word_of}
@@ -7,17 +7,15 @@ use Rattle.layers.specs.Entries.{entry}
 use Rattle.layers.specs.Keymaps.{HasEntries, StandsFor}
 use Rattle.layers.proofs.Copying.{AreCopies-start, AreCopies-next, AreCopies-end, AreCopies-length, entry-copies}
 use Rattle.layers.proofs.Tables.{has_same}
-use Rattle.page_turnover.specs.declared.log.Target.{Target}
 use Rattle.page_turnover.specs.declared.log.Target.TheVariants.{Unread, Holds}
 use Rattle.page_turnover.specs.declared.log.Task.{Task}
 use Rattle.page_turnover.specs.declared.log.Task.TheVariants.{Rest, Append, Wait, Copy, Seal}
 use Rattle.page_turnover.specs.declared.log.stepping.Step.{Step}
-use Rattle.page_turnover.specs.declared.log.stepping.Step.TheVariants.{Idle, Moved, Committed, Failed}
+use Rattle.page_turnover.specs.declared.log.stepping.Step.TheVariants.{Moved}
 use Rattle.page_turnover.specs.Words.{words, HasRoom}
 use Rattle.page_turnover.specs.Value.{LogValue}
-use Rattle.page_turnover.specs.Log.{Describes}
 use Rattle.page_turnover.specs.Turn.{UnderWay, IsWaiting, IsPending, copies, offered, copied, with_copy, with_seal, target_page, next_seq}
-use Rattle.page_turnover.specs.Steps.{ErasesTarget, Copies, StepsFor, Steps, Moves, Commits, EndsAs}
+use Rattle.page_turnover.specs.Steps.{StepsFor, Steps, Moves, Commits, EndsAs}
 use Rattle.page_turnover.proofs.WordLists.{words_none}
 use Rattle.page_turnover.proofs.Endings.{waiting_count}
 use Rattle.keymap_store.specs.declared.store.Job.{Job}

@@ -1,4 +1,4 @@
-use Rattle.std.proofs.Common.{◌≡◌, ◌∙◌, ℕ, List, [], ◌∷◌, ◌++◌, sym, None, append_assoc}
+use Rattle.std.proofs.Common.{◌≡◌, ℕ, List, [], ◌∷◌, ◌++◌, sym, None, append_assoc}
 use Rattle.layers.specs.Commands.{command_of}
 use Rattle.layers.specs.Entries.{entry}
 use Rattle.layers.specs.Keymaps.{StandsFor}

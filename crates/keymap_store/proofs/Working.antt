@@ -1,26 +1,27 @@
-use Rattle.std.proofs.Common.{◌≡◌, ◌∙◌, ℕ, ◌≤◌, List, [], ◌∷◌, ◌++◌, refl, sym, subst, Some, None, arith}
+use Rattle.std.proofs.Common.{◌≡◌, ℕ, ◌≤◌, List, [], ◌∷◌, ◌++◌, refl, sym, subst, Some, arith}
 use Rattle.layers.specs.declared.command.Command.{Command}
 use Rattle.layers.specs.Commands.{command_of, word_of}
-use Rattle.layers.specs.Copies.{places}
+use Rattle.layers.specs.Copies.{AreCopies, places}
 use Rattle.layers.specs.Entries.{entry}
 use Rattle.layers.specs.Keymaps.{StandsFor}
 use Rattle.page_turnover.specs.declared.log.Task.{Task}
-use Rattle.page_turnover.specs.declared.log.Task.TheVariants.{Rest, Append, Wait}
+use Rattle.page_turnover.specs.declared.log.Task.TheVariants.{Rest, Append, Wait, Copy, Seal}
 use Rattle.page_turnover.specs.declared.log.Target.TheVariants.{Unread}
 use Rattle.page_turnover.specs.declared.log.stepping.Step.{Step}
-use Rattle.page_turnover.specs.declared.log.stepping.Step.TheVariants.{Idle, Moved, Committed, Failed}
+use Rattle.page_turnover.specs.declared.log.stepping.Step.TheVariants.{Moved, Committed}
 use Rattle.page_turnover.specs.Words.{words}
 use Rattle.page_turnover.specs.Value.{LogValue}
 use Rattle.page_turnover.specs.Log.{Describes, HasTailRoom}
-use Rattle.page_turnover.specs.Turn.{IsPending}
-use Rattle.page_turnover.specs.Steps.{Commits, EndsAs, Moves}
-use Rattle.page_turnover.proofs.Describing.{tail_room}
+use Rattle.page_turnover.specs.Steps.{Appends, StepsFor, Commits, EndsAs, Moves}
+use Rattle.page_turnover.specs.Active.{active}
+use Rattle.page_turnover.specs.Turn.{target_page, next_seq}
+use Rattle.keymap_store.specs.Works.{IsPlacedAt}
+use Rattle.page_turnover.proofs.Describing.{tail_room, held_active}
 use Rattle.page_turnover.proofs.Effects.{committed_rests}
-use Rattle.keymap_store.specs.declared.store.Job.{Job}
 use Rattle.keymap_store.specs.declared.store.Job.TheVariants.{Resting, Appending, Turning}
 use Rattle.keymap_store.specs.Value.{StoreValue}
 use Rattle.keymap_store.specs.Store.{Mirrors, JobIs, OffersBelow, CanOfferIfWaiting}
-use Rattle.keymap_store.proofs.Offering.{few_copies, moved_on, committed_turn, Committed_turn, nothing_offered}
+use Rattle.keymap_store.proofs.Offering.{few_copies, moved_on, committed_turn, nothing_offered}
 
 -- the job of a store that appends, and of one that turns
 pub appending : (image : List ℕ) (store : StoreValue) (command : Command) → Mirrors image store → store.job ≡ Appending command → JobIs image store.log (Appending command)
@@ -81,3 +82,22 @@ turn_commits old store command word from log new after next m o c d n w r =
       keymap_is = (committed_turn (entry (words old)) from old log.task new store.keymap o m.keymap_is c).stands;
       job_is = (rw w at t, rw w at r);
     }
+
+-- the record of a command goes to the tail slot
+pub placed : (old : List ℕ) (store : StoreValue) (command : Command) (step : Step) (new : List ℕ) (after : LogValue) → Mirrors old store → store.job ≡ Appending command → step ≡ Committed → EndsAs old store.log step new after
+    → IsPlacedAt old command new
+placed old store command step new after m e s ends =
+    let j : JobIs old store.log (Appending command) = appending old store command m e in
+    let S : Task → Type 0 = λ t. StepsFor t old store.log step new after in
+    let a : Appends old store.log (word_of command) step new after = subst S j.0 (ends.done (λ f. cc)) in
+    let held = held_active old store.log a.place m.log_is a.is_active in
+    record { page = a.place.page; seq = a.place.seq; tail = a.place.tail; is_active = held.0; is_tail = held.1; programs = a.programmed }
+
+-- the commit of a turn
+pub turned : (entries : ℕ → ℕ → ℕ) (from : ℕ) (old : List ℕ) (task : Task) (new : List ℕ) → OffersBelow entries from old task → Commits old task new
+    → (active new ≡ Some (target_page old, next_seq old)) × AreCopies entries places (words new)
+turned entries from old Rest new o c = absurd o
+turned entries from old (Append word) new o c = absurd o
+turned entries from old (Wait target) new o c = absurd c
+turned entries from old (Copy target word) new o c = absurd c
+turned entries from old (Seal target) new o c = (c.active_is, rw c.words_are o)

@@ -1,4 +1,4 @@
-use Rattle.std.specs.Prelude.{◌≡◌, ◌-◌, ◌^◌, ◌⊎◌, ℕ, List, Option, None, Some, Result, Ok, Err, IsSome}
+use Rattle.std.specs.Prelude.{◌≡◌, ◌-◌, ◌^◌, ◌⊎◌, ℕ, List, None, Some, Result, Ok, Err, IsSome}
 use Rattle.layers.specs.declared.command.Command.{Command}
 use Rattle.layers.specs.Entries.{entry, ChangesSome, ChangesNothing}
 use Rattle.page_turnover.specs.Active.{active}

@@ -1,11 +1,16 @@
 use Rattle.std.specs.Prelude.{◌≡◌, ◌≢◌, ◌+◌, ◌%◌, ◌^◌, ℕ, List, [], ◌∷◌, ◌++◌, Option, None, Some, IsSome}
 use Rattle.layers.specs.declared.command.Command.{Command}
 use Rattle.layers.specs.Commands.{word_of}
-use Rattle.layers.specs.Entries.{changed}
+use Rattle.layers.specs.Entries.{changed, entry}
 use Rattle.layers.specs.Keymaps.{HasEntries}
 use Rattle.keymap_store.specs.declared.store.Work.{Work}
 use Rattle.keymap_store.specs.declared.store.Work.TheVariants.{Idle, Working, Settled, Failed}
-use Rattle.page_turnover.specs.Words.{words}
+use Rattle.layers.specs.Copies.{AreCopies, places}
+use Rattle.records.specs.Slots.{encoded}
+use Rattle.flash_model.specs.Operations.{Programs}
+use Rattle.page_turnover.specs.Active.{active}
+use Rattle.page_turnover.specs.Words.{words, IsTail}
+use Rattle.page_turnover.specs.Turn.{target_page, next_seq}
 use Rattle.keymap_store.specs.declared.store.Job.{Job}
 use Rattle.keymap_store.specs.Value.{StoreValue}
 use Rattle.keymap_store.specs.Store.{working}
@@ -55,3 +60,25 @@ IsAppendedFor old (Some command) new = words new ≡ words old ++ word_of comman
 
 abbrev pub IsAppended : List ℕ → Job → List ℕ → Type 0
 IsAppended old job new = IsAppendedFor old (working job) new
+
+-- the record is programmed into the tail slot of the active page
+pub record IsPlacedAt (old : List ℕ) (command : Command) (new : List ℕ) : Type 0 where
+  pub page : ℕ
+  pub seq : ℕ
+  pub tail : ℕ
+  pub is_active : active old ≡ Some (page, seq)
+  pub is_tail : IsTail old page tail
+  pub programs : Programs old page tail (encoded (word_of command)) new
+
+abbrev pub IsPlacedFor : List ℕ → Option Command → List ℕ → Type 0
+IsPlacedFor old None new = ⊥
+IsPlacedFor old (Some command) new = IsPlacedAt old command new
+
+abbrev pub IsPlaced : List ℕ → Job → List ℕ → Type 0
+IsPlaced old job new = IsPlacedFor old (working job) new
+
+-- a step of a turn: words and active page stay; or the page after the active one becomes the active one, with the next
+-- sequence number, and its words are the entries that differ from the default, by rising place
+pub data Turns (old new : List ℕ) : Type 0 where
+  stays : words new ≡ words old → active new ≡ active old → Turns old new
+  turns : active new ≡ Some (target_page old, next_seq old) → AreCopies (entry (words old)) places (words new) → Turns old new

@@ -2,6 +2,8 @@
 //! flash before it is in RAM.
 #![tactic(auto)]
 
+#[cfg(test)]
+mod image_tests;
 mod store;
 #[cfg(test)]
 mod tests;

@@ -7,6 +7,7 @@ ghost use Rattle.layers.specs.Keymaps.{HasEntries, StandsFor};
 ghost use Rattle.page_turnover.specs.Words.{words};
 ghost use Rattle.page_turnover.specs.Turn.{IsPending};
 ghost use Rattle.keymap_store.specs.Store.{OffersBelow, CanOfferIfWaiting};
+ghost use Rattle.keymap_store.specs.Left.{target_of};
 ghost use Rattle.page_turnover.specs.Log.{Describes};
 ghost use Rattle.keymap_store.specs.declared.store.Job.{Job};
 ghost use Rattle.keymap_store.specs.declared.store.Taken.{Taken};
@@ -81,7 +82,8 @@ impl Model for Store {
 impl Store {
     ghost use Rattle.keymap_store.specs.Store.{Mirrors, working};
     ghost use Rattle.keymap_store.specs.Submits.{Submits};
-    ghost use Rattle.keymap_store.specs.Works.{WorksAs, CountsAs, IsAppended};
+    ghost use Rattle.keymap_store.specs.Works.{WorksAs, CountsAs, IsAppended, IsPlaced, Turns};
+    ghost use Rattle.keymap_store.specs.Left.{left, Needs};
     ghost use Rattle.page_turnover.specs.Operates.{Operates};
 
     /// Reads log and keymap of a flash, and changes nothing.
@@ -116,11 +118,18 @@ impl Store {
     /// Takes a command. In this order: `Busy` where a command works, `Unsound` where slot 0 of a page
     /// is not sound, Settled at once where the command changes nothing, `Worn` where there is no room
     /// and the active page has the greatest sequence number, and else Working.
+    ///
+    /// A command that works needs one flash operation with room. Without room it needs one for each
+    /// entry that differs from the default, two for header and record, and one more where the page
+    /// after the active one is not blank: at most 387.
+    #[tactic(auto, using(crate::proofs::Counting::few_left))]
     pub fn submit(&mut self, command: Command) -> Result<Taken, SubmitRefusal>
         ensures submits { (image : List ℕ) → Mirrors image self.old → Submits image self.old.job command result }
         ensures mirrors { (image : List ℕ) → Mirrors image self.old → Mirrors image self.new }
         ensures taken { result ≡ Ok Taken.Working → (working self.new.job ≡ Some command) × (self.new.keymap ≡ self.old.keymap) }
         ensures unchanged { result ≢ Ok Taken.Working → self.new ≡ self.old }
+        ensures needs { (image : List ℕ) → Mirrors image self.old → result ≡ Ok Taken.Working → Needs image (left image self.new) }
+        ensures few { (image : List ℕ) → left image self.new ≤ 387 }
     {
         if self.log.busy() {
             return Err(SubmitRefusal::Busy);
@@ -154,7 +163,9 @@ impl Store {
     ///
     /// With room the command's record is appended. Without room a turn comes first, whose copies are
     /// the entries that differ from the default, by rising place. `Failed` is answered only where the
-    /// flash answers a fault.
+    /// flash answers a fault. Each call that answers Working leaves one operation less to do, and
+    /// Settled is the answer to the last one: a command is settled or fails by the 387th call.
+    #[tactic(auto, using(crate::proofs::Counting::few_left))]
     pub fn work<F: NorFlash>(&mut self, flash: &mut F) -> Work
         requires { Mirrors (F.image flash.old) self.old }
         ensures mirrors { Mirrors (F.image flash.new) self.new }
@@ -162,7 +173,13 @@ impl Store {
         ensures counts { CountsAs result (F.operations flash.old) (F.operations flash.new) (F.faults flash.old) (F.faults flash.new) }
         ensures operates { result ≢ Work.Idle → result ≢ Work.Failed → Operates (F.image flash.old) (F.image flash.new) }
         ensures appended { result ≡ Work.Settled → IsAppended (F.image flash.old) self.old.job (F.image flash.new) }
+        ensures placed { result ≡ Work.Settled → IsPlaced (F.image flash.old) self.old.job (F.image flash.new) }
+        ensures turns { result ≡ Work.Working → Turns (F.image flash.old) (F.image flash.new) }
         ensures faultless { F.is_faultless flash.old → F.is_faultless flash.new × (result ≢ Work.Failed) }
+        ensures none { (result ≡ Work.Idle) ↔ (left (F.image flash.old) self.old ≡ 0) }
+        ensures fewer { result ≡ Work.Working → left (F.image flash.new) self.new + 1 ≡ left (F.image flash.old) self.old }
+        ensures last { result ≡ Work.Settled → left (F.image flash.old) self.old ≡ 1 }
+        ensures few { left (F.image flash.old) self.old ≤ 387 }
     {
         match self.job {
             Job::Resting => Work::Idle,
@@ -180,7 +197,9 @@ impl Store {
         ensures counts { CountsAs result (F.operations flash.old) (F.operations flash.new) (F.faults flash.old) (F.faults flash.new) }
         ensures operates { result ≢ Work.Idle → result ≢ Work.Failed → Operates (F.image flash.old) (F.image flash.new) }
         ensures appended { result ≡ Work.Settled → IsAppended (F.image flash.old) self.old.job (F.image flash.new) }
+        ensures placed { result ≡ Work.Settled → IsPlaced (F.image flash.old) self.old.job (F.image flash.new) }
         ensures faultless { F.is_faultless flash.old → F.is_faultless flash.new × (result ≢ Work.Failed) }
+        ensures some { (result ≢ Work.Idle) × (result ≢ Work.Working) }
     {
         match self.log.step(flash) {
             Step::Committed => {
@@ -202,7 +221,10 @@ impl Store {
         ensures counts { CountsAs result (F.operations flash.old) (F.operations flash.new) (F.faults flash.old) (F.faults flash.new) }
         ensures operates { result ≢ Work.Idle → result ≢ Work.Failed → Operates (F.image flash.old) (F.image flash.new) }
         ensures appended { result ≡ Work.Settled → IsAppended (F.image flash.old) self.old.job (F.image flash.new) }
+        ensures turns { result ≡ Work.Working → Turns (F.image flash.old) (F.image flash.new) }
         ensures faultless { F.is_faultless flash.old → F.is_faultless flash.new × (result ≢ Work.Failed) }
+        ensures some { (result ≢ Work.Idle) × (result ≢ Work.Settled) }
+        ensures fewer { result ≡ Work.Working → left (F.image flash.new) self.new + 1 ≡ left (F.image flash.old) self.old }
     {
         let command = &command;
         let from = offer_next(&mut self.log, &self.keymap, from);
@@ -243,6 +265,7 @@ fn offer_next(log: &mut Log, keymap: &Keymap, from: u16) -> u16
     ensures stands { (image : List ℕ) (entries : ℕ → ℕ → ℕ) → HasEntries entries keymap.now → Describes image log.old → OffersBelow entries from image log.old.task
         → Describes image log.new × OffersBelow entries result image log.new.task × IsPending log.new.task }
     ensures within { result ≤ 384 }
+    ensures target { target_of log.new.task ≡ target_of log.old.task }
 {
     if !log.wants() {
         return from;

@@ -11,9 +11,9 @@ use std::test::Fail;
 
 /// A store and its flash.
 #[derive(Drop)]
-struct Device {
+pub struct Device {
     store: Store,
-    flash: SimFlash,
+    pub flash: SimFlash,
 }
 
 impl Model for Device {
@@ -28,7 +28,7 @@ impl Model for Device {
 }
 
 impl Device {
-    fn start(flash: SimFlash) -> Device {
+    pub fn start(flash: SimFlash) -> Device {
         Device {
             store: Store::mount(&flash),
             flash,
@@ -36,15 +36,15 @@ impl Device {
     }
 
     /// Loses all RAM.
-    fn cut(&mut self) {
+    pub fn cut(&mut self) {
         self.store = Store::mount(&self.flash);
     }
 
-    fn submit(&mut self, command: Command) -> Result<Taken, SubmitRefusal> {
+    pub fn submit(&mut self, command: Command) -> Result<Taken, SubmitRefusal> {
         self.store.submit(command)
     }
 
-    fn work(&mut self) -> Work {
+    pub fn work(&mut self) -> Work {
         self.store.work(&mut self.flash)
     }
 
@@ -61,7 +61,7 @@ impl Device {
         }
     }
 
-    fn settle(&mut self) -> Option<usize> {
+    pub fn settle(&mut self) -> Option<usize> {
         for operations in 1..1000 {
             match self.work() {
                 Work::Working => {}
@@ -76,14 +76,14 @@ impl Device {
         self.run(1, 0, 0, code)
     }
 
-    fn entry(&self, layer: u8, key: u8) -> u16 {
+    pub fn entry(&self, layer: u8, key: u8) -> u16 {
         match (LayerNo::read(layer), KeyNo::read(key)) {
             (Ok(layer), Ok(key)) => self.store.keymap().get(layer, key).bits(),
             _ => 0xffff,
         }
     }
 
-    fn slot(&self, page: usize, slot: usize) -> [u8; 8] {
+    pub fn slot(&self, page: usize, slot: usize) -> [u8; 8] {
         if page < self.flash.pages() && slot < 512 {
             self.flash.read_slot(page, slot)
         } else {
@@ -316,12 +316,12 @@ fn a_worn_flash_takes_what_changes_nothing(rt: HostRuntime) -> Result<(), Fail> 
 }
 
 /// A number that looks random, from the one before it.
-fn next(random: u32) -> u32 {
+pub fn next(random: u32) -> u32 {
     random.wrapping_mul(1_664_525).wrapping_add(1_013_904_223)
 }
 
 /// The default code of a place.
-fn default_at(place: usize) -> u16
+pub fn default_at(place: usize) -> u16
     requires { place < 384 }
 {
     match place {

@@ -1,6 +1,7 @@
 pub mod Headers
 pub mod Soundness
 pub mod WordLists
+pub mod Blanks
 pub mod Describing
 pub mod Operating
 pub mod Turns

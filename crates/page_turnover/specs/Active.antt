@@ -28,6 +28,6 @@ unfoldable pub newest : List ℕ → ℕ → Option (ℕ × ℕ)
 newest image zero = None
 newest image (suc n) = newer (newest image n) n (header_of (slot_of (slot_at image n 0)))
 
--- the active page and its sequence number, as a value: `active_page` proves that it is the one of `IsActive`
+-- the active page and its sequence number, as a value; by the laws it is the one of `IsActive`
 unfoldable pub active : List ℕ → Option (ℕ × ℕ)
 active image = newest image (page_count image)

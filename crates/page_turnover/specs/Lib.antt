@@ -1,6 +1,7 @@
 pub mod Header
 pub mod Active
 pub mod Words
+pub mod Blank
 pub mod Usable
 pub mod Value
 pub mod Log

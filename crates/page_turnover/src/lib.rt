@@ -6,6 +6,9 @@
 #![tactic(auto)]
 
 mod header;
+#[cfg(test)]
+mod image_tests;
+pub mod laws;
 mod log;
 mod reading;
 #[cfg(test)]

@@ -1,5 +1,5 @@
 //! Input reports: the bytes of each report for a set of usages, and which of them a poll sends.
-//! In report protocol a poll has nothing to send yet: only the boot report is made.
+//! In report protocol a poll has nothing to send: only the boot report is made.
 #![tactic(auto)]
 
 use arrayvec::ArrayVec;

@@ -70,7 +70,7 @@ impl Poller {
 
     /// The answer to a poll: the report if its bytes are not those last sent, or if its idle value is
     /// not 0 and as long has passed since it was sent. It then counts as sent. In report protocol
-    /// there is no report to send yet, and the answer is `None`.
+    /// there is no report to send, and the answer is `None`.
     pub fn poll(&mut self, usages: &Usages, protocol: Protocol) -> Option<Report>
         ensures stands { (past : List PollerCall) → StandsFor past self.old
             → StandsFor (polled protocol (option_map (λ r. r.items) result) ∷ past) self.new }

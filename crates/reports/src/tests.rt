@@ -134,7 +134,7 @@ impl Random {
 /// The plain program's answer to a poll, after these calls, newest first.
 fn expected(protocol: Protocol, wanted: &Wanted, past: &[Call]) -> Option<Report> {
     if protocol == Protocol::Report {
-        // Nothing is sent in report protocol yet.
+        // Nothing is sent in report protocol.
         return None;
     }
     let bytes = plain::poll_answer(protocol, wanted, past)?;

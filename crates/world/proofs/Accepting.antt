@@ -3,8 +3,8 @@ use Rattle.std.proofs.Common.{◌≡◌, ℕ, Bool, true, false, if◌then◌els
 use Rattle.std.proofs.lemmas.List.{map-append, append-nil}
 use Rattle.layers.specs.declared.command.Command.{Command}
 use Rattle.world.specs.declared.event.Answer.{Answer}
-use Rattle.world.specs.declared.event.Answer.TheVariants.{Ack, Nak, Packet, Stall, Worked, Restarted, EntryIs, SlotIs, NoSlot}
-use Rattle.world.specs.declared.event.Work.TheVariants.{Idle, Working, Settled, Failed}
+use Rattle.world.specs.declared.event.Answer.TheVariants.{Done, Ack, Nak, Packet, Stall, Sent, Worked, Restarted, EntryIs, SlotIs, NoSlot}
+use Rattle.keymap_store.specs.declared.store.Work.TheVariants.{Idle, Working, Settled, Failed}
 use Rattle.world.specs.declared.transfer.Stage.{Stage}
 use Rattle.world.specs.declared.transfer.Stage.TheVariants.{Rest, Taking, Waiting, Status, Stalled}
 use Rattle.world.specs.History.{Step, image_after, is_start, keymap}
@@ -22,6 +22,8 @@ ended_by-settled (Worked Idle) = refl
 ended_by-settled (Worked Working) = refl
 ended_by-settled (Worked Settled) = refl
 ended_by-settled (Worked Failed) = refl
+ended_by-settled Done = refl
+ended_by-settled (Sent bytes reading) = refl
 ended_by-settled Ack = refl
 ended_by-settled Nak = refl
 ended_by-settled (Packet packet) = refl
@@ -37,6 +39,8 @@ ended_by-failed (Worked Idle) = refl
 ended_by-failed (Worked Working) = refl
 ended_by-failed (Worked Settled) = refl
 ended_by-failed (Worked Failed) = refl
+ended_by-failed Done = refl
+ended_by-failed (Sent bytes reading) = refl
 ended_by-failed Ack = refl
 ended_by-failed Nak = refl
 ended_by-failed (Packet packet) = refl

@@ -5,11 +5,11 @@ use Rattle.layers.specs.Entries.{changed}
 use Rattle.layers.specs.declared.code.KeymapError.{KeymapError}
 use Rattle.layers.specs.declared.command.Command.{Command}
 use Rattle.world.specs.declared.event.Event.{Event}
-use Rattle.world.specs.declared.event.Event.TheVariants.{Setup, OutPacket, InPacket, Work, Cut, Entry, SlotAt}
+use Rattle.world.specs.declared.event.Event.TheVariants.{Scan, Setup, OutPacket, InPacket, Poll, Work, Cut, Entry, SlotAt}
 use Rattle.world.specs.declared.event.Answer.{Answer}
 use Rattle.world.specs.declared.event.Answer.TheVariants.{Ack, Stall, Worked}
-use Rattle.world.specs.declared.event.Work.{Work as WorkAnswer}
-use Rattle.world.specs.declared.event.Work.TheVariants.{Idle, Working, Settled, Failed}
+use Rattle.keymap_store.specs.declared.store.Work.{Work as WorkAnswer}
+use Rattle.keymap_store.specs.declared.store.Work.TheVariants.{Idle, Working, Settled, Failed}
 use Rattle.world.specs.declared.event.Why.{Why}
 use Rattle.world.specs.declared.event.Why.TheVariants.{UnknownReport, Unsound, Worn, ShortData, LongData, WrongStage}
 use Rattle.world.specs.declared.transfer.Stage.{Stage}
@@ -18,6 +18,11 @@ use Rattle.world.specs.History.{Step, image_after, is_start, keymap}
 use Rattle.world.specs.Feature.{why_not, yes, no, FeatureAnswer, ReadAnswer, command_in}
 use Rattle.world.specs.Transfer.{stage, bytes_taken, is_ack}
 use Rattle.world.specs.Commands.{accepts, working}
+use Rattle.world.specs.Keys.{protocol_of, calls_of, sent, poll_of}
+use Rattle.matrix.specs.Calls.{MatrixCall}
+use Rattle.matrix.specs.Past.{answer_after}
+use Rattle.reports.specs.declared.Protocol.{Protocol}
+use Rattle.reports.specs.declared.Protocol.TheVariants.{Boot, Report}
 use Rattle.world.specs.Restart.{SameEntries}
 use Rattle.world.specs.Lawful.{IsAnswered, Answered, OutAnswer, in_answer, WorkAnswered}
 use Rattle.world.proofs.Accepting.{ended_by-idle, ended_by-working, EndsNone, accepts-none}
@@ -93,6 +98,14 @@ in_answer-ends_none Waiting = record { keeps = λ f. refl }
 in_answer-ends_none Status = record { keeps = λ f. refl }
 in_answer-ends_none (Stalled why) = record { keeps = λ f. refl }
 
+sent-ends_none : (o : Option (List ℕ)) → EndsNone (sent o)
+sent-ends_none None = record { keeps = λ f. refl }
+sent-ends_none (Some bytes) = record { keeps = λ f. refl }
+
+poll_of-ends_none : (protocol : Protocol) (calls : List MatrixCall) → EndsNone (poll_of protocol calls)
+poll_of-ends_none Boot calls = sent-ends_none (answer_after Boot calls)
+poll_of-ends_none Report calls = record { keeps = λ f. refl }
+
 worked : (start : List ℕ) (before : List Step) (answer : Answer) (image : List ℕ) (work : WorkAnswer) (w : Option Command)
     → answer ≡ Worked work → working start before ≡ w → WorkAnswered w (image_after start before) work image
     → Effect start before (record { event = Work; answer = answer; image = image })
@@ -110,6 +123,10 @@ effect_of : (start : List ℕ) (before : List Step) (event : Event) (answer : An
 effect_of start before (Setup bytes) answer image (a, e) =
     quiet start before (record { event = Setup bytes; answer = answer; image = image }) refl refl (record { keeps = λ f. rw a refl }) e
 effect_of start before (OutPacket packet) answer image (a, e) = out start before packet answer image (stage start before) e refl a
+effect_of start before (Scan scan) answer image (a, e) =
+    quiet start before (record { event = Scan scan; answer = answer; image = image }) refl refl (record { keeps = λ f. rw a refl }) e
+effect_of start before Poll answer image (a, e) =
+    quiet start before (record { event = Poll; answer = answer; image = image }) refl refl (record { keeps = λ f. rw a ((poll_of-ends_none (protocol_of before) (calls_of start before)).keeps f) }) e
 effect_of start before InPacket answer image (a, e) =
     quiet start before (record { event = InPacket; answer = answer; image = image }) refl refl (record { keeps = λ f. rw a ((in_answer-ends_none (stage start before)).keeps f) }) e
 effect_of start before Work answer image (work, a, w) = worked start before answer image work (working start before) a refl w

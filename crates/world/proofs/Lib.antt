@@ -4,9 +4,11 @@ pub mod Effects
 pub mod Sessions
 pub mod Restarting
 pub mod Telling
-pub mod Storing
 pub mod Stages
+pub mod Bounding
+pub mod Keeping
 pub mod Standing
 pub mod Taking
 pub mod Working
+pub mod Counting
 pub mod Running

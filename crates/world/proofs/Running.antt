@@ -7,6 +7,8 @@ use Rattle.world.specs.declared.event.Answer.{Answer}
 use Rattle.world.specs.History.{Step, EachStep}
 use Rattle.world.specs.Lawful.{IsAnswered}
 use Rattle.world.specs.Restart.{RestartsLegally, ShowsSettled}
+use Rattle.world.specs.Bounded.{StaysInTime}
+use Rattle.world.specs.Writes.{Writes}
 use Rattle.world.specs.Value.{WorldValue}
 use Rattle.world.specs.Stands.{StandsFor, Goes}
 use Rattle.world.specs.Acknowledged.{KeepsAcknowledged}
@@ -46,6 +48,24 @@ goes_looks = goes_by (EachStep ShowsSettled) shows_settled
 
 pub goes_acknowledged : (start : List ℕ) (past : List Step) (n : ℕ) (world : WorldValue) (events : List Event) (before after : List Answer) → Going start past n world events before after → Goes KeepsAcknowledged start past world events before after
 goes_acknowledged = goes_by KeepsAcknowledged acknowledged
+
+pub goes_in_time : (start : List ℕ) (past : List Step) (n : ℕ) (world : WorldValue) (events : List Event) (before after : List Answer) → Going start past n world events before after → Goes (EachStep StaysInTime) start past world events before after
+goes_in_time start past n world events before after g = record {
+  steps = g.steps;
+  stands = g.stands;
+  events_are = rw g.count g.events_are;
+  answers_are = g.answers_are;
+  holds = g.stands.in_time;
+}
+
+pub goes_writes : (start : List ℕ) (past : List Step) (n : ℕ) (world : WorldValue) (events : List Event) (before after : List Answer) → Going start past n world events before after → Goes (EachStep Writes) start past world events before after
+goes_writes start past n world events before after g = record {
+  steps = g.steps;
+  stands = g.stands;
+  events_are = rw g.count g.events_are;
+  answers_are = g.answers_are;
+  holds = g.stands.writes;
+}
 
 mapped_more : {B : Type 0} (f : Step → B) (s : Step) (steps : List Step) → map f (reverse (s ∷ steps)) ≡ map f (reverse steps) ++ f s ∷ []
 mapped_more f s steps = rw (reverse_onto steps s []) (map-append f (reverse steps) (s ∷ []))

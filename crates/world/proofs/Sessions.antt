@@ -6,7 +6,7 @@ use Rattle.layers.specs.declared.command.Command.{Command}
 use Rattle.layers.proofs.LastWriter.{changed-nil, changed-append, changed-same}
 use Rattle.world.specs.declared.event.Answer.{Answer}
 use Rattle.world.specs.declared.event.Answer.TheVariants.{Worked}
-use Rattle.world.specs.declared.event.Work.TheVariants.{Settled}
+use Rattle.keymap_store.specs.declared.store.Work.TheVariants.{Settled}
 use Rattle.world.specs.History.{Step, image_after, is_start, session_image, keymap, EachStep}
 use Rattle.world.specs.Fate.{Fate, works, settled, failed, fate, changes, ended_by}
 use Rattle.world.specs.Commands.{Accepted, accepted, accepts, working, working_of, if_works, if_settled, settled_of}

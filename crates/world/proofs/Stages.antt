@@ -3,23 +3,28 @@ use Rattle.std.proofs.Common.{◌≡◌, ℕ, ◌||◌, Bool, true, false, is_so
 use Rattle.layers.specs.declared.code.KeymapError.{KeymapError}
 use Rattle.layers.specs.declared.command.Command.{Command}
 use Rattle.world.specs.declared.event.Event.{Event}
-use Rattle.world.specs.declared.event.Event.TheVariants.{Setup, OutPacket, InPacket, Work, Cut, Entry, SlotAt}
+use Rattle.world.specs.declared.event.Event.TheVariants.{Scan, Setup, OutPacket, InPacket, Poll, Work, Cut, Entry, SlotAt}
 use Rattle.world.specs.declared.event.Answer.{Answer}
 use Rattle.world.specs.declared.event.Answer.TheVariants.{Stall, Worked}
-use Rattle.world.specs.declared.event.Work.TheVariants.{Settled}
+use Rattle.keymap_store.specs.declared.store.Work.TheVariants.{Settled}
 use Rattle.world.specs.declared.event.Why.{Why}
 use Rattle.world.specs.declared.transfer.Stage.{Stage}
 use Rattle.world.specs.declared.transfer.Stage.TheVariants.{Rest, Taking, Waiting, Status, Stalled}
 use Rattle.world.specs.History.{Step, image_after, keymap, EachStep}
 use Rattle.world.specs.Fate.{Fate, works, settled, failed, fate, changes, ended_by}
 use Rattle.world.specs.Feature.{yes, no, FeatureAnswer, ReadAnswer, command_in}
-use Rattle.world.specs.Transfer.{stage, opening_of, setup_of, transfer, first_stall, first_of, stall_in, is_ended, is_empty_packet, bytes_taken, DataPacket, data_packet, data_here, data_from, fate_in, refusal_of, stage_unless, stage_of_setup, stage_of_data, stage_after_data}
+use Rattle.world.specs.Transfer.{stage, opening_of, setup_of, transfer, first_stall, first_of, stall_in, is_ended, is_empty_packet, bytes_taken, DataPacket, data_packet, data_here, data_from, data_fate, done_with, opens_boot, fate_in, refusal_of, stage_unless, stage_of_setup, stage_of_data, stage_after_data, stage_opened}
+use Rattle.world.specs.Keys.{protocol_of, calls_of, sent, poll_of}
+use Rattle.matrix.specs.Calls.{MatrixCall}
+use Rattle.matrix.specs.Past.{answer_after}
+use Rattle.reports.specs.declared.Protocol.{Protocol}
+use Rattle.reports.specs.declared.Protocol.TheVariants.{Boot, Report}
 use Rattle.world.specs.Lawful.{IsAnswered, Answered, OutAnswer, in_answer}
 use Rattle.world.proofs.Accepting.{EndsNone, fate-more, ended_by-settled}
 
 -- the stage by the parts of the transfer: its first stall, its SETUP packet, its data packet, whether it was ended
 abbrev pub stage_by : Option Why → Option (List ℕ) → Option DataPacket → Bool → Stage
-stage_by stall setup packet ended = stage_unless stall (stage_of_setup setup (stage_of_data packet ended))
+stage_by stall setup packet ended = stage_unless stall (stage_of_setup setup (stage_of_data (done_with (opens_boot setup) (data_fate packet)) ended))
 
 pub stage_is : (start : List ℕ) (past : List Step) → stage start past ≡ stage_by (first_stall (transfer past)) (setup_of past) (data_packet start past) (is_ended (transfer past))
 unfolding stage
@@ -32,9 +37,14 @@ unfolding stage
 stage-more start step past e = rw e refl
 
 -- a SETUP packet
-pub stage-setup : (start : List ℕ) (step : Step) (past : List Step) (bytes : List ℕ) → opening_of step.event ≡ Some (Some bytes) → stage start (step ∷ past) ≡ stage_unless (refusal_of bytes) Taking
+opened : (b : Bool) → stage_of_data (done_with b None) false ≡ stage_opened b
+opened true = refl
+opened false = refl
+
+pub stage-setup : (start : List ℕ) (step : Step) (past : List Step) (bytes : List ℕ) → opening_of step.event ≡ Some (Some bytes)
+    → stage start (step ∷ past) ≡ stage_unless (refusal_of bytes) (stage_opened (opens_boot (Some bytes)))
 unfolding stage
-stage-setup start step past bytes e = rw e refl
+stage-setup start step past bytes e = rw e (ap (stage_unless (refusal_of bytes)) (opened (opens_boot (Some bytes))))
 
 -- a start
 pub stage-start : (start : List ℕ) (step : Step) (past : List Step) → opening_of step.event ≡ Some None → stage start (step ∷ past) ≡ Rest
@@ -49,18 +59,17 @@ fate_in-more : (image : List ℕ) (step : Step) (since : List Step) (read : Resu
 fate_in-more image step since (Ok command) = fate-more (keymap image) command step since
 fate_in-more image step since (Err error) = sym (ended_by-settled step.answer)
 
-data-same : (d : Option DataPacket) (step : Step) (image : List ℕ) (ended : Bool) → EndsNone step.answer → bytes_taken step.event step.answer ≡ None
-    → stage_of_data (data_here d step image) ended ≡ stage_of_data d ended
-data-same None step image ended k n = rw n refl
-data-same (Some packet) step image ended k n =
-    ap (λ (f : Fate). stage_after_data f ended) (fate_in-more packet.image step packet.since (command_in packet.bytes) ∙ k.keeps (fate_in packet.image packet.since (command_in packet.bytes)))
+data_fate-same : (d : Option DataPacket) (step : Step) (image : List ℕ) → EndsNone step.answer → bytes_taken step.event step.answer ≡ None → data_fate (data_here d step image) ≡ data_fate d
+data_fate-same None step image k n = rw n refl
+data_fate-same (Some packet) step image k n =
+    ap Some (fate_in-more packet.image step packet.since (command_in packet.bytes) ∙ k.keeps (fate_in packet.image packet.since (command_in packet.bytes)))
 
 -- a step that carries no packet, stalls nothing and ends nothing
 pub stage-quiet : (start : List ℕ) (step : Step) (past : List Step) → opening_of step.event ≡ None → stall_in step.answer ≡ None → is_empty_packet step.answer ≡ false
     → EndsNone step.answer → bytes_taken step.event step.answer ≡ None → stage start (step ∷ past) ≡ stage start past
 stage-quiet start step past o s p k n =
     stage-more start step past o
-    ∙ rw (s, p, first_of-none (first_stall (transfer past)), data-same (data_packet start past) step (image_after start past) (is_ended (transfer past)) k n) (sym (stage_is start past))
+    ∙ rw (s, p, first_of-none (first_stall (transfer past)), data_fate-same (data_packet start past) step (image_after start past) k n) (sym (stage_is start past))
 
 stalled_by : (f : Option Why) (su su' : Option (List ℕ)) (d d' : Option DataPacket) (en en' : Bool) (why : Why) → ((v : Why) → stage_by f su d en ≡ Stalled v → v ≡ why)
     → stage_by (first_of f (Some why)) su' d' en' ≡ Stalled why
@@ -84,6 +93,7 @@ record InData (stall : Option Why) (setup : Option (List ℕ)) (packet : Option 
   bytes : List ℕ
   setup_is : setup ≡ Some bytes
   served : refusal_of bytes ≡ None
+  data_due : opens_boot setup ≡ false
   no_packet : packet ≡ None
 
 after_data_not_taking : (f : Fate) (ended : Bool) → stage_after_data f ended ≡ Taking → ⊥
@@ -92,28 +102,33 @@ after_data_not_taking failed ended e = cc
 after_data_not_taking settled true e = cc
 after_data_not_taking settled false e = cc
 
-taking_by_data : (setup : Option (List ℕ)) (bytes : List ℕ) (d : Option DataPacket) (en : Bool) → setup ≡ Some bytes → refusal_of bytes ≡ None → stage_of_data d en ≡ Taking → InData None setup d
-taking_by_data setup bytes None en s r e = record { no_stall = refl; bytes = bytes; setup_is = s; served = r; no_packet = refl }
-taking_by_data setup bytes (Some packet) en s r e = absurd (after_data_not_taking (fate_in packet.image packet.since (command_in packet.bytes)) en e)
+-- data are due, and none came
+data_due_by : (b : Bool) (d : Option DataPacket) (en : Bool) → stage_of_data (done_with b (data_fate d)) en ≡ Taking → (b ≡ false) × (d ≡ None)
+data_due_by true d en e = absurd (after_data_not_taking settled en e)
+data_due_by false None en e = (refl, refl)
+data_due_by false (Some packet) en e = absurd (after_data_not_taking (fate_in packet.image packet.since (command_in packet.bytes)) en e)
 
-taking_by_refusal : (bytes : List ℕ) (r : Option Why) (d : Option DataPacket) (en : Bool) → refusal_of bytes ≡ r → stage_unless r (stage_of_data d en) ≡ Taking → InData None (Some bytes) d
+taking_by_refusal : (bytes : List ℕ) (r : Option Why) (d : Option DataPacket) (en : Bool) → refusal_of bytes ≡ r
+    → stage_unless r (stage_of_data (done_with (opens_boot (Some bytes)) (data_fate d)) en) ≡ Taking → InData None (Some bytes) d
 taking_by_refusal bytes (Some why) d en r e = cc
-taking_by_refusal bytes None d en r e = taking_by_data (Some bytes) bytes d en refl r e
+taking_by_refusal bytes None d en r e =
+    let due = data_due_by (opens_boot (Some bytes)) d en e in
+    record { no_stall = refl; bytes = bytes; setup_is = refl; served = r; data_due = due.0; no_packet = due.1 }
 
 taking_by : (f : Option Why) (su : Option (List ℕ)) (d : Option DataPacket) (en : Bool) → stage_by f su d en ≡ Taking → InData f su d
 taking_by (Some why) su d en e = cc
 taking_by None None d en e = cc
 taking_by None (Some bytes) d en e = taking_by_refusal bytes (refusal_of bytes) d en refl e
 
--- the parts of a transfer whose data packet came
-record HasData (stall : Option Why) (setup : Option (List ℕ)) (packet : Option DataPacket) (ended : Bool) (now : Stage) : Type 0 where
+-- the parts of a transfer that is done with its data, or waits for its command
+record HasData (stall : Option Why) (setup : Option (List ℕ)) (data_is : Option Fate) (ended : Bool) (now : Stage) : Type 0 where
   no_stall : stall ≡ None
   bytes : List ℕ
   setup_is : setup ≡ Some bytes
   served : refusal_of bytes ≡ None
-  came : DataPacket
-  packet_is : packet ≡ Some came
-  stage_is_now : stage_after_data (fate_in came.image came.since (command_in came.bytes)) ended ≡ now
+  came : Fate
+  fate_is : data_is ≡ Some came
+  stage_is_now : stage_after_data came ended ≡ now
 
 waits_or_status : Stage → Bool
 waits_or_status Waiting = true
@@ -122,21 +137,21 @@ waits_or_status Rest = false
 waits_or_status Taking = false
 waits_or_status (Stalled why) = false
 
-has_by_data : (bytes : List ℕ) (d : Option DataPacket) (en : Bool) (now : Stage) → refusal_of bytes ≡ None → waits_or_status now ≡ true → stage_of_data d en ≡ now → HasData None (Some bytes) d en now
+has_by_data : (bytes : List ℕ) (o : Option Fate) (en : Bool) (now : Stage) → refusal_of bytes ≡ None → waits_or_status now ≡ true → stage_of_data o en ≡ now → HasData None (Some bytes) o en now
 unfolding waits_or_status
 has_by_data bytes None en now r w e = (let bad : waits_or_status Taking ≡ true = ap waits_or_status e ∙ w in cc)
-has_by_data bytes (Some packet) en now r w e = record { no_stall = refl; bytes = bytes; setup_is = refl; served = r; came = packet; packet_is = refl; stage_is_now = e }
+has_by_data bytes (Some came) en now r w e = record { no_stall = refl; bytes = bytes; setup_is = refl; served = r; came = came; fate_is = refl; stage_is_now = e }
 
-has_by_refusal : (bytes : List ℕ) (r : Option Why) (d : Option DataPacket) (en : Bool) (now : Stage) → refusal_of bytes ≡ r → waits_or_status now ≡ true → stage_unless r (stage_of_data d en) ≡ now → HasData None (Some bytes) d en now
+has_by_refusal : (bytes : List ℕ) (r : Option Why) (o : Option Fate) (en : Bool) (now : Stage) → refusal_of bytes ≡ r → waits_or_status now ≡ true → stage_unless r (stage_of_data o en) ≡ now → HasData None (Some bytes) o en now
 unfolding waits_or_status
-has_by_refusal bytes (Some why) d en now r w e = (let bad : waits_or_status (Stalled why) ≡ true = ap waits_or_status e ∙ w in cc)
-has_by_refusal bytes None d en now r w e = has_by_data bytes d en now r w e
+has_by_refusal bytes (Some why) o en now r w e = (let bad : waits_or_status (Stalled why) ≡ true = ap waits_or_status e ∙ w in cc)
+has_by_refusal bytes None o en now r w e = has_by_data bytes o en now r w e
 
-has_by : (f : Option Why) (su : Option (List ℕ)) (d : Option DataPacket) (en : Bool) (now : Stage) → waits_or_status now ≡ true → stage_by f su d en ≡ now → HasData f su d en now
+has_by : (f : Option Why) (su : Option (List ℕ)) (o : Option Fate) (en : Bool) (now : Stage) → waits_or_status now ≡ true → stage_unless f (stage_of_setup su (stage_of_data o en)) ≡ now → HasData f su o en now
 unfolding waits_or_status
-has_by (Some why) su d en now w e = (let bad : waits_or_status (Stalled why) ≡ true = ap waits_or_status e ∙ w in cc)
-has_by None None d en now w e = (let bad : waits_or_status Rest ≡ true = ap waits_or_status e ∙ w in cc)
-has_by None (Some bytes) d en now w e = has_by_refusal bytes (refusal_of bytes) d en now refl w e
+has_by (Some why) su o en now w e = (let bad : waits_or_status (Stalled why) ≡ true = ap waits_or_status e ∙ w in cc)
+has_by None None o en now w e = (let bad : waits_or_status Rest ≡ true = ap waits_or_status e ∙ w in cc)
+has_by None (Some bytes) o en now w e = has_by_refusal bytes (refusal_of bytes) o en now refl w e
 
 status_parts : (f : Fate) (ended : Bool) → stage_after_data f ended ≡ Status → (f ≡ settled) × (ended ≡ false)
 status_parts works ended e = cc
@@ -144,39 +159,53 @@ status_parts failed ended e = cc
 status_parts settled true e = cc
 status_parts settled false e = (refl, refl)
 
--- in the data stage no packet was acknowledged yet
-pub no_packet : (start : List ℕ) (past : List Step) → stage start past ≡ Taking → data_packet start past ≡ None
-no_packet start past e = (taking_by (first_stall (transfer past)) (setup_of past) (data_packet start past) (is_ended (transfer past)) (sym (stage_is start past) ∙ e)).no_packet
+-- what has become of the data of the transfer
+abbrev progress : List ℕ → List Step → Option Fate
+progress start past = done_with (opens_boot (setup_of past)) (data_fate (data_packet start past))
 
--- where the transfer was ended, its command is settled
+-- in the data stage no packet was acknowledged yet
+in_data : (start : List ℕ) (past : List Step) → stage start past ≡ Taking → InData (first_stall (transfer past)) (setup_of past) (data_packet start past)
+in_data start past e = taking_by (first_stall (transfer past)) (setup_of past) (data_packet start past) (is_ended (transfer past)) (sym (stage_is start past) ∙ e)
+
+pub no_packet : (start : List ℕ) (past : List Step) → stage start past ≡ Taking → data_packet start past ≡ None
+no_packet start past e = (in_data start past e).no_packet
+
+-- and the transfer has a data stage
+pub not_boot : (start : List ℕ) (past : List Step) → stage start past ≡ Taking → opens_boot (setup_of past) ≡ false
+not_boot start past e = (in_data start past e).data_due
+
+-- where the transfer was ended, it was done with its data
 pub record EndedSettled (start : List ℕ) (past : List Step) : Type 0 where
-  pub came : DataPacket
-  pub packet_is : data_packet start past ≡ Some came
-  pub is_settled : fate_in came.image came.since (command_in came.bytes) ≡ settled
+  pub is_settled : done_with (opens_boot (setup_of past)) (data_fate (data_packet start past)) ≡ Some settled
 
 status_settled : (start : List ℕ) (past : List Step) → stage start past ≡ Status → EndedSettled start past
 status_settled start past e =
-    let h : HasData (first_stall (transfer past)) (setup_of past) (data_packet start past) (is_ended (transfer past)) Status =
-    has_by (first_stall (transfer past)) (setup_of past) (data_packet start past) (is_ended (transfer past)) Status (unfold waits_or_status in refl) (sym (stage_is start past) ∙ e) in
-    record { came = h.came; packet_is = h.packet_is; is_settled = (status_parts (fate_in h.came.image h.came.since (command_in h.came.bytes)) (is_ended (transfer past)) h.stage_is_now).0 }
+    let h : HasData (first_stall (transfer past)) (setup_of past) (progress start past) (is_ended (transfer past)) Status =
+    has_by (first_stall (transfer past)) (setup_of past) (progress start past) (is_ended (transfer past)) Status (unfold waits_or_status in refl) (sym (stage_is start past) ∙ e) in
+    record { is_settled = h.fate_is ∙ ap Some (status_parts h.came (is_ended (transfer past)) h.stage_is_now).0 }
 
-some_same : (o : Option DataPacket) (x y : DataPacket) → o ≡ Some x → o ≡ Some y → x ≡ y
-some_same o x y a b = cc
+fate_of_packet : (b : Bool) (d : Option DataPacket) (packet : DataPacket) → d ≡ Some packet → b ≡ false → done_with b (data_fate d) ≡ Some settled → fate_in packet.image packet.since (command_in packet.bytes) ≡ settled
+fate_of_packet true d packet e n s = cc
+fate_of_packet false None packet e n s = cc
+fate_of_packet false (Some other) packet e n s =
+    let same : other ≡ packet = cc in
+    let there : fate_in other.image other.since (command_in other.bytes) ≡ settled = cc in
+    subst (λ (p : DataPacket). fate_in p.image p.since (command_in p.bytes) ≡ settled) same there
 
-pub packet_settled : (start : List ℕ) (past : List Step) (packet : DataPacket) → data_packet start past ≡ Some packet → stage start past ≡ Status
+pub packet_settled : (start : List ℕ) (past : List Step) (packet : DataPacket) → data_packet start past ≡ Some packet → opens_boot (setup_of past) ≡ false → stage start past ≡ Status
     → fate_in packet.image packet.since (command_in packet.bytes) ≡ settled
-packet_settled start past packet d e =
-    let s : EndedSettled start past = status_settled start past e in
-    let same : s.came ≡ packet = some_same (data_packet start past) s.came packet s.packet_is d in
-    subst (λ (p : DataPacket). fate_in p.image p.since (command_in p.bytes) ≡ settled) same s.is_settled
+packet_settled start past packet d n e = fate_of_packet (opens_boot (setup_of past)) (data_packet start past) packet d n (status_settled start past e).is_settled
 
 -- it stays settled
+done_more : (b : Bool) (d : Option DataPacket) (step : Step) (image : List ℕ) → done_with b (data_fate d) ≡ Some settled → done_with b (data_fate (data_here d step image)) ≡ Some settled
+done_more true d step image e = refl
+done_more false None step image e = cc
+done_more false (Some packet) step image e =
+    let was : fate_in packet.image packet.since (command_in packet.bytes) ≡ settled = cc in
+    ap Some (fate_in-more packet.image step packet.since (command_in packet.bytes) ∙ rw was (ended_by-settled step.answer))
+
 ended_more : (start : List ℕ) (step : Step) (past : List Step) → opening_of step.event ≡ None → EndedSettled start past → EndedSettled start (step ∷ past)
-ended_more start step past o h = record {
-  came = record { bytes = h.came.bytes; image = h.came.image; since = step ∷ h.came.since };
-  packet_is = rw (o, h.packet_is) refl;
-  is_settled = fate_in-more h.came.image step h.came.since (command_in h.came.bytes) ∙ rw h.is_settled (ended_by-settled step.answer);
-}
+ended_more start step past o h = record { is_settled = rw o (done_more (opens_boot (setup_of past)) (data_packet start past) step (image_after start past) h.is_settled) }
 
 read_not_empty : (image : List ℕ) (read : Result Command KeymapError) (answer : Answer) → ReadAnswer image read answer → is_empty_packet answer ≡ false
 read_not_empty image (Err error) answer a = rw a refl
@@ -199,6 +228,14 @@ out_not_empty Waiting image w packet answer a = rw a refl
 out_not_empty Status image w packet answer a = rw a refl
 out_not_empty (Stalled why) image w packet answer a = rw a refl
 
+sent_not_empty : (o : Option (List ℕ)) → is_empty_packet (sent o) ≡ false
+sent_not_empty None = refl
+sent_not_empty (Some bytes) = refl
+
+poll_not_empty : (protocol : Protocol) (calls : List MatrixCall) → is_empty_packet (poll_of protocol calls) ≡ false
+poll_not_empty Boot calls = sent_not_empty (answer_after Boot calls)
+poll_not_empty Report calls = refl
+
 in_empty_status : (now : Stage) → is_empty_packet (in_answer now) ≡ true → now ≡ Status
 in_empty_status Rest e = cc
 in_empty_status Taking e = cc
@@ -213,6 +250,8 @@ true_false b t f = cc
 empty_in_status : (start : List ℕ) (before : List Step) (event : Event) (answer : Answer) (image : List ℕ) → Answered start before event answer image → is_empty_packet answer ≡ true → stage start before ≡ Status
 empty_in_status start before (Setup bytes) answer image (a, e) t = absurd (true_false (is_empty_packet answer) t (rw a refl))
 empty_in_status start before (OutPacket packet) answer image (a, e) t = absurd (true_false (is_empty_packet answer) t (out_not_empty (stage start before) _ _ packet.items answer a))
+empty_in_status start before (Scan scan) answer image (a, e) t = absurd (true_false (is_empty_packet answer) t (rw a refl))
+empty_in_status start before Poll answer image (a, e) t = absurd (true_false (is_empty_packet answer) t (ap is_empty_packet a ∙ poll_not_empty (protocol_of before) (calls_of start before)))
 empty_in_status start before InPacket answer image (a, e) t = in_empty_status (stage start before) (rw a at t)
 empty_in_status start before Work answer image (work, a, w) t = absurd (true_false (is_empty_packet answer) t (rw a refl))
 empty_in_status start before Cut answer image (a, e) t = absurd (true_false (is_empty_packet answer) t (rw a refl))
@@ -248,12 +287,13 @@ not_true false n = refl
 -- in the data stage no IN token was answered yet
 taking_not_ended : (start : List ℕ) (past : List Step) → EachStep IsAnswered start past → stage start past ≡ Taking → is_ended (transfer past) ≡ false
 taking_not_ended start past h e =
-    let parts : InData (first_stall (transfer past)) (setup_of past) (data_packet start past) =
-    taking_by (first_stall (transfer past)) (setup_of past) (data_packet start past) (is_ended (transfer past)) (sym (stage_is start past) ∙ e) in
-    not_true (is_ended (transfer past)) (λ t. let s : EndedSettled start past = ended_settled start past h t in let n : data_packet start past ≡ None = parts.no_packet in let p : data_packet start past ≡ Some s.came = s.packet_is in absurd (none_some (data_packet start past) s.came n p))
+    let parts = in_data start past e in
+    not_true (is_ended (transfer past)) (λ t. nothing_done (opens_boot (setup_of past)) (data_packet start past) parts.data_due parts.no_packet (ended_settled start past h t).is_settled)
   where
-    none_some : (o : Option DataPacket) (x : DataPacket) → o ≡ None → o ≡ Some x → ⊥
-    none_some o x n p = cc
+    nothing_done : (b : Bool) (d : Option DataPacket) → b ≡ false → d ≡ None → done_with b (data_fate d) ≡ Some settled → ⊥
+    nothing_done true d n p e = cc
+    nothing_done false None n p e = cc
+    nothing_done false (Some packet) n p e = cc
 
 -- the stage after the data packet
 abbrev pub stage_taken : Bool → Stage
@@ -264,34 +304,34 @@ taken_fate : (entries : ℕ → ℕ → ℕ) (command : Command) (b : Bool) → 
 taken_fate entries command true e = rw e refl
 taken_fate entries command false e = rw e refl
 
--- the stage of a transfer whose data packet came
-after_packet : (stall first : Option Why) (setup : Option (List ℕ)) (packet : Option DataPacket) (ended : Bool) (bytes : List ℕ) (came : DataPacket)
-    → stall ≡ None → first ≡ None → setup ≡ Some bytes → refusal_of bytes ≡ None → packet ≡ Some came
-    → stage_by (first_of stall first) setup packet ended ≡ stage_after_data (fate_in came.image came.since (command_in came.bytes)) ended
-after_packet None None (Some setup) (Some packet) ended bytes came a b c r d =
+-- the stage of a transfer whose data came
+after_data : (stall first : Option Why) (setup : Option (List ℕ)) (o : Option Fate) (ended : Bool) (bytes : List ℕ) (came : Fate)
+    → stall ≡ None → first ≡ None → setup ≡ Some bytes → refusal_of bytes ≡ None → o ≡ Some came
+    → stage_unless (first_of stall first) (stage_of_setup setup (stage_of_data o ended)) ≡ stage_after_data came ended
+after_data None None (Some setup) (Some fate) ended bytes came a b c r d =
     let same_setup : setup ≡ bytes = cc in
-    let same_packet : packet ≡ came = cc in
-    ap (λ (x : Option Why). stage_unless x (stage_of_data (Some packet) ended)) (ap refusal_of same_setup ∙ r)
-    ∙ ap (λ (x : DataPacket). stage_after_data (fate_in x.image x.since (command_in x.bytes)) ended) same_packet
-after_packet (Some why) first setup packet ended bytes came a b c r d = cc
-after_packet None (Some why) setup packet ended bytes came a b c r d = cc
-after_packet None None None packet ended bytes came a b c r d = cc
-after_packet None None (Some setup) None ended bytes came a b c r d = cc
+    let same_fate : fate ≡ came = cc in
+    ap (λ (x : Option Why). stage_unless x (stage_after_data fate ended)) (ap refusal_of same_setup ∙ r) ∙ ap (λ (x : Fate). stage_after_data x ended) same_fate
+after_data (Some why) first setup o ended bytes came a b c r d = cc
+after_data None (Some why) setup o ended bytes came a b c r d = cc
+after_data None None None o ended bytes came a b c r d = cc
+after_data None None (Some setup) None ended bytes came a b c r d = cc
 
 -- a data packet that is acknowledged
 pub stage-taken : (start : List ℕ) (step : Step) (past : List Step) (bytes : List ℕ) (command : Command) → EachStep IsAnswered start past → opening_of step.event ≡ None
     → stall_in step.answer ≡ None → is_empty_packet step.answer ≡ false → bytes_taken step.event step.answer ≡ Some bytes → command_in bytes ≡ Ok command
     → stage start past ≡ Taking → stage start (step ∷ past) ≡ stage_taken (changes (keymap (image_after start past)) command)
 stage-taken start step past bytes command h o s p b c t =
-    let parts : InData (first_stall (transfer past)) (setup_of past) (data_packet start past) =
-    taking_by (first_stall (transfer past)) (setup_of past) (data_packet start past) (is_ended (transfer past)) (sym (stage_is start past) ∙ t) in
+    let parts : InData (first_stall (transfer past)) (setup_of past) (data_packet start past) = in_data start past t in
     let came : DataPacket = record { bytes = bytes; image = image_after start past; since = [] } in
     let ended : (is_empty_packet step.answer || is_ended (transfer past)) ≡ false = ap (λ (x : Bool). x || is_ended (transfer past)) p ∙ taking_not_ended start past h t in
     let here : data_here (data_packet start past) step (image_after start past) ≡ Some came =
     ap (λ (d : Option DataPacket). data_here d step (image_after start past)) parts.no_packet ∙ ap (data_from (image_after start past)) b in
+    let there : done_with (opens_boot (setup_of past)) (data_fate (data_here (data_packet start past) step (image_after start past))) ≡ Some (fate_in (image_after start past) [] (command_in bytes)) =
+    ap (λ (x : Bool). done_with x (data_fate (data_here (data_packet start past) step (image_after start past)))) parts.data_due ∙ ap data_fate here in
     stage-more start step past o
-    ∙ after_packet (first_stall (transfer past)) (stall_in step.answer) (setup_of past) (data_here (data_packet start past) step (image_after start past)) (is_empty_packet step.answer || is_ended (transfer past))
-    parts.bytes came parts.no_stall s parts.setup_is parts.served here
+    ∙ after_data (first_stall (transfer past)) (stall_in step.answer) (setup_of past) (done_with (opens_boot (setup_of past)) (data_fate (data_here (data_packet start past) step (image_after start past))))
+    (is_empty_packet step.answer || is_ended (transfer past)) parts.bytes (fate_in (image_after start past) [] (command_in bytes)) parts.no_stall s parts.setup_is parts.served there
     ∙ ap (stage_after_data (fate_in (image_after start past) [] (command_in bytes))) ended
     ∙ ap (λ (r : Result Command KeymapError). stage_after_data (fate_in (image_after start past) [] r) false) c
     ∙ taken_fate (keymap (image_after start past)) command (changes (keymap (image_after start past)) command) refl
@@ -300,19 +340,14 @@ stage-taken start step past bytes command h o s p b c t =
 pub stage-told : (start : List ℕ) (step : Step) (past : List Step) → opening_of step.event ≡ None → stall_in step.answer ≡ None → is_empty_packet step.answer ≡ true
     → stage start past ≡ Status → stage start (step ∷ past) ≡ Rest
 stage-told start step past o s p t =
-    let parts : HasData (first_stall (transfer past)) (setup_of past) (data_packet start past) (is_ended (transfer past)) Status =
-    has_by (first_stall (transfer past)) (setup_of past) (data_packet start past) (is_ended (transfer past)) Status (unfold waits_or_status in refl) (sym (stage_is start past) ∙ t) in
-    let came : DataPacket = record { bytes = parts.came.bytes; image = parts.came.image; since = step ∷ parts.came.since } in
-    let was : fate_in parts.came.image parts.came.since (command_in parts.came.bytes) ≡ settled =
-    (status_parts (fate_in parts.came.image parts.came.since (command_in parts.came.bytes)) (is_ended (transfer past)) parts.stage_is_now).0 in
-    let now : fate_in parts.came.image (step ∷ parts.came.since) (command_in parts.came.bytes) ≡ settled =
-    fate_in-more parts.came.image step parts.came.since (command_in parts.came.bytes) ∙ ap (ended_by step.answer) was ∙ ended_by-settled step.answer in
-    let here : data_here (data_packet start past) step (image_after start past) ≡ Some came = ap (λ (d : Option DataPacket). data_here d step (image_after start past)) parts.packet_is in
+    let parts : HasData (first_stall (transfer past)) (setup_of past) (progress start past) (is_ended (transfer past)) Status =
+    has_by (first_stall (transfer past)) (setup_of past) (progress start past) (is_ended (transfer past)) Status (unfold waits_or_status in refl) (sym (stage_is start past) ∙ t) in
+    let now : done_with (opens_boot (setup_of past)) (data_fate (data_here (data_packet start past) step (image_after start past))) ≡ Some settled =
+    done_more (opens_boot (setup_of past)) (data_packet start past) step (image_after start past) (status_settled start past t).is_settled in
     let ended : (is_empty_packet step.answer || is_ended (transfer past)) ≡ true = ap (λ (x : Bool). x || is_ended (transfer past)) p in
     stage-more start step past o
-    ∙ after_packet (first_stall (transfer past)) (stall_in step.answer) (setup_of past) (data_here (data_packet start past) step (image_after start past)) (is_empty_packet step.answer || is_ended (transfer past))
-    parts.bytes came parts.no_stall s parts.setup_is parts.served here
-    ∙ ap (λ (f : Fate). stage_after_data f (is_empty_packet step.answer || is_ended (transfer past))) now
+    ∙ after_data (first_stall (transfer past)) (stall_in step.answer) (setup_of past) (done_with (opens_boot (setup_of past)) (data_fate (data_here (data_packet start past) step (image_after start past))))
+    (is_empty_packet step.answer || is_ended (transfer past)) parts.bytes settled parts.no_stall s parts.setup_is parts.served now
     ∙ ap (stage_after_data settled) ended
 
 -- what the end of a command makes of the stage
@@ -338,27 +373,33 @@ settled_setup : (su : Option (List ℕ)) (a b : Stage) → b ≡ stage_settled a
 settled_setup None a b e = refl
 settled_setup (Some bytes) a b e = settled_unless (refusal_of bytes) a b e
 
+-- the data of a transfer when the command settles
+settled_data : (b : Bool) (d : Option DataPacket) (step : Step) (image : List ℕ) (ended : Bool) → bytes_taken step.event step.answer ≡ None → step.answer ≡ Worked Settled
+    → (ended ≡ true → done_with b (data_fate d) ≡ Some settled)
+    → stage_of_data (done_with b (data_fate (data_here d step image))) ended ≡ stage_settled (stage_of_data (done_with b (data_fate d)) ended)
+settled_data true d step image true n a h = refl
+settled_data true d step image false n a h = refl
+settled_data false None step image ended n a h = rw n refl
+settled_data false (Some packet) step image ended n a h =
+    let more : fate_in packet.image (step ∷ packet.since) (command_in packet.bytes) ≡ ended_by (Worked Settled) (fate_in packet.image packet.since (command_in packet.bytes)) =
+    fate_in-more packet.image step packet.since (command_in packet.bytes) ∙ ap (λ (x : Answer). ended_by x (fate_in packet.image packet.since (command_in packet.bytes))) a in
+    ap (λ (f : Fate). stage_after_data f ended) more
+    ∙ settled_fate (fate_in packet.image packet.since (command_in packet.bytes)) ended (λ t. some_fate (fate_in packet.image packet.since (command_in packet.bytes)) (h t))
+  where
+    some_fate : (f : Fate) → Some f ≡ Some settled → f ≡ settled
+    some_fate f e = cc
+
 -- a step of the flash work that settles the command
 pub stage-settled : (start : List ℕ) (step : Step) (past : List Step) → EachStep IsAnswered start past → opening_of step.event ≡ None → bytes_taken step.event step.answer ≡ None
     → step.answer ≡ Worked Settled → stage start (step ∷ past) ≡ stage_settled (stage start past)
 stage-settled start step past h o n a =
     let stalls_none : stall_in step.answer ≡ None = rw a refl in
     let not_empty : is_empty_packet step.answer ≡ false = rw a refl in
+    let data_before : Stage = stage_of_data (progress start past) (is_ended (transfer past)) in
+    let data_after : Stage = stage_of_data (done_with (opens_boot (setup_of past)) (data_fate (data_here (data_packet start past) step (image_after start past)))) (is_ended (transfer past)) in
     stage-more start step past o
     ∙ rw (stalls_none, not_empty, first_of-none (first_stall (transfer past)))
-    (settled_unless (first_stall (transfer past)) (stage_of_setup (setup_of past) (stage_of_data (data_packet start past) (is_ended (transfer past))))
-    (stage_of_setup (setup_of past) (stage_of_data (data_here (data_packet start past) step (image_after start past)) (is_ended (transfer past))))
-    (settled_setup (setup_of past) (stage_of_data (data_packet start past) (is_ended (transfer past))) (stage_of_data (data_here (data_packet start past) step (image_after start past)) (is_ended (transfer past)))
-    (by_packet (data_packet start past) refl)))
+    (settled_unless (first_stall (transfer past)) (stage_of_setup (setup_of past) data_before) (stage_of_setup (setup_of past) data_after)
+    (settled_setup (setup_of past) data_before data_after
+    (settled_data (opens_boot (setup_of past)) (data_packet start past) step (image_after start past) (is_ended (transfer past)) n a (λ t. (ended_settled start past h t).is_settled))))
     ∙ ap stage_settled (sym (stage_is start past))
-  where
-    by_packet : (d : Option DataPacket) → data_packet start past ≡ d → stage_of_data (data_here d step (image_after start past)) (is_ended (transfer past)) ≡ stage_settled (stage_of_data d (is_ended (transfer past)))
-    by_packet None d = rw n refl
-    by_packet (Some packet) d =
-        let more : fate_in packet.image (step ∷ packet.since) (command_in packet.bytes) ≡ ended_by (Worked Settled) (fate_in packet.image packet.since (command_in packet.bytes)) =
-        fate_in-more packet.image step packet.since (command_in packet.bytes) ∙ ap (λ (x : Answer). ended_by x (fate_in packet.image packet.since (command_in packet.bytes))) a in
-        ap (λ (f : Fate). stage_after_data f (is_ended (transfer past))) more
-        ∙ settled_fate (fate_in packet.image packet.since (command_in packet.bytes)) (is_ended (transfer past))
-        (λ t. let s : EndedSettled start past = ended_settled start past h t in
-        let same : s.came ≡ packet = some_same (data_packet start past) s.came packet s.packet_is d in
-        subst (λ (p : DataPacket). fate_in p.image p.since (command_in p.bytes) ≡ settled) same s.is_settled)

@@ -1,5 +1,5 @@
 -- The packet of the data stage.
-use Rattle.std.proofs.Common.{◌≡◌, ◌≢◌, ℕ, ◌+◌, ◌*◌, ◌<◌, Bool, true, false, if◌then◌else◌, is_some, Option, Some, None, Result, Ok, Err, MatchResult, List, ◌∷◌, length, drop, get_or, slice_index, refl, ap, sym, ◌∙◌, subst, arith, inl, inr}
+use Rattle.std.proofs.Common.{◌≡◌, ◌≢◌, ℕ, ◌+◌, ◌*◌, ◌<◌, ◌≤◌, IsSome, ◌^◌, ◌↔◌, Bool, true, false, if◌then◌else◌, is_some, Option, Some, None, Result, Ok, Err, MatchResult, List, ◌∷◌, length, drop, get_or, slice_index, refl, ap, sym, ◌∙◌, subst, arith, inl, inr}
 use Rattle.std.proofs.lemmas.Bool.{cases_lt, cases_eq}
 use Rattle.std.proofs.lemmas.List.{get_or-drop}
 use Rattle.arrayvec.specs.ArrayVec.{ArrayVec}
@@ -9,22 +9,29 @@ use Rattle.layers.specs.Entries.{ChangesNothing, ChangesSome}
 use Rattle.layers.specs.declared.code.KeymapError.{KeymapError}
 use Rattle.layers.specs.declared.command.Command.{Command}
 use Rattle.page_turnover.specs.Usable.{IsUsable}
+use Rattle.page_turnover.specs.Turn.{next_seq}
 use Rattle.world.specs.declared.event.Event.TheVariants.{OutPacket}
 use Rattle.world.specs.declared.event.Answer.{Answer}
-use Rattle.world.specs.declared.event.Answer.TheVariants.{Ack, Nak, Packet, Stall, Worked, Restarted, EntryIs, SlotIs, NoSlot}
+use Rattle.world.specs.declared.event.Answer.TheVariants.{Done, Ack, Nak, Packet, Stall, Sent, Worked, Restarted, EntryIs, SlotIs, NoSlot}
 use Rattle.world.specs.declared.event.Why.{Why}
 use Rattle.world.specs.declared.event.Why.TheVariants.{UnknownReport, ShortData, LongData}
 use Rattle.world.specs.declared.transfer.Stage.{Stage}
 use Rattle.world.specs.declared.transfer.Stage.TheVariants.{Taking, Waiting, Status, Stalled}
 use Rattle.world.specs.History.{Step, image_after, keymap}
 use Rattle.world.specs.Fate.{changes}
-use Rattle.world.specs.Feature.{Where, yes, no, why_not, report_length, report_id, TakesRecord, FeatureAnswer, ReadAnswer, CommandAnswer, command_in}
+use Rattle.world.specs.Feature.{Where, yes, no, why_not, report_length, report_id, FeatureAnswer, ReadAnswer, CommandAnswer, command_in}
 use Rattle.world.specs.Transfer.{stage}
 use Rattle.world.specs.Commands.{accepts, working}
 use Rattle.world.specs.Lawful.{OutAnswer}
-use Rattle.world.specs.Holds.{Holds}
-use Rattle.world.specs.Value.{WorldValue}
+use Rattle.keymap_store.specs.Store.{Mirrors}
+use Rattle.keymap_store.specs.Submits.{IsWorn, HasPlace}
+use Rattle.world.specs.Value.{WorldValue, at_work}
 use Rattle.world.specs.Stands.{StandsFor, TakesCommand}
+use Rattle.world.specs.Bounded.{most_steps, steps_since}
+use Rattle.keymap_store.specs.Left.{left, Needs}
+use Rattle.world.specs.Writes.{accepted_image}
+use Rattle.world.proofs.Bounding.{in_time, steps_since-none, nothing_left, accepted_image-now, writes_none, nothing_needed}
+use Rattle.world.proofs.Keeping.{KeysStand, SameKeys, keys_kept}
 use Rattle.world.proofs.Changing.{changes-some, changes-nothing}
 use Rattle.world.proofs.Sessions.{orderly, working_after, after_takes, AfterTaken, now_works, changed_nothing}
 use Rattle.world.proofs.Stages.{stage-taken, stage_taken}
@@ -111,14 +118,14 @@ pub stands_refused : (start : List ℕ) (past : List Step) (packet : ArrayVec �
 stands_refused start past packet why result old s e r f =
     stands_out start past packet why Taking old s e (λ v g. cc) (refused_packet (image_after start past) (is_some (working start past)) packet.items why result r f)
 
-not_working : (start : List ℕ) (past : List Step) (old : WorldValue) → StandsFor start past old → old.store.working ≡ None → is_some (working start past) ≡ true → ⊥
+not_working : (start : List ℕ) (past : List Step) (old : WorldValue) → StandsFor start past old → at_work old ≡ None → is_some (working start past) ≡ true → ⊥
 not_working start past old s n b =
     let none : working start past ≡ None = sym s.works ∙ n in
     let bad : is_some (working start past) ≡ false = rw none refl in
     cc
 
 -- numbers that are no command
-pub stands_unread : (start : List ℕ) (past : List Step) (packet : ArrayVec ℕ) (payload : List ℕ) (why : Why) (old : WorldValue) → StandsFor start past old → old.stage ≡ Taking → old.store.working ≡ None
+pub stands_unread : (start : List ℕ) (past : List Step) (packet : ArrayVec ℕ) (payload : List ℕ) (why : Why) (old : WorldValue) → StandsFor start past old → old.stage ≡ Taking → at_work old ≡ None
     → IsFeature packet.items payload → ReadsError (command_in packet.items) why → StandsFor start (step_of (OutPacket packet) (Stall why) old ∷ past) (in_stage (Stalled why) old)
 stands_unread start past packet payload why old s e n f r =
     stands_out start past packet why Taking old s e (λ v g. cc)
@@ -126,10 +133,10 @@ stands_unread start past packet payload why old s e n f r =
     (no (not_working start past old s n) (subst (λ (x : Result Command KeymapError). ReadAnswer (image_after start past) x (Stall why)) (sym r.is) (ap Stall r.why_is))))
 
 -- the device is busy
-pub stands_busy : (start : List ℕ) (past : List Step) (packet : ArrayVec ℕ) (payload : List ℕ) (old : WorldValue) → StandsFor start past old → old.stage ≡ Taking → is_some old.store.working ≡ true
+pub stands_busy : (start : List ℕ) (past : List Step) (packet : ArrayVec ℕ) (payload : List ℕ) (old : WorldValue) → StandsFor start past old → old.stage ≡ Taking → is_some (at_work old) ≡ true
     → IsFeature packet.items payload → StandsFor start (step_of (OutPacket packet) Nak old ∷ past) old
 stands_busy start past packet payload old s e b f =
-    stands_quiet start past (OutPacket packet) Nak old s (record { goes_on = refl; opens_none = refl; ends_none = record { keeps = λ x. refl }; takes_none = refl }) refl refl (
+    stands_quiet start past (OutPacket packet) Nak old s (record { goes_on = refl; opens_none = refl; ends_none = record { keeps = λ x. refl }; takes_none = refl; keeps = record { calls = λ boot entries protocol calls. refl; protocol = λ boot before. refl }; no_work = λ count. refl }) refl refl (
       subst (λ (x : Stage). OutAnswer x (image_after start past) (working start past) packet.items Nak) (sym e ∙ s.transfer)
           (past_checks (image_after start past) (is_some (working start past)) packet.items payload Nak f (yes (ap is_some (sym s.works) ∙ b) refl)),
       s.flash,
@@ -139,24 +146,52 @@ stage_if : (b : Bool) → stage_taken b ≡ (if b then Waiting else Status)
 stage_if true = refl
 stage_if false = refl
 
+plus_none : (n : ℕ) → n ≡ n + 0
+plus_none n = omega arith
+
+-- only stage and store are new
+keys_of : (new old : WorldValue) → new ≡ record old { stage = new.stage; store = new.store } → SameKeys new old
+keys_of new old o = record { opened = ap (λ (w : WorldValue). w.opened_boot) o; protocol = ap (λ (w : WorldValue). w.protocol) o; matrix = ap (λ (w : WorldValue). w.matrix) o }
+
 -- a command that is handed in
-acked : (start : List ℕ) (past : List Step) (packet : ArrayVec ℕ) (payload : List ℕ) (command : Command) (old new : WorldValue) → StandsFor start past old → old.stage ≡ Taking → old.store.working ≡ None
+acked : (start : List ℕ) (past : List Step) (packet : ArrayVec ℕ) (payload : List ℕ) (command : Command) (old new : WorldValue) → StandsFor start past old → old.stage ≡ Taking → at_work old ≡ None
     → IsFeature packet.items payload → command_in packet.items ≡ Ok command → TakesCommand old.flash.image command Ack old new
     → StandsFor start (step_of (OutPacket packet) Ack new ∷ past) new
 unfolding accepts
 acked start past packet payload command old new s e n f c t =
     let step : Step = step_of (OutPacket packet) Ack new in
-    let same : new.flash.image ≡ image_after start past = ap (λ (x : SimValue). x.image) t.flash ∙ s.flash in
+    let flash : new.flash ≡ old.flash = ap (λ (w : WorldValue). w.flash) t.only in
+    let same : new.flash.image ≡ image_after start past = ap (λ (x : SimValue). x.image) flash ∙ s.flash in
+    let keys : KeysStand start (step ∷ past) new = keys_kept start past step new old s refl (record { calls = λ boot entries protocol calls. refl; protocol = λ boot before. refl }) (keys_of new old t.only) in
     let taking : stage start past ≡ Taking = sym s.transfer ∙ e in
     let accepted : accepts start past step ≡ Some command = rw (taking, c) refl in
     let change : changes (keymap old.flash.image) command ≡ changes (keymap (image_after start past)) command = ap (λ (image : List ℕ). changes (keymap image) command) s.flash in
+    let works : at_work new ≡ working start (step ∷ past) =
+    t.outcome.1 ∙ ap (λ (b : Bool). if b then Some command else None) change
+    ∙ by_taken (after_takes start past step command (orderly start past s.answered) refl (record { keeps = λ x. refl }) accepted same (not_working start past old s n)) in
+    let left_now : IsSome (at_work new) → left new.flash.image new.store + steps_since start (step ∷ past) ≤ most_steps =
+    λ w. subst (λ (c : ℕ). left new.flash.image new.store + c ≤ most_steps) (sym (steps_since-none start step past command accepted))
+    (let few : left old.flash.image new.store ≤ 387 = t.few in
+    let here : left new.flash.image new.store ≡ left old.flash.image new.store = ap (λ (x : SimValue). left x.image new.store) flash in
+    omega (arith, few, here)) in
     record {
       flash = refl;
-      store = subst (λ (image : List ℕ). Holds image new.store) (sym (ap (λ (x : SimValue). x.image) t.flash)) t.holds;
-      works = t.outcome.1 ∙ ap (λ (b : Bool). if b then Some command else None) change
-          ∙ by_taken (after_takes start past step command (orderly start past s.answered) refl (record { keeps = λ x. refl }) accepted same (not_working start past old s n));
+      store = subst (λ (image : List ℕ). Mirrors image new.store) (sym (ap (λ (x : SimValue). x.image) flash)) t.mirrors;
+      works = works;
       transfer = t.outcome.0 ∙ ap (λ (b : Bool). if b then Waiting else Status) change ∙ sym (stage_if (changes (keymap (image_after start past)) command))
           ∙ sym (stage-taken start step past packet.items command s.answered refl refl refl refl c taking);
+      opened = keys.opened;
+      protocol = keys.protocol;
+      keys = keys.keys;
+      few = left_now;
+      in_time = (in_time start (step ∷ past) new.flash.image new works left_now, s.in_time);
+      needs =
+          λ w. subst (λ (image : List ℕ). Needs image (left new.flash.image new.store + steps_since start (step ∷ past))) (sym (accepted_image-now start step past command accepted))
+          (subst (λ (c : ℕ). Needs (image_after start past) (left new.flash.image new.store + c)) (sym (steps_since-none start step past command accepted))
+          (subst (λ (c : ℕ). Needs (image_after start past) c) (plus_none (left new.flash.image new.store))
+          (subst (λ (x : SimValue). Needs (image_after start past) (left x.image new.store)) (sym flash)
+          (subst (λ (image : List ℕ). Needs image (left old.flash.image new.store)) s.flash (t.needs w)))));
+      writes = (writes_none start past step (λ count. refl), s.writes);
       answered = (
         (
           subst (λ (x : Stage). OutAnswer x (image_after start past) (working start past) packet.items Ack) (sym taking)
@@ -175,33 +210,42 @@ acked start past packet payload command old new s e n f c t =
     by_taken (changed_nothing b h) = rw b (sym (working_after start past (step_of (OutPacket packet) Ack new) None h))
 
 -- a world by its fields
-world_is : (new old : WorldValue) (now : Stage) → new.stage ≡ now → new.flash ≡ old.flash → (let w : WorldValue = record { stage = now; store = new.store; flash = old.flash } in new ≡ w)
-world_is new old now s f = ap (λ (x : Stage). let w : WorldValue = record { stage = x; store = new.store; flash = new.flash } in w) s ∙ ap (λ (x : SimValue). let w : WorldValue = record { stage = now; store = new.store; flash = x } in w) f
+world_is : (new old : WorldValue) (now : Stage) → new ≡ record old { stage = new.stage; store = new.store } → new.stage ≡ now → new ≡ record old { stage = now; store = new.store }
+world_is new old now o s = o ∙ ap (λ (x : Stage). record old { stage = x; store = new.store }) s
 
-refused_command : (start : List ℕ) (past : List Step) (packet : ArrayVec ℕ) (payload : List ℕ) (command : Command) (why : Why) (old new : WorldValue) → StandsFor start past old → old.stage ≡ Taking → old.store.working ≡ None
+refused_command : (start : List ℕ) (past : List Step) (packet : ArrayVec ℕ) (payload : List ℕ) (command : Command) (why : Why) (old new : WorldValue) → StandsFor start past old → old.stage ≡ Taking → at_work old ≡ None
     → IsFeature packet.items payload → command_in packet.items ≡ Ok command → TakesCommand old.flash.image command (Stall why) old new
     → StandsFor start (step_of (OutPacket packet) (Stall why) new ∷ past) new
 refused_command start past packet payload command why old new s e n f c t =
-    let mid : WorldValue = record { stage = old.stage; store = new.store; flash = old.flash } in
+    let mid : WorldValue = record old { store = new.store } in
     let before : StandsFor start past mid = record {
       flash = s.flash;
-      store = subst (λ (image : List ℕ). Holds image new.store) s.flash t.holds;
+      store = subst (λ (image : List ℕ). Mirrors image new.store) s.flash t.mirrors;
       works = t.outcome.1 ∙ sym n ∙ s.works;
       transfer = s.transfer;
+      opened = s.opened;
+      protocol = s.protocol;
+      keys = s.keys;
+      few = λ w. nothing_left (at_work mid) (left (image_after start past) new.store + steps_since start past) t.outcome.1 w;
+      needs = λ w. nothing_needed (at_work mid) (Needs (accepted_image start past) (left (image_after start past) new.store + steps_since start past)) t.outcome.1 w;
+      writes = s.writes;
       answered = s.answered;
+      in_time = s.in_time;
     } in
     let told : StandsFor start (step_of (OutPacket packet) (Stall why) mid ∷ past) (in_stage (Stalled why) mid) =
     stands_out start past packet why Taking mid before e (λ v g. cc)
     (past_checks (image_after start past) (is_some (working start past)) packet.items payload (Stall why) f
     (no (not_working start past old s n) (subst (λ (x : Result Command KeymapError). ReadAnswer (image_after start past) x (Stall why)) (sym c)
     (subst (λ (image : List ℕ). CommandAnswer image command (Stall why)) s.flash t.answer_is)))) in
-    stands_after_stall start past (OutPacket packet) why (Stall why) mid new refl (world_is new old (Stalled why) t.outcome.0 t.flash) told
+    stands_after_stall start past (OutPacket packet) why (Stall why) mid new refl (world_is new old (Stalled why) t.only t.outcome.0) told
 
-pub stands_command : (start : List ℕ) (past : List Step) (packet : ArrayVec ℕ) (payload : List ℕ) (command : Command) (answer : Answer) (old new : WorldValue) → StandsFor start past old → old.stage ≡ Taking → old.store.working ≡ None
+pub stands_command : (start : List ℕ) (past : List Step) (packet : ArrayVec ℕ) (payload : List ℕ) (command : Command) (answer : Answer) (old new : WorldValue) → StandsFor start past old → old.stage ≡ Taking → at_work old ≡ None
     → IsFeature packet.items payload → command_in packet.items ≡ Ok command → TakesCommand old.flash.image command answer old new
     → StandsFor start (step_of (OutPacket packet) answer new ∷ past) new
 stands_command start past packet payload command Ack old new s e n f c t = acked start past packet payload command old new s e n f c t
 stands_command start past packet payload command (Stall why) old new s e n f c t = refused_command start past packet payload command why old new s e n f c t
+stands_command start past packet payload command Done old new s e n f c t = absurd t.outcome
+stands_command start past packet payload command (Sent bytes reading) old new s e n f c t = absurd t.outcome
 stands_command start past packet payload command Nak old new s e n f c t = absurd t.outcome
 stands_command start past packet payload command (Packet p) old new s e n f c t = absurd t.outcome
 stands_command start past packet payload command (Worked work) old new s e n f c t = absurd t.outcome
@@ -214,23 +258,31 @@ some_and_nothing : (entries : ℕ → ℕ → ℕ) (command : Command) → Chang
 some_and_nothing entries command s n = s.differs (n.each s.layer s.key s.in_layers s.in_keys)
 
 -- a command that changes nothing, and one that works
-pub takes_settled : (image : List ℕ) (command : Command) (old new : WorldValue) → Holds image new.store → new.flash ≡ old.flash → IsUsable image → ChangesNothing (keymap image) command
-    → new.stage ≡ Status → new.store.working ≡ None → TakesCommand image command Ack old new
-takes_settled image command old new h f u n s w =
+pub takes_settled : (image : List ℕ) (command : Command) (old new : WorldValue) → Mirrors image new.store → left image new.store ≤ most_steps → (IsSome (at_work new) → Needs image (left image new.store)) → new ≡ record old { stage = new.stage; store = new.store } → IsUsable image → ChangesNothing (keymap image) command
+    → new.stage ≡ Status → at_work new ≡ None → TakesCommand image command Ack old new
+takes_settled image command old new h m k f u n s w =
     let nothing : changes (keymap image) command ≡ false = changes-nothing (keymap image) command n in
-    record { answer_is = no (λ v. v u) (yes n refl); holds = h; flash = f; outcome = (rw nothing s, rw nothing w) }
+    record { answer_is = no (λ v. v u) (yes n refl); mirrors = h; few = m; needs = k; only = f; outcome = (rw nothing s, rw nothing w) }
 
-pub takes_working : (image : List ℕ) (command : Command) (old new : WorldValue) → Holds image new.store → new.flash ≡ old.flash → IsUsable image → ChangesSome (keymap image) command → TakesRecord image
-    → new.stage ≡ Waiting → new.store.working ≡ Some command → TakesCommand image command Ack old new
-takes_working image command old new h f u c r s w =
+pub takes_working : (image : List ℕ) (command : Command) (old new : WorldValue) → Mirrors image new.store → left image new.store ≤ most_steps → (IsSome (at_work new) → Needs image (left image new.store)) → new ≡ record old { stage = new.stage; store = new.store } → IsUsable image → ChangesSome (keymap image) command → (IsWorn image → ⊥)
+    → new.stage ≡ Waiting → at_work new ≡ Some command → TakesCommand image command Ack old new
+takes_working image command old new h m k f u c r s w =
     let something : changes (keymap image) command ≡ true = changes-some (keymap image) command c in
     record {
-      answer_is = no (λ v. v u) (no (some_and_nothing (keymap image) command c) (no (λ v. v r) refl));
-      holds = h;
-      flash = f;
+      answer_is = no (λ v. v u) (no (some_and_nothing (keymap image) command c) (no r refl));
+      mirrors = h;
+      few = m;
+      needs = k;
+      only = f;
       outcome = (rw something s, rw something w);
     }
 
-pub not_busy : (w : Option Command) → is_some w ≡ false → w ≡ None
-not_busy None e = refl
-not_busy (Some command) e = cc
+pub is_busy : (w : Option Command) (b : Bool) → ((b ≡ false) ↔ (w ≡ None)) → b ≡ true → is_some w ≡ true
+is_busy (Some command) b i e = refl
+is_busy None b i e = (let f : b ≡ false = i.1 refl in cc)
+
+-- a flash with room for a record, or for a turn that makes it, is not worn
+pub not_worn : (image : List ℕ) → HasPlace image → IsWorn image → ⊥
+unfolding next_seq
+not_worn image (inl room) w = w.full room
+not_worn image (inr (full, can)) w = (let low : next_seq image < 2 ^ 28 = can.numbered in let is : next_seq image ≡ 2 ^ 28 = rw w.last refl in absurd (omega arith))

@@ -1,25 +1,24 @@
 -- What the host was told is stored stays stored.
-use Rattle.std.proofs.Common.{◌≡◌, ℕ, ◌<◌, true, Option, Some, None, Result, Ok, Err, List, [], ◌∷◌, ◌++◌, refl, sym, ◌∙◌, append_assoc, subst, arith}
-use Rattle.std.proofs.lemmas.Bool.Decides.{nat_tests}
+use Rattle.std.proofs.Common.{◌≡◌, ℕ, ◌<◌, true, Option, Some, None, Result, Ok, Err, List, [], ◌∷◌, ◌++◌, refl, sym, ◌∙◌, append_assoc, subst, ap}
 use Rattle.layers.specs.Codes.{layers, keys}
 use Rattle.layers.specs.Entries.{written}
 use Rattle.layers.specs.declared.code.KeymapError.{KeymapError}
 use Rattle.layers.specs.declared.command.Command.{Command}
 use Rattle.layers.proofs.LastWriter.{changed-one}
 use Rattle.world.specs.declared.event.Event.{Event}
-use Rattle.world.specs.declared.event.Event.TheVariants.{Setup, OutPacket, InPacket, Work, Cut, Entry, SlotAt}
+use Rattle.world.specs.declared.event.Event.TheVariants.{Scan, Setup, OutPacket, InPacket, Poll, Work, Cut, Entry, SlotAt}
 use Rattle.world.specs.declared.event.Answer.{Answer}
 use Rattle.world.specs.declared.transfer.Stage.{Stage}
 use Rattle.world.specs.declared.transfer.Stage.TheVariants.{Rest, Taking, Waiting, Status, Stalled}
 use Rattle.world.specs.History.{Step, image_after, is_start, keymap, EachStep}
 use Rattle.world.specs.Fate.{Fate, works, settled, fate}
 use Rattle.world.specs.Feature.{command_in}
-use Rattle.world.specs.Transfer.{stage, opening_of, data_packet, DataPacket, fate_in, bytes_taken}
+use Rattle.world.specs.Transfer.{stage, opening_of, data_packet, DataPacket, fate_in, bytes_taken, setup_of, opens_boot}
 use Rattle.world.specs.Commands.{accepts, working, in_data_stage, command_of_bytes, command_of_read}
 use Rattle.world.specs.Lawful.{IsAnswered}
-use Rattle.world.specs.Acknowledged.{SameTransfer, Leaves, NoneAcceptedWrites, IsAcknowledged, KeepsAcknowledged}
+use Rattle.world.specs.Acknowledged.{SameTransfer, Leaves, NoneAcceptedWrites, KeepsAcknowledged}
 use Rattle.world.proofs.Accepting.{fate-more, accepts-none}
-use Rattle.world.proofs.Stages.{no_packet, packet_settled}
+use Rattle.world.proofs.Stages.{no_packet, not_boot, packet_settled}
 use Rattle.world.proofs.Changing.{changes-false}
 use Rattle.world.proofs.Effects.{Effect, stays, starts, takes, settles, effect}
 use Rattle.world.proofs.Sessions.{Orderly, orderly, working_after, after_stays, after_starts, after_takes, after_settles, AfterTaken, now_works, changed_nothing}
@@ -67,7 +66,9 @@ stored start (step ∷ later) past layer key code l k h n s =
 taken_opens_none : (event : Event) (answer : Answer) (bytes : List ℕ) → bytes_taken event answer ≡ Some bytes → opening_of event ≡ None
 taken_opens_none (Setup b) answer bytes e = cc
 taken_opens_none (OutPacket packet) answer bytes e = refl
+taken_opens_none (Scan scan) answer bytes e = refl
 taken_opens_none InPacket answer bytes e = refl
+taken_opens_none Poll answer bytes e = refl
 taken_opens_none Work answer bytes e = refl
 taken_opens_none Cut answer bytes e = cc
 taken_opens_none (Entry layer key) answer bytes e = refl
@@ -76,7 +77,9 @@ taken_opens_none (SlotAt page slot) answer bytes e = refl
 start_opens : (event : Event) → is_start event ≡ true → opening_of event ≡ None → ⊥
 start_opens (Setup b) s e = cc
 start_opens (OutPacket packet) s e = cc
+start_opens (Scan scan) s e = cc
 start_opens InPacket s e = cc
+start_opens Poll s e = cc
 start_opens Work s e = cc
 start_opens Cut s e = cc
 start_opens (Entry layer key) s e = cc
@@ -85,7 +88,9 @@ start_opens (SlotAt page slot) s e = cc
 start_takes_none : (event : Event) (answer : Answer) → is_start event ≡ true → bytes_taken event answer ≡ None
 start_takes_none (Setup b) answer s = cc
 start_takes_none (OutPacket packet) answer s = cc
+start_takes_none (Scan scan) answer s = cc
 start_takes_none InPacket answer s = cc
+start_takes_none Poll answer s = cc
 start_takes_none Work answer s = cc
 start_takes_none Cut answer s = refl
 start_takes_none (Entry layer key) answer s = cc
@@ -130,6 +135,10 @@ packet_since : (start : List ℕ) (between before : List Step) (step : Step) (by
 packet_since start [] before step bytes s o n b = rw (o, n, b) refl
 packet_since start (next ∷ between) before step bytes s o n b =
     rw (s.0, packet_since start between before step bytes s.1 o n b) refl
+
+setup_since : (between before : List Step) (step : Step) → SameTransfer between → opening_of step.event ≡ None → setup_of (between ++ step ∷ before) ≡ setup_of before
+setup_since [] before step s o = rw o refl
+setup_since (next ∷ between) before step s o = rw s.0 (setup_since between before step s.1 o)
 
 -- the command waits for its record, or is stored
 data Told (start : List ℕ) (past : List Step) (before : List Step) (between : List Step) (layer key code : ℕ) (asked : Command) : Type 0 where
@@ -194,7 +203,7 @@ told_stored start between before step layer key code asked a t e (waits f w) =
     let packet : DataPacket = record { bytes = took.bytes; image = image_after start before; since = between } in
     let d : data_packet start (between ++ step ∷ before) ≡ Some packet =
     packet_since start between before step took.bytes t (taken_opens_none step.event step.answer took.bytes took.taken) (no_packet start before took.taking) took.taken in
-    let done : fate_in (image_after start before) between (command_in took.bytes) ≡ settled = packet_settled start (between ++ step ∷ before) packet d e in
+    let done : fate_in (image_after start before) between (command_in took.bytes) ≡ settled = packet_settled start (between ++ step ∷ before) packet d (ap opens_boot (setup_since between before step t (taken_opens_none step.event step.answer took.bytes took.taken)) ∙ not_boot start before took.taking) e in
     absurd (settled_not_works (fate (keymap (image_after start before)) asked between) f
     (sym (fate_read (image_after start before) between (command_in took.bytes) asked took.carried) ∙ done))
 

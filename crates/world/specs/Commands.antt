@@ -67,7 +67,7 @@ unless_failed failed one later = later
 unless_failed works one later = one ∷ later
 unless_failed settled one later = one ∷ later
 
--- the last of them, if it works: the device is busy then
+-- the last of them that works: the device is busy then
 abbrev pub working_one : Accepted → Option Command → Option Command
 working_one one (Some later) = Some later
 working_one one None = if_works one.fate one.command

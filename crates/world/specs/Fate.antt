@@ -3,10 +3,10 @@ use Rattle.std.specs.Prelude.{ℕ, ◌==◌, ◌||◌, Bool, false, not, if◌th
 use Rattle.layers.specs.Codes.{layers, keys}
 use Rattle.layers.specs.Entries.{changed}
 use Rattle.layers.specs.declared.command.Command.{Command}
-use Rattle.world.specs.declared.event.Work.{Work as WorkAnswer}
-use Rattle.world.specs.declared.event.Work.TheVariants.{Idle, Working, Settled, Failed}
+use Rattle.keymap_store.specs.declared.store.Work.{Work as WorkAnswer}
+use Rattle.keymap_store.specs.declared.store.Work.TheVariants.{Idle, Working, Settled, Failed}
 use Rattle.world.specs.declared.event.Answer.{Answer}
-use Rattle.world.specs.declared.event.Answer.TheVariants.{Ack, Nak, Packet, Stall, Worked, Restarted, EntryIs, SlotIs, NoSlot}
+use Rattle.world.specs.declared.event.Answer.TheVariants.{Done, Ack, Nak, Packet, Stall, Sent, Worked, Restarted, EntryIs, SlotIs, NoSlot}
 use Rattle.world.specs.History.{Step}
 
 -- it works until its record is in the flash, or until a flash fault
@@ -36,10 +36,12 @@ ended_by_work answer failed = failed
 
 abbrev pub ended_by : Answer → Fate → Fate
 ended_by (Worked work) fate = ended_by_work work fate
+ended_by Done fate = fate
 ended_by Ack fate = fate
 ended_by Nak fate = fate
 ended_by (Packet packet) fate = fate
 ended_by (Stall why) fate = fate
+ended_by (Sent bytes reading) fate = fate
 ended_by Restarted fate = fate
 ended_by (EntryIs code) fate = fate
 ended_by (SlotIs bytes) fate = fate

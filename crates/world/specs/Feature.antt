@@ -1,13 +1,12 @@
 -- The data packet of the feature report that carries a command, and the checks that it has to pass.
-use Rattle.std.specs.Prelude.{◌≡◌, ◌≢◌, ℕ, ◌+◌, ◌*◌, ◌<◌, Bool, true, None, Result, Ok, Err, List, length, slice_index}
+use Rattle.std.specs.Prelude.{◌≡◌, ◌≢◌, ℕ, ◌+◌, ◌*◌, ◌<◌, Bool, true, Result, Ok, Err, List, length, slice_index}
 use Rattle.layers.specs.Commands.{command_read}
 use Rattle.layers.specs.Entries.{ChangesNothing}
 use Rattle.layers.specs.declared.code.KeymapError.{KeymapError}
 use Rattle.layers.specs.declared.code.KeymapError.TheVariants.{BadOperation as bad_operation, BadLayer as bad_layer, BadKey as bad_key, BadCode as bad_code}
 use Rattle.layers.specs.declared.command.Command.{Command}
-use Rattle.page_turnover.specs.Active.{active}
-use Rattle.page_turnover.specs.Words.{HasRoom, IsBlank}
 use Rattle.page_turnover.specs.Usable.{IsUsable}
+use Rattle.keymap_store.specs.Submits.{IsWorn}
 use Rattle.world.specs.declared.event.Why.{Why}
 use Rattle.world.specs.declared.event.Why.TheVariants.{UnknownReport, BadOperation, BadLayer, BadKey, BadCode, Unsound, Worn, ShortData, LongData}
 use Rattle.world.specs.declared.event.Answer.{Answer}
@@ -38,17 +37,12 @@ pub data Where (p q r : Type 0) : Type 0 where
   yes : p → q → Where p q r
   no : (p → ⊥) → r → Where p q r
 
--- a record can be added without an erase or a copy: the active page has room, or there is none and page 0 is blank
-pub data TakesRecord (image : List ℕ) : Type 0 where
-  with_room : HasRoom image → TakesRecord image
-  on_blank : active image ≡ None → IsBlank image 0 → TakesRecord image
-
 -- the answer to a well-formed command on an image
 abbrev pub CommandAnswer : List ℕ → Command → Answer → Type 0
 CommandAnswer image command answer =
     Where (IsUsable image → ⊥) (answer ≡ Stall Unsound)
     (Where (ChangesNothing (keymap image) command) (answer ≡ Ack)
-    (Where (TakesRecord image → ⊥) (answer ≡ Stall Worn)
+    (Where (IsWorn image) (answer ≡ Stall Worn)
     (answer ≡ Ack)))
 
 abbrev pub ReadAnswer : List ℕ → Result Command KeymapError → Answer → Type 0

@@ -3,7 +3,7 @@ use Rattle.std.specs.Prelude.{ℕ, Bool, true, false, if◌then◌else◌, List,
 use Rattle.layers.specs.Entries.{entry}
 use Rattle.page_turnover.specs.Words.{words}
 use Rattle.world.specs.declared.event.Event.{Event}
-use Rattle.world.specs.declared.event.Event.TheVariants.{Setup, OutPacket, InPacket, Work, Cut, Entry, SlotAt}
+use Rattle.world.specs.declared.event.Event.TheVariants.{Scan, Setup, OutPacket, InPacket, Poll, Work, Cut, Entry, SlotAt}
 use Rattle.world.specs.declared.event.Answer.{Answer}
 
 -- an event, its answer, and the flash after it
@@ -24,9 +24,11 @@ keymap image = entry (words image)
 -- the device starts anew
 abbrev pub is_start : Event → Bool
 is_start Cut = true
+is_start (Scan scan) = false
 is_start (Setup bytes) = false
 is_start (OutPacket packet) = false
 is_start InPacket = false
+is_start Poll = false
 is_start Work = false
 is_start (Entry layer key) = false
 is_start (SlotAt page slot) = false

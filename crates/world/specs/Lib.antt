@@ -3,9 +3,12 @@ pub mod Feature
 pub mod Fate
 pub mod Transfer
 pub mod Commands
+pub mod Keys
+pub mod Bounded
+pub mod Counts
+pub mod Writes
 pub mod Restart
 pub mod Lawful
 pub mod Acknowledged
-pub mod Holds
 pub mod Value
 pub mod Stands

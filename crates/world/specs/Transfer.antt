@@ -4,11 +4,11 @@ use Rattle.std.specs.Str.{bytes_eq}
 use Rattle.layers.specs.declared.code.KeymapError.{KeymapError}
 use Rattle.layers.specs.declared.command.Command.{Command}
 use Rattle.world.specs.declared.event.Event.{Event}
-use Rattle.world.specs.declared.event.Event.TheVariants.{Setup, OutPacket, InPacket, Work, Cut, Entry, SlotAt}
+use Rattle.world.specs.declared.event.Event.TheVariants.{Scan, Setup, OutPacket, InPacket, Poll, Work, Cut, Entry, SlotAt}
 use Rattle.world.specs.declared.event.Answer.{Answer}
-use Rattle.world.specs.declared.event.Answer.TheVariants.{Ack, Nak, Packet, Stall, Worked, Restarted, EntryIs, SlotIs, NoSlot}
-use Rattle.world.specs.declared.event.Work.{Work as WorkAnswer}
-use Rattle.world.specs.declared.event.Work.TheVariants.{Idle, Working, Settled, Failed}
+use Rattle.world.specs.declared.event.Answer.TheVariants.{Done, Ack, Nak, Packet, Stall, Sent, Worked, Restarted, EntryIs, SlotIs, NoSlot}
+use Rattle.keymap_store.specs.declared.store.Work.{Work as WorkAnswer}
+use Rattle.keymap_store.specs.declared.store.Work.TheVariants.{Idle, Working, Settled, Failed}
 use Rattle.world.specs.declared.event.Why.{Why}
 use Rattle.world.specs.declared.event.Why.TheVariants.{UnknownRequest, FlashFault}
 use Rattle.world.specs.declared.transfer.Stage.{Stage}
@@ -21,16 +21,27 @@ use Rattle.world.specs.Fate.{Fate, works, settled, failed, fate}
 abbrev pub set_feature : List ℕ
 set_feature = 0x21 ∷ 0x09 ∷ 0x03 ∷ 0x03 ∷ 0x00 ∷ 0x00 ∷ 0x06 ∷ 0x00 ∷ []
 
--- why a SETUP packet is refused, if it is: that request alone is served
+-- SET_PROTOCOL of interface 0 to the boot protocol, which has no data stage (HID 1.11, section 7.2.6)
+abbrev pub set_boot : List ℕ
+set_boot = 0x21 ∷ 0x0b ∷ 0x00 ∷ 0x00 ∷ 0x00 ∷ 0x00 ∷ 0x00 ∷ 0x00 ∷ []
+
+-- why a SETUP packet is refused, if it is: these two requests alone are served
 abbrev pub refusal_of : List ℕ → Option Why
-refusal_of setup = if bytes_eq setup set_feature then None else Some UnknownRequest
+refusal_of setup = if bytes_eq setup set_feature || bytes_eq setup set_boot then None else Some UnknownRequest
+
+-- a transfer began with SET_PROTOCOL
+abbrev pub opens_boot : Option (List ℕ) → Bool
+opens_boot (Some setup) = bytes_eq setup set_boot
+opens_boot None = false
 
 -- an event that ends the transfer in progress, with the SETUP packet that begins the next one; a start begins none
 abbrev pub opening_of : Event → Option (Option (List ℕ))
 opening_of (Setup bytes) = Some (Some bytes)
+opening_of (Scan scan) = None
 opening_of Cut = Some None
 opening_of (OutPacket packet) = None
 opening_of InPacket = None
+opening_of Poll = None
 opening_of Work = None
 opening_of (Entry layer key) = None
 opening_of (SlotAt page slot) = None
@@ -56,9 +67,11 @@ transfer (step ∷ before) = steps_here (opening_of step.event) (step ∷ transf
 -- the reason of a stall
 abbrev pub stall_in : Answer → Option Why
 stall_in (Stall why) = Some why
+stall_in Done = None
 stall_in Ack = None
 stall_in Nak = None
 stall_in (Packet packet) = None
+stall_in (Sent bytes reading) = None
 stall_in (Worked work) = None
 stall_in Restarted = None
 stall_in (EntryIs code) = None
@@ -77,9 +90,11 @@ first_stall (step ∷ before) = first_of (first_stall before) (stall_in step.ans
 -- an IN token was answered by the empty packet
 abbrev pub is_empty_packet : Answer → Bool
 is_empty_packet (Packet packet) = length packet.items == 0
+is_empty_packet Done = false
 is_empty_packet Ack = false
 is_empty_packet Nak = false
 is_empty_packet (Stall why) = false
+is_empty_packet (Sent bytes reading) = false
 is_empty_packet (Worked work) = false
 is_empty_packet Restarted = false
 is_empty_packet (EntryIs code) = false
@@ -90,22 +105,27 @@ abbrev pub is_ended : List Step → Bool
 is_ended [] = false
 is_ended (step ∷ before) = is_empty_packet step.answer || is_ended before
 
--- the bytes of an OUT packet that was acknowledged
+-- a packet was acknowledged
 abbrev pub is_ack : Answer → Bool
 is_ack Ack = true
+is_ack Done = false
 is_ack Nak = false
 is_ack (Packet packet) = false
 is_ack (Stall why) = false
+is_ack (Sent bytes reading) = false
 is_ack (Worked work) = false
 is_ack Restarted = false
 is_ack (EntryIs code) = false
 is_ack (SlotIs bytes) = false
 is_ack NoSlot = false
 
+-- the bytes of an OUT packet that was acknowledged
 abbrev pub bytes_taken : Event → Answer → Option (List ℕ)
 bytes_taken (OutPacket packet) answer = if is_ack answer then Some packet.items else None
+bytes_taken (Scan scan) answer = None
 bytes_taken (Setup bytes) answer = None
 bytes_taken InPacket answer = None
+bytes_taken Poll answer = None
 bytes_taken Work answer = None
 bytes_taken Cut answer = None
 bytes_taken (Entry layer key) answer = None
@@ -148,9 +168,18 @@ stage_after_data failed ended = Stalled FlashFault
 stage_after_data settled true = Rest
 stage_after_data settled false = Status
 
-abbrev pub stage_of_data : Option DataPacket → Bool → Stage
+-- what has become of the command in the data packet, once that came
+abbrev pub data_fate : Option DataPacket → Option Fate
+data_fate None = None
+data_fate (Some packet) = Some (fate_in packet.image packet.since (command_in packet.bytes))
+
+-- a transfer without a data stage is done with its data from the first
+abbrev pub done_with : Bool → Option Fate → Option Fate
+done_with none_due found = if none_due then Some settled else found
+
+abbrev pub stage_of_data : Option Fate → Bool → Stage
 stage_of_data None ended = Taking
-stage_of_data (Some packet) ended = stage_after_data (fate_in packet.image packet.since (command_in packet.bytes)) ended
+stage_of_data (Some fate) ended = stage_after_data fate ended
 
 abbrev pub stage_unless : Option Why → Stage → Stage
 stage_unless (Some why) stage = Stalled why
@@ -160,14 +189,19 @@ abbrev pub stage_of_setup : Option (List ℕ) → Stage → Stage
 stage_of_setup None stage = Rest
 stage_of_setup (Some setup) stage = stage_unless (refusal_of setup) stage
 
+-- the stage that a request begins with: the status stage of one without a data stage
+abbrev pub stage_opened : Bool → Stage
+stage_opened true = Status
+stage_opened false = Taking
+
 -- the first of these that applies: a packet was stalled, the first one decides; no SETUP packet since the start; the
--- SETUP packet is refused; no data packet was acknowledged yet; its command works, or failed; the status stage was
--- answered; the status stage is still to come
+-- SETUP packet is refused; there is a data stage, and no data packet was acknowledged yet; its command works, or
+-- failed; the status stage was answered; the status stage is still to come
 unfoldable pub stage : List ℕ → List Step → Stage
 stage start past =
     stage_unless (first_stall (transfer past))
     (stage_of_setup (setup_of past)
-    (stage_of_data (data_packet start past) (is_ended (transfer past))))
+    (stage_of_data (done_with (opens_boot (setup_of past)) (data_fate (data_packet start past))) (is_ended (transfer past))))
 
 -- what a step of the flash work makes of the stage
 abbrev pub stage_worked : WorkAnswer → Stage → Stage

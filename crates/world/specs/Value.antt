@@ -1,10 +1,23 @@
 -- What contracts see of the world.
+use Rattle.std.specs.Prelude.{Bool, Option}
 use Rattle.flash_model.specs.Sim.{SimValue}
+use Rattle.layers.specs.declared.command.Command.{Command}
+use Rattle.reports.specs.declared.Protocol.{Protocol}
+use Rattle.matrix.specs.Value.{MatrixValue}
+use Rattle.keymap_store.specs.Value.{StoreValue}
+use Rattle.keymap_store.specs.Store.{working}
 use Rattle.world.specs.declared.transfer.Stage.{Stage}
-use Rattle.world.specs.declared.store.Store.{Store}
 
--- the stage of the transfer, the store, and the flash
+-- the stage of the transfer, whether it began with SET_PROTOCOL, the protocol in force, the keys, the store, and the
+-- flash
 pub record WorldValue : Type 0 where
   pub stage : Stage
-  pub store : Store
+  pub opened_boot : Bool
+  pub protocol : Protocol
+  pub matrix : MatrixValue
+  pub store : StoreValue
   pub flash : SimValue
+
+-- the command that works, if one does
+abbrev pub at_work : WorldValue → Option Command
+at_work world = working world.store.job

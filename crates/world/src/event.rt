@@ -1,17 +1,24 @@
 //! What happens to the device, and what comes of it.
 
 use arrayvec::ArrayVec;
+use debounce::Scan;
+use keymap_store::Work;
 use layers::{Code, KeyNo, LayerNo};
+use reports::Report;
 
 /// One step of the simulation. Each is taken whole before the next one.
 #[derive(Debug, PartialEq, Eq, Drop)]
 pub enum Event {
+    /// One scan of the matrix. One comes each millisecond.
+    Scan(Scan),
     /// A SETUP packet on endpoint 0 (USB 2.0, section 8.5.3).
     Setup([u8; 8]),
     /// An OUT data packet of at most 8 bytes on endpoint 0.
     OutPacket(ArrayVec<u8, 8>),
     /// An IN token on endpoint 0.
     InPacket,
+    /// A poll: an IN token on endpoint 1.
+    Poll,
     /// One step of the flash work: at most one flash operation.
     Work,
     /// The power is cut and comes back: all RAM is lost, and the device starts on its flash.
@@ -25,14 +32,18 @@ pub enum Event {
 /// What comes of an event.
 #[derive(Debug, PartialEq, Eq, Drop)]
 pub enum Answer {
+    /// The event was taken, and nothing comes of it at once.
+    Done,
     /// The packet was taken.
     Ack,
-    /// The device is busy: the host may try again.
+    /// Nothing to send now, or the device is busy: the host may try again.
     Nak,
     /// A data packet; without bytes, the status stage of a transfer that succeeded.
     Packet(ArrayVec<u8, 8>),
     /// The request is refused, for this reason.
     Stall(Why),
+    /// A report, and what the host reads in it.
+    Sent { bytes: Report, reading: Reading },
     /// What a step of the flash work came to.
     Worked(Work),
     /// The device started anew.
@@ -45,17 +56,11 @@ pub enum Answer {
     NoSlot,
 }
 
-/// What a step of the flash work came to.
-#[derive(Clone, Copy, Debug, PartialEq, Eq)]
-pub enum Work {
-    /// No command works, and the flash is not touched.
-    Idle,
-    /// One operation was made, and the command needs more.
-    Working,
-    /// The command's record is in the flash, and the keymap is changed.
-    Settled,
-    /// The flash answered a fault, and the command is gone.
-    Failed,
+/// What the host reads in a report.
+#[derive(Debug, PartialEq, Eq, Drop)]
+pub enum Reading {
+    /// The host did not read it.
+    Unread,
 }
 
 /// Why a packet is stalled. The number is what scripts and traces show.
@@ -83,7 +88,7 @@ pub enum Why {
     BadCode = 10,
     /// The header slot of some page is not sound, so nothing may be written.
     Unsound = 11,
-    /// There is no room for another record.
+    /// The active page is full and has the greatest sequence number.
     Worn = 12,
     /// The flash answered a fault while the command worked.
     FlashFault = 13,

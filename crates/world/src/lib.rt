@@ -1,4 +1,4 @@
-//! A keyboard's stored keymap as a host and a power supply see it: a list of events, each with its
+//! A keyboard as its keys, a host and a power supply see it: a list of events, each with its
 //! answer.
 //!
 //! `World` is the device on its simulated flash. `World::run` takes events one by one. Its contract
@@ -9,9 +9,10 @@
 mod device;
 mod event;
 pub mod laws;
-mod store;
 mod transfer;
 
+pub use debounce::Scan;
 pub use device::World;
-pub use event::{Answer, Event, Why, Work};
+pub use event::{Answer, Event, Reading, Why};
+pub use keymap_store::Work;
 pub use transfer::Stage;

@@ -1,10 +1,13 @@
-//! The control transfer on endpoint 0 that carries a command, a feature report of six bytes.
+//! The control transfers on endpoint 0 that are served: the feature report of six bytes that carries a
+//! command, and SET_PROTOCOL.
 
-ghost use Rattle.std.specs.Prelude.{◌≡◌, ◌≢◌, ◌+◌, ◌*◌, ◌<◌, Ok, Err, length, drop, slice_index, MatchResult};
+ghost use Rattle.std.specs.Prelude.{◌≡◌, ◌≢◌, ◌+◌, ◌*◌, ◌<◌, Some, Ok, Err, length, drop, slice_index, MatchResult};
 ghost use Rattle.layers.specs.Commands.{command_read};
 ghost use Rattle.world.specs.Feature.{why_not};
+ghost use Rattle.world.specs.Transfer.{opens_boot};
 
-use crate::event::{Why, Work};
+use crate::event::Why;
+use keymap_store::Work;
 use layers::{Command, KeymapError};
 
 /// The ID of the feature report.
@@ -26,15 +29,17 @@ pub enum Stage {
 }
 
 impl Stage {
-    ghost use Rattle.world.specs.Transfer.{refusal_of, stage_unless, stage_worked};
+    ghost use Rattle.world.specs.Transfer.{refusal_of, stage_unless, stage_opened, stage_worked};
 
     /// The stage after a SETUP packet. SET_REPORT of feature report 3 with six bytes (HID 1.11,
-    /// section 7.2.2) is served, every other request is not.
+    /// section 7.2.2) is served, and SET_PROTOCOL to the boot protocol (section 7.2.6), which has no
+    /// data stage; every other request is not.
     pub fn after_setup(packet: [u8; 8]) -> Stage
-        ensures { result ≡ stage_unless (refusal_of packet) Stage.Taking }
+        ensures { result ≡ stage_unless (refusal_of packet) (stage_opened (opens_boot (Some packet))) }
     {
         match packet {
             [0x21, 0x09, 0x03, 0x03, 0x00, 0x00, 0x06, 0x00] => Stage::Taking,
+            [0x21, 0x0b, 0x00, 0x00, 0x00, 0x00, 0x00, 0x00] => Stage::Status,
             _ => Stage::Stalled(Why::UnknownRequest),
         }
     }
@@ -49,6 +54,16 @@ impl Stage {
             (Stage::Waiting, Work::Failed) => Stage::Stalled(Why::FlashFault),
             (stage, _) => stage,
         }
+    }
+}
+
+/// Whether a SETUP packet is SET_PROTOCOL to the boot protocol.
+pub fn is_set_boot(packet: [u8; 8]) -> bool
+    ensures { result ≡ opens_boot (Some packet) }
+{
+    match packet {
+        [0x21, 0x0b, 0x00, 0x00, 0x00, 0x00, 0x00, 0x00] => true,
+        _ => false,
     }
 }
 

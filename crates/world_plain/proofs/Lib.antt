@@ -4,3 +4,4 @@ pub mod AcceptedLemmas
 pub mod FlashLemmas
 pub mod LawfulLemmas
 pub mod Restarts
+pub mod PollLemmas

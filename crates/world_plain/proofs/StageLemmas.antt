@@ -1,5 +1,5 @@
 -- The stage by its parts, and the data packet after one step more.
-use Rattle.std.proofs.Common.{◌≡◌, ℕ, Bool, true, false, if◌then◌else◌, is_some, Option, Some, None, Result, Ok, Err, List, [], ◌∷◌, refl, ap, sym, ◌∙◌}
+use Rattle.std.proofs.Common.{◌≡◌, ℕ, ◌||◌, Bool, true, false, if◌then◌else◌, is_some, Option, Some, None, Result, Ok, Err, List, [], ◌∷◌, refl, ap, sym, ◌∙◌}
 use Rattle.std.specs.Str.{bytes_eq}
 use Rattle.layers.specs.declared.code.KeymapError.{KeymapError}
 use Rattle.layers.specs.declared.command.Command.{Command}
@@ -11,51 +11,87 @@ use Rattle.world.specs.declared.transfer.Stage.TheVariants.{Rest, Taking, Stalle
 use Rattle.world.specs.History.{Step, image_after, keymap}
 use Rattle.world.specs.Feature.{command_in}
 use Rattle.world.specs.Fate.{Fate, works, settled, ended_by, fate}
-use Rattle.world.specs.Transfer.{set_feature, opening_of, setup_of, transfer, first_stall, is_ended, bytes_taken, DataPacket, data_packet, data_here, fate_in, stage_after_data, stage_of_data, stage_unless, stage_of_setup, stage}
+use Rattle.world.specs.Transfer.{set_feature, set_boot, refusal_of, opening_of, setup_of, transfer, first_stall, is_ended, bytes_taken, DataPacket, data_packet, data_here, data_fate, done_with, fate_in, stage_after_data, stage_of_data, stage_unless, stage}
 use Rattle.world.specs.Commands.{accepts, command_of_read, in_data_stage}
 use Rattle.layers.specs.Entries.{ChangesSome, ChangesNothing}
 use Rattle.world.proofs.Accepting.{fate-more, ended_by-settled}
 use Rattle.world.proofs.Changing.{changes-some, changes-nothing}
-use Rattle.world_plain.specs.Records.{data_fate, fate_at_first}
+use Rattle.world.proofs.Stages.{stage_by, stage_is}
+use Rattle.world_plain.specs.Records.{fate_at_first}
 
-parts : (start : List ℕ) (past : List Step) (stalled : Option Why) (setup : Option (List ℕ)) (data_stage : Stage) → first_stall (transfer past) ≡ stalled → setup_of past ≡ setup
-    → stage_of_data (data_packet start past) (is_ended (transfer past)) ≡ data_stage → stage start past ≡ stage_unless stalled (stage_of_setup setup data_stage)
-unfolding stage
-parts start past stalled setup data_stage e f g = rw (e, f, g) refl
+-- one with a SETUP packet and no stall
+by_setup : (stall : Option Why) (su : Option (List ℕ)) (d : Option DataPacket) (ended : Bool) (setup : List ℕ) → stall ≡ None → su ≡ Some setup
+    → stage_by stall su d ended ≡ stage_unless (refusal_of setup) (stage_of_data (done_with (bytes_eq setup set_boot) (data_fate d)) ended)
+by_setup stall su d ended setup e f = rw (e, f) refl
+
+opened : (start : List ℕ) (past : List Step) (setup : List ℕ) → None ≡ first_stall (transfer past) → Some setup ≡ setup_of past
+    → stage start past ≡ stage_unless (refusal_of setup) (stage_of_data (done_with (bytes_eq setup set_boot) (data_fate (data_packet start past))) (is_ended (transfer past)))
+opened start past setup e f =
+    stage_is start past ∙ by_setup (first_stall (transfer past)) (setup_of past) (data_packet start past) (is_ended (transfer past)) setup (sym e) (sym f)
+
+by_stall : (stall : Option Why) (su : Option (List ℕ)) (d : Option DataPacket) (ended : Bool) (why : Why) → stall ≡ Some why → stage_by stall su d ended ≡ Stalled why
+by_stall stall su d ended why e = rw e refl
+
+by_none : (stall : Option Why) (su : Option (List ℕ)) (d : Option DataPacket) (ended : Bool) → stall ≡ None → su ≡ None → stage_by stall su d ended ≡ Rest
+by_none stall su d ended e f = rw (e, f) refl
 
 pub stage-stalled : (start : List ℕ) (past : List Step) (why : Why) → Some why ≡ first_stall (transfer past) → Stalled why ≡ stage start past
-stage-stalled start past why e = sym (parts start past (Some why) (setup_of past) (stage_of_data (data_packet start past) (is_ended (transfer past))) (sym e) refl refl)
+stage-stalled start past why e =
+    sym (stage_is start past ∙ by_stall (first_stall (transfer past)) (setup_of past) (data_packet start past) (is_ended (transfer past)) why (sym e))
 
 pub stage-rest : (start : List ℕ) (past : List Step) → None ≡ first_stall (transfer past) → None ≡ setup_of past → Rest ≡ stage start past
-stage-rest start past e f = sym (parts start past None None (stage_of_data (data_packet start past) (is_ended (transfer past))) (sym e) (sym f) refl)
+stage-rest start past e f =
+    sym (stage_is start past ∙ by_none (first_stall (transfer past)) (setup_of past) (data_packet start past) (is_ended (transfer past)) (sym e) (sym f))
 
-served_if : (served : Bool) (setup : List ℕ) (data_stage : Stage) → served ≡ bytes_eq setup set_feature
-    → stage_of_setup (Some setup) data_stage ≡ stage_unless (if served then None else Some UnknownRequest) data_stage
-served_if served setup data_stage e = ap (λ (b : Bool). stage_unless (if b then None else Some UnknownRequest) data_stage) (sym e)
+-- a request is one of two, or is refused
+unless_one : (feature boot : Bool) (now : Stage) → (feature || boot) ≡ true → stage_unless (if feature || boot then None else Some UnknownRequest) now ≡ now
+unless_one feature boot now e = rw e refl
 
-pub stage-unknown : (start : List ℕ) (past : List Step) (setup : List ℕ) → None ≡ first_stall (transfer past) → Some setup ≡ setup_of past → false ≡ bytes_eq setup set_feature
-    → Stalled UnknownRequest ≡ stage start past
-stage-unknown start past setup e f g =
-    sym (parts start past None (Some setup) (stage_of_data (data_packet start past) (is_ended (transfer past))) (sym e) (sym f) refl
-    ∙ served_if false setup (stage_of_data (data_packet start past) (is_ended (transfer past))) g)
+unless_neither : (feature boot : Bool) (now : Stage) → feature ≡ false → boot ≡ false → stage_unless (if feature || boot then None else Some UnknownRequest) now ≡ Stalled UnknownRequest
+unless_neither feature boot now e f = rw (e, f) refl
 
-pub stage-taking : (start : List ℕ) (past : List Step) (setup : List ℕ) → None ≡ first_stall (transfer past) → Some setup ≡ setup_of past → true ≡ bytes_eq setup set_feature
-    → data_packet start past ≡ None → Taking ≡ stage start past
-stage-taking start past setup e f g d =
-    sym (parts start past None (Some setup) Taking (sym e) (sym f) (rw d refl) ∙ served_if true setup Taking g)
+second : (a b : Bool) → b ≡ true → (a || b) ≡ true
+second true b e = refl
+second false b e = e
 
-by_data : (d : Option DataPacket) (f : Fate) (ended : Bool) → data_fate d ≡ Some f → stage_of_data d ended ≡ stage_after_data f ended
-by_data None f ended e = cc
-by_data (Some packet) f ended e =
-    let same : fate_in packet.image packet.since (command_in packet.bytes) ≡ f = cc in
-    ap (λ (x : Fate). stage_after_data x ended) same
+first : (a b : Bool) → a ≡ true → (a || b) ≡ true
+first true b e = refl
+first false b e = cc
 
-pub stage-with_data : (start : List ℕ) (past : List Step) (setup : List ℕ) (f : Fate) (ended : Bool) → None ≡ first_stall (transfer past) → Some setup ≡ setup_of past
-    → true ≡ bytes_eq setup set_feature → data_fate (data_packet start past) ≡ Some f → ended ≡ is_ended (transfer past) → stage_after_data f ended ≡ stage start past
-stage-with_data start past setup f ended e h g d t =
-    sym (parts start past None (Some setup) (stage_after_data f ended) (sym e) (sym h)
-    (by_data (data_packet start past) f (is_ended (transfer past)) d ∙ ap (stage_after_data f) (sym t))
-    ∙ served_if true setup (stage_after_data f ended) g)
+pub stage-unknown : (start : List ℕ) (past : List Step) (setup : List ℕ) → None ≡ first_stall (transfer past) → Some setup ≡ setup_of past → false ≡ bytes_eq setup set_boot
+    → false ≡ bytes_eq setup set_feature → Stalled UnknownRequest ≡ stage start past
+stage-unknown start past setup e f b g =
+    sym (opened start past setup e f
+    ∙ unless_neither (bytes_eq setup set_feature) (bytes_eq setup set_boot) (stage_of_data (done_with (bytes_eq setup set_boot) (data_fate (data_packet start past))) (is_ended (transfer past))) (sym g) (sym b))
+
+-- SET_PROTOCOL is done with its data from the first
+pub stage-boot : (start : List ℕ) (past : List Step) (setup : List ℕ) (ended : Bool) → None ≡ first_stall (transfer past) → Some setup ≡ setup_of past → true ≡ bytes_eq setup set_boot
+    → ended ≡ is_ended (transfer past) → stage_after_data settled ended ≡ stage start past
+stage-boot start past setup ended e f b t =
+    sym (opened start past setup e f
+    ∙ unless_one (bytes_eq setup set_feature) (bytes_eq setup set_boot) (stage_of_data (done_with (bytes_eq setup set_boot) (data_fate (data_packet start past))) (is_ended (transfer past)))
+    (second (bytes_eq setup set_feature) (bytes_eq setup set_boot) (sym b))
+    ∙ ap (λ (x : Bool). stage_of_data (done_with x (data_fate (data_packet start past))) (is_ended (transfer past))) (sym b)
+    ∙ ap (stage_after_data settled) (sym t))
+
+-- SET_REPORT goes by its data
+by_data : (start : List ℕ) (past : List Step) (setup : List ℕ) (found : Option Fate) → None ≡ first_stall (transfer past) → Some setup ≡ setup_of past → false ≡ bytes_eq setup set_boot
+    → true ≡ bytes_eq setup set_feature → data_fate (data_packet start past) ≡ found → stage start past ≡ stage_of_data found (is_ended (transfer past))
+by_data start past setup found e f b g d =
+    opened start past setup e f
+    ∙ unless_one (bytes_eq setup set_feature) (bytes_eq setup set_boot) (stage_of_data (done_with (bytes_eq setup set_boot) (data_fate (data_packet start past))) (is_ended (transfer past)))
+    (first (bytes_eq setup set_feature) (bytes_eq setup set_boot) (sym g))
+    ∙ ap (λ (x : Bool). stage_of_data (done_with x (data_fate (data_packet start past))) (is_ended (transfer past))) (sym b)
+    ∙ ap (λ (x : Option Fate). stage_of_data x (is_ended (transfer past))) d
+
+pub stage-taking : (start : List ℕ) (past : List Step) (setup : List ℕ) → None ≡ first_stall (transfer past) → Some setup ≡ setup_of past → false ≡ bytes_eq setup set_boot
+    → true ≡ bytes_eq setup set_feature → data_packet start past ≡ None → Taking ≡ stage start past
+stage-taking start past setup e f b g d = sym (by_data start past setup None e f b g (ap data_fate d))
+
+pub stage-with_data : (start : List ℕ) (past : List Step) (setup : List ℕ) (came : Fate) (ended : Bool) → None ≡ first_stall (transfer past) → Some setup ≡ setup_of past
+    → false ≡ bytes_eq setup set_boot → true ≡ bytes_eq setup set_feature → data_fate (data_packet start past) ≡ Some came → ended ≡ is_ended (transfer past) → stage_after_data came ended ≡ stage start past
+stage-with_data start past setup came ended e f b g d t =
+    sym (by_data start past setup (Some came) e f b g d ∙ ap (stage_after_data came) (sym t))
 
 fate_in-more : (image : List ℕ) (step : Step) (since : List Step) (read : Result Command KeymapError) → fate_in image (step ∷ since) read ≡ ended_by step.answer (fate_in image since read)
 fate_in-more image step since (Ok command) = fate-more (keymap image) command step since

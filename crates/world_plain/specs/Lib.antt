@@ -1,3 +1,4 @@
 pub mod Records
 pub mod Decides
 pub mod Sessions
+pub mod Polls

@@ -5,7 +5,7 @@ use Rattle.world.specs.Commands.{Accepted}
 use Rattle.world.specs.declared.event.Answer.{Answer}
 use Rattle.world.specs.Feature.{command_in}
 use Rattle.world.specs.Fate.{Fate, works, settled, failed, ended_by}
-use Rattle.world.specs.Transfer.{DataPacket, fate_in}
+use Rattle.world.specs.Transfer.{fate_in}
 use Rattle.world_plain.specs.declared.recorded.Recorded.{Recorded}
 use Rattle.world_plain.specs.declared.recorded.Fate.{Fate as FateFound}
 use Rattle.world_plain.specs.declared.recorded.Fate.TheVariants.{Works, Settled, Failed}
@@ -34,12 +34,7 @@ taken_of (taken ∷ later) = one_of taken ∷ taken_of later
 abbrev pub end_with : Answer → Accepted → Accepted
 end_with answer one = record { command = one.command; fate = ended_by answer one.fate }
 
--- what has become of the data packet of a transfer, if there is one
-abbrev pub data_fate : Option DataPacket → Option Fate
-data_fate None = None
-data_fate (Some packet) = Some (fate_in packet.image packet.since (command_in packet.bytes))
-
--- and when it has just been acknowledged
+-- what has become of the command of a data packet that has just been acknowledged
 abbrev pub fate_at_first : List ℕ → List ℕ → Fate
 fate_at_first image packet = fate_in image [] (command_in packet)
 

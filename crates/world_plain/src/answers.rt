@@ -1,13 +1,25 @@
 //! Whether an answer is a certain one.
 
 ghost use Rattle.std.specs.Prelude.{◌≡◌, ℕ, List, []};
-ghost use Rattle.world.specs.declared.event.Answer.TheVariants.{Ack, Nak, Packet, Stall, Worked, Restarted, EntryIs, SlotIs, NoSlot};
-ghost use Rattle.world.specs.declared.event.Work.TheVariants.{Idle, Working, Settled};
+ghost use Rattle.world.specs.declared.event.Answer.TheVariants.{Done, Ack, Nak, Packet, Stall, Sent, Worked, Restarted, EntryIs, SlotIs, NoSlot};
+ghost use Rattle.std.specs.Option.{option_copied};
+ghost use Rattle.world.specs.declared.event.Reading.TheVariants.{Unread};
+ghost use Rattle.world.specs.Keys.{sent};
+ghost use Rattle.keymap_store.specs.declared.store.Work.TheVariants.{Idle, Working, Settled};
 ghost use Rattle.world_plain.specs.Decides.{Decides};
 
 use crate::flash::same_bytes;
 use layers::Code;
-use world::{Answer, Why, Work};
+use world::{Answer, Reading, Why, Work};
+
+pub(crate) fn is_done(answer: &Answer) -> bool
+    ensures { Decides result (answer.now ≡ Done) }
+{
+    match answer {
+        Answer::Done => true,
+        _ => false,
+    }
+}
 
 pub(crate) fn is_ack(answer: &Answer) -> bool
     ensures { Decides result (answer.now ≡ Ack) }
@@ -86,6 +98,29 @@ fn same_reason(a: Why, b: Why) -> bool
     ensures { Decides result (a ≡ b) }
 {
     a == b
+}
+
+/// Whether an answer is a report of these bytes, which the host does not read; without bytes, NAK.
+pub(crate) fn is_sent(answer: &Answer, wanted: Option<&[u8]>) -> bool
+    ensures { Decides result (answer.now ≡ sent (option_copied wanted.entry)) }
+{
+    match wanted {
+        None => is_nak(answer),
+        Some(wanted) => is_report(answer, wanted),
+    }
+}
+
+/// Whether an answer is a report of these bytes, which the host does not read.
+fn is_report(answer: &Answer, wanted: &[u8]) -> bool
+    ensures { Decides result (answer.now ≡ Sent (record { items = wanted.now }) Unread) }
+{
+    match answer {
+        Answer::Sent {
+            bytes,
+            reading: Reading::Unread,
+        } => same_bytes(bytes.as_slice(), wanted),
+        _ => false,
+    }
 }
 
 /// Whether an answer is the empty packet.

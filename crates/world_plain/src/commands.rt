@@ -41,14 +41,16 @@ pub fn accepted_of(
 }
 
 /// Whether the device starts anew.
-fn is_start(event: &Event) -> bool
+pub(crate) fn is_start(event: &Event) -> bool
     ensures { result ≡ is_start event.now }
 {
     match event {
         Event::Cut => true,
-        Event::Setup(_)
+        Event::Scan(_)
+        | Event::Setup(_)
         | Event::OutPacket(_)
         | Event::InPacket
+        | Event::Poll
         | Event::Work
         | Event::Entry(..)
         | Event::SlotAt { .. } => false,

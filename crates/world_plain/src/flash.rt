@@ -2,18 +2,17 @@
 
 ghost use Rattle.std.specs.Prelude.{◌≡◌, ◌<◌, ℕ, List, length, IfOk, Some, None};
 ghost use Rattle.flash_model.specs.Image.{slot_at, page_count, place_of};
-ghost use Rattle.flash_model.specs.Operations.{Programs};
+ghost use Rattle.flash_model.specs.Operations.{Programs, Erases};
 ghost use Rattle.records.specs.Slots.{slot_of, encoded};
 ghost use Rattle.records.specs.declared.Slot.{Slot};
+ghost use Rattle.page_turnover.specs.Active.{active};
 ghost use Rattle.page_turnover.specs.Words.{words, IsBlank};
 ghost use Rattle.page_turnover.specs.Log.{Describes};
-ghost use Rattle.world.specs.History.{keymap};
-ghost use Rattle.world.specs.Feature.{TakesRecord};
-ghost use Rattle.world.specs.Lawful.{StartsLog, Appends};
-ghost use Rattle.world_plain.specs.Decides.{Decides, IsAnd, SameOutside};
+ghost use Rattle.page_turnover.specs.Operates.{Operates};
+ghost use Rattle.keymap_store.specs.Submits.{IsWorn};
+ghost use Rattle.world_plain.specs.Decides.{Decides, IsAnd, SameOutside, ProgramsAt, ProgramsOn, ProgramsSome, ErasesAt, ErasesSome};
 
 use flash_model::{NorFlash, SimFlash};
-use layers::Command;
 use page_turnover::Log;
 use records::{Slot, classify, encode};
 use std::alloc::{AllocError, Global};
@@ -26,8 +25,8 @@ const PAGE: usize = 4096;
 
 const SLOT: usize = 8;
 
-/// The word of the header that starts a log: sequence number 1.
-const FIRST_HEADER: u32 = 0x1000_0001;
+/// The greatest sequence number.
+const LAST_SEQ: u32 = 0x0fff_ffff;
 
 /// The words of the active page, in order. `AllocError` where there was no memory for them.
 pub fn words_of(alloc: Global, flash: &SimFlash) -> Result<Vec<u32>, AllocError>
@@ -41,15 +40,14 @@ pub fn words_of(alloc: Global, flash: &SimFlash) -> Result<Vec<u32>, AllocError>
     Ok(all)
 }
 
-/// Whether a record can be added without an erase or a copy.
-pub fn takes_record(flash: &SimFlash) -> bool
-    ensures { Decides result (TakesRecord flash.now.image) }
+/// Whether the log is worn: its active page is full and has the greatest sequence number.
+pub fn is_worn(flash: &SimFlash) -> bool
+    ensures { Decides result (IsWorn flash.now.image) }
 {
     let log = Log::mount(flash);
-    if log.active().is_some() {
-        log.room()
-    } else {
-        is_blank(flash, 0)
+    match log.active() {
+        Some((_, LAST_SEQ)) => !log.room(),
+        _ => false,
     }
 }
 
@@ -92,43 +90,115 @@ pub fn same_bytes(a: &[u8], b: &[u8]) -> bool
     a == b
 }
 
-/// Whether the first header of a log was programmed on page 0, which was blank, while no page was
-/// active and the header slot of each page was sound.
-pub fn starts_log(old: &SimFlash, new: &SimFlash) -> bool
-    ensures { Decides result (StartsLog old.now.image new.now.image) }
+/// Whether one operation of a log makes one flash of the other: while all slots 0 are sound, a word is
+/// programmed into a free slot, or a page that is not the active one is erased.
+pub fn operates(old: &SimFlash, new: &SimFlash) -> bool
+    ensures { Decides result (Operates old.now.image new.now.image) }
 {
-    let log = Log::mount(old);
-    if log.active().is_some() {
-        return false;
-    }
-    let Ok(()) = log.usable() else {
+    let Ok(()) = Log::mount(old).usable() else {
         return false;
     };
-    if !is_blank(old, 0) {
+    if new.image().len() != old.image().len() {
         return false;
     }
-    is_programmed(old, new, 0, 0, FIRST_HEADER)
+    if programs_some(old, new) {
+        return true;
+    }
+    erases_some(old, new)
 }
 
-/// Whether a command's record was programmed at the tail of the active page, while the header slot of
-/// each page was sound.
-pub fn appends(command: &Command, old: &SimFlash, new: &SimFlash) -> bool
-    ensures { Decides result (Appends command.now old.now.image new.now.image) }
+/// Whether a word is programmed into a free slot of some page.
+fn programs_some(old: &SimFlash, new: &SimFlash) -> bool
+    requires { length new.now.image ≡ length old.now.image }
+    ensures { Decides result (ProgramsSome old.now.image new.now.image) }
 {
-    let log = Log::mount(old);
-    let Ok(()) = log.usable() else {
-        return false;
-    };
-    let Some((page, _)) = log.active() else {
-        return false;
-    };
-    let Some(tail) = log.tail() else {
-        return false;
-    };
-    if tail >= SLOTS {
+    for page in 0..old.pages() {
+        if programs_on(old, new, page) {
+            return true;
+        }
+    }
+    false
+}
+
+/// Whether a word is programmed into a free slot of a page.
+fn programs_on(old: &SimFlash, new: &SimFlash, page: usize) -> bool
+    requires same_length { length new.now.image ≡ length old.now.image }
+    requires in_pages { page < page_count old.now.image }
+    ensures { Decides result (ProgramsOn old.now.image new.now.image page) }
+{
+    for slot in 0..SLOTS {
+        if programs_at(old, new, page, slot) {
+            return true;
+        }
+    }
+    false
+}
+
+/// Whether a word is programmed into a slot, which was free.
+fn programs_at(old: &SimFlash, new: &SimFlash, page: usize, slot: usize) -> bool
+    requires same_length { length new.now.image ≡ length old.now.image }
+    requires in_pages { page < page_count old.now.image }
+    requires in_page { slot < 512 }
+    ensures { Decides result (ProgramsAt old.now.image new.now.image page slot) }
+{
+    let _pages = old.pages();
+    let _pages = new.pages();
+    if !is_free(old, page, slot) {
         return false;
     }
-    is_programmed(old, new, page, tail, command.word())
+    match classify(new.read_slot(page, slot)) {
+        Slot::Good(word) => is_programmed(old, new, page, slot, word),
+        Slot::Free | Slot::Spoiled => false,
+    }
+}
+
+/// Whether a page that is not the active one is erased.
+fn erases_some(old: &SimFlash, new: &SimFlash) -> bool
+    requires { length new.now.image ≡ length old.now.image }
+    ensures { Decides result (ErasesSome old.now.image new.now.image) }
+{
+    for page in 0..old.pages() {
+        if erases_at(old, new, page) {
+            return true;
+        }
+    }
+    false
+}
+
+/// Whether a page is erased, which is not the active one.
+fn erases_at(old: &SimFlash, new: &SimFlash, page: usize) -> bool
+    requires same_length { length new.now.image ≡ length old.now.image }
+    requires in_pages { page < page_count old.now.image }
+    ensures { Decides result (ErasesAt old.now.image new.now.image page) }
+{
+    if is_active(old, page) {
+        return false;
+    }
+    is_erased(old, new, page)
+}
+
+/// Whether a page is the active one.
+fn is_active(flash: &SimFlash, page: usize) -> bool
+    ensures { Decides result ((seq : ℕ) × (active flash.now.image ≡ Some (page, seq))) }
+{
+    match Log::mount(flash).active() {
+        Some((active, _)) => active == page,
+        None => false,
+    }
+}
+
+/// Whether one flash is the other after a page is erased.
+fn is_erased(old: &SimFlash, new: &SimFlash, page: usize) -> bool
+    requires same_length { length new.now.image ≡ length old.now.image }
+    requires in_pages { page < page_count old.now.image }
+    ensures { Decides result (Erases old.now.image page new.now.image) }
+{
+    let _pages = old.pages();
+    let _pages = new.pages();
+    if !same_outside(old.image(), new.image(), PAGE * page, PAGE) {
+        return false;
+    }
+    is_blank(new, page)
 }
 
 /// Whether one flash is the other after a word is programmed into a slot.
@@ -141,7 +211,7 @@ fn is_programmed(old: &SimFlash, new: &SimFlash, page: usize, slot: usize, word:
     if new.image().len() != old.image().len() {
         return false;
     }
-    if !same_outside(old.image(), new.image(), PAGE * page + SLOT * slot) {
+    if !same_outside(old.image(), new.image(), PAGE * page + SLOT * slot, SLOT) {
         return false;
     }
     is_and(
@@ -163,14 +233,15 @@ fn is_and(new: [u8; 8], old: [u8; 8], programmed: [u8; 8]) -> bool
     true
 }
 
-/// Whether the eight bytes from a place on are the only ones that differ.
-fn same_outside(old: &[u8], new: &[u8], place: usize) -> bool
+/// Whether the bytes from a place on, so many, are the only ones that differ.
+fn same_outside(old: &[u8], new: &[u8], place: usize, size: usize) -> bool
     requires same_length { length new.now ≡ length old.now }
     requires in_old { place < 65536 }
-    ensures { Decides result (SameOutside old.now new.now place) }
+    requires small { size < 65536 }
+    ensures { Decides result (SameOutside old.now new.now place size) }
 {
     for i in 0..old.len() {
-        if (i < place || i >= place + SLOT) && new[i] != old[i] {
+        if (i < place || i >= place + size) && new[i] != old[i] {
             return false;
         }
     }

@@ -15,17 +15,18 @@ ghost use Rattle.world.specs.Commands.{working};
 ghost use Rattle.world.specs.Lawful.{IsAnswered, OutAnswer, in_answer, AddsRecord, WorksOn, SlotAnswer};
 ghost use Rattle.world.specs.declared.event.Answer.{Answer};
 ghost use Rattle.world.specs.declared.event.Answer.TheVariants.{Ack, Nak, Packet, Stall, Worked, Restarted, EntryIs, NoSlot};
-ghost use Rattle.world.specs.declared.event.Work.TheVariants.{Idle};
+ghost use Rattle.keymap_store.specs.declared.store.Work.TheVariants.{Idle};
 ghost use Rattle.world_plain.specs.Records.{steps_of, step_of};
 ghost use Rattle.world_plain.specs.Decides.{Decides, SameTable, IsWorkAnswer};
 
 use crate::answers::{
-    is_ack, is_empty_packet, is_entry, is_idle, is_nak, is_no_slot, is_restarted, is_settled,
-    is_slot, is_stall, is_working,
+    is_ack, is_done, is_empty_packet, is_entry, is_idle, is_nak, is_no_slot, is_restarted,
+    is_settled, is_slot, is_stall, is_working,
 };
 use crate::commands::working_of;
-use crate::flash::{appends, same_image, starts_log, takes_record, words_of};
+use crate::flash::{is_worn, operates, same_image, words_of};
 use crate::keymap::keymap_of;
+use crate::keys::poll_answered;
 use crate::recorded::Recorded;
 use crate::stage::{flash_after, read_packet, stage_of};
 use flash_model::{NorFlash, SimFlash};
@@ -65,6 +66,7 @@ pub fn is_answered(
     let answer = &step.answer;
     let stays = same_image(now, &step.flash);
     match &step.event {
+        Event::Scan(_) => Ok(both(is_done(answer), stays)),
         Event::Setup(_) => Ok(both(is_ack(answer), stays)),
         Event::OutPacket(packet) => {
             let works = working_of(alloc, start, before)?;
@@ -73,6 +75,10 @@ pub fn is_answered(
             Ok(both(told, stays))
         }
         Event::InPacket => Ok(both(in_answered(stage_of(start, before), answer), stays)),
+        Event::Poll => {
+            let told = poll_answered(alloc, start, before, answer)?;
+            Ok(both(told, stays))
+        }
         Event::Work => {
             let works = working_of(alloc, start, before)?;
             work_answered(alloc, &works, now, answer, &step.flash)
@@ -151,7 +157,7 @@ fn command_answered(now: &SimFlash, command: &Command, answer: &Answer) -> bool
     if !keymap_of(now).changes(*command) {
         return is_ack(answer);
     }
-    if !takes_record(now) {
+    if is_worn(now) {
         return is_stall(answer, Why::Worn);
     }
     is_ack(answer)
@@ -212,11 +218,11 @@ fn command_worked(
 {
     if is_settled(answer) {
         let adds = adds_record(alloc, command, old, new)?;
-        return Ok(both(adds, appends(command, old, new)));
+        return Ok(both(adds, operates(old, new)));
     }
     if is_working(answer) {
         let same = same_table(&keymap_of(new), &keymap_of(old));
-        return Ok(both(same, starts_log(old, new)));
+        return Ok(both(same, operates(old, new)));
     }
     Ok(false)
 }

@@ -9,6 +9,7 @@ mod answers;
 pub mod commands;
 pub mod flash;
 pub mod keymap;
+mod keys;
 pub mod lawful;
 pub mod laws;
 pub mod recorded;

@@ -6,8 +6,8 @@ ghost use Rattle.std.specs.Str.{bytes_eq};
 ghost use Rattle.world.specs.History.{image_after, keymap};
 ghost use Rattle.world.specs.Feature.{command_in};
 ghost use Rattle.world.specs.Fate.{changes, ended_by, fate};
-ghost use Rattle.world.specs.Transfer.{set_feature, opening_of, setup_of, transfer, stall_in, first_stall, is_empty_packet, is_ended, bytes_taken, data_packet, stage};
-ghost use Rattle.world_plain.specs.Records.{steps_of, step_of, fate_of, data_fate, fate_at_first};
+ghost use Rattle.world.specs.Transfer.{set_feature, set_boot, opening_of, setup_of, transfer, stall_in, first_stall, is_empty_packet, is_ended, bytes_taken, data_packet, data_fate, stage_after_data, stage};
+ghost use Rattle.world_plain.specs.Records.{steps_of, step_of, fate_of, fate_at_first};
 
 use crate::keymap::keymap_of;
 use crate::recorded::{Fate, Recorded};
@@ -36,20 +36,26 @@ pub fn stage_of(start: &SimFlash, past: &[Recorded]) -> Stage
     let Some(setup) = setup_of(past) else {
         return Stage::Rest;
     };
+    if is_set_boot(setup) {
+        return after_data(Fate::Settled, is_ended(past));
+    }
     if !is_set_feature(setup) {
         return Stage::Stalled(Why::UnknownRequest);
     }
     match fate_of_data(start, past) {
         None => Stage::Taking,
-        Some(Fate::Works) => Stage::Waiting,
-        Some(Fate::Failed) => Stage::Stalled(Why::FlashFault),
-        Some(Fate::Settled) => {
-            if is_ended(past) {
-                Stage::Rest
-            } else {
-                Stage::Status
-            }
-        }
+        Some(fate) => after_data(fate, is_ended(past)),
+    }
+}
+
+/// The stage of a transfer that is done with its data, or waits for its command.
+fn after_data(fate: Fate, ended: bool) -> Stage
+    ensures { result ≡ stage_after_data (fate_of fate) ended }
+{
+    match fate {
+        Fate::Works => Stage::Waiting,
+        Fate::Failed => Stage::Stalled(Why::FlashFault),
+        Fate::Settled => { if ended { Stage::Rest } else { Stage::Status } }
     }
 }
 
@@ -61,8 +67,10 @@ fn opening_of(event: &Event) -> Option<Option<[u8; 8]>>
     match event {
         Event::Setup(bytes) => Some(Some(*bytes)),
         Event::Cut => Some(None),
-        Event::OutPacket(_)
+        Event::Scan(_)
+        | Event::OutPacket(_)
         | Event::InPacket
+        | Event::Poll
         | Event::Work
         | Event::Entry(..)
         | Event::SlotAt { .. } => None,
@@ -70,7 +78,7 @@ fn opening_of(event: &Event) -> Option<Option<[u8; 8]>>
 }
 
 /// The SETUP packet of the transfer, if it began with one.
-fn setup_of(past: &[Recorded]) -> Option<[u8; 8]>
+pub(crate) fn setup_of(past: &[Recorded]) -> Option<[u8; 8]>
     ensures { result ≡ setup_of (steps_of past.now) }
 {
     let [step, before @ ..] = past else {
@@ -82,8 +90,18 @@ fn setup_of(past: &[Recorded]) -> Option<[u8; 8]>
     }
 }
 
-/// Whether a SETUP packet is the one request that is served: SET_REPORT of feature report 3, of six
-/// bytes (HID 1.11, section 7.2.2).
+/// Whether a SETUP packet is SET_PROTOCOL to the boot protocol, which has no data stage (HID 1.11,
+/// section 7.2.6).
+pub(crate) fn is_set_boot(setup: [u8; 8]) -> bool
+    ensures { result ≡ bytes_eq setup set_boot }
+{
+    match setup {
+        [0x21, 0x0b, 0x00, 0x00, 0x00, 0x00, 0x00, 0x00] => true,
+        _ => false,
+    }
+}
+
+/// Whether a SETUP packet is SET_REPORT of feature report 3, of six bytes (HID 1.11, section 7.2.2).
 fn is_set_feature(setup: [u8; 8]) -> bool
     ensures { result ≡ bytes_eq setup set_feature }
 {
@@ -115,9 +133,11 @@ fn stall_in(answer: &Answer) -> Option<Why>
 {
     match answer {
         Answer::Stall(why) => Some(*why),
-        Answer::Ack
+        Answer::Done
+        | Answer::Ack
         | Answer::Nak
         | Answer::Packet(_)
+        | Answer::Sent { .. }
         | Answer::Worked(_)
         | Answer::Restarted
         | Answer::EntryIs(_)
@@ -140,14 +160,16 @@ fn is_ended(past: &[Recorded]) -> bool
 }
 
 /// Whether an answer is the empty packet.
-fn is_empty_packet(answer: &Answer) -> bool
+pub(crate) fn is_empty_packet(answer: &Answer) -> bool
     ensures { result ≡ is_empty_packet answer.now }
 {
     match answer {
         Answer::Packet(packet) => packet.as_slice().len() == 0,
-        Answer::Ack
+        Answer::Done
+        | Answer::Ack
         | Answer::Nak
         | Answer::Stall(_)
+        | Answer::Sent { .. }
         | Answer::Worked(_)
         | Answer::Restarted
         | Answer::EntryIs(_)

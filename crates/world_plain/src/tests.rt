@@ -7,14 +7,18 @@ use layers::{Code, Command, KeyNo, LayerNo};
 use std::alloc::{AllocError, Global};
 use std::process::Abort;
 use std::test::Fail;
-use world::{Answer, Event, Stage, Why, Work, World};
+use world::{Answer, Event, Reading, Scan, Stage, Why, Work, World};
 
+mod keys;
 mod rows;
 mod runs;
 mod wrong;
 
 /// SET_REPORT of feature report 3, of six bytes.
 const SET_FEATURE: [u8; 8] = [0x21, 0x09, 0x03, 0x03, 0x00, 0x00, 0x06, 0x00];
+
+/// SET_PROTOCOL to the boot protocol.
+const SET_BOOT: [u8; 8] = [0x21, 0x0b, 0x00, 0x00, 0x00, 0x00, 0x00, 0x00];
 
 /// A device, the flash that it started on, and what was recorded of it, the newest step first.
 #[derive(Drop)]
@@ -54,9 +58,11 @@ fn copy_of(alloc: Global, flash: &SimFlash) -> Result<SimFlash, Fail> {
 /// The same event.
 fn same_event(event: &Event) -> Result<Event, AllocError> {
     Ok(match event {
+        Event::Scan(scan) => Event::Scan(*scan),
         Event::Setup(bytes) => Event::Setup(*bytes),
         Event::OutPacket(packet) => Event::OutPacket(packet.clone()?),
         Event::InPacket => Event::InPacket,
+        Event::Poll => Event::Poll,
         Event::Work => Event::Work,
         Event::Cut => Event::Cut,
         Event::Entry(layer, key) => Event::Entry(*layer, *key),

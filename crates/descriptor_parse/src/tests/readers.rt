@@ -85,7 +85,7 @@ const ARRAYS: &str =
 #[test]
 fn arrays_and_the_last_usage(rt: HostRuntime) -> Result<(), Fail> {
     let alloc = rt.alloc();
-    let text = bytes(alloc, ARRAYS)?;
+    let text = bytes(&rt, alloc, ARRAYS)?;
     let descriptor = parse(alloc, &text)?;
     assert!(rt; !descriptor.uses_ids());
     assert_eq!(rt; descriptor.report_len(Kind::Input, 0), Some(2));
@@ -118,7 +118,11 @@ fn cut(alloc: Global, text: &[u8]) -> Result<String, Fail> {
 
 #[test]
 fn items_of_a_text(rt: HostRuntime) -> Result<(), Fail> {
-    let text = bytes(rt.alloc(), "04 05 07 0A 34 12 FE 02 77 AA BB 87 01 02 03")?;
+    let text = bytes(
+        &rt,
+        rt.alloc(),
+        "04 05 07 0A 34 12 FE 02 77 AA BB 87 01 02 03",
+    )?;
     let told = cut(rt.alloc(), &text)?;
     assert_eq!(rt;
         told.as_str(),

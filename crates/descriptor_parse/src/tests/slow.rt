@@ -1,6 +1,6 @@
 //! The answer to a text by looking back from each item at all the items before it: slow, and nothing is kept.
 
-use super::usages;
+use crate::Kind;
 use std::alloc::Global;
 use std::test::Fail;
 
@@ -12,39 +12,119 @@ struct Plain {
     bytes: Vec<u8>,
 }
 
-/// What `parse` is to say of a text, as `answer` of the tests prints it.
-pub fn slow_answer(alloc: Global, text: &[u8]) -> Result<String, Fail> {
-    let (items, truncated) = cut(alloc, text)?;
-    for (place, item) in items.iter().enumerate() {
-        if item.offset > 4096 {
-            return Ok(format!(in alloc; "16 at 4096")?);
-        }
-        let number = fault_at(alloc, &items[..place], item)?;
-        if number > 0 {
-            return Ok(format!(in alloc; "{number} at {}", item.offset)?);
-        }
-    }
-    if truncated <= 4096 && truncated < text.len() {
-        return Ok(format!(in alloc; "1 at {truncated}")?);
-    }
-    if text.len() > 4096 {
-        return Ok(format!(in alloc; "16 at 4096")?);
-    }
-    if open(&items) > 0 {
-        return Ok(format!(in alloc; "15 at {}", text.len())?);
-    }
-    let mut out = String::new(alloc);
-    for (place, item) in items.iter().enumerate() {
-        let before = &items[..place];
-        if is_field(alloc, before, item)? {
-            if !out.is_empty() {
-                out.push_str("; ")?;
+/// A field and its usages.
+#[derive(Drop)]
+pub struct PlainField {
+    pub kind: Kind,
+    pub id: i128,
+    pub bit: i128,
+    pub size: i128,
+    pub count: i128,
+    pub min: i128,
+    pub max: i128,
+    pub array: bool,
+    pub ranges: Vec<(u32, u32)>,
+}
+
+/// What is to be said of a text: its first fault as offset and number, and its fields.
+#[derive(Drop)]
+pub struct PlainText {
+    pub fault: Option<(usize, u8)>,
+    pub fields: Vec<PlainField>,
+    items: Vec<Plain>,
+}
+
+impl PlainText {
+    /// Reads a text.
+    pub fn new(alloc: Global, text: &[u8]) -> Result<PlainText, Fail> {
+        let (items, end) = cut(alloc, text)?;
+        let mut fault = None;
+        for (place, item) in items.iter().enumerate() {
+            if fault.is_some() {
+                break;
             }
-            let line = field_line(alloc, before, item)?;
-            out.push_str(&line)?;
+            for number in 2..=14 {
+                if shows(alloc, &items[..place], item, number)? {
+                    fault = least(fault, (item.offset, number));
+                }
+            }
         }
+        if end < text.len() {
+            fault = least(fault, (end, 1));
+        }
+        if open(&items) > 0 {
+            fault = least(fault, (text.len(), 15));
+        }
+        if text.len() > 4096 {
+            fault = least(fault, (4096, 16));
+        }
+        let mut fields = Vec::new(alloc);
+        for (place, item) in items.iter().enumerate() {
+            if is_field(alloc, &items[..place], item)? {
+                fields.push(field(alloc, &items[..place], item)?)?;
+            }
+        }
+        Ok(PlainText {
+            fault,
+            fields,
+            items,
+        })
     }
-    Ok(out)
+
+    /// Whether it has a Report ID.
+    pub fn uses_ids(&self) -> bool {
+        self.items.iter().any(|item| item.tag == 0x84)
+    }
+
+    /// The bytes of a report.
+    pub fn report_len(&self, alloc: Global, kind: Kind, id: u8) -> Result<Option<i128>, Fail> {
+        let bits = bits(alloc, &self.items, tag_of(kind), id as i128)?;
+        let bytes = bits.saturating_add(7) / 8;
+        Ok(if bits == 0 {
+            None
+        } else if self.uses_ids() {
+            Some(bytes.saturating_add(1))
+        } else {
+            Some(bytes)
+        })
+    }
+}
+
+impl PlainField {
+    /// The usage of a place, of the list of the first 400.
+    pub fn usage(&self, alloc: Global, place: usize) -> Result<Option<u32>, Fail> {
+        let mut list = Vec::new(alloc);
+        for (first, last) in &self.ranges {
+            for usage in *first..=*last {
+                if list.len() < 400 {
+                    list.push(usage)?;
+                }
+            }
+        }
+        if self.array {
+            return Ok(list.get(place).copied());
+        }
+        if place as i128 >= self.count {
+            return Ok(None);
+        }
+        Ok(list.get(place).or(list.last()).copied())
+    }
+}
+
+/// The lesser of two faults, by offset and then by number.
+fn least(found: Option<(usize, u8)>, new: (usize, u8)) -> Option<(usize, u8)> {
+    match found {
+        Some(old) if old.0 < new.0 || old.0 == new.0 && old.1 < new.1 => Some(old),
+        _ => Some(new),
+    }
+}
+
+fn tag_of(kind: Kind) -> u8 {
+    match kind {
+        Kind::Input => 0x80,
+        Kind::Output => 0x90,
+        Kind::Feature => 0xB0,
+    }
 }
 
 /// The whole items, and the offset after them.
@@ -71,7 +151,7 @@ fn cut(alloc: Global, text: &[u8]) -> Result<(Vec<Plain>, usize), Fail> {
 }
 
 /// The data as a number without a sign.
-fn number(bytes: &[u8]) -> i128 {
+fn value(bytes: &[u8]) -> i128 {
     bytes.iter().rev().fold(
         0,
         |n: i128, byte| n.saturating_mul(256).saturating_add(*byte as i128),
@@ -83,9 +163,9 @@ fn signed(bytes: &[u8]) -> i128 {
     let negative = bytes.last().is_some_and(|byte| *byte >= 0x80);
     let range = bytes.iter().fold(1, |n: i128, _| n.saturating_mul(256));
     if negative {
-        number(bytes).saturating_sub(range)
+        value(bytes).saturating_sub(range)
     } else {
-        number(bytes)
+        value(bytes)
     }
 }
 
@@ -146,48 +226,52 @@ fn unpaired(before: &[Plain]) -> Option<&Plain> {
     half
 }
 
-/// The least fault of an item, 0 if it has none.
-fn fault_at(alloc: Global, before: &[Plain], item: &Plain) -> Result<u8, Fail> {
+/// Whether an item shows the fault with this number, 2 to 14.
+fn shows(alloc: Global, before: &[Plain], item: &Plain, number: u8) -> Result<bool, Fail> {
     let tag = item.tag;
-    let value = number(&item.bytes);
-    let size = number(&global(alloc, before, 0x74)?);
-    let count = number(&global(alloc, before, 0x94)?);
+    let value = value(&item.bytes);
     let constant = value % 2 == 1;
-    let array = value / 2 % 2 == 0;
-    let has_id = before.iter().any(|i| i.tag == 0x84);
-    let bare = global(alloc, before, 0x84)?.is_empty();
-    let pushes = pushes(alloc, before)?;
+    Ok(match number {
+        2 => tag == 0xA8,
+        3 => tag == 0xB4 && pushes(alloc, before)? == 0,
+        4 => tag == 0xA4 && pushes(alloc, before)? >= 8,
+        5 => tag == 0x84 && (value == 0 || value > 255),
+        6 => is_data(tag) && size(alloc, before)? > if constant { 1024 } else { 32 },
+        7 => is_data(tag) && count(alloc, before)? > 1024,
+        8 => tag == 0xC0 && open(before) == 0,
+        9 => tag == 0xA0 && open(before) >= 16,
+        10 => is_main(tag) && unpaired(before).is_some() || is_broken(before, item),
+        11 => is_inverted(before, item),
+        12 => is_data(tag) && !constant && is_array(item) && is_empty(alloc, before)?,
+        13 => is_field(alloc, before, item)? && declared(alloc, before)? >= 256,
+        _ => {
+            tag == 0x84 && has_bare(alloc, before)?
+                || is_data(tag) && is_bare(alloc, before)? && before.iter().any(|i| i.tag == 0x84)
+        }
+    })
+}
+
+fn is_array(item: &Plain) -> bool {
+    value(&item.bytes) / 2 % 2 == 0
+}
+
+/// Whether no number lies between the logical extents in force.
+fn is_empty(alloc: Global, before: &[Plain]) -> Result<bool, Fail> {
     let (min, max) = extents(alloc, before)?;
-    let shown = [
-        (2, tag == 0xA8),
-        (3, tag == 0xB4 && pushes == 0),
-        (4, tag == 0xA4 && pushes >= 8),
-        (5, tag == 0x84 && (value == 0 || value > 255)),
-        (6, is_data(tag) && size > if constant { 1024 } else { 32 }),
-        (7, is_data(tag) && count > 1024),
-        (8, tag == 0xC0 && open(before) == 0),
-        (9, tag == 0xA0 && open(before) >= 16),
-        (
-            10,
-            is_main(tag) && unpaired(before).is_some() || is_broken(before, item),
-        ),
-        (11, is_inverted(before, item)),
-        (12, is_data(tag) && array && !constant && min > max),
-        (
-            13,
-            is_field(alloc, before, item)? && declared(alloc, before)? >= 256,
-        ),
-        (
-            14,
-            tag == 0x84 && has_bare(alloc, before)? || is_data(tag) && bare && has_id,
-        ),
-    ];
-    Ok(
-        shown
-            .iter()
-            .find(|(_, shows)| *shows)
-            .map_or(0, |(n, _)| *n),
-    )
+    Ok(min > max)
+}
+
+/// Whether no Report ID is in force.
+fn is_bare(alloc: Global, before: &[Plain]) -> Result<bool, Fail> {
+    Ok(global(alloc, before, 0x84)?.is_empty())
+}
+
+fn size(alloc: Global, before: &[Plain]) -> Result<i128, Fail> {
+    Ok(value(&global(alloc, before, 0x74)?))
+}
+
+fn count(alloc: Global, before: &[Plain]) -> Result<i128, Fail> {
+    Ok(value(&global(alloc, before, 0x94)?))
 }
 
 fn pushes(alloc: Global, before: &[Plain]) -> Result<usize, Fail> {
@@ -203,7 +287,7 @@ fn pushes(alloc: Global, before: &[Plain]) -> Result<usize, Fail> {
 fn extents(alloc: Global, before: &[Plain]) -> Result<(i128, i128), Fail> {
     let min = signed(&global(alloc, before, 0x14)?);
     let max = global(alloc, before, 0x24)?;
-    Ok((min, if min < 0 { signed(&max) } else { number(&max) }))
+    Ok((min, if min < 0 { signed(&max) } else { value(&max) }))
 }
 
 /// A second Usage Minimum or Maximum, or one of another page than the first of its pair.
@@ -216,7 +300,7 @@ fn is_broken(before: &[Plain], item: &Plain) -> bool {
         Some(half) => {
             let (a, b) = (&half.bytes, &item.bytes);
             let alike = (a.len() < 4 && b.len() < 4)
-                || (a.len() == 4 && b.len() == 4 && number(a) / 65536 == number(b) / 65536);
+                || (a.len() == 4 && b.len() == 4 && value(a) / 65536 == value(b) / 65536);
             half.tag == item.tag || !alike
         }
     }
@@ -225,16 +309,19 @@ fn is_broken(before: &[Plain], item: &Plain) -> bool {
 /// The second of a pair whose minimum is over its maximum.
 fn is_inverted(before: &[Plain], item: &Plain) -> bool {
     match unpaired(before) {
-        Some(half) if item.tag == 0x18 => number(&item.bytes) > number(&half.bytes),
-        Some(half) if item.tag == 0x28 => number(&half.bytes) > number(&item.bytes),
+        Some(half) if item.tag == 0x18 => value(&item.bytes) > value(&half.bytes),
+        Some(half) if item.tag == 0x28 => value(&half.bytes) > value(&item.bytes),
         _ => false,
     }
 }
 
 fn is_field(alloc: Global, before: &[Plain], item: &Plain) -> Result<bool, Fail> {
-    let size = number(&global(alloc, before, 0x74)?);
-    let count = number(&global(alloc, before, 0x94)?);
-    Ok(is_data(item.tag) && number(&item.bytes) % 2 == 0 && size > 0 && count > 0)
+    Ok(
+        is_data(item.tag)
+            && value(&item.bytes) % 2 == 0
+            && size(alloc, before)? > 0
+            && count(alloc, before)? > 0,
+    )
 }
 
 /// The fields that these items declare.
@@ -248,10 +335,10 @@ fn declared(alloc: Global, items: &[Plain]) -> Result<usize, Fail> {
     Ok(count)
 }
 
-/// Whether a data item has no Report ID in force.
+/// Whether a data item among these has no Report ID in force.
 fn has_bare(alloc: Global, items: &[Plain]) -> Result<bool, Fail> {
     for (place, item) in items.iter().enumerate() {
-        if is_data(item.tag) && global(alloc, &items[..place], 0x84)?.is_empty() {
+        if is_data(item.tag) && is_bare(alloc, &items[..place])? {
             return Ok(true);
         }
     }
@@ -263,40 +350,39 @@ fn bits(alloc: Global, items: &[Plain], tag: u8, id: i128) -> Result<i128, Fail>
     let mut sum = 0i128;
     for (place, item) in items.iter().enumerate() {
         let before = &items[..place];
-        if item.tag == tag && number(&global(alloc, before, 0x84)?) == id {
-            let size = number(&global(alloc, before, 0x74)?);
-            let count = number(&global(alloc, before, 0x94)?);
-            sum = sum.saturating_add(size.saturating_mul(count));
+        if item.tag == tag && value(&global(alloc, before, 0x84)?) == id {
+            let more = size(alloc, before)?.saturating_mul(count(alloc, before)?);
+            sum = sum.saturating_add(more);
         }
     }
     Ok(sum)
 }
 
-/// The line of a field.
-fn field_line(alloc: Global, before: &[Plain], item: &Plain) -> Result<String, Fail> {
+/// The field that an item declares.
+fn field(alloc: Global, before: &[Plain], item: &Plain) -> Result<PlainField, Fail> {
     let kind = match item.tag {
-        0x80 => "input",
-        0x90 => "output",
-        _ => "feature",
+        0x80 => Kind::Input,
+        0x90 => Kind::Output,
+        _ => Kind::Feature,
     };
-    let id = number(&global(alloc, before, 0x84)?);
-    let bit = bits(alloc, before, item.tag, id)?;
-    let size = number(&global(alloc, before, 0x74)?);
-    let count = number(&global(alloc, before, 0x94)?);
+    let id = value(&global(alloc, before, 0x84)?);
     let (min, max) = extents(alloc, before)?;
-    let form = if number(&item.bytes) / 2 % 2 == 0 {
-        "array"
-    } else {
-        "variable"
-    };
-    let ranges = ranges(alloc, before)?;
-    let usages = usages(alloc, &ranges)?;
-    Ok(format!(in alloc; "{kind} {id} {bit} {size} {count} {min} {max} {form} {usages}")?)
+    Ok(PlainField {
+        kind,
+        id,
+        bit: bits(alloc, before, item.tag, id)?,
+        size: size(alloc, before)?,
+        count: count(alloc, before)?,
+        min,
+        max,
+        array: is_array(item),
+        ranges: ranges(alloc, before)?,
+    })
 }
 
 /// The usages since the latest Main item.
 fn ranges(alloc: Global, before: &[Plain]) -> Result<Vec<(u32, u32)>, Fail> {
-    let page = number(&global(alloc, before, 0x04)?) % 65536;
+    let page = value(&global(alloc, before, 0x04)?) % 65536;
     let mut out = Vec::new(alloc);
     for (place, item) in before.iter().enumerate() {
         let half = unpaired(&before[..place]);
@@ -315,9 +401,9 @@ fn ranges(alloc: Global, before: &[Plain]) -> Result<Vec<(u32, u32)>, Fail> {
 /// The number of a usage.
 fn usage(page: i128, bytes: &[u8]) -> u32 {
     let whole = if bytes.len() == 4 {
-        number(bytes)
+        value(bytes)
     } else {
-        page.saturating_mul(65536).saturating_add(number(bytes))
+        page.saturating_mul(65536).saturating_add(value(bytes))
     };
     u32::try_from(whole).unwrap_or(0)
 }

@@ -2,6 +2,7 @@
 
 use super::prints;
 use crate::{LineFault, RunError};
+use std::process::Abort;
 use std::test::Fail;
 
 const UNKNOWN: LineFault = LineFault::UnknownWord;
@@ -13,12 +14,14 @@ const NUMBER: LineFault = LineFault::BadNumber;
 const HEX: LineFault = LineFault::BadHex;
 
 /// The script, the number of its first line with a fault, that fault, and the line that is printed.
-const REFUSED: [(&[u8], usize, LineFault, &[u8]); 62] = [
+const REFUSED: [(&[u8], usize, LineFault, &[u8]); 81] = [
     // The first word.
-    (b"scan", 1, UNKNOWN, b"fault line 1: unknown word\n"),
+    (b"press", 1, UNKNOWN, b"fault line 1: unknown word\n"),
     (b"In", 1, UNKNOWN, b"fault line 1: unknown word\n"),
     (b"in#", 1, UNKNOWN, b"fault line 1: unknown word\n"),
     (b"setups", 1, UNKNOWN, b"fault line 1: unknown word\n"),
+    (b"Scan 0", 1, UNKNOWN, b"fault line 1: unknown word\n"),
+    (b"polls", 1, UNKNOWN, b"fault line 1: unknown word\n"),
     (b"se", 1, UNKNOWN, b"fault line 1: unknown word\n"),
     (b"\xc3\xbc", 1, UNKNOWN, b"fault line 1: unknown word\n"),
     // A comment begins in the first column.
@@ -48,6 +51,8 @@ const REFUSED: [(&[u8], usize, LineFault, &[u8]); 62] = [
     (b"slot", 1, WORDS, b"fault line 1: wrong words\n"),
     (b"set 0 0", 1, WORDS, b"fault line 1: wrong words\n"),
     (b"set 0 0 0005 0", 1, WORDS, b"fault line 1: wrong words\n"),
+    (b"poll 0", 1, WORDS, b"fault line 1: wrong words\n"),
+    (b"scans", 1, WORDS, b"fault line 1: wrong words\n"),
     (b"in # look", 1, WORDS, b"fault line 1: wrong words\n"),
     // Numbers have 1 to 5 digits and stand in their range.
     (b"entry 4 0", 1, NUMBER, b"fault line 1: bad number\n"),
@@ -75,6 +80,20 @@ const REFUSED: [(&[u8], usize, LineFault, &[u8]); 62] = [
         NUMBER,
         b"fault line 1: bad number\n",
     ),
+    (b"scan 96", 1, NUMBER, b"fault line 1: bad number\n"),
+    (b"scan 0 95 96", 1, NUMBER, b"fault line 1: bad number\n"),
+    (b"scan 0x0", 1, NUMBER, b"fault line 1: bad number\n"),
+    (b"scan -0", 1, NUMBER, b"fault line 1: bad number\n"),
+    (b"scan 000000", 1, NUMBER, b"fault line 1: bad number\n"),
+    (b"scan # none", 1, NUMBER, b"fault line 1: bad number\n"),
+    (b"scans 0", 1, NUMBER, b"fault line 1: bad number\n"),
+    (b"scans 00000 0", 1, NUMBER, b"fault line 1: bad number\n"),
+    (b"scans 10001", 1, NUMBER, b"fault line 1: bad number\n"),
+    (b"scans 65537 0", 1, NUMBER, b"fault line 1: bad number\n"),
+    (b"scans 010000", 1, NUMBER, b"fault line 1: bad number\n"),
+    (b"scans x 0", 1, NUMBER, b"fault line 1: bad number\n"),
+    (b"scans 1 96", 1, NUMBER, b"fault line 1: bad number\n"),
+    (b"scans 1 0 y", 1, NUMBER, b"fault line 1: bad number\n"),
     // Hex words have the length that the line wants.
     (b"setup 21090303000006", 1, HEX, b"fault line 1: bad hex\n"),
     (
@@ -102,13 +121,13 @@ const REFUSED: [(&[u8], usize, LineFault, &[u8]); 62] = [
     (b"set 0 0 00005", 1, HEX, b"fault line 1: bad hex\n"),
     (b"set 0 0 +005", 1, HEX, b"fault line 1: bad hex\n"),
     // Within a line: the first word, the number of words, each word from the left.
-    (b"scan 1x 0g", 1, UNKNOWN, b"fault line 1: unknown word\n"),
+    (b"press 1x 0g", 1, UNKNOWN, b"fault line 1: unknown word\n"),
     (b"set x 0 g 0", 1, WORDS, b"fault line 1: wrong words\n"),
     (b"set x 0 g", 1, NUMBER, b"fault line 1: bad number\n"),
     (b"set 0 x g", 1, NUMBER, b"fault line 1: bad number\n"),
     // The first line with a fault, whatever the faults are. Each line counts.
     (
-        b"in\n\n# none\nout 0\nscan\n",
+        b"in\n\n# none\nout 0\npress\n",
         4,
         HEX,
         b"fault line 4: bad hex\n",
@@ -121,7 +140,7 @@ const REFUSED: [(&[u8], usize, LineFault, &[u8]); 62] = [
         b"fault line 4: wrong words\n",
     ),
     (
-        b"in\nscan\nin x\n",
+        b"in\npress\nin x\n",
         2,
         UNKNOWN,
         b"fault line 2: unknown word\n",
@@ -140,6 +159,12 @@ const REFUSED: [(&[u8], usize, LineFault, &[u8]); 62] = [
     ),
     (b"in\r\nin x\r\n", 2, WORDS, b"fault line 2: wrong words\n"),
     (b"in\tx", 1, WORDS, b"fault line 1: wrong words\n"),
+    (
+        b"scan 0\nscans 10000\npoll\nscans 1 96\nin x\n",
+        4,
+        NUMBER,
+        b"fault line 4: bad number\n",
+    ),
 ];
 
 #[test]
@@ -152,7 +177,7 @@ fn refused_scripts(rt: HostRuntime) -> Result<(), Fail> {
 }
 
 /// Scripts that are read, and what they print.
-const READ: [(&[u8], &[u8]); 15] = [
+const READ: [(&[u8], &[u8]); 18] = [
     (b"", b""),
     (b"\n", b""),
     (b"# a comment", b""),
@@ -174,6 +199,9 @@ const READ: [(&[u8], &[u8]); 15] = [
         b"1 ack\n2 stall 1\n3 stall 1\n",
     ),
     (b"work\ncut", b"1 idle\n2 restart\n"),
+    (b"scan\npoll\n", b"1 ok\n2 nak\n"),
+    (b"scan 00095 7 95\t\r\n", b"1 ok\n"),
+    (b"scans 10000\nscans 00001 0 0 0\n", b"1 ok\n2 ok\n"),
 ];
 
 #[test]
@@ -220,4 +248,38 @@ fn bytes_that_are_no_text(rt: HostRuntime) -> Result<(), Fail> {
         Err(hex),
         b"fault line 1: bad hex\n",
     )
+}
+
+/// How a scan of so many keys, each this word, ends.
+fn scan_of<R: AllocGlobal + Abort>(
+    rt: &R,
+    front: &str,
+    count: usize,
+    word: &str,
+    ends: Result<(), LineFault>,
+    printed: &str,
+) -> Result<(), Fail> {
+    let mut script = String::new(rt.alloc());
+    script.push_str(front)?;
+    for _ in 0..count {
+        script.push_str(" ")?;
+        script.push_str(word)?;
+    }
+    let ends = ends.map_err(|fault| RunError::Line { line: 1, fault });
+    prints(rt, 2, script.as_bytes(), ends, printed.as_bytes())
+}
+
+#[test]
+fn the_most_keys_of_a_scan(rt: HostRuntime) -> Result<(), Fail> {
+    let wrong = "fault line 1: wrong words\n";
+    let bad = "fault line 1: bad number\n";
+    for front in ["scan", "scans 1", "scans 10000"] {
+        scan_of(&rt, front, 96, "95", Ok(()), "1 ok\n")?;
+        scan_of(&rt, front, 96, "96", Err(NUMBER), bad)?;
+        // The words are counted before any number is read.
+        scan_of(&rt, front, 97, "95", Err(WORDS), wrong)?;
+        scan_of(&rt, front, 97, "x", Err(WORDS), wrong)?;
+    }
+    scan_of(&rt, "scans 0", 96, "95", Err(NUMBER), bad)?;
+    scan_of(&rt, "scans 0", 97, "95", Err(WORDS), wrong)
 }

@@ -4,8 +4,15 @@ ghost use Rattle.std.specs.Prelude.{◌<◌};
 
 use super::*;
 
-/// How many runs there are.
-const RUNS: u32 = 300;
+/// How many runs there are. Each third is of scans and polls.
+const RUNS: u32 = 60;
+
+const WITH_KEYS: u32 = 3;
+
+/// How many events there are to pick from: first those of commands, then those of keys.
+const COMMANDS: u32 = 35;
+
+const KEYS: u32 = 17;
 
 /// The next number of a fixed sequence, below a bound.
 fn next(state: &mut u32, bound: u32) -> u32
@@ -37,7 +44,13 @@ fn event_of(number: u32) -> Result<Event, Fail> {
         31 => entry(1)?,
         32 => Event::SlotAt { page: 0, slot: 1 },
         33 => Event::SlotAt { page: 2, slot: 0 },
-        _ => Event::SlotAt { page: 0, slot: 512 },
+        34 => Event::SlotAt { page: 0, slot: 512 },
+        35..=38 => Event::Setup(SET_BOOT),
+        39..=41 => Event::Scan(Scan::NONE.with(0, true)),
+        42 => Event::Scan(Scan::NONE),
+        43..=46 => Event::InPacket,
+        47 => Event::Cut,
+        _ => Event::Poll,
     })
 }
 
@@ -65,10 +78,19 @@ fn what_the_device_answers_is_what_it_has_to(rt: HostRuntime) -> Result<(), Fail
         } else {
             blank(alloc)?
         };
+        let (first, count) = if number % WITH_KEYS == 0 {
+            (COMMANDS, KEYS)
+        } else {
+            (0, COMMANDS)
+        };
         let events = 1 + next(&mut state, 12);
         for _ in 0..events {
-            let event = event_of(next(&mut state, 35))?;
-            take(alloc, &mut run, event)?;
+            let picked = first + next(&mut state, count);
+            // Five scans let the keys change.
+            let times = if picked >= 39 && picked < 43 { 5 } else { 1 };
+            for _ in 0..times {
+                take(alloc, &mut run, event_of(picked)?)?;
+            }
         }
         let answered = all_answered(alloc, &run.start, run.history.as_slice())?;
         assert!(rt; answered, "run {number}");

@@ -3,7 +3,7 @@
 use super::*;
 
 /// The last step is refused, and with it the history; without it the history is right.
-fn expect_refused(rt: &impl Abort, alloc: Global, run: &Run) -> Result<(), Fail> {
+pub(super) fn expect_refused(rt: &impl Abort, alloc: Global, run: &Run) -> Result<(), Fail> {
     let history = run.history.as_slice();
     let Some((last, before)) = history.split_first() else {
         return Ok(());
@@ -18,7 +18,12 @@ fn expect_refused(rt: &impl Abort, alloc: Global, run: &Run) -> Result<(), Fail>
 }
 
 /// Records a step that the device did not make.
-fn forge(run: &mut Run, event: Event, answer: Answer, flash: SimFlash) -> Result<(), Fail> {
+pub(super) fn forge(
+    run: &mut Run,
+    event: Event,
+    answer: Answer,
+    flash: SimFlash,
+) -> Result<(), Fail> {
     run.history.insert(
         0,
         Recorded {

@@ -1,4 +1,3 @@
-use Rattle.std.proofs.Common.{◌≡◌}
 use Rattle.page_turnover.specs.Turn.{IsWaiting}
 use Rattle.keymap_store.proofs.Offering.{offer_stands, seal_stands}
 use Rattle.keymap_store.proofs.store.offer_next.Goals as goal

@@ -1,4 +1,4 @@
-use Rattle.std.proofs.Common.{◌≡◌, ◌∙◌, ◌∷◌, ◌++◌, [], Some, None, sym}
+use Rattle.std.proofs.Common.{◌∙◌, sym}
 use Rattle.page_turnover.specs.Words.{words}
 use Rattle.keymap_store.proofs.WordsRead.{together_more, stands_other}
 use Rattle.keymap_store.proofs.store.read_keymap.Goals as goal

@@ -1,8 +1,8 @@
 use Rattle.std.proofs.Common.{Some, List, ℕ, sym, ap, ◌∙◌}
 use Rattle.world.specs.Fate.{Fate}
 use Rattle.world.specs.History.{Step}
-use Rattle.world.specs.Transfer.{data_packet}
-use Rattle.world_plain.specs.Records.{steps_of, step_of, fate_of, data_fate, fate_at_first}
+use Rattle.world.specs.Transfer.{data_packet, data_fate}
+use Rattle.world_plain.specs.Records.{steps_of, step_of, fate_of, fate_at_first}
 use Rattle.world_plain.proofs.Splits.{steps_split, before}
 use Rattle.world_plain.proofs.StageLemmas.{data-more, data-first}
 use Rattle.world_plain.proofs.stage.+fate_of_data.Goals as goal

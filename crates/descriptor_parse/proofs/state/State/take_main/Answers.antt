@@ -1,43 +1,33 @@
-use Rattle.std.proofs.Common.{refl, ap, ◌∙◌, sym, ◌≡◌, None, inl, inr}
+use Rattle.std.proofs.Common.{ap, ◌∙◌, sym, ◌≡◌, ◌≤◌, List, ◌∷◌, length, None}
+use Rattle.std.proofs.lemmas.Result.{on_ok_weaker}
 use Rattle.descriptor_parse.specs.declared.tag.Tag.TheVariants.{Main}
 use Rattle.descriptor_parse.specs.declared.tag.MainTag.TheVariants.{Data, Collection, EndCollection}
 use Rattle.descriptor_parse.specs.Globals.{unsigned}
-use Rattle.descriptor_parse.specs.StateStands.{fault_of_main}
+use Rattle.descriptor_parse.specs.Items.{ItemValue}
+use Rattle.descriptor_parse.specs.Tags.{tag}
+use Rattle.descriptor_parse.specs.Faults.{fault_at}
+use Rattle.descriptor_parse.specs.StateStands.{StateStands, fault_of_main}
 use Rattle.descriptor_parse.proofs.StateLemmas.{judged_main, fits_data, room_for_collection, collection_left}
 use Rattle.descriptor_parse.proofs.state.State.take_main.Goals as goal
 
-pub returns-in-Some : goal.returns-in-Some
-returns-in-Some c = λ before item e u s few.
-    inr (judged_main before item c.args.tag _ e s ∙ ap (λ v. fault_of_main c.args.tag v c.args.self.now) u ∙ sym c.judge_main.ensures ∙ c.in-Some.is)
-
-pub returns-in-Ok : goal.returns-in-Ok
-returns-in-Ok c = λ before item e u s few.
-    let none : fault_of_main c.args.tag (unsigned item.bytes) c.args.self.now ≡ None =
-    ap (λ v. fault_of_main c.args.tag v c.args.self.now) u ∙ sym c.judge_main.ensures ∙ c.in-None.is in
+pub returns-in-Data-clause-taken : goal.returns-in-Data-clause-taken
+returns-in-Data-clause-taken c = on_ok_weaker {Q = (before : List ItemValue) (item : ItemValue) → tag item ≡ Main c.args.tag → unsigned item.bytes ≡ c.args.flags
+    → StateStands before c.args.self.now → length before ≤ 4096 → fault_at before item ≡ None → StateStands (item ∷ before) c.take_data.new.self} _ (λ took before item e u s few clean.
     let is : c.args.tag ≡ Data c.in-Data.kind = c.in-Data.is in
-    let e' = e ∙ ap Main is in (
-      judged_main before item c.args.tag _ e s ∙ none,
-      c.in-Ok.ensures before item e' u (fits_data before item c.in-Data.kind _ e' s (ap (λ t. fault_of_main t (unsigned item.bytes) c.args.self.now) (sym is) ∙ none)) few s,
-    )
+    let e' = e ∙ ap Main is in
+    let none : fault_of_main (Data c.in-Data.kind) (unsigned item.bytes) c.args.self.now ≡ None = sym (judged_main before item (Data c.in-Data.kind) _ e' s) ∙ clean in
+    took before item e' u (fits_data before item c.in-Data.kind _ e' s none) few s) c.take_data.ensures.taken
 
-pub returns-in-Err : goal.returns-in-Err
-returns-in-Err c = λ before item e u s few.
-    inl (refl, judged_main before item c.args.tag _ e s ∙ ap (λ v. fault_of_main c.args.tag v c.args.self.now) u ∙ sym c.judge_main.ensures ∙ c.in-None.is)
+pub returns-in-Collection-clause-taken : goal.returns-in-Collection-clause-taken
+returns-in-Collection-clause-taken c = λ before item e u s few clean.
+    let is : c.args.tag ≡ Collection = c.in-Collection.is in
+    let e' = e ∙ ap Main is in
+    let none : fault_of_main Collection (unsigned item.bytes) c.args.self.now ≡ None = sym (judged_main before item Collection _ e' s) ∙ clean in
+    c.open_collection.ensures before item e' (room_for_collection before item _ s none) s
 
-pub returns-in-Collection : goal.returns-in-Collection
-returns-in-Collection c = λ before item e u s few.
-    let none : fault_of_main c.args.tag (unsigned item.bytes) c.args.self.now ≡ None =
-    ap (λ v. fault_of_main c.args.tag v c.args.self.now) u ∙ sym c.judge_main.ensures ∙ c.in-None.is in
-    let is : c.args.tag ≡ Collection = c.in-Collection.is in (
-      judged_main before item c.args.tag _ e s ∙ none,
-      c.open_collection.ensures before item (e ∙ ap Main is) (room_for_collection before item _ s (ap (λ t. fault_of_main t (unsigned item.bytes) c.args.self.now) (sym is) ∙ none)) s,
-    )
-
-pub returns-in-EndCollection : goal.returns-in-EndCollection
-returns-in-EndCollection c = λ before item e u s few.
-    let none : fault_of_main c.args.tag (unsigned item.bytes) c.args.self.now ≡ None =
-    ap (λ v. fault_of_main c.args.tag v c.args.self.now) u ∙ sym c.judge_main.ensures ∙ c.in-None.is in
-    let is : c.args.tag ≡ EndCollection = c.in-EndCollection.is in (
-      judged_main before item c.args.tag _ e s ∙ none,
-      c.close_collection.ensures before item (e ∙ ap Main is) (collection_left before item _ s (ap (λ t. fault_of_main t (unsigned item.bytes) c.args.self.now) (sym is) ∙ none)) s,
-    )
+pub returns-in-EndCollection-clause-taken : goal.returns-in-EndCollection-clause-taken
+returns-in-EndCollection-clause-taken c = λ before item e u s few clean.
+    let is : c.args.tag ≡ EndCollection = c.in-EndCollection.is in
+    let e' = e ∙ ap Main is in
+    let none : fault_of_main EndCollection (unsigned item.bytes) c.args.self.now ≡ None = sym (judged_main before item EndCollection _ e' s) ∙ clean in
+    c.close_collection.ensures before item e' (collection_left before item _ s none) s

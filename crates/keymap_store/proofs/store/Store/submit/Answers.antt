@@ -1,3 +1,6 @@
+use Rattle.std.proofs.lemmas.Bool.{iff_false}
+use Rattle.keymap_store.specs.declared.store.Job.TheVariants.{Turning}
+use Rattle.keymap_store.proofs.Counting.{begun_needs, few_left}
 use Rattle.keymap_store.proofs.Working.{begins_turn}
 use Rattle.keymap_store.proofs.store.Store.submit.Goals as goal
 
@@ -5,3 +8,11 @@ pub returns-in-Ok-clause-mirrors : goal.returns-in-Ok-clause-mirrors
 returns-in-Ok-clause-mirrors c image m =
     begins_turn image _ c.args.command c.begin_turn.new.self (rw (← c.self.view_is) at m)
     (c.begin_turn.ensures.describes image (rw (← c.self.view_is) at m).log_is) c.in-Ok.ensures.begun.1
+
+pub returns-in-Ok-clause-needs : goal.returns-in-Ok-clause-needs
+returns-in-Ok-clause-needs c image m taken =
+    let n = rw (← c.self.view_is) at m in
+    begun_needs image _ c.begin_turn.new.self c.args.command n c.in-Ok.ensures.begun.1 (iff_false (c.room.ensures.room image n.log_is) c.if-room.false)
+
+pub returns-in-Ok-clause-few : goal.returns-in-Ok-clause-few
+returns-in-Ok-clause-few c image = few_left image c.begin_turn.new.self (Turning c.args.command 0)

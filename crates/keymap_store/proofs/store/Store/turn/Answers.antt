@@ -1,8 +1,11 @@
-use Rattle.std.proofs.Common.{◌≡◌}
+use Rattle.std.proofs.Common.{◌∙◌, sym, ap}
 use Rattle.layers.specs.Entries.{entry}
 use Rattle.page_turnover.specs.Words.{words}
 use Rattle.page_turnover.proofs.Effects.{not_idle}
-use Rattle.keymap_store.proofs.Working.{turning, turn_few, turn_moves, turn_room, turn_commits}
+use Rattle.keymap_store.specs.Left.{turn_left}
+use Rattle.keymap_store.proofs.Counting.{moved_left, committed_left, turning_left}
+use Rattle.keymap_store.proofs.Working.{turning, turn_few, turn_moves, turn_room, turn_commits, turned}
+use Rattle.keymap_store.specs.Works.{stays, turns}
 use Rattle.keymap_store.proofs.store.Store.turn.Goals as goal
 
 pub offer_next-from-requires-clause-few : goal.offer_next-from-requires-clause-few
@@ -62,3 +65,41 @@ returns-in-Moved-clause-operates g c idle failed = let made = c.in-Moved.is in c
 
 pub returns-in-Committed-clause-operates : goal.returns-in-Committed-clause-operates
 returns-in-Committed-clause-operates g c idle failed = let made = c.in-Committed.is in c.step.ensures.operates (λ e. cc) (λ e. cc)
+
+pub returns-in-Moved-clause-fewer : goal.returns-in-Moved-clause-fewer
+returns-in-Moved-clause-fewer g c working =
+    let old = g.F.NorFlash.image c.args.flash.now in
+    let new = g.F.NorFlash.image c.step.new.flash in
+    let m = rw (← c.self.view_is) at c.requires.mirrors in
+    let e = rw (← c.self.view_is) at c.requires.job in
+    let j = turning old _ c.args.command c.args.from m e in
+    let s = c.offer_next-from.ensures.stands old (entry (words old)) m.keymap_is m.log_is j.1 in
+    let moves = c.step.ensures.moved c.in-Moved.is in
+    rw (← c.self.view_is) (moved_left c.offer_next-from.result old c.offer_next-from.new.log c.step.result new c.step.new.self c.offer_next-from.ensures.within s.0.task_is s.1 c.in-Moved.is c.step.ensures.ends moves.words_are
+    ∙ ap (turn_left old) c.offer_next-from.ensures.target ∙ sym (turning_left old _ c.args.command c.args.from m e))
+
+pub returns-in-Committed-clause-fewer : goal.returns-in-Committed-clause-fewer
+returns-in-Committed-clause-fewer g c working =
+    let old = g.F.NorFlash.image c.args.flash.now in
+    let new = g.F.NorFlash.image c.step.new.flash in
+    let m = rw (← c.self.view_is) at c.requires.mirrors in
+    let e = rw (← c.self.view_is) at c.requires.job in
+    let j = turning old _ c.args.command c.args.from m e in
+    let s = c.offer_next-from.ensures.stands old (entry (words old)) m.keymap_is m.log_is j.1 in
+    rw (← c.self.view_is) (sym (committed_left c.offer_next-from.result old c.offer_next-from.new.log c.step.result new c.step.new.self s.0.task_is s.1 c.in-Committed.is c.step.ensures.ends)
+    ∙ ap (turn_left old) c.offer_next-from.ensures.target ∙ sym (turning_left old _ c.args.command c.args.from m e))
+
+pub returns-in-Moved-clause-turns : goal.returns-in-Moved-clause-turns
+returns-in-Moved-clause-turns g c working =
+    let moves = c.step.ensures.moved c.in-Moved.is in
+    stays moves.words_are moves.active_is
+
+pub returns-in-Committed-clause-turns : goal.returns-in-Committed-clause-turns
+returns-in-Committed-clause-turns g c working =
+    let old = g.F.NorFlash.image c.args.flash.now in
+    let new = g.F.NorFlash.image c.step.new.flash in
+    let m = rw (← c.self.view_is) at c.requires.mirrors in
+    let j = turning old _ c.args.command c.args.from m (rw (← c.self.view_is) at c.requires.job) in
+    let s = c.offer_next-from.ensures.stands old (entry (words old)) m.keymap_is m.log_is j.1 in
+    let done = turned (entry (words old)) c.offer_next-from.result old c.offer_next-from.new.log.task new s.1 (c.step.ensures.committed c.in-Committed.is) in
+    turns done.0 done.1

@@ -1,19 +1,25 @@
-use Rattle.std.proofs.Common.{◌≡◌, refl, ap, sym, subst}
-use Rattle.world.specs.Holds.{Holds}
+use Rattle.std.proofs.Common.{refl, ap, sym, subst, ◌∙◌}
+use Rattle.keymap_store.specs.Store.{Mirrors, working}
+use Rattle.keymap_store.specs.Value.{StoreValue}
 use Rattle.world.specs.Value.{WorldValue}
-use Rattle.world.proofs.Taking.{takes_settled, takes_working}
+use Rattle.world.specs.declared.transfer.Stage.TheVariants.{Status, Waiting}
+use Rattle.world.proofs.Bounding.{nothing_needed}
+use Rattle.world.proofs.Taking.{takes_settled, takes_working, not_worn}
 use Rattle.world.proofs.device.World.submit.Goals as goal
 
-pub returns-in-Settled : goal.returns-in-Settled
-returns-in-Settled c image h =
-    let held : Holds image c.self.inside.store = subst (λ (w : WorldValue). Holds image w.store) (sym c.self.view_is) h in
-    let flash : c.self.inside.flash ≡ c.args.self.now.flash = ap (λ (w : WorldValue). w.flash) c.self.view_is in
-    let all = c.in-Settled.ensures.submitted image held in
-    takes_settled image c.args.command.now c.args.self.now _ (c.submit.ensures.holds image held) flash all.0 all.1 refl all.2
+pub returns-in-Ok-Settled-clause-takes : goal.returns-in-Ok-Settled-clause-takes
+returns-in-Ok-Settled-clause-takes c image h =
+    let held : Mirrors image c.self.inside.store = subst (λ (w : WorldValue). Mirrors image w.store) (sym c.self.view_is) h in
+    let only = ap (λ (w : WorldValue). record w { stage = Status; store = c.submit.new.self }) c.self.view_is in
+    let all = rw c.in-Ok-Settled.field-0-is at (c.in-Ok-Settled.ensures.submits image held) in
+    let same = c.in-Ok-Settled.ensures.unchanged (λ e. (let is = c.in-Ok-Settled.field-0-is in cc)) in
+    let rests = ap (λ (s : StoreValue). working s.job) same ∙ all.0.idle in
+    takes_settled image c.args.command.now c.args.self.now _ (c.submit.ensures.mirrors image held) (c.submit.ensures.few image) (λ w. nothing_needed _ _ rests w) only all.0.usable all.1 refl rests
 
-pub returns-in-Working : goal.returns-in-Working
-returns-in-Working c image h =
-    let held : Holds image c.self.inside.store = subst (λ (w : WorldValue). Holds image w.store) (sym c.self.view_is) h in
-    let flash : c.self.inside.flash ≡ c.args.self.now.flash = ap (λ (w : WorldValue). w.flash) c.self.view_is in
-    let all = c.in-Working.ensures.submitted image held in
-    takes_working image c.args.command.now c.args.self.now _ (c.submit.ensures.holds image held) flash all.0 all.1 all.2 refl all.3
+pub returns-in-Ok-Working-clause-takes : goal.returns-in-Ok-Working-clause-takes
+returns-in-Ok-Working-clause-takes c image h =
+    let held : Mirrors image c.self.inside.store = subst (λ (w : WorldValue). Mirrors image w.store) (sym c.self.view_is) h in
+    let only = ap (λ (w : WorldValue). record w { stage = Waiting; store = c.submit.new.self }) c.self.view_is in
+    let all = rw c.in-Ok-Working.field-0-is at (c.in-Ok-Working.ensures.submits image held) in
+    let taken = c.in-Ok-Working.ensures.taken (rw c.in-Ok-Working.field-0-is refl) in
+    takes_working image c.args.command.now c.args.self.now _ (c.submit.ensures.mirrors image held) (c.submit.ensures.few image) (λ w. c.in-Ok-Working.ensures.needs image held (rw c.in-Ok-Working.field-0-is refl)) only all.0.usable all.1 (not_worn image all.2) refl taken.0

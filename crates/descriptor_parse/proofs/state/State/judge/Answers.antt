@@ -1,0 +1,25 @@
+use Rattle.std.proofs.Common.{ap, ◌∙◌, sym}
+use Rattle.descriptor_parse.specs.StateStands.{fault_of_main, fault_of_global}
+use Rattle.descriptor_parse.specs.LocalsStand.{fault_of_local}
+use Rattle.descriptor_parse.proofs.StateLemmas.{judged_main, judged_global, judged_local, judged_skipped, long_skipped}
+use Rattle.descriptor_parse.proofs.state.State.judge.Goals as goal
+
+pub returns-then-item : goal.returns-then-item
+returns-then-item c = λ before s. sym (judged_skipped before _ (long_skipped _ c.if-item.true))
+
+pub returns-in-Main : goal.returns-in-Main
+returns-in-Main c = λ before s.
+    c.judge_main.ensures ∙ ap (λ v. fault_of_main c.in-Main.tag v c.args.self.now) c.unsigned.ensures ∙ sym (judged_main before _ c.in-Main.tag _ (sym c.in-Main.ensures) s)
+
+pub returns-in-Global : goal.returns-in-Global
+returns-in-Global c = λ before s.
+    c.judge_global.ensures ∙ ap (λ v. fault_of_global c.in-Global.tag v c.args.self.now) c.unsigned-in-Global.ensures
+    ∙ sym (judged_global before _ c.in-Global.tag _ (sym c.in-Global.ensures) s)
+
+pub returns-in-Local : goal.returns-in-Local
+returns-in-Local c = λ before s.
+    c.judge.ensures ∙ ap (λ v. fault_of_local c.in-Local.tag v c.args.self.now.locals.half) c.read.ensures
+    ∙ sym (judged_local before _ c.in-Local.tag _ (sym c.in-Local.ensures) s.locals)
+
+pub returns-in-Skipped : goal.returns-in-Skipped
+returns-in-Skipped c = λ before s. sym (judged_skipped before _ (sym c.in-Skipped.ensures))

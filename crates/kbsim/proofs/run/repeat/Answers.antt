@@ -1,0 +1,12 @@
+use Rattle.std.proofs.Common.{rules}
+use Rattle.kbsim.proofs.OutputLemmas.{repeated_none, repeated_more, repeated}
+use Rattle.kbsim.proofs.run.repeat.Goals as goal
+
+pub loop-again-init : goal.loop-again-init
+loop-again-init c = repeated_none _ _
+
+pub loop-again-preserved : goal.loop-again-preserved
+loop-again-preserved c = repeated_more _ _ _ _ _ _ c.loop-again.invariant c.in_ok-take.ensures
+
+pub returns : goal.returns
+returns c = repeated _ _ _ _ _ _ _ c.loop-again.invariant (search rules) c.take-2.ensures

@@ -1,0 +1,5 @@
+use Rattle.kbsim.proofs.OutputLemmas.{WorkedSoFar}
+use Rattle.kbsim.proofs.run.work_off.Given as goal
+
+abbrev pub invariant-loop-step : goal.invariant-loop-step
+invariant-loop-step l = WorkedSoFar l._step l.fn.world l.world

@@ -1,0 +1,127 @@
+-- What the lines of a script do to the device, and what they print.
+use Rattle.std.specs.Prelude.{◌≡◌, ◌≢◌, ℕ, ◌*◌, ◌/◌, ◌%◌, ◌⊎◌, List, [], ◌∷◌, ◌++◌, length, replicate}
+use Rattle.std.specs.Int.NonZero.{non_zero_u16_get}
+use Rattle.std.specs.List.{All}
+use Rattle.std.specs.Str.Lines.{lines}
+use Rattle.world.specs.declared.event.Event.{Event}
+use Rattle.world.specs.declared.event.Event.TheVariants as event
+use Rattle.world.specs.declared.event.Answer.{Answer}
+use Rattle.world.specs.declared.event.Answer.TheVariants.{Ack, Packet, Worked}
+use Rattle.keymap_store.specs.declared.store.Work.TheVariants.{Working}
+use Rattle.world.specs.History.{Step, EachStep}
+use Rattle.world.specs.Transfer.{set_feature}
+use Rattle.world.specs.Lawful.{IsAnswered}
+use Rattle.world.specs.Stands.{StandsFor}
+use Rattle.world.specs.Value.{WorldValue}
+use Rattle.kbsim.specs.Actions.{IsEventOf}
+use Rattle.kbsim.specs.Prints.{printed_line}
+use Rattle.kbsim.specs.Scripts.{Script}
+use Rattle.kbsim.specs.declared.script.Line.{Line}
+use Rattle.kbsim.specs.declared.statement.Statement.{Statement}
+use Rattle.kbsim.specs.declared.statement.Statement.TheVariants as statement
+
+-- the feature report that sets an entry: its ID, the operation, layer, key, and the code, low byte first
+abbrev pub set_report : ℕ → ℕ → ℕ → List ℕ
+set_report layer key code = 3 ∷ 1 ∷ layer ∷ key ∷ code % 256 ∷ code / 256 ∷ []
+
+-- steps of the flash work, newest first, that each needed more
+abbrev pub AllWorking : List Step → Type 0
+AllWorking [] = Unit {0}
+AllWorking (step ∷ before) = (step.event ≡ event.Work) × (step.answer ≡ Worked Working) × AllWorking before
+
+-- the most steps that the flash work of a command takes: an erase, 384 copies, a header and a record
+abbrev pub most_steps : ℕ
+most_steps = 387
+
+-- the flash work of a command, newest step first: a last step that did not need more, after steps that did
+pub record IsDone (steps : List Step) : Type 0 where
+  pub last : Step
+  pub before : List Step
+  pub steps_are : steps ≡ last ∷ before
+  pub last_is : last.event ≡ event.Work
+  pub done : last.answer ≢ Worked Working
+  pub needed : AllWorking before
+
+abbrev pub IsFlashWork : List Step → Type 0
+IsFlashWork steps = IsDone steps ⊎ (AllWorking steps × (length steps ≡ most_steps))
+
+-- what `set` prints of the status stage: the empty packet is a success
+abbrev pub ShowsStatus : Answer → Answer → Type 0
+ShowsStatus status shown =
+    ((status ≡ Packet (record { items = [] })) × (shown ≡ Ack)) ⊎ ((status ≢ Packet (record { items = [] })) × (shown ≡ status))
+
+-- a `set` whose report was not acknowledged
+pub record IsRefusedSet (layer key code : ℕ) (steps : List Step) (answer : Answer) : Type 0 where
+  pub setup : Step
+  pub report : Step
+  pub steps_are : steps ≡ report ∷ setup ∷ []
+  pub setup_is : setup.event ≡ event.Setup set_feature
+  pub report_is : report.event ≡ event.OutPacket (record { items = set_report layer key code })
+  pub refused : report.answer ≢ Ack
+  pub shows : answer ≡ report.answer
+
+-- a `set` whose report was acknowledged
+pub record IsTakenSet (layer key code : ℕ) (steps : List Step) (answer : Answer) : Type 0 where
+  pub setup : Step
+  pub report : Step
+  pub work : List Step
+  pub status : Step
+  pub steps_are : steps ≡ status ∷ work ++ report ∷ setup ∷ []
+  pub setup_is : setup.event ≡ event.Setup set_feature
+  pub report_is : report.event ≡ event.OutPacket (record { items = set_report layer key code })
+  pub taken : report.answer ≡ Ack
+  pub worked : IsFlashWork work
+  pub status_is : status.event ≡ event.InPacket
+  pub shows : ShowsStatus status.answer answer
+
+-- so many steps of one event, newest first; the answer is that of the newest
+pub record IsRepeated (e : Event) (count : ℕ) (steps : List Step) (answer : Answer) : Type 0 where
+  pub last : Step
+  pub before : List Step
+  pub steps_are : steps ≡ last ∷ before
+  pub last_is : last.event ≡ e
+  pub equal : All (λ (step : Step). step.event ≡ e) before
+  pub count_is : length steps ≡ count
+  pub shows : answer ≡ last.answer
+
+-- the steps of a line, newest first, and the answer that it prints
+abbrev pub LineRuns : Statement → List Step → Answer → Type 0
+LineRuns (statement.One action) steps answer =
+    (step : Step) × (steps ≡ step ∷ []) × IsEventOf action step.event × (answer ≡ step.answer)
+LineRuns (statement.Scans count scan) steps answer = IsRepeated (event.Scan scan) (non_zero_u16_get count) steps answer
+LineRuns (statement.Set layer key code) steps answer =
+    IsRefusedSet layer key code steps answer ⊎ IsTakenSet layer key code steps answer
+
+-- the steps of lines that are run in order, newest first, and the text that they print, a line for each
+abbrev pub Prints : List Line → List Step → List ℕ → Type 0
+Prints [] steps text = (steps ≡ []) × (text ≡ [])
+Prints (line ∷ more) steps text =
+    (first later : List Step) × (answer : Answer) × (rest : List ℕ) × (steps ≡ later ++ first) × LineRuns line.statement first answer
+    × (text ≡ printed_line line.number answer ++ rest) × Prints more later rest
+
+-- a flash as it comes: all bits are set
+abbrev pub blank : ℕ → List ℕ
+blank pages = replicate (4096 * pages) 255
+
+-- the lines print this text: run on a device whose flash was blank, each event was answered as it has to be
+pub record IsRun (pages : ℕ) (lines : List Line) (text : List ℕ) : Type 0 where
+  pub steps : List Step
+  pub answered : EachStep IsAnswered (blank pages) steps
+  pub prints : Prints lines steps text
+
+-- a script prints this text
+pub record IsOutput (pages : ℕ) (script text : List ℕ) : Type 0 where
+  pub said : List Line
+  pub sound : Script pages 1 (lines script) said
+  pub run : IsRun pages said text
+
+-- from each history that the world stood for, it went on by steps, newest first, of which P holds
+abbrev pub GoesOn : (List Step → Type 0) → WorldValue → WorldValue → Type 0
+GoesOn P old new =
+    (start : List ℕ) (past : List Step) → StandsFor start past old → (steps : List Step) × P steps × StandsFor start (steps ++ past) new
+
+-- the world took one event
+abbrev pub Takes : Event → Answer → WorldValue → WorldValue → Type 0
+Takes event answer old new =
+    (start : List ℕ) (past : List Step) → StandsFor start past old
+    → StandsFor start (record { event = event; answer = answer; image = new.flash.image } ∷ past) new

@@ -1,0 +1,6 @@
+pub mod Those
+pub mod Edges
+pub mod Standing
+pub mod Tabled
+pub mod Pressed
+pub mod PlainScans

@@ -1,0 +1,19 @@
+use Rattle.std.specs.Prelude.{ℕ, zero, suc, ◌&&◌, List, Bool, true, false}
+use Rattle.records.specs.declared.Slot.{Slot}
+use Rattle.records.specs.declared.Slot.TheVariants.{Free, Good, Spoiled}
+use Rattle.records.specs.Slots.{slot_of}
+use Rattle.flash_model.specs.Image.{slot_at}
+
+abbrev pub is_free : Slot → Bool
+is_free Free = true
+is_free (Good word) = false
+is_free Spoiled = false
+
+-- whether each of the first n slots of a page is Free
+unfoldable pub is_free_below : List ℕ → ℕ → ℕ → Bool
+is_free_below image page zero = true
+is_free_below image page (suc n) = is_free (slot_of (slot_at image page n)) && is_free_below image page n
+
+-- whether each slot of a page is Free: `IsBlank` as a test
+unfoldable pub is_blank : List ℕ → ℕ → Bool
+is_blank image page = is_free_below image page 512
