@@ -1,7 +1,8 @@
 -- What becomes of a command that was accepted.
-use Rattle.std.specs.Prelude.{ℕ, ◌==◌, ◌||◌, Bool, false, not, if◌then◌else◌, List, [], ◌∷◌, zero, suc}
+use Rattle.std.specs.Prelude.{ℕ, ◌==◌, Bool, not, if◌then◌else◌, List, [], ◌∷◌}
 use Rattle.layers.specs.Codes.{layers, keys}
 use Rattle.layers.specs.Entries.{changed}
+use Rattle.layers.specs.Held.{any_below}
 use Rattle.layers.specs.declared.command.Command.{Command}
 use Rattle.keymap_store.specs.declared.store.Work.{Work as WorkAnswer}
 use Rattle.keymap_store.specs.declared.store.Work.TheVariants.{Idle, Working, Settled, Failed}
@@ -15,15 +16,10 @@ pub data Fate : Type 0 where
   settled : Fate
   failed : Fate
 
--- a test holds of some number below n
-unfoldable pub some_below : ℕ → (ℕ → Bool) → Bool
-some_below zero test = false
-some_below (suc n) test = test n || some_below n test
-
 -- some entry differs after the command: `ChangesSome` as a test
 unfoldable pub changes : (ℕ → ℕ → ℕ) → Command → Bool
 changes entries command =
-    some_below layers (λ layer. some_below keys (λ key. not (changed entries (command ∷ []) layer key == entries layer key)))
+    any_below (λ layer. any_below (λ key. not (changed entries (command ∷ []) layer key == entries layer key)) keys) layers
 
 -- a step of the flash work that answers Settled or Failed ends the command that works
 abbrev pub ended_by_work : WorkAnswer → Fate → Fate
