@@ -17,13 +17,15 @@ use Rattle.world.specs.History.{Step}
 use Rattle.world.specs.Transfer.{set_feature}
 use Rattle.world.specs.Stands.{StandsFor, Goes, Runs}
 use Rattle.world.specs.Value.{WorldValue}
-use Rattle.kbsim.specs.Outputs.{set_report, AllWorking, most_steps, IsFlashWork, ShowsStatus, IsRepeated, IsRefusedSet, IsTakenSet, LineRuns, Prints, GoesOn, Takes, blank, IsRun}
+use Rattle.world.specs.Bounded.{most_steps}
+use Rattle.kbsim.proofs.WorkLemmas.{working_few}
+use Rattle.kbsim.specs.Outputs.{set_report, AllWorking, IsFlashWork, ShowsStatus, IsRepeated, IsRefusedSet, IsTakenSet, LineRuns, Prints, GoesOn, Takes, blank, IsRun}
 use Rattle.kbsim.specs.Prints.{printed_line}
 use Rattle.kbsim.specs.Actions.{IsEventOf}
-use Rattle.kbsim.specs.declared.script.Line.{Line}
-use Rattle.kbsim.specs.declared.statement.Action.{Action}
-use Rattle.kbsim.specs.declared.statement.Statement.{Statement}
-use Rattle.kbsim.specs.declared.statement.Statement.TheVariants.{One}
+use Rattle.script.specs.declared.read.Line.{Line}
+use Rattle.script.specs.declared.statement.Action.{Action}
+use Rattle.script.specs.declared.statement.Statement.{Statement}
+use Rattle.script.specs.declared.statement.Statement.TheVariants.{One}
 
 -- one line more
 pub prints_more : (lines : List Line) (steps : List Step) (text : List ℕ) (line : Line) (first : List Step) (answer : Answer)
@@ -147,14 +149,16 @@ worked_off count old world new answer so_far takes done start past stands =
     let (steps, (all, long), stood) = so_far start past stands in
     let step : Step = record { event = event.Work; answer = answer; image = new.flash.image } in (
       step ∷ steps,
-      inl (record { last = step; before = steps; steps_are = refl; last_is = refl; done = done; needed = all }),
+      record { last = step; before = steps; steps_are = refl; last_is = refl; done = done; needed = all },
       takes start (steps ++ past) stood,
     )
 
+-- that many steps never all need more
 pub worked_all : (count : ℕ) (old new : WorldValue) → count ≡ most_steps → WorkedSoFar count old new → GoesOn IsFlashWork old new
 worked_all count old new whole so_far start past stands =
     let (steps, (all, long), stood) = so_far start past stands in
-    (steps, inr (all, long ∙ whole), stood)
+    let few : length steps < 387 = working_few start past steps stood.answered stood.in_time all in
+    absurd (omega (arith, few, long, whole))
 
 -- the two ways in which a `set` goes
 abbrev pub SetRuns : ℕ → ℕ → ℕ → Answer → WorldValue → WorldValue → Type 0
@@ -243,3 +247,17 @@ pub run_all : (pages : ℕ) (lines : List Line) (world : WorldValue) (first now 
     → (text : List ℕ) × IsRun pages lines text × Appends first now text
 run_all pages lines world first now so_far =
     (so_far.text, record { steps = so_far.steps; answered = so_far.stands.answered; prints = so_far.prints }, so_far.appends)
+
+-- what was printed when a run stops
+abbrev pub Stopped : ℕ → List Line → Option (List ℕ) → Option (List ℕ) → Type 0
+Stopped pages lines first now = (count : ℕ) × (text : List ℕ) × ((text ≡ []) ⊎ (count < length lines)) × IsRun pages (take count lines) text × Appends first now text
+
+-- at some line, or before the first
+pub stopped_at : (pages : ℕ) (lines : List Line) (i : ℕ) (world : WorldValue) (first now : Option (List ℕ)) → RunSoFar pages (take i lines) world first now
+    → i < length lines → Stopped pages lines first now
+stopped_at pages lines i world first now so_far more =
+    let (text, run, appends) = run_all pages (take i lines) world first now so_far in
+    (i, text, inr more, run, appends)
+
+pub stopped_none : (pages : ℕ) (lines : List Line) (first : Option (List ℕ)) → Stopped pages lines first first
+stopped_none pages lines first = (0, [], inl refl, record { steps = []; answered = tt; prints = (refl, refl) }, Appends-nil first)

@@ -1,7 +1,7 @@
 -- The event of a line.
 use Rattle.std.specs.Prelude.{◌≡◌}
-use Rattle.kbsim.specs.declared.statement.Action.{Action}
-use Rattle.kbsim.specs.declared.statement.Action.TheVariants as action
+use Rattle.script.specs.declared.statement.Action.{Action}
+use Rattle.script.specs.declared.statement.Action.TheVariants as action
 use Rattle.world.specs.declared.event.Event.{Event}
 use Rattle.world.specs.declared.event.Event.TheVariants as event
 

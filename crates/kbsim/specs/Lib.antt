@@ -1,9 +1,5 @@
 pub mod Actions
-pub mod Keys
-pub mod Numbers
 pub mod Outputs
 pub mod Prints
 pub mod Readers
 pub mod Scripts
-pub mod Statements
-pub mod Words

@@ -1,5 +1,5 @@
 -- What the lines of a script do to the device, and what they print.
-use Rattle.std.specs.Prelude.{◌≡◌, ◌≢◌, ℕ, ◌*◌, ◌/◌, ◌%◌, ◌⊎◌, List, [], ◌∷◌, ◌++◌, length, replicate}
+use Rattle.std.specs.Prelude.{◌≡◌, ◌≢◌, ℕ, ◌*◌, ◌<◌, ◌/◌, ◌%◌, ◌⊎◌, List, [], ◌∷◌, ◌++◌, length, replicate, take}
 use Rattle.std.specs.Int.NonZero.{non_zero_u16_get}
 use Rattle.std.specs.List.{All}
 use Rattle.std.specs.Str.Lines.{lines}
@@ -15,10 +15,10 @@ use Rattle.world.specs.Stands.{StandsFor}
 use Rattle.world.specs.Value.{WorldValue}
 use Rattle.kbsim.specs.Actions.{IsEventOf}
 use Rattle.kbsim.specs.Prints.{printed_line}
-use Rattle.kbsim.specs.Scripts.{Script}
-use Rattle.kbsim.specs.declared.script.Line.{Line}
-use Rattle.kbsim.specs.declared.statement.Statement.{Statement}
-use Rattle.kbsim.specs.declared.statement.Statement.TheVariants as statement
+use Rattle.script.specs.Scripts.{Script}
+use Rattle.script.specs.declared.read.Line.{Line}
+use Rattle.script.specs.declared.statement.Statement.{Statement}
+use Rattle.script.specs.declared.statement.Statement.TheVariants as statement
 
 -- the feature report that sets an entry: its ID, the operation, layer, key, and the code, low byte first
 abbrev pub set_report : ℕ → ℕ → ℕ → List ℕ
@@ -29,21 +29,14 @@ abbrev pub AllWorking : List Step → Type 0
 AllWorking [] = Unit {0}
 AllWorking (step ∷ before) = (step.event ≡ event.Work) × (step.answer ≡ Worked Working) × AllWorking before
 
--- the most steps that the flash work of a command takes: an erase, 384 copies, a header and a record
-abbrev pub most_steps : ℕ
-most_steps = 387
-
 -- the flash work of a command, newest step first: a last step that did not need more, after steps that did
-pub record IsDone (steps : List Step) : Type 0 where
+pub record IsFlashWork (steps : List Step) : Type 0 where
   pub last : Step
   pub before : List Step
   pub steps_are : steps ≡ last ∷ before
   pub last_is : last.event ≡ event.Work
   pub done : last.answer ≢ Worked Working
   pub needed : AllWorking before
-
-abbrev pub IsFlashWork : List Step → Type 0
-IsFlashWork steps = IsDone steps ⊎ (AllWorking steps × (length steps ≡ most_steps))
 
 -- what `set` prints of the status stage: the empty packet is a success
 abbrev pub ShowsStatus : Answer → Answer → Type 0
@@ -114,6 +107,14 @@ pub record IsOutput (pages : ℕ) (script text : List ℕ) : Type 0 where
   pub said : List Line
   pub sound : Script pages 1 (lines script) said
   pub run : IsRun pages said text
+
+-- the first lines of a sound script, and not all, print this text
+pub record IsBegun (pages : ℕ) (script text : List ℕ) : Type 0 where
+  pub said : List Line
+  pub sound : Script pages 1 (lines script) said
+  pub count : ℕ
+  pub some_left : count < length said
+  pub run : IsRun pages (take count said) text
 
 -- from each history that the world stood for, it went on by steps, newest first, of which P holds
 abbrev pub GoesOn : (List Step → Type 0) → WorldValue → WorldValue → Type 0

@@ -10,8 +10,8 @@ use Rattle.world.specs.declared.event.Why.{Why}
 use Rattle.world.specs.declared.event.Why.TheVariants as why
 use Rattle.keymap_store.specs.declared.store.Work.{Work}
 use Rattle.keymap_store.specs.declared.store.Work.TheVariants as work
-use Rattle.kbsim.specs.declared.fault.LineFault.{LineFault}
-use Rattle.kbsim.specs.declared.fault.LineFault.TheVariants.{UnknownWord, WrongWords, BadNumber, BadHex}
+use Rattle.script.specs.declared.fault.LineFault.{LineFault}
+use Rattle.script.specs.declared.fault.LineFault.TheVariants.{UnknownWord, WrongWords, BadNumber, BadHex}
 use Rattle.kbsim.specs.declared.fault.RunError.{RunError}
 use Rattle.kbsim.specs.declared.fault.RunError.TheVariants as error
 

@@ -1,24 +1,7 @@
 //! Why a script is not run to its end.
 
+use script::LineFault;
 use thiserror::Error;
-
-/// What is wrong with a line of a script. A line is checked in this order: its first word, the
-/// number of its words, and then each word from the left.
-#[derive(Clone, Copy, Debug, PartialEq, Eq, Error)]
-pub enum LineFault {
-    /// The first word begins no line of the language.
-    #[error("unknown word")]
-    UnknownWord,
-    /// There are more or fewer words than this line takes.
-    #[error("wrong words")]
-    WrongWords,
-    /// A word is no decimal number of 1 to 5 digits, or its number is out of its range.
-    #[error("bad number")]
-    BadNumber,
-    /// A word is not the hex digits of as many bytes as this line takes.
-    #[error("bad hex")]
-    BadHex,
-}
 
 /// Why a run ends before the end of its script.
 #[derive(Clone, Copy, Debug, PartialEq, Eq, Error)]

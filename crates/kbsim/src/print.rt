@@ -1,6 +1,6 @@
 //! Printing answers and faults.
 
-ghost use Rattle.std.specs.Prelude.{◌≡◌, [], Some, OnOk};
+ghost use Rattle.std.specs.Prelude.{◌≡◌, [], Some, IsOk, OnOk};
 ghost use Rattle.std.specs.Io.KnownBytes.{Appends, Keeps, append_known};
 ghost use Rattle.kbsim.specs.Prints.{fault_line, fault_name, in_hex, outcome_name, printed_line, shown, shown_reading};
 
@@ -80,6 +80,7 @@ impl<'w, W: Write> Printer<'w, W> {
             (append_known (W.contents self.old.writer.now) self.old.waiting.bytes)
             (W.contents self.new.writer.now)) }
         ensures empty { OnOk result (self.new.waiting.bytes ≡ []) }
+        ensures nothing { self.old.waiting.bytes ≡ [] → IsOk result }
         ensures same_writer { self.new.writer.ghost_name ≡ self.old.writer.ghost_name }
     {
         write_whole(self.writer, self.waiting.as_str().as_bytes())?;
@@ -107,7 +108,8 @@ impl<W: Write> fmt::Write for Printer<'_, W> {
 
 /// Writes all these bytes. Any fault of the writer ends it, an interruption too.
 fn write_whole<W: Write>(writer: &mut W, bytes: &[u8]) -> Result<(), WriterFault>
-    ensures { OnOk result (Appends (W.contents writer.old) (W.contents writer.new) bytes.now) }
+    ensures given { OnOk result (Appends (W.contents writer.old) (W.contents writer.new) bytes.now) }
+    ensures nothing { bytes.now ≡ [] → IsOk result }
 {
     let mut rest = bytes;
     while !rest.is_empty() {

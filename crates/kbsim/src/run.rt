@@ -1,22 +1,23 @@
 //! Running a script.
 
-ghost use Rattle.std.specs.Prelude.{◌≡◌, ◌≢◌, ◌<◌, ◌≤◌, ℕ, List, [], slice_index, length, ◌↔◌, ◌⊎◌, IfOk, IfErr, IfSome, OnOk, IsTrue};
+ghost use Rattle.std.specs.Prelude.{◌≡◌, ◌≢◌, ◌<◌, ◌≤◌, ℕ, List, [], ◌++◌, slice_index, length, take, ◌↔◌, ◌⊎◌, IfOk, IfErr, IfSome, OnOk, IsTrue};
 ghost use Rattle.std.specs.Int.NonZero.{non_zero_u16_get};
 ghost use Rattle.std.specs.Str.Lines.{lines};
 ghost use Rattle.std.specs.Io.KnownBytes.{Appends, Keeps, append_known};
 ghost use Rattle.world.specs.Stands.{StandsFor};
-ghost use Rattle.kbsim.specs.Outputs.{set_report, blank, IsFlashWork, LineRuns, IsRepeated, IsRefusedSet, IsTakenSet, IsRun, IsOutput, GoesOn, Takes};
+ghost use Rattle.kbsim.specs.Outputs.{set_report, blank, IsFlashWork, LineRuns, IsRepeated, IsRefusedSet, IsTakenSet, IsRun, IsOutput, IsBegun, GoesOn, Takes};
 ghost use Rattle.kbsim.specs.Prints.{fault_line};
 ghost use Rattle.kbsim.specs.Readers.{longest};
-ghost use Rattle.kbsim.specs.Scripts.{IsEarly, IsSound, IsRunFault, Script};
+ghost use Rattle.kbsim.specs.Scripts.{IsEarly, IsSound, IsRunFault};
+ghost use Rattle.script.specs.Scripts.{Script};
 
+use crate::action::event_of;
 use crate::input::read_text;
 use crate::print::Printer;
-use crate::script::{Line, read_lines};
-use crate::statement::Statement;
 use crate::{Answer, Event, RunError, Work, World};
 use arrayvec::ArrayVec;
 use flash_model::SimFlash;
+use script::{Line, ScriptError, Statement, read_lines};
 use std::alloc::{AllocError, Global};
 use std::io::{Read, Write};
 use std::num::NonZeroU16;
@@ -54,6 +55,9 @@ pub fn run_script<R: Read, W: Write>(
         × IsOutput pages script text × Appends (W.contents writer.old) (W.contents writer.new) text)) }
     ensures refused { IfErr result (λ e. IsRunFault pages (R.remaining reader.old) e) }
     ensures fault_alone { IfErr result (λ e. IsEarly e → Appends (W.contents writer.old) (W.contents writer.new) (fault_line e)) }
+    ensures stopped { result ≡ Err RunError.Memory → IfSome (R.remaining reader.old) (λ script. (text : List ℕ)
+        × ((text ≡ []) ⊎ IsBegun pages script text)
+        × Appends (W.contents writer.old) (W.contents writer.new) (text ++ fault_line RunError.Memory)) }
 {
     if !(2..=8).contains(&pages) {
         return Err(RunError::PageCount);
@@ -104,7 +108,11 @@ fn read_script<R: Read>(alloc: Global, pages: usize, reader: &mut R) -> Result<V
     ensures counted { result ≢ Err RunError.PageCount }
 {
     let text = read_text(alloc, reader)?;
-    read_lines(alloc, pages, text.as_slice())
+    match read_lines(alloc, pages, text.as_slice()) {
+        Ok(lines) => Ok(lines),
+        Err(ScriptError::Line { line, fault }) => Err(RunError::Line { line, fault }),
+        Err(ScriptError::Memory) => Err(RunError::Memory),
+    }
 }
 
 /// Runs the lines of a script on a blank flash.
@@ -121,7 +129,13 @@ fn perform<W: Write>(
         (append_known (W.contents printer.new.writer.now) printer.new.waiting.bytes)
         text) }
     ensures same_writer { OnOk result (printer.new.writer.ghost_name ≡ printer.old.writer.ghost_name) }
-    ensures late { IfErr result (λ e. (e ≡ RunError.Memory) ⊎ (e ≡ RunError.Output)) }
+    ensures late { IfErr result (λ e. (e ≡ RunError.Memory) ⊎ ((e ≡ RunError.Output) × (lines.now ≢ []))) }
+    ensures stopped { result ≡ Err RunError.Memory → (count : ℕ) × (text : List ℕ)
+        × ((text ≡ []) ⊎ (count < length lines.now)) × IsRun pages (take count lines.now) text
+        × Appends (append_known (W.contents printer.old.writer.now) printer.old.waiting.bytes)
+        (append_known (W.contents printer.new.writer.now) printer.new.waiting.bytes)
+        text }
+    ensures same_writer_stopped { result ≡ Err RunError.Memory → printer.new.writer.ghost_name ≡ printer.old.writer.ghost_name }
 {
     let mut world = blank_world(alloc, pages)?;
     let mut answers = Vec::new(alloc);
@@ -158,7 +172,7 @@ fn run_line(
     ensures { IfOk result (λ answer. GoesOn (λ steps. LineRuns statement.now steps answer) world.old world.new) }
 {
     match statement {
-        Statement::One(action) => take(world, &action.event()?, answers),
+        Statement::One(action) => take(world, &event_of(action), answers),
         Statement::Scans { count, scan } => repeat(world, &Event::Scan(*scan), *count, answers),
         Statement::Set { layer, key, code } => set(world, [*layer, *key], *code, answers),
     }

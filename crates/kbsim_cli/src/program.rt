@@ -1,6 +1,7 @@
 //! What the program does and the status that it ends with.
 
-ghost use Rattle.std.specs.Prelude.{◌≡◌, ◌≤◌, IfErr};
+ghost use Rattle.std.specs.Prelude.{◌≡◌, ◌≢◌, ◌<◌, ◌≤◌, ◌⊎◌, IfErr};
+ghost use Rattle.clap.specs.Words.{kind_of};
 
 use crate::command_line::{Request, read};
 use clap::Error;
@@ -33,7 +34,8 @@ pub fn status<R: Env + AllocGlobal + Input + Print + Eprint>(rt: &R) -> u8
 }
 
 fn run<R: AllocGlobal + Input + Print>(rt: &R, pages: usize) -> u8
-    ensures { result ≤ 1 }
+    ensures ended { (result ≡ DONE) ⊎ (result ≡ FAULT) }
+    ensures page_count { (pages < 2) ⊎ (8 < pages) → result ≡ FAULT }
 {
     let mut reader = rt.reader();
     let mut writer = io::writer(rt);
@@ -45,7 +47,7 @@ fn run<R: AllocGlobal + Input + Print>(rt: &R, pages: usize) -> u8
 
 /// The words of the command line, the program's name first. The error is the exit status.
 fn words<R: Env + AllocGlobal + Print + Eprint>(rt: &R) -> Result<Vec<String>, u8>
-    ensures { IfErr result (λ status. status ≤ 2) }
+    ensures { IfErr result (λ status. (status ≡ FAULT) ⊎ (status ≡ REFUSED)) }
 {
     let words = match env::args(rt) {
         Ok(words) => words,
@@ -60,7 +62,11 @@ fn words<R: Env + AllocGlobal + Print + Eprint>(rt: &R) -> Result<Vec<String>, u
 
 /// Says why there is nothing to run, or shows the help that was asked for.
 fn refuse<R: Print + Eprint>(rt: &R, error: &Error) -> u8
-    ensures { result ≤ 2 }
+    ensures memory { kind_of error.now ≡ ErrorKind.OutOfMemory → result ≡ FAULT }
+    ensures shown { (kind_of error.now ≡ ErrorKind.DisplayHelp) ⊎ (kind_of error.now ≡ ErrorKind.DisplayVersion)
+        → (result ≡ DONE) ⊎ (result ≡ FAULT) }
+    ensures refused { kind_of error.now ≢ ErrorKind.OutOfMemory → kind_of error.now ≢ ErrorKind.DisplayHelp
+        → kind_of error.now ≢ ErrorKind.DisplayVersion → result ≡ REFUSED }
 {
     if error.kind() == ErrorKind::OutOfMemory {
         return no_memory(rt);

@@ -1,8 +1,0 @@
-use Rattle.std.proofs.Common.{map}
-use Rattle.std.specs.Str.Lines.{lines}
-use Rattle.kbsim.proofs.ScriptLemmas.{ReadSoFar}
-use Rattle.kbsim.proofs.script.read_lines.Given as goal
-
-abbrev pub invariant-loop-line : goal.invariant-loop-line
-invariant-loop-line l =
-    ReadSoFar l.pages (lines l.text) (map (λ x. x.now) l.yielded) (lines l.line-iterator.rest.now) l.number l.said.items

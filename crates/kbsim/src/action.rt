@@ -1,0 +1,37 @@
+//! The event of a line.
+
+ghost use Rattle.std.specs.Prelude.{◌≡◌};
+ghost use Rattle.kbsim.specs.Actions.{IsEventOf};
+
+use crate::Event;
+use arrayvec::ArrayVec;
+use script::Action;
+
+/// The event of a line of one event.
+pub(crate) fn event_of(action: &Action) -> Event
+    ensures { IsEventOf action.now result }
+{
+    match action {
+        Action::Scan(scan) => Event::Scan(*scan),
+        Action::Poll => Event::Poll,
+        Action::Setup(packet) => Event::Setup(*packet),
+        Action::Out(packet) => Event::OutPacket(same(packet)),
+        Action::In => Event::InPacket,
+        Action::Work => Event::Work,
+        Action::Cut => Event::Cut,
+        Action::Entry(layer, key) => Event::Entry(*layer, *key),
+        Action::Slot { page, slot } => Event::SlotAt {
+            page: *page,
+            slot: *slot,
+        },
+    }
+}
+
+/// A packet of the same bytes. It takes no memory.
+fn same(packet: &ArrayVec<u8, 8>) -> ArrayVec<u8, 8>
+    ensures { result.items ≡ packet.now.items }
+{
+    let mut copy = ArrayVec::new();
+    let _ = copy.try_extend_from_slice(packet.as_slice());
+    copy
+}

@@ -1,0 +1,5 @@
+pub mod Keys
+pub mod Numbers
+pub mod Scripts
+pub mod Statements
+pub mod Words

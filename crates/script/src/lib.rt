@@ -1,0 +1,16 @@
+//! The language of scripts: what each line of a text says, or which fault it has.
+//!
+//! [`read_lines`] checks a whole script. Nothing is run here.
+#![tactic(auto)]
+
+mod fault;
+mod keys;
+mod lines;
+mod number;
+mod read;
+mod statement;
+mod words;
+
+pub use fault::{LineFault, ScriptError};
+pub use read::{Line, read_lines};
+pub use statement::{Action, Statement};

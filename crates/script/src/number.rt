@@ -1,0 +1,83 @@
+//! Reading the numbers and the bytes that words write.
+
+ghost use Rattle.std.specs.Prelude.{◌≡◌, ◌≤◌, ◌<◌, length, IfOk, MatchResult};
+ghost use Rattle.std.specs.Int.NonZero.{non_zero_u16_get};
+ghost use Rattle.script.specs.Numbers.{WritesNumber, IsNumberBelow, IsCount, WritesBytes, IsHexOf};
+
+use crate::LineFault;
+use arrayvec::ArrayVec;
+use hex::FromHex;
+use std::num::NonZeroU16;
+
+/// The most digits of a decimal number.
+const MOST_DIGITS: usize = 5;
+
+/// The number that a word of 1 to 5 decimal digits writes, below `bound`; `BadNumber` otherwise.
+pub(crate) fn number(word: &[u8], bound: u32) -> Result<u32, LineFault>
+    ensures { MatchResult result
+        (λ n. WritesNumber word.now n × (n < bound))
+        (λ f. (f ≡ LineFault.BadNumber) × ¬ (IsNumberBelow bound word.now)) }
+{
+    if word.len() > MOST_DIGITS || word.first() == Some(&b'+') {
+        return Err(LineFault::BadNumber);
+    }
+    let Ok(digits) = str::from_utf8(word) else {
+        return Err(LineFault::BadNumber);
+    };
+    match digits.parse::<u32>() {
+        Ok(value) if value < bound => Ok(value),
+        _ => Err(LineFault::BadNumber),
+    }
+}
+
+/// The number of a byte, 0 to 255, that a word writes; `BadNumber` otherwise.
+pub(crate) fn byte(word: &[u8]) -> Result<u8, LineFault>
+    ensures { MatchResult result
+        (λ n. WritesNumber word.now n)
+        (λ f. (f ≡ LineFault.BadNumber) × ¬ (IsNumberBelow 256 word.now)) }
+{
+    Ok(number(word, 256)? as u8)
+}
+
+/// The `N` bytes that a word of 2 * `N` hex digits writes; `BadHex` otherwise.
+pub(crate) fn bytes<const N: usize>(word: &[u8]) -> Result<[u8; N], LineFault>
+    ensures { MatchResult result
+        (λ bytes. WritesBytes word.now bytes)
+        (λ f. (f ≡ LineFault.BadHex) × ¬ (IsHexOf N N word.now)) }
+{
+    match <[u8; N] as FromHex>::from_hex(word) {
+        Ok(bytes) => Ok(bytes),
+        Err(_) => Err(LineFault::BadHex),
+    }
+}
+
+/// The 1 to 8 bytes that a word of 2 to 16 hex digits writes; `BadHex` otherwise.
+pub(crate) fn packet(word: &[u8]) -> Result<ArrayVec<u8, 8>, LineFault>
+    ensures read { MatchResult result
+        (λ packet. WritesBytes word.now packet.items)
+        (λ f. (f ≡ LineFault.BadHex) × ¬ (IsHexOf 1 8 word.now)) }
+    ensures some { IfOk result (λ packet. 0 < length packet.items) }
+{
+    let count = word.len() / 2;
+    if count == 0 || count > 8 {
+        return Err(LineFault::BadHex);
+    }
+    let mut packet = ArrayVec::from([0; 8]);
+    packet.truncate(count);
+    match hex::decode_to_slice(word, packet.as_mut_slice()) {
+        Ok(()) => Ok(packet),
+        Err(_) => Err(LineFault::BadHex),
+    }
+}
+
+/// The number of scans, 1 to 10,000, that a word writes; `BadNumber` otherwise.
+pub(crate) fn count(word: &[u8]) -> Result<NonZeroU16, LineFault>
+    ensures { MatchResult result
+        (λ n. WritesNumber word.now (non_zero_u16_get n) × (0 < non_zero_u16_get n) × (non_zero_u16_get n ≤ 10000))
+        (λ f. (f ≡ LineFault.BadNumber) × ¬ (IsCount word.now)) }
+{
+    match NonZeroU16::new(number(word, 10_001)? as u16) {
+        Some(count) => Ok(count),
+        None => Err(LineFault::BadNumber),
+    }
+}

@@ -1,0 +1,95 @@
+//! Cutting a line into words.
+
+ghost use Rattle.std.specs.Prelude.{◌≡◌, ◌≢◌, ◌<◌, ◌≤◌, ◌∷◌, [], length, MatchResult};
+ghost use Rattle.std.specs.Iterator.{YieldsFirstBy, item_count};
+ghost use Rattle.std.specs.List.{position_or_len, prefix_len};
+ghost use Rattle.script.specs.Words.{is_blank, words};
+
+use crate::LineFault;
+
+/// What stands between the words of a line.
+fn is_blank(byte: u8) -> bool
+    ensures { result ≡ is_blank byte }
+{
+    byte == b' ' || byte == b'\t'
+}
+
+/// How many blanks a line begins with.
+fn blanks(line: &[u8]) -> usize
+    ensures { result ≡ prefix_len is_blank line.now }
+{
+    line.iter().take_while(|byte| is_blank(**byte)).count()
+}
+
+/// How many bytes stand before the first blank of a line.
+fn word_end(line: &[u8]) -> usize
+    ensures { result ≡ position_or_len is_blank line.now }
+{
+    line.iter().take_while(|byte| !is_blank(**byte)).count()
+}
+
+/// The words of a line from the left.
+#[derive(Clone, Copy)]
+pub(crate) struct Words<'a> {
+    rest: &'a [u8],
+}
+
+impl<'a> Words<'a> {
+    /// All words of this line.
+    pub(crate) fn new(line: &'a [u8]) -> Words<'a>
+        ensures { result.rest.now ≡ line.entry.now }
+    {
+        Words { rest: line }
+    }
+
+    /// The next word; `WrongWords` where there is none.
+    pub(crate) fn word(&mut self) -> Result<&'a [u8], LineFault>
+        ensures { MatchResult result
+            (λ w. words self.old.rest.now ≡ w.now ∷ words self.new.rest.now)
+            (λ f. (f ≡ LineFault.WrongWords) × (words self.old.rest.now ≡ [])) }
+    {
+        self.next().ok_or(LineFault::WrongWords)
+    }
+
+    /// `WrongWords` where a word is left.
+    pub(crate) fn end(mut self) -> Result<(), LineFault>
+        ensures { MatchResult result
+            (λ _. words self.entry.rest.now ≡ [])
+            (λ f. (f ≡ LineFault.WrongWords) × (words self.entry.rest.now ≢ [])) }
+    {
+        match self.next() {
+            Some(_) => Err(LineFault::WrongWords),
+            None => Ok(()),
+        }
+    }
+
+    /// `WrongWords` where more than `most` words are left.
+    pub(crate) fn at_most(mut self, most: usize) -> Result<(), LineFault>
+        ensures { MatchResult result
+            (λ _. length (words self.entry.rest.now) ≤ most)
+            (λ f. (f ≡ LineFault.WrongWords) × (most < length (words self.entry.rest.now))) }
+    {
+        for _word in 0..most {
+            let Some(_) = self.next() else {
+                return Ok(());
+            };
+        }
+        self.end()
+    }
+}
+
+impl<'a> Iterator for Words<'a> {
+    type Item = &'a [u8];
+
+    ghost next_gives = { YieldsFirstBy (λ w. w.now) (λ s. words s.rest.now) };
+
+    ghost remaining = { item_count (λ s. words s.rest.now) };
+
+    fn next(&mut self) -> Option<&'a [u8]> {
+        let line = self.rest;
+        let (_, rest) = line.split_at(blanks(line));
+        let (word, rest) = rest.split_at(word_end(rest));
+        self.rest = rest;
+        if word.is_empty() { None } else { Some(word) }
+    }
+}
