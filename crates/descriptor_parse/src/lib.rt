@@ -14,7 +14,7 @@ mod locals;
 mod number;
 mod reports;
 mod state;
-mod tag;
+pub mod tag;
 mod text;
 mod totals;
 
@@ -22,6 +22,7 @@ pub use descriptor::Descriptor;
 pub use fault::{ParseError, ParseFault};
 pub use field::{Field, Kind};
 pub use items::{Item, Items};
+pub use tag::{GlobalTag, LocalTag, MainTag, Tag};
 pub use text::parse;
 
 #[cfg(test)]

@@ -140,10 +140,12 @@ impl Locals {
     pub(crate) fn ranges(&self, alloc: Global, page: u16) -> Result<Vec<(u32, u32)>, AllocError>
         ensures { IfOk result (λ v. v.items ≡ map (range_on page) self.now.usages.items) }
     {
-        self.usages
-            .iter()
-            .map(|range| (range.first.on(page), range.last.on(page)))
-            .collect(alloc)
+        // No `collect`: where a growth is refused it asks again for less.
+        let mut ranges = Vec::with_capacity(alloc, self.usages.len())?;
+        for range in &self.usages {
+            ranges.push((range.first.on(page), range.last.on(page)))?;
+        }
+        Ok(ranges)
     }
 }
 

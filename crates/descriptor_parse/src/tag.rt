@@ -5,9 +5,9 @@ ghost use Rattle.descriptor_parse.specs.Tags.{tag_of};
 
 use crate::field::Kind;
 
-/// The items that the parser knows, by their types (HID 1.11, 6.2.2.4, 6.2.2.7 and 6.2.2.8).
+/// What an item is, by its type and its tag (HID 1.11, 6.2.2.4, 6.2.2.7 and 6.2.2.8).
 #[derive(Clone, Copy)]
-pub(crate) enum Tag {
+pub enum Tag {
     Main(MainTag),
     Global(GlobalTag),
     Local(LocalTag),
@@ -15,15 +15,17 @@ pub(crate) enum Tag {
     Skipped,
 }
 
+/// The Main items (HID 1.11, 6.2.2.4).
 #[derive(Clone, Copy)]
-pub(crate) enum MainTag {
+pub enum MainTag {
     Data(Kind),
     Collection,
     EndCollection,
 }
 
+/// The Global items (6.2.2.7).
 #[derive(Clone, Copy)]
-pub(crate) enum GlobalTag {
+pub enum GlobalTag {
     UsagePage,
     LogicalMinimum,
     LogicalMaximum,
@@ -34,8 +36,9 @@ pub(crate) enum GlobalTag {
     Pop,
 }
 
+/// The Local items that are read (6.2.2.8).
 #[derive(Clone, Copy)]
-pub(crate) enum LocalTag {
+pub enum LocalTag {
     Usage,
     UsageMinimum,
     UsageMaximum,

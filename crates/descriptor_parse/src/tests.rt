@@ -4,8 +4,6 @@ mod faults;
 mod memory;
 mod readers;
 mod rows;
-mod same;
-mod slow;
 
 use crate::{Descriptor, Kind, parse};
 use std::alloc::Global;
@@ -60,7 +58,7 @@ fn digit(rt: &impl Abort, letter: u8) -> u8 {
 }
 
 /// Compares the answer to each text of a table, whose lines are `WORDS = ANSWER`, or begin with `#`, with the one
-/// that is written there, and that to a short text with the slow program's too.
+/// that is written there.
 fn check_table(rt: &impl Abort, alloc: Global, table: &str) -> Result<(), Fail> {
     for line in table.lines() {
         if line.starts_with("#") {
@@ -73,9 +71,6 @@ fn check_table(rt: &impl Abort, alloc: Global, table: &str) -> Result<(), Fail> 
         let text = bytes(rt, alloc, words)?;
         let told = answer(alloc, &text)?;
         assert_eq!(rt; told.as_str(), want, "{words}");
-        if text.len() <= SERVED.len() {
-            same::check(rt, alloc, &text)?;
-        }
     }
     Ok(())
 }

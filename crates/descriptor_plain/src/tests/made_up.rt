@@ -1,10 +1,7 @@
-//! `parse` beside the slow program, over texts that are made up.
+//! `parse` beside the definitions, over texts that are made up.
 
-use super::SERVED;
-use super::slow::{PlainField, PlainText};
-use crate::{Descriptor, Field, Kind, parse};
-use std::alloc::Global;
-use std::process::Abort;
+use super::{SERVED, check};
+use descriptor_parse::parse;
 use std::test::Fail;
 
 /// Numbers that look random, the same in each run.
@@ -31,63 +28,11 @@ impl Numbers {
     }
 }
 
-/// Compares the whole answer to a text: the fault and its offset, or the fields and all that is said of them.
-pub fn check(rt: &impl Abort, alloc: Global, text: &[u8]) -> Result<(), Fail> {
-    let plain = PlainText::new(alloc, text)?;
-    match (parse(alloc, text), plain.fault) {
-        (Ok(descriptor), None) => check_descriptor(rt, alloc, &descriptor, &plain),
-        (Err(error), Some((offset, number))) => {
-            assert_eq!(rt; error.fault.number(), number, "{text:?}");
-            assert_eq!(rt; error.offset, offset, "{text:?}");
-            Ok(())
-        }
-        _ => panic!(rt; "one refuses {text:?}, and one does not"),
-    }
-}
-
-fn check_descriptor(
-    rt: &impl Abort,
-    alloc: Global,
-    descriptor: &Descriptor,
-    plain: &PlainText,
-) -> Result<(), Fail> {
-    let fields = descriptor.fields();
-    assert_eq!(rt; fields.len(), plain.fields.len());
-    for (place, (field, want)) in fields.iter().zip(&plain.fields).enumerate() {
-        check_field(rt, field, want);
-        assert_eq!(rt; descriptor.ranges(place), want.ranges.as_slice());
-        for number in [0, 1, 2, 3, 7, 8, 160, 161, 399] {
-            assert_eq!(rt; descriptor.usage(place, number), want.usage(alloc, number)?);
-        }
-    }
-    assert!(rt; descriptor.ranges(fields.len()).is_empty());
-    assert_eq!(rt; descriptor.usage(fields.len(), 0), None);
-    assert_eq!(rt; descriptor.uses_ids(), plain.uses_ids());
-    for id in [0, 1, 2, 255] {
-        for kind in [Kind::Input, Kind::Output, Kind::Feature] {
-            let told = descriptor.report_len(kind, id).map(|bytes| bytes as i128);
-            assert_eq!(rt; told, plain.report_len(alloc, kind, id)?);
-        }
-    }
-    Ok(())
-}
-
-fn check_field(rt: &impl Abort, field: &Field, want: &PlainField) {
-    assert_eq!(rt; field.kind, want.kind);
-    assert_eq!(rt; field.id as i128, want.id);
-    assert_eq!(rt; field.bit as i128, want.bit);
-    assert_eq!(rt; field.size as i128, want.size);
-    assert_eq!(rt; field.count as i128, want.count);
-    assert_eq!(rt; field.min as i128, want.min);
-    assert_eq!(rt; field.max as i128, want.max);
-    assert_eq!(rt; field.array, want.array);
-}
-
 #[test]
 fn random_bytes(rt: HostRuntime) -> Result<(), Fail> {
     let mut numbers = Numbers(1);
     for len in 0..60 {
-        for _ in 0..20 {
+        for _ in 0..50 {
             let mut text = Vec::new(rt.alloc());
             for _ in 0..len {
                 text.push(numbers.byte())?;
@@ -178,10 +123,16 @@ fn random_items_without_ids(rt: HostRuntime) -> Result<(), Fail> {
     Ok(())
 }
 
+/// What a byte is changed by: each bit alone, and several together.
+const CHANGES: [u8; 14] = [
+    0x01, 0x02, 0x04, 0x08, 0x10, 0x20, 0x40, 0x80, 0x03, 0x0C, 0x24, 0x30, 0xF0, 0xFF,
+];
+
+/// Each single byte, by each of the changes.
 #[test]
 fn the_served_text_with_a_byte_changed(rt: HostRuntime) -> Result<(), Fail> {
     for place in 0..SERVED.len() {
-        for change in [0x01, 0x04, 0x24, 0x80] {
+        for change in CHANGES {
             let mut text = SERVED;
             text[place] ^= change;
             check(&rt, rt.alloc(), &text)?;

@@ -1,0 +1,6 @@
+pub mod Splits
+pub mod Numbers
+pub mod Popped
+pub mod CutLemmas
+pub mod LeastLemmas
+pub mod OneFault

@@ -1,0 +1,5 @@
+use Rattle.descriptor_plain.proofs.OneFault.{one_first}
+use Rattle.descriptor_plain.proofs.laws.one_first_fault.Goals as goal
+
+pub returns : goal.returns
+returns c = one_first

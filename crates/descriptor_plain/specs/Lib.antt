@@ -1,0 +1,4 @@
+pub mod Views
+pub mod Known
+pub mod Waiting
+pub mod Least
