@@ -1,7 +1,6 @@
 //! Texts and what they say, as tables of hex and of the lines that the program prints.
 
 mod faults;
-mod memory;
 mod readers;
 mod rows;
 

@@ -9,6 +9,8 @@ mod lines;
 mod number;
 mod read;
 mod statement;
+#[cfg(test)]
+mod tests;
 mod words;
 
 pub use fault::{LineFault, ScriptError};
