@@ -14,7 +14,7 @@ mod locals;
 mod number;
 mod reports;
 mod state;
-pub mod tag;
+mod tag;
 mod text;
 mod totals;
 

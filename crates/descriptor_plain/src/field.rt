@@ -15,7 +15,11 @@ use crate::tag::{kind_of, tag_of};
 use descriptor_parse::Kind;
 use std::alloc::{AllocError, Global};
 
-/// A field, in numbers that hold what any items can say.
+/// A field of a report: `count` places of `size` bits each, from the bit `bit` on, in numbers that hold what any items
+/// can say (HID 1.11, 6.2.2.5 and 6.2.2.7).
+///
+/// `bit` counts from the least significant bit of the first byte after the Report ID. `id` is 0 where no Report ID is
+/// in force. `min` and `max` are the logical extents.
 #[derive(Clone, Copy, Debug, PartialEq, Eq)]
 pub struct PlainField {
     pub kind: Kind,

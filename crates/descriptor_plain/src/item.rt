@@ -2,7 +2,10 @@
 
 ghost use Rattle.std.specs.Prelude.{◌≡◌, ◌≢◌, ◌≤◌, length};
 
-/// An item: the offset of its prefix in the text, the prefix, and the data, four bytes at most but for a long item.
+/// An item: a prefix and its data (HID 1.11, 6.2.2.2 and 6.2.2.3).
+///
+/// `offset` is that of the prefix, in bytes from the start of the text. `bytes` are the data: at most 4 bytes, except in
+/// a long item, where they come after its size and its tag.
 #[derive(Clone, Copy)]
 pub struct Plain<'a> {
     pub offset: usize,

@@ -1,5 +1,5 @@
 //! The parser's answers beside those that are computed by the definitions: whole answers, over rows, texts that are
-//! made up, and the served text with a byte changed.
+//! made up, and the served text, as it is and with a byte changed.
 
 mod made_up;
 mod rows;

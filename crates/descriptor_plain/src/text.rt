@@ -11,7 +11,10 @@ use crate::number::LONG;
 use descriptor_parse::{ParseError, ParseFault};
 use std::alloc::{AllocError, Global};
 
-/// The whole items of a text, the newest first, and what is wrong where the text ends within one.
+/// A text as its items.
+///
+/// `items` are its whole items, the newest first. `cut_off` is `Truncated` at the offset of the item that the text ends
+/// within, and `None` where it ends after a whole one.
 #[derive(Drop)]
 pub struct PlainText<'a> {
     pub items: Vec<Plain<'a>>,

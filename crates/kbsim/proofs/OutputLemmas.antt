@@ -246,7 +246,7 @@ run_on pages lines i world next first now after line answer l is so_far runs pri
 pub run_all : (pages : ℕ) (lines : List Line) (world : WorldValue) (first now : Option (List ℕ)) → RunSoFar pages lines world first now
     → (text : List ℕ) × IsRun pages lines text × Appends first now text
 run_all pages lines world first now so_far =
-    (so_far.text, record { steps = so_far.steps; answered = so_far.stands.answered; prints = so_far.prints }, so_far.appends)
+    (so_far.text, record { steps = so_far.steps; answered = so_far.stands.answered; in_time = so_far.stands.in_time; writes = so_far.stands.writes; prints = so_far.prints }, so_far.appends)
 
 -- what was printed when a run stops
 abbrev pub Stopped : ℕ → List Line → Option (List ℕ) → Option (List ℕ) → Type 0
@@ -260,4 +260,4 @@ stopped_at pages lines i world first now so_far more =
     (i, text, inr more, run, appends)
 
 pub stopped_none : (pages : ℕ) (lines : List Line) (first : Option (List ℕ)) → Stopped pages lines first first
-stopped_none pages lines first = (0, [], inl refl, record { steps = []; answered = tt; prints = (refl, refl) }, Appends-nil first)
+stopped_none pages lines first = (0, [], inl refl, record { steps = []; answered = tt; in_time = tt; writes = tt; prints = (refl, refl) }, Appends-nil first)

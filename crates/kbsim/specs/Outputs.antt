@@ -11,6 +11,8 @@ use Rattle.keymap_store.specs.declared.store.Work.TheVariants.{Working}
 use Rattle.world.specs.History.{Step, EachStep}
 use Rattle.world.specs.Transfer.{set_feature}
 use Rattle.world.specs.Lawful.{IsAnswered}
+use Rattle.world.specs.Bounded.{StaysInTime}
+use Rattle.world.specs.Writes.{Writes}
 use Rattle.world.specs.Stands.{StandsFor}
 use Rattle.world.specs.Value.{WorldValue}
 use Rattle.kbsim.specs.Actions.{IsEventOf}
@@ -96,10 +98,13 @@ Prints (line ∷ more) steps text =
 abbrev pub blank : ℕ → List ℕ
 blank pages = replicate (4096 * pages) 255
 
--- the lines print this text: run on a device whose flash was blank, each event was answered as it has to be
+-- the lines print this text: run on a device whose flash was blank, each event was answered as it has to be, each
+-- command took no more steps than the flash asked for, and each step wrote what it has to
 pub record IsRun (pages : ℕ) (lines : List Line) (text : List ℕ) : Type 0 where
   pub steps : List Step
   pub answered : EachStep IsAnswered (blank pages) steps
+  pub in_time : EachStep StaysInTime (blank pages) steps
+  pub writes : EachStep Writes (blank pages) steps
   pub prints : Prints lines steps text
 
 -- a script prints this text

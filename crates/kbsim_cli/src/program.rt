@@ -1,12 +1,12 @@
 //! What the program does and the status that it ends with.
 
-ghost use Rattle.std.specs.Prelude.{◌≡◌, ◌≢◌, ◌<◌, ◌≤◌, ◌⊎◌, IfErr};
+ghost use Rattle.std.specs.Prelude.{◌≡◌, ◌≢◌, ◌<◌, ◌≤◌, ◌⊎◌, IfErr, OnOk, OnErr};
 ghost use Rattle.clap.specs.Words.{kind_of};
 
 use crate::command_line::{Request, read};
 use clap::Error;
 use clap::error::ErrorKind;
-use kbsim::run_script;
+use kbsim::{RunError, run_script};
 use std::rt::Env;
 use std::{env, io};
 
@@ -33,13 +33,22 @@ pub fn status<R: Env + AllocGlobal + Input + Print + Eprint>(rt: &R) -> u8
     }
 }
 
+/// Runs the script on standard input.
 fn run<R: AllocGlobal + Input + Print>(rt: &R, pages: usize) -> u8
     ensures ended { (result ≡ DONE) ⊎ (result ≡ FAULT) }
     ensures page_count { (pages < 2) ⊎ (8 < pages) → result ≡ FAULT }
 {
     let mut reader = rt.reader();
     let mut writer = io::writer(rt);
-    match run_script(rt.alloc(), pages, &mut reader, &mut writer) {
+    status_of(run_script(rt.alloc(), pages, &mut reader, &mut writer))
+}
+
+/// The status of a run that ended so.
+fn status_of(ended: Result<(), RunError>) -> u8
+    ensures done { OnOk ended (result ≡ DONE) }
+    ensures fault { OnErr ended (result ≡ FAULT) }
+{
+    match ended {
         Ok(()) => DONE,
         Err(_) => FAULT,
     }

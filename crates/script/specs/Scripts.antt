@@ -1,11 +1,12 @@
 -- A whole script.
-use Rattle.std.specs.Prelude.{◌≡◌, ℕ, ◌+◌, ◌==◌, ◌⊎◌, if◌then◌else◌, List, [], ◌∷◌, ◌++◌, length, slice_index, ⊤}
+use Rattle.std.specs.Prelude.{◌≡◌, ℕ, ◌+◌, ◌==◌, ◌⊎◌, if◌then◌else◌, List, [], ◌∷◌, ◌++◌, length, slice_index}
 use Rattle.script.specs.Statements.{Says, IsFault}
 use Rattle.script.specs.Words.{words}
 use Rattle.script.specs.declared.fault.LineFault.{LineFault}
 use Rattle.script.specs.declared.fault.ScriptError.{ScriptError}
 use Rattle.script.specs.declared.fault.ScriptError.TheVariants as error
 use Rattle.script.specs.declared.read.Line.{Line}
+use Rattle.script.specs.declared.statement.Statement.{Statement}
 
 -- the words of a line; a line that begins with `#` has none
 abbrev pub words_in : List ℕ → List (List ℕ)
@@ -30,7 +31,18 @@ pub record IsFirstFault (pages : ℕ) (lines : List (List ℕ)) (number : ℕ) (
   pub sound : Script pages 1 before said
   pub faulty : IsFault pages (words_in line) fault
 
+-- a line that says something: the lines before it say something, or nothing
+pub record AsksForRoom (pages : ℕ) (lines : List (List ℕ)) : Type 0 where
+  pub before : List (List ℕ)
+  pub line : List ℕ
+  pub after : List (List ℕ)
+  pub said : List Line
+  pub statement : Statement
+  pub cut : lines ≡ before ++ line ∷ after
+  pub sound : Script pages 1 before said
+  pub says : Says pages statement (words_in line)
+
 -- why these lines are refused
 abbrev pub IsRefusal : ℕ → List (List ℕ) → ScriptError → Type 0
 IsRefusal pages lines (error.Line number fault) = IsFirstFault pages lines number fault
-IsRefusal pages lines error.Memory = ⊤
+IsRefusal pages lines error.Memory = AsksForRoom pages lines

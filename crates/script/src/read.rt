@@ -16,11 +16,13 @@ use std::alloc::Global;
 pub struct Line {
     /// The place of the line in its script, counted from 1.
     pub number: usize,
+    /// What the line says.
     pub statement: Statement,
 }
 
-/// What the lines of a script say. `Line` names the first line with a fault; `Memory` comes where
-/// the lines find no room.
+/// What the lines of a script say to a device with a flash of this many pages. The caller gives at
+/// most 256 pages and at most 1,048,576 bytes of text. `Line` names the first line with a fault.
+/// `Memory` comes where a line that says something finds no room, before any line with a fault.
 pub fn read_lines(alloc: Global, pages: usize, text: &[u8]) -> Result<Vec<Line>, ScriptError>
     requires few_pages { pages ≤ 256 }
     requires short { length text.now ≤ 1048576 }

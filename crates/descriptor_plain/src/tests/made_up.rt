@@ -1,4 +1,4 @@
-//! `parse` beside the definitions, over texts that are made up.
+//! `parse` beside the definitions, over texts that are made up, and over the served text.
 
 use super::{SERVED, check};
 use descriptor_parse::parse;
@@ -121,6 +121,16 @@ fn random_items_without_ids(rt: HostRuntime) -> Result<(), Fail> {
         check(&rt, rt.alloc(), &text)?;
     }
     Ok(())
+}
+
+#[test]
+fn the_empty_text(rt: HostRuntime) -> Result<(), Fail> {
+    check(&rt, rt.alloc(), &[])
+}
+
+#[test]
+fn the_served_text(rt: HostRuntime) -> Result<(), Fail> {
+    check(&rt, rt.alloc(), &SERVED)
 }
 
 /// What a byte is changed by: each bit alone, and several together.
