@@ -1,2 +1,4 @@
+pub mod ByMask
 pub mod Places
 pub mod Writes
+pub mod Operating

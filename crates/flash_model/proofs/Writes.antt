@@ -48,7 +48,7 @@ erases old p new q c = record {
 }
 
 -- a vector that was written through its slice
-written_back : (n : ℕ) (xs ys : List ℕ) → length xs ≡ n → take n (xs ++ drop (length xs) ys) ≡ xs
+pub written_back : (n : ℕ) (xs ys : List ℕ) → length xs ≡ n → take n (xs ++ drop (length xs) ys) ≡ xs
 written_back n xs ys e = grind (arith, common_steps)
 
 -- 2 to 8 whole pages

@@ -5,15 +5,29 @@
 //! `SimFlash` is one in memory.
 #![tactic(auto)]
 
-ghost use Rattle.std.specs.Prelude.{◌≡◌, ◌+◌, ◌%◌, ◌^◌, ◌<◌, ℕ, List, IsOk, OnOk, is_ok, if◌then◌else◌};
+ghost use Rattle.std.specs.Prelude.{◌≡◌, ◌+◌, ◌%◌, ◌^◌, ◌<◌, ℕ, List, IsOk, MatchResult, is_ok, if◌then◌else◌};
 ghost use Rattle.flash_model.specs.Image.{slot_at, page_count, IsImage};
-ghost use Rattle.flash_model.specs.Operations.{Programs, Erases};
+ghost use Rattle.flash_model.specs.Operations.{Programs, MayProgram, Erases, MayErase};
 
+pub mod laws;
+pub mod masks;
 pub mod sim;
+#[cfg(test)]
+mod tests;
 
+pub use masks::Mask;
 pub use sim::{FlashError, SimFlash};
 
-/// A program or an erase that failed.
+/// Slots of a page.
+pub const PAGE_SLOTS: usize = 512;
+
+/// Bytes of a slot.
+pub const SLOT_BYTES: usize = 8;
+
+/// Bytes of a page.
+pub const PAGE_BYTES: usize = PAGE_SLOTS * SLOT_BYTES;
+
+/// A program or an erase that was torn: some of its bits may have taken effect, and others not.
 #[derive(Clone, Copy, Debug, PartialEq, Eq)]
 pub struct FlashFault;
 
@@ -26,11 +40,15 @@ pub trait NorFlash {
     /// How many programs and erases were made, modulo 2^64.
     ghost operations: { Self → ℕ };
 
-    /// How many of them failed, modulo 2^64.
+    /// How many of them were torn, modulo 2^64.
     ghost faults: { Self → ℕ };
 
     /// No operation fails from here on. Of hardware nothing makes this hold.
     ghost is_faultless: { Self → Type 0 };
+
+    /// One program or erase was made between these two. What it says beside `image` and the counts
+    /// is each flash's own: of a simulated one, by which mask it was torn.
+    ghost operates: { Self → Self → Type 0 };
 
     /// How many pages there are, 2 to 8.
     fn pages(&self) -> usize
@@ -38,34 +56,47 @@ pub trait NorFlash {
         ensures whole { IsImage (image self.now) };
 
     /// The eight bytes of slot `slot`, 0 to 511, of page `page`, below `pages()`.
-    fn read_slot(&self, page: usize, slot: usize) -> [u8; 8]
+    fn read_slot(&self, page: usize, slot: usize) -> [u8; SLOT_BYTES]
         requires in_pages { page < page_count (image self.now) }
-        requires in_page { slot < 512 }
+        requires in_page { slot < PAGE_SLOTS }
         ensures { result ≡ slot_at (image self.now) page slot };
 
     /// Clears the bits of a slot that are clear in `bytes`. Slot `slot`, 0 to 511, of page `page`,
     /// below `pages()`, then holds what it held, AND `bytes`; no other slot is touched.
     ///
-    /// `FlashFault`: the operation failed. Nothing is promised of the bytes then.
-    fn program_slot(&mut self, page: usize, slot: usize, bytes: [u8; 8]) -> Result<(), FlashFault>
+    /// `FlashFault`: the operation was torn. Of the bits that it would have cleared some are clear
+    /// and others are as they were; no other bit of the slot, and no other slot, has changed.
+    fn program_slot(
+        &mut self,
+        page: usize,
+        slot: usize,
+        bytes: [u8; SLOT_BYTES],
+    ) -> Result<(), FlashFault>
         requires in_pages { page < page_count (image self.old) }
-        requires in_page { slot < 512 }
-        ensures programmed { OnOk result (Programs (image self.old) page slot bytes (image self.new)) }
+        requires in_page { slot < PAGE_SLOTS }
+        ensures outcome { MatchResult result
+            (λ _. Programs (image self.old) page slot bytes (image self.new))
+            (λ _. MayProgram (image self.old) page slot bytes (image self.new)) }
         ensures whole { IsImage (image self.new) }
         ensures same_pages { page_count (image self.new) ≡ page_count (image self.old) }
         ensures counted { operations self.new ≡ (operations self.old + 1) % 2 ^ 64 }
         ensures faulted { faults self.new ≡ (if is_ok result then faults self.old else (faults self.old + 1) % 2 ^ 64) }
-        ensures faultless { is_faultless self.old → IsOk result × is_faultless self.new };
+        ensures faultless { is_faultless self.old → IsOk result × is_faultless self.new }
+        ensures operated { operates self.old self.new };
 
     /// Sets every bit of page `page`, below `pages()`; no other page is touched.
     ///
-    /// `FlashFault`: the operation failed. Nothing is promised of the bytes then.
+    /// `FlashFault`: the operation was torn. Of the clear bits of the page some are set; no bit
+    /// was cleared, and no other page has changed.
     fn erase_page(&mut self, page: usize) -> Result<(), FlashFault>
         requires { page < page_count (image self.old) }
-        ensures erased { OnOk result (Erases (image self.old) page (image self.new)) }
+        ensures outcome { MatchResult result
+            (λ _. Erases (image self.old) page (image self.new))
+            (λ _. MayErase (image self.old) page (image self.new)) }
         ensures whole { IsImage (image self.new) }
         ensures same_pages { page_count (image self.new) ≡ page_count (image self.old) }
         ensures counted { operations self.new ≡ (operations self.old + 1) % 2 ^ 64 }
         ensures faulted { faults self.new ≡ (if is_ok result then faults self.old else (faults self.old + 1) % 2 ^ 64) }
-        ensures faultless { is_faultless self.old → IsOk result × is_faultless self.new };
+        ensures faultless { is_faultless self.old → IsOk result × is_faultless self.new }
+        ensures operated { operates self.old self.new };
 }

@@ -3,24 +3,21 @@ use Rattle.std.proofs.lemmas.Bool.{cases_eq, cases_Bool, eq-eqb, ne_eqb}
 use Rattle.layers.specs.declared.command.Command.{Command}
 use Rattle.layers.specs.Codes.{default_at}
 use Rattle.layers.specs.Copies.{places, entry_at, copies_below, AreCopies}
-use Rattle.layers.specs.Entries.{entry}
 use Rattle.layers.proofs.Copying.{copies_below-zero, copies_below-same, copies_below-other}
-use Rattle.page_turnover.specs.declared.log.Target.{Target}
-use Rattle.page_turnover.specs.declared.log.Target.TheVariants.{Unread, Holds}
-use Rattle.page_turnover.specs.declared.log.Task.{Task}
-use Rattle.page_turnover.specs.declared.log.Task.TheVariants.{Rest, Append, Wait, Copy, Seal}
 use Rattle.page_turnover.specs.declared.log.stepping.Step.{Step}
 use Rattle.page_turnover.specs.declared.log.stepping.Step.TheVariants.{Moved, Committed}
-use Rattle.page_turnover.specs.Value.{LogValue}
-use Rattle.page_turnover.specs.Words.{words, HasRoom, IsBlank}
+use Rattle.page_turnover.specs.Value.{LogValue, Target, Unread, Holds, Task, Rest, Append, Wait, Copy, Seal}
+use Rattle.page_turnover.specs.Words.{HasRoom, IsBlank}
 use Rattle.page_turnover.specs.Turn.{UnderWay, copies, copied, target_page}
-use Rattle.page_turnover.specs.Steps.{IsReady, StepsFor, Steps, EndsAs}
+use Rattle.page_turnover.specs.Steps.{IsReady, StepsFor, Steps, Keeps, EndsAs}
 use Rattle.page_turnover.proofs.Endings.{waiting_count}
 use Rattle.page_turnover.proofs.Blanks.{is_blank-blank, is_blank-used}
 use Rattle.page_turnover.specs.Blank.{is_blank}
 use Rattle.keymap_store.specs.declared.store.Job.{Job}
 use Rattle.keymap_store.specs.declared.store.Job.TheVariants.{Resting, Appending, Turning}
+use Rattle.keymap_store.specs.Keymap.{entries_of}
 use Rattle.keymap_store.specs.Value.{StoreValue}
+use Rattle.keymap_store.proofs.Keymaps.{entries_of-keeps}
 use Rattle.keymap_store.specs.Store.{Mirrors, OffersBelow}
 use Rattle.keymap_store.specs.Left.{differing_below, differing, erases_left, turn_left, target_of, left_for, left, Needs}
 
@@ -75,15 +72,15 @@ differing_below-later entries from to l =
     rw e at (differing_below-more entries from (to - from))
 
 -- the entries that differ, by the words
-differing-is : (image : List ℕ) → differing image ≡ differing_below (entry (words image)) places
+differing-is : (image : List ℕ) → differing image ≡ differing_below (entries_of image) places
 unfolding differing
 differing-is image = refl
 
 differing-most : (image : List ℕ) → differing image ≤ places
-differing-most image = rw (differing-is image) (differing_below-most (entry (words image)) places)
+differing-most image = rw (differing-is image) (differing_below-most (entries_of image) places)
 
-differing-same : (old new : List ℕ) → words new ≡ words old → differing new ≡ differing old
-differing-same old new e = differing-is new ∙ rw e refl ∙ sym (differing-is old)
+differing-same : (old new : List ℕ) → Keeps old new → differing new ≡ differing old
+differing-same old new k = differing-is new ∙ rw (entries_of-keeps old new k) refl ∙ sym (differing-is old)
 
 -- whether a target has to be erased
 erases_left-ready : (image : List ℕ) (target : Target) → IsReady image target → erases_left image target ≡ 0
@@ -134,7 +131,7 @@ few_left image log (Turning command from) =
     omega arith
 
 -- each step of a turn leaves one operation less
-after_move : (from : ℕ) (old : List ℕ) (before : LogValue) (task : Task) (new : List ℕ) (after : LogValue) → from ≤ places → UnderWay old task → OffersBelow (entry (words old)) from old task → StepsFor task old before Moved new after → words new ≡ words old
+after_move : (from : ℕ) (old : List ℕ) (before : LogValue) (task : Task) (new : List ℕ) (after : LogValue) → from ≤ places → UnderWay old task → OffersBelow (entries_of old) from old task → StepsFor task old before Moved new after → Keeps old new
     → turn_left new (target_of after.task) + 1 ≡ turn_left old (target_of task)
 after_move from old before Rest new after l u o s w = absurd o
 after_move from old before (Append word) new after l u o s w = absurd o
@@ -151,11 +148,11 @@ after_move from old before (Copy target word) new after l u o s w =
       | inr a ↦ (let t : after.task ≡ Wait (Holds (copied target + 1)) = rw a.next refl in
           let e : erases_left old target ≡ 0 = erases_left-ready old target a.ready in
           let z : erases_left new (Holds (copied target + 1)) ≡ 0 = erases_left-ready new (Holds (copied target + 1)) tt in
-          let m : differing old ≡ differing_below (entry (words old)) places = differing-is old in
-          let k : length (copies old (Copy target word) ++ word ∷ []) ≡ differing_below (entry (words old)) from = copies_count (entry (words old)) from (copies old (Copy target word) ++ word ∷ []) o in
+          let m : differing old ≡ differing_below (entries_of old) places = differing-is old in
+          let k : length (copies old (Copy target word) ++ word ∷ []) ≡ differing_below (entries_of old) from = copies_count (entries_of old) from (copies old (Copy target word) ++ word ∷ []) o in
           let j : length (copies old (Copy target word) ++ word ∷ []) ≡ length (copies old (Copy target word)) + 1 = length-append (copies old (Copy target word)) (word ∷ []) in
           let i : length (copies old (Wait target)) ≡ copied target = waiting_count old target u.turning.target_is in
-          let q : differing_below (entry (words old)) from ≤ differing_below (entry (words old)) places = differing_below-later (entry (words old)) from places l in
+          let q : differing_below (entries_of old) from ≤ differing_below (entries_of old) places = differing_below-later (entries_of old) from places l in
           subst P (sym t) (omega arith))
     ]
 after_move from old before (Seal target) new after l u o s w =
@@ -170,14 +167,14 @@ after_move from old before (Seal target) new after l u o s w =
       | inr a ↦ (let f = a.answer in cc)
     ]
 
-pub moved_left : (from : ℕ) (old : List ℕ) (before : LogValue) (step : Step) (new : List ℕ) (after : LogValue) → from ≤ places → UnderWay old before.task → OffersBelow (entry (words old)) from old before.task → step ≡ Moved
-    → EndsAs old before step new after → words new ≡ words old → turn_left new (target_of after.task) + 1 ≡ turn_left old (target_of before.task)
+pub moved_left : (from : ℕ) (old : List ℕ) (before : LogValue) (step : Step) (new : List ℕ) (after : LogValue) → from ≤ places → UnderWay old before.task → OffersBelow (entries_of old) from old before.task → step ≡ Moved
+    → EndsAs old before step new after → Keeps old new → turn_left new (target_of after.task) + 1 ≡ turn_left old (target_of before.task)
 moved_left from old before step new after l u o e ends w =
     let S : Step → Type 0 = λ s. Steps old before s new after in
     after_move from old before before.task new after l u o (subst S e (ends.done (λ f. cc))) w
 
 -- the header is the last operation of a turn
-after_commit : (from : ℕ) (old : List ℕ) (before : LogValue) (task : Task) (new : List ℕ) (after : LogValue) → UnderWay old task → OffersBelow (entry (words old)) from old task → StepsFor task old before Committed new after → turn_left old (target_of task) ≡ 2
+after_commit : (from : ℕ) (old : List ℕ) (before : LogValue) (task : Task) (new : List ℕ) (after : LogValue) → UnderWay old task → OffersBelow (entries_of old) from old task → StepsFor task old before Committed new after → turn_left old (target_of task) ≡ 2
 after_commit from old before Rest new after u o s = absurd o
 after_commit from old before (Append word) new after u o s = absurd o
 after_commit from old before (Wait target) new after u o s = let f = s.answer in cc
@@ -188,13 +185,13 @@ after_commit from old before (Copy target word) new after u o s = elim s [
 after_commit from old before (Seal target) new after u o s = elim s [
   | inl a ↦ (let f = a.answer in cc)
   | inr a ↦ (let e : erases_left old target ≡ 0 = erases_left-ready old target a.ready in
-      let m : differing old ≡ differing_below (entry (words old)) places = differing-is old in
-      let k : length (copies old (Seal target)) ≡ differing_below (entry (words old)) places = copies_count (entry (words old)) places (copies old (Seal target)) o in
+      let m : differing old ≡ differing_below (entries_of old) places = differing-is old in
+      let k : length (copies old (Seal target)) ≡ differing_below (entries_of old) places = copies_count (entries_of old) places (copies old (Seal target)) o in
       let i : length (copies old (Wait target)) ≡ copied target = waiting_count old target u.target_is in
       omega arith)
 ]
 
-pub committed_left : (from : ℕ) (old : List ℕ) (before : LogValue) (step : Step) (new : List ℕ) (after : LogValue) → UnderWay old before.task → OffersBelow (entry (words old)) from old before.task → step ≡ Committed
+pub committed_left : (from : ℕ) (old : List ℕ) (before : LogValue) (step : Step) (new : List ℕ) (after : LogValue) → UnderWay old before.task → OffersBelow (entries_of old) from old before.task → step ≡ Committed
     → EndsAs old before step new after → turn_left old (target_of before.task) ≡ 2
 committed_left from old before step new after u o e ends =
     let S : Step → Type 0 = λ s. Steps old before s new after in

@@ -1,4 +1,9 @@
+pub mod Keymaps
+pub mod NextTasks
 pub mod Offering
 pub mod Counting
-pub mod WordsRead
+pub mod Elsewhere
 pub mod Working
+pub mod Stepped
+pub mod Between
+pub mod Cutting

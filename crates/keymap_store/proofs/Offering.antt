@@ -1,26 +1,27 @@
-use Rattle.std.proofs.Common.{◌≡◌, ◌∙◌, ℕ, ◌+◌, ◌≤◌, refl, sym, arith, List, [], ◌∷◌, ◌++◌, length, subst, inl, inr, None}
+use Rattle.std.proofs.Common.{◌≡◌, ◌∙◌, ℕ, ◌+◌, ◌≤◌, refl, sym, ap, arith, List, [], ◌∷◌, ◌++◌, length, subst, inl, inr, None}
 use Rattle.std.proofs.lemmas.List.{append-nil}
 use Rattle.layers.specs.declared.command.Command.{Command}
 use Rattle.layers.specs.Commands.{IsCommand, word_of}
 use Rattle.layers.specs.Copies.{IsNextChanged, IsDefaultFrom, AreCopies, places}
-use Rattle.layers.specs.Entries.{entry}
-use Rattle.layers.specs.Keymaps.{HasEntries, StandsFor}
-use Rattle.layers.proofs.Copying.{AreCopies-start, AreCopies-next, AreCopies-end, AreCopies-length, entry-copies}
-use Rattle.layers.proofs.Tables.{has_same}
-use Rattle.page_turnover.specs.declared.log.Target.TheVariants.{Unread, Holds}
-use Rattle.page_turnover.specs.declared.log.Task.{Task}
-use Rattle.page_turnover.specs.declared.log.Task.TheVariants.{Rest, Append, Wait, Copy, Seal}
+use Rattle.layers.specs.Keymaps.{HasEntries}
+use Rattle.layers.proofs.Copying.{AreCopies-start, AreCopies-next, AreCopies-end, AreCopies-length}
 use Rattle.page_turnover.specs.declared.log.stepping.Step.{Step}
 use Rattle.page_turnover.specs.declared.log.stepping.Step.TheVariants.{Moved}
-use Rattle.page_turnover.specs.Words.{words, HasRoom}
-use Rattle.page_turnover.specs.Value.{LogValue}
+use Rattle.page_turnover.specs.Log.{Describes}
+use Rattle.page_turnover.specs.Words.{HasRoom}
+use Rattle.page_turnover.specs.Value.{LogValue, Unread, Holds, Task, Rest, Append, Wait, Copy, Seal}
 use Rattle.page_turnover.specs.Turn.{UnderWay, IsWaiting, IsPending, copies, offered, copied, with_copy, with_seal, target_page, next_seq}
 use Rattle.page_turnover.specs.Steps.{StepsFor, Steps, Moves, Commits, EndsAs}
 use Rattle.page_turnover.proofs.WordLists.{words_none}
 use Rattle.page_turnover.proofs.Endings.{waiting_count}
 use Rattle.keymap_store.specs.declared.store.Job.{Job}
 use Rattle.keymap_store.specs.declared.store.Job.TheVariants.{Resting, Appending, Turning}
-use Rattle.keymap_store.specs.Store.{OffersBelow, CanOfferIfWaiting, JobIs, working}
+use Rattle.keymap_store.specs.Keymap.{entries_of}
+use Rattle.keymap_store.specs.Store.{OffersBelow, JobIs, working}
+use Rattle.keymap_store.specs.Next.{all_copies, next_task, with_task}
+use Rattle.keymap_store.specs.Offers.{CanOfferIfWaiting, IsOffered}
+use Rattle.keymap_store.proofs.NextTasks.{IsAfter, copy_after, no_copy_after, next_task-copy, next_task-seal}
+use Rattle.keymap_store.proofs.Keymaps.{keymap_copied}
 
 -- the next entry that differs is offered, or the seal where there is none
 pub offered_next : (entries : ℕ → ℕ → ℕ) (image : List ℕ) (task : Task) (from place word : ℕ) (command : Command) → IsWaiting task → OffersBelow entries from image task → IsNextChanged entries from place command → IsCommand command → word ≡ word_of command → OffersBelow entries (place + 1) image (with_copy task word)
@@ -88,7 +89,7 @@ moved_on entries from old before step new after o e ends m =
 
 -- a turn's commit makes the copies the words, with room for more
 pub record Committed_turn (new : List ℕ) (keymap : List ℕ) : Type 0 where
-  pub stands : StandsFor (words new) keymap
+  pub stands : HasEntries (entries_of new) keymap
   pub room : HasRoom new
 
 turn_done : (entries : ℕ → ℕ → ℕ) (from : ℕ) (old : List ℕ) (task : Task) (new keymap : List ℕ) → OffersBelow entries from old task → HasEntries entries keymap → Commits old task new → Committed_turn new keymap
@@ -99,8 +100,8 @@ turn_done entries from old (Copy target word) new keymap o h c = absurd c
 turn_done entries from old (Seal target) new keymap o h c =
     let few : length (copies old (Seal target)) ≤ places = AreCopies-length entries places (copies old (Seal target)) o in
     record {
-      stands = rw c.words_are (has_same entries (entry (copies old (Seal target))) keymap (λ layer key l k. sym (entry-copies entries (copies old (Seal target)) layer key o l k)) h);
-      room = record { page = target_page old; seq = next_seq old; is_active = c.active_is; free = c.rest 511 (omega arith) (omega arith) };
+      stands = keymap_copied entries new keymap c.format_is (rw c.words_are o) h;
+      room = record { page = target_page old; seq = next_seq old; is_active = c.active_is; current = c.format_is; free = c.rest 511 (omega arith) (omega arith) };
     }
 
 pub committed_turn : (entries : ℕ → ℕ → ℕ) (from : ℕ) (old : List ℕ) (task : Task) (new keymap : List ℕ) → OffersBelow entries from old task → HasEntries entries keymap → Commits old task new → Committed_turn new keymap
@@ -113,8 +114,8 @@ nothing_offered entries image = rw (words_none image (target_page image)) (AreCo
 -- a command works exactly where the log has something under way
 pub resting : (image : List ℕ) (log : LogValue) (job : Job) → JobIs image log job → log.task ≡ Rest → working job ≡ None
 resting image log Resting j e = refl
-resting image log (Appending command) j e = let f = j.0 in cc
-resting image log (Turning command from) j e = let O : Task → Type 0 = λ t. OffersBelow (entry (words image)) from image t in absurd (subst O e j.1)
+resting image log (Appending command) j e = let f = j.task_is in cc
+resting image log (Turning command from) j e = let O : Task → Type 0 = λ t. OffersBelow (entries_of image) from image t in absurd (subst O e j.offers)
 
 pub task_rests : (image : List ℕ) (log : LogValue) (job : Job) → JobIs image log job → working job ≡ None → log.task ≡ Rest
 task_rests image log Resting j e = j
@@ -136,15 +137,61 @@ seal_pending (Copy target word) w = absurd w
 seal_pending (Seal target) w = absurd w
 
 -- what the log has after it was offered something
+offered_is : (entries : ℕ → ℕ → ℕ) (image : List ℕ) (task : Task) (from place word : ℕ) (command : Command) → IsWaiting task → UnderWay image task → OffersBelow entries from image task → IsNextChanged entries from place command → word ≡ word_of command → with_copy task word ≡ next_task entries task
+offered_is entries image Rest from place word command w u o n e = absurd w
+offered_is entries image (Append other) from place word command w u o n e = absurd w
+offered_is entries image (Wait target) from place word command w u o n e =
+    let after : IsAfter (copies image (Wait target)) (all_copies entries) word = rw e (copy_after entries from place command (copies image (Wait target)) o n) in
+    sym (next_task-copy entries target (copies image (Wait target)) word (waiting_count image target u.target_is) after)
+offered_is entries image (Copy target other) from place word command w u o n e = absurd w
+offered_is entries image (Seal target) from place word command w u o n e = absurd w
 
-pub offer_stands : (entries : ℕ → ℕ → ℕ) (image : List ℕ) (log after : LogValue) (from place word : ℕ) (command : Command) → IsWaiting log.task → OffersBelow entries from image log.task → IsNextChanged entries from place command → IsCommand command → word ≡ word_of command → after ≡ record log { task = with_copy log.task word } → OffersBelow entries (place + 1) image after.task × IsPending after.task
-offer_stands entries image log after from place word command w o n c e a =
+sealed_is : (entries : ℕ → ℕ → ℕ) (image : List ℕ) (task : Task) (from : ℕ) → from ≤ places → IsWaiting task → UnderWay image task → OffersBelow entries from image task → IsDefaultFrom entries from → with_seal task ≡ next_task entries task
+sealed_is entries image Rest from l w u o d = absurd w
+sealed_is entries image (Append word) from l w u o d = absurd w
+sealed_is entries image (Wait target) from l w u o d =
+    let all : all_copies entries ≡ copies image (Wait target) = no_copy_after entries from (copies image (Wait target)) l o d in
+    let count : length (copies image (Wait target)) ≡ copied target = waiting_count image target u.target_is in
+    let few : length (all_copies entries) ≤ copied target = rw (all, count) (omega arith) in
+    sym (next_task-seal entries target few)
+sealed_is entries image (Copy target word) from l w u o d = absurd w
+sealed_is entries image (Seal target) from l w u o d = absurd w
+
+not_waiting_is : (entries : ℕ → ℕ → ℕ) (task : Task) → (IsWaiting task → ⊥) → task ≡ next_task entries task
+not_waiting_is entries Rest n = refl
+not_waiting_is entries (Append word) n = refl
+not_waiting_is entries (Wait target) n = absurd (n tt)
+not_waiting_is entries (Copy target word) n = refl
+not_waiting_is entries (Seal target) n = refl
+
+pub not_waiting_stands : (entries : ℕ → ℕ → ℕ) (image : List ℕ) (log : LogValue) (from : ℕ) → (IsWaiting log.task → ⊥) → Describes image log → OffersBelow entries from image log.task → IsOffered entries image log log from
+not_waiting_stands entries image log from n d o = record {
+  describes = d;
+  offers = o;
+  pending = pending_unless entries from image log.task o n;
+  next = ap (λ (t : Task). with_task log t) (not_waiting_is entries log.task n);
+}
+
+pub offer_stands : (entries : ℕ → ℕ → ℕ) (image : List ℕ) (log after : LogValue) (from place word : ℕ) (command : Command) → IsWaiting log.task → Describes image log → Describes image after → OffersBelow entries from image log.task → IsNextChanged entries from place command → IsCommand command → after ≡ record log { task = with_copy log.task word } → word ≡ word_of command → IsOffered entries image log after (place + 1)
+offer_stands entries image log after from place word command w b d o n c a e =
     let t : after.task ≡ with_copy log.task word = rw a refl in
     let O : Task → Type 0 = λ x. OffersBelow entries (place + 1) image x × IsPending x in
-    subst O (sym t) (offered_next entries image log.task from place word command w o n c e, copy_pending log.task word w)
+    let s = subst O (sym t) (offered_next entries image log.task from place word command w o n c e, copy_pending log.task word w) in
+    record {
+      describes = d;
+      offers = s.0;
+      pending = s.1;
+      next = a ∙ ap (λ (x : Task). with_task log x) (offered_is entries image log.task from place word command w b.task_is o n e);
+    }
 
-pub seal_stands : (entries : ℕ → ℕ → ℕ) (image : List ℕ) (log after : LogValue) (from : ℕ) → from ≤ places → IsWaiting log.task → OffersBelow entries from image log.task → IsDefaultFrom entries from → after ≡ record log { task = with_seal log.task } → OffersBelow entries from image after.task × IsPending after.task
-seal_stands entries image log after from l w o d a =
+pub seal_stands : (entries : ℕ → ℕ → ℕ) (image : List ℕ) (log after : LogValue) (from : ℕ) → from ≤ places → IsWaiting log.task → Describes image log → Describes image after → OffersBelow entries from image log.task → IsDefaultFrom entries from → after ≡ record log { task = with_seal log.task } → IsOffered entries image log after from
+seal_stands entries image log after from l w b d o f a =
     let t : after.task ≡ with_seal log.task = rw a refl in
     let O : Task → Type 0 = λ x. OffersBelow entries from image x × IsPending x in
-    subst O (sym t) (sealed_next entries image log.task from l w o d, seal_pending log.task w)
+    let s = subst O (sym t) (sealed_next entries image log.task from l w o f, seal_pending log.task w) in
+    record {
+      describes = d;
+      offers = s.0;
+      pending = s.1;
+      next = a ∙ ap (λ (x : Task). with_task log x) (sealed_is entries image log.task from l w b.task_is o f);
+    }

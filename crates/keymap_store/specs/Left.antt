@@ -2,17 +2,13 @@
 use Rattle.std.specs.Prelude.{◌≡◌, ℕ, zero, suc, ◌+◌, ◌-◌, ◌==◌, if◌then◌else◌, List}
 use Rattle.layers.specs.Codes.{default_at}
 use Rattle.layers.specs.Copies.{places, entry_at}
-use Rattle.layers.specs.Entries.{entry}
-use Rattle.page_turnover.specs.declared.log.Target.{Target}
-use Rattle.page_turnover.specs.declared.log.Target.TheVariants.{Unread, Holds}
-use Rattle.page_turnover.specs.declared.log.Task.{Task}
-use Rattle.page_turnover.specs.declared.log.Task.TheVariants.{Rest, Append, Wait, Copy, Seal}
-use Rattle.page_turnover.specs.Value.{LogValue}
-use Rattle.page_turnover.specs.Words.{words, HasRoom, IsBlank}
+use Rattle.page_turnover.specs.Value.{LogValue, Target, Unread, Holds, Task, Wait, Copy, Seal}
+use Rattle.page_turnover.specs.Words.{HasRoom, IsBlank}
 use Rattle.page_turnover.specs.Blank.{is_blank}
 use Rattle.page_turnover.specs.Turn.{target_page, copied}
 use Rattle.keymap_store.specs.declared.store.Job.{Job}
 use Rattle.keymap_store.specs.declared.store.Job.TheVariants.{Resting, Appending, Turning}
+use Rattle.keymap_store.specs.Keymap.{entries_of}
 use Rattle.keymap_store.specs.Value.{StoreValue}
 
 -- how many entries below a place differ from the default
@@ -24,7 +20,7 @@ differing_below entries (suc place) =
 
 -- how many entries of an image's keymap differ from the default
 unfoldable pub differing : List ℕ → ℕ
-differing image = differing_below (entry (words image)) places
+differing image = differing_below (entries_of image) places
 
 -- 1 where the target of a turn has to be erased: it was not read yet, and is not blank; else 0
 unfoldable pub erases_left : List ℕ → Target → ℕ
@@ -37,11 +33,10 @@ turn_left image target = erases_left image target + (differing image - copied ta
 
 -- what a log knows of the target of its turn
 abbrev pub target_of : Task → Target
-target_of Rest = Unread
-target_of (Append word) = Unread
 target_of (Wait target) = target
 target_of (Copy target word) = target
 target_of (Seal target) = target
+target_of _ = Unread
 
 abbrev pub left_for : List ℕ → LogValue → Job → ℕ
 left_for image log Resting = 0

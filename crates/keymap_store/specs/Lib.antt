@@ -1,5 +1,10 @@
+pub mod Keymap
 pub mod Value
 pub mod Store
 pub mod Submits
+pub mod Next
+pub mod Offers
+pub mod Turnovers
 pub mod Works
 pub mod Left
+pub mod Cut

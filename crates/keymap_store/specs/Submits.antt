@@ -1,8 +1,8 @@
 use Rattle.std.specs.Prelude.{◌≡◌, ◌-◌, ◌^◌, ◌⊎◌, ℕ, List, None, Some, Result, Ok, Err, IsSome}
 use Rattle.layers.specs.declared.command.Command.{Command}
-use Rattle.layers.specs.Entries.{entry, ChangesSome, ChangesNothing}
+use Rattle.layers.specs.Entries.{ChangesSome, ChangesNothing}
 use Rattle.page_turnover.specs.Active.{active}
-use Rattle.page_turnover.specs.Words.{words, HasRoom}
+use Rattle.page_turnover.specs.Words.{HasRoom}
 use Rattle.page_turnover.specs.Usable.{IsUsable}
 use Rattle.page_turnover.specs.Turn.{CanTurn}
 use Rattle.keymap_store.specs.declared.store.Job.{Job}
@@ -10,6 +10,7 @@ use Rattle.keymap_store.specs.declared.store.Taken.{Taken}
 use Rattle.keymap_store.specs.declared.store.Taken.TheVariants.{Settled, Working}
 use Rattle.keymap_store.specs.declared.store.SubmitRefusal.{SubmitRefusal}
 use Rattle.keymap_store.specs.declared.store.SubmitRefusal.TheVariants.{Busy, Unsound, Worn}
+use Rattle.keymap_store.specs.Keymap.{entries_of}
 use Rattle.keymap_store.specs.Store.{working}
 
 -- no command works, and all slots 0 are sound
@@ -31,6 +32,6 @@ HasPlace image = HasRoom image ⊎ ((HasRoom image → ⊥) × CanTurn image)
 abbrev pub Submits : List ℕ → Job → Command → Result Taken SubmitRefusal → Type 0
 Submits image job command (Err Busy) = IsSome (working job)
 Submits image job command (Err Unsound) = (working job ≡ None) × (IsUsable image → ⊥)
-Submits image job command (Ok Settled) = MayWrite image job × ChangesNothing (entry (words image)) command
-Submits image job command (Err Worn) = MayWrite image job × ChangesSome (entry (words image)) command × IsWorn image
-Submits image job command (Ok Working) = MayWrite image job × ChangesSome (entry (words image)) command × HasPlace image
+Submits image job command (Ok Settled) = MayWrite image job × ChangesNothing (entries_of image) command
+Submits image job command (Err Worn) = MayWrite image job × ChangesSome (entries_of image) command × IsWorn image
+Submits image job command (Ok Working) = MayWrite image job × ChangesSome (entries_of image) command × HasPlace image

@@ -1,19 +1,24 @@
-use Rattle.std.specs.Prelude.{◌≡◌, ◌≢◌, ◌+◌, ◌%◌, ◌^◌, ℕ, List, [], ◌∷◌, ◌++◌, Option, None, Some, IsSome}
+-- What the answers of `work` mean.
+use Rattle.std.specs.Prelude.{◌≡◌, ◌≢◌, ◌+◌, ◌%◌, ◌^◌, ◌≤◌, ◌⊎◌, ◌↔◌, ℕ, List, [], ◌∷◌, ◌++◌, Option, None, Some, IsSome}
 use Rattle.layers.specs.declared.command.Command.{Command}
 use Rattle.layers.specs.Commands.{word_of}
-use Rattle.layers.specs.Entries.{changed, entry}
+use Rattle.layers.specs.Entries.{changed}
 use Rattle.layers.specs.Keymaps.{HasEntries}
-use Rattle.keymap_store.specs.declared.store.Work.{Work}
-use Rattle.keymap_store.specs.declared.store.Work.TheVariants.{Idle, Working, Settled, Failed}
-use Rattle.layers.specs.Copies.{AreCopies, places}
-use Rattle.records.specs.Slots.{encoded}
-use Rattle.flash_model.specs.Operations.{Programs}
+use Rattle.records.specs.declared.Slot.TheVariants.{Good}
+use Rattle.records.specs.Slots.{encoded, slot_of}
+use Rattle.flash_model.specs.Image.{slot_at}
+use Rattle.flash_model.specs.Operations.{Programs, MayProgram, OnePage}
 use Rattle.page_turnover.specs.Active.{active}
 use Rattle.page_turnover.specs.Words.{words, IsTail}
-use Rattle.page_turnover.specs.Turn.{target_page, next_seq}
+use Rattle.page_turnover.specs.Turn.{target_page}
+use Rattle.page_turnover.specs.Steps.{Keeps}
 use Rattle.keymap_store.specs.declared.store.Job.{Job}
+use Rattle.keymap_store.specs.declared.store.Job.TheVariants.{Resting, Appending, Turning}
+use Rattle.keymap_store.specs.declared.store.Work.{Work}
+use Rattle.keymap_store.specs.declared.store.Work.TheVariants.{Idle, Working, Settled, Failed}
 use Rattle.keymap_store.specs.Value.{StoreValue}
 use Rattle.keymap_store.specs.Store.{working}
+use Rattle.keymap_store.specs.Turnovers.{Turns, Wears}
 
 -- the command works on, and the keymap is as before
 pub record WorksOn (before after : StoreValue) : Type 0 where
@@ -28,10 +33,11 @@ pub record Settles (before after : StoreValue) : Type 0 where
   pub done : working after.job ≡ None
   pub changes : (entries : ℕ → ℕ → ℕ) → HasEntries entries before.keymap → HasEntries (changed entries (command ∷ [])) after.keymap
 
--- the command that worked is gone
+-- the command that worked is gone, and the keymap is as before
 pub record Fails (before after : StoreValue) : Type 0 where
   pub some : IsSome (working before.job)
   pub gone : working after.job ≡ None
+  pub same_keymap : after.keymap ≡ before.keymap
 
 -- no command works, and nothing changes
 pub record Idles (old : List ℕ) (before : StoreValue) (new : List ℕ) (after : StoreValue) : Type 0 where
@@ -39,19 +45,20 @@ pub record Idles (old : List ℕ) (before : StoreValue) (new : List ℕ) (after 
   pub same_image : new ≡ old
   pub same_store : after ≡ before
 
--- what each answer of `work` means
+-- what each answer means for the command and the keymap
 abbrev pub WorksAs : List ℕ → StoreValue → Work → List ℕ → StoreValue → Type 0
 WorksAs old before Idle new after = Idles old before new after
 WorksAs old before Working new after = WorksOn before after
 WorksAs old before Settled new after = Settles before after
 WorksAs old before Failed new after = Fails before after
 
--- one operation is made, or none if the answer is Idle, and Failed alone is a fault
+-- one operation is made, or none if the answer is Idle; Failed is a fault, and a fault may have read back as done
 pub record CountsAs (work : Work) (operations operations_after faults faults_after : ℕ) : Type 0 where
   pub one : work ≢ Idle → operations_after ≡ (operations + 1) % 2 ^ 64
   pub none : work ≡ Idle → operations_after ≡ operations
   pub fault : work ≡ Failed → faults_after ≡ (faults + 1) % 2 ^ 64
-  pub no_fault : work ≢ Failed → faults_after ≡ faults
+  pub no_fault : work ≡ Idle → faults_after ≡ faults
+  pub read_back : work ≢ Failed → (faults_after ≡ faults) ⊎ (faults_after ≡ (faults + 1) % 2 ^ 64)
 
 -- the record of the command that worked is the last word
 abbrev pub IsAppendedFor : List ℕ → Option Command → List ℕ → Type 0
@@ -77,8 +84,35 @@ IsPlacedFor old (Some command) new = IsPlacedAt old command new
 abbrev pub IsPlaced : List ℕ → Job → List ℕ → Type 0
 IsPlaced old job new = IsPlacedFor old (working job) new
 
--- a step of a turn: words and active page stay; or the page after the active one becomes the active one, with the next
--- sequence number, and its words are the entries that differ from the default, by rising place
-pub data Turns (old new : List ℕ) : Type 0 where
-  stays : words new ≡ words old → active new ≡ active old → Turns old new
-  turns : active new ≡ Some (target_page old, next_seq old) → AreCopies (entry (words old)) places (words new) → Turns old new
+-- the record's program was torn, and the slot does not read as the record
+pub record IsTornAt (old : List ℕ) (command : Command) (new : List ℕ) : Type 0 where
+  pub page : ℕ
+  pub seq : ℕ
+  pub tail : ℕ
+  pub is_active : active old ≡ Some (page, seq)
+  pub is_tail : IsTail old page tail
+  pub torn : MayProgram old page tail (encoded (word_of command)) new
+  pub unread : slot_of (slot_at new page tail) ≡ Good (word_of command) → ⊥
+
+-- a fault where the command had room leaves its record torn; one in a turn leaves all pages but the target
+abbrev pub FailsFor : List ℕ → Job → List ℕ → Type 0
+FailsFor old Resting new = ⊥
+FailsFor old (Appending command) new = IsTornAt old command new
+FailsFor old (Turning command from) new = OnePage old (target_page old) new
+
+-- what each answer says of the flash: a step of a turn, the record as the last word in the tail slot, or a fault after which
+-- words, format and active page are as before; and what the operation does to the active page
+pub record WritesAs (old : List ℕ) (job : Job) (work : Work) (new : List ℕ) : Type 0 where
+  pub turns : work ≡ Working → Turns old new
+  pub appended : work ≡ Settled → IsAppended old job new
+  pub placed : work ≡ Settled → IsPlaced old job new
+  pub kept : work ≡ Failed → Keeps old new
+  pub fails : work ≡ Failed → FailsFor old job new
+  pub wears : work ≢ Idle → Wears old new
+
+-- a call that answers Working leaves one operation less to do, Settled is the answer to the last one, and Idle to none
+pub record CountsDown (work : Work) (before after : ℕ) : Type 0 where
+  pub none : (work ≡ Idle) ↔ (before ≡ 0)
+  pub fewer : work ≡ Working → after + 1 ≡ before
+  pub last : work ≡ Settled → before ≡ 1
+  pub few : before ≤ 387

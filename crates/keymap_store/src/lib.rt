@@ -3,7 +3,12 @@
 #![tactic(auto)]
 
 #[cfg(test)]
-mod image_tests;
+mod fault_tests;
+pub mod laws;
+#[cfg(test)]
+mod plain_image;
+#[cfg(test)]
+mod random_tests;
 mod store;
 #[cfg(test)]
 mod tests;

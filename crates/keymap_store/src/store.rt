@@ -1,14 +1,17 @@
 //! The keymap in RAM and in flash.
 
-ghost use Rattle.std.specs.Prelude.{◌≡◌, ◌≢◌, ◌+◌, ◌%◌, ◌^◌, ◌≤◌, ◌↔◌, ℕ, List, None, Some, Ok, false};
+ghost use Rattle.std.specs.Prelude.{◌≡◌, ◌≢◌, ◌+◌, ◌%◌, ◌^◌, ◌≤◌, ◌↔◌, ℕ, List, Option, None, Some, Ok, false, unwrap_or};
 ghost use Rattle.flash_model.specs.Image.{page_count};
 ghost use Rattle.layers.specs.Commands.{IsCommand};
-ghost use Rattle.layers.specs.Keymaps.{HasEntries, StandsFor};
-ghost use Rattle.page_turnover.specs.Words.{words};
+ghost use Rattle.layers.specs.Formats.{command_in};
+ghost use Rattle.layers.specs.Keymaps.{HasEntries};
 ghost use Rattle.page_turnover.specs.Turn.{IsPending};
-ghost use Rattle.keymap_store.specs.Store.{OffersBelow, CanOfferIfWaiting};
-ghost use Rattle.keymap_store.specs.Left.{target_of};
+ghost use Rattle.page_turnover.specs.Usable.{IsUsable};
 ghost use Rattle.page_turnover.specs.Log.{Describes};
+ghost use Rattle.keymap_store.specs.Keymap.{entries_of};
+ghost use Rattle.keymap_store.specs.Store.{OffersBelow};
+ghost use Rattle.keymap_store.specs.Offers.{CanOfferIfWaiting, IsOffered};
+ghost use Rattle.keymap_store.specs.Left.{target_of};
 ghost use Rattle.keymap_store.specs.declared.store.Job.{Job};
 ghost use Rattle.keymap_store.specs.declared.store.Taken.{Taken};
 ghost use Rattle.keymap_store.specs.declared.store.Work.{Work};
@@ -20,6 +23,7 @@ use std::marker::Model;
 
 /// What became of a command that was taken.
 #[derive(Clone, Copy, Debug, PartialEq, Eq)]
+#[must_use]
 pub enum Taken {
     /// It changes nothing, and is done.
     Settled,
@@ -40,6 +44,7 @@ pub enum SubmitRefusal {
 
 /// What a call of `work` did.
 #[derive(Clone, Copy, Debug, PartialEq, Eq)]
+#[must_use]
 pub enum Work {
     /// No command works, and no flash operation was made.
     Idle,
@@ -47,7 +52,8 @@ pub enum Work {
     Working,
     /// The command's record is in flash, and the keymap is changed.
     Settled,
-    /// The flash answered a fault, and the command is gone.
+    /// The flash answered a fault, and its slot or page does not read as intended. The command is
+    /// gone, and the keymap is as before.
     Failed,
 }
 
@@ -82,9 +88,10 @@ impl Model for Store {
 impl Store {
     ghost use Rattle.keymap_store.specs.Store.{Mirrors, working};
     ghost use Rattle.keymap_store.specs.Submits.{Submits};
-    ghost use Rattle.keymap_store.specs.Works.{WorksAs, CountsAs, IsAppended, IsPlaced, Turns};
+    ghost use Rattle.keymap_store.specs.Next.{next_operation_of, AttemptsNext};
+    ghost use Rattle.keymap_store.specs.Works.{WorksAs, WritesAs, CountsAs, CountsDown};
     ghost use Rattle.keymap_store.specs.Left.{left, Needs};
-    ghost use Rattle.page_turnover.specs.Operates.{Operates};
+    ghost use Rattle.page_turnover.specs.Operates.{Operates, MayOperate};
 
     /// Reads log and keymap of a flash, and changes nothing.
     pub fn mount<F: NorFlash>(flash: &F) -> Store
@@ -103,7 +110,7 @@ impl Store {
     /// The keymap: that of the flash's image.
     pub fn keymap(&self) -> &Keymap
         ensures held { result.now ≡ self.now.keymap }
-        ensures stands { (image : List ℕ) → Mirrors image self.now → StandsFor (words image) result.now }
+        ensures stands { (image : List ℕ) → Mirrors image self.now → HasEntries (entries_of image) result.now }
     {
         &self.keymap
     }
@@ -119,9 +126,10 @@ impl Store {
     /// is not sound, Settled at once where the command changes nothing, `Worn` where there is no room
     /// and the active page has the greatest sequence number, and else Working.
     ///
-    /// A command that works needs one flash operation with room. Without room it needs one for each
-    /// entry that differs from the default, two for header and record, and one more where the page
-    /// after the active one is not blank: at most 387.
+    /// There is room where the active page is of format 2 and its last slot is Free. A command that
+    /// works needs one flash operation with room. Without room it needs one for each entry that
+    /// differs from the default, two for header and record, and one more where the page after the
+    /// active one is not blank: at most 387.
     #[tactic(auto, using(crate::proofs::Counting::few_left))]
     pub fn submit(&mut self, command: Command) -> Result<Taken, SubmitRefusal>
         ensures submits { (image : List ℕ) → Mirrors image self.old → Submits image self.old.job command result }
@@ -137,6 +145,7 @@ impl Store {
         if self.log.usable().is_err() {
             return Err(SubmitRefusal::Unsound);
         }
+        // By reference, since it is passed on twice.
         let command = &command;
         if !self.keymap.changes(*command) {
             return Ok(Taken::Settled);
@@ -162,24 +171,32 @@ impl Store {
     /// works. The flash has to be the one that the store was mounted on.
     ///
     /// With room the command's record is appended. Without room a turn comes first, whose copies are
-    /// the entries that differ from the default, by rising place. `Failed` is answered only where the
-    /// flash answers a fault. Each call that answers Working leaves one operation less to do, and
-    /// Settled is the answer to the last one: a command is settled or fails by the 387th call.
-    #[tactic(auto, using(crate::proofs::Counting::few_left))]
+    /// the entries that differ from the default, by rising place, in format 2. `Failed` is answered
+    /// where the flash answers a fault and the operation's slot or page does not read as intended, and
+    /// only there. Each call that answers Working leaves one operation less to do, and Settled is the
+    /// answer to the last one: a command is settled or fails by the 387th call.
+    #[tactic(auto, using(crate::proofs::Counting::few_left, crate::proofs::Working::rests_if_unusable))]
     pub fn work<F: NorFlash>(&mut self, flash: &mut F) -> Work
         requires { Mirrors (F.image flash.old) self.old }
+        // the keymap is that of the flash's image again
         ensures mirrors { Mirrors (F.image flash.new) self.new }
+        // what the answer means for the command and the keymap
         ensures works { WorksAs (F.image flash.old) self.old result (F.image flash.new) self.new }
-        ensures counts { CountsAs result (F.operations flash.old) (F.operations flash.new) (F.faults flash.old) (F.faults flash.new) }
+        // the operation that was next is made; Failed exactly where it does not read as intended
+        ensures attempts { AttemptsNext (next_operation_of (F.image flash.old) self.old) (F.image flash.old) result (F.image flash.new) }
+        // what the answer says of the flash
+        ensures writes { WritesAs (F.image flash.old) self.old.job result (F.image flash.new) }
         ensures operates { result ≢ Work.Idle → result ≢ Work.Failed → Operates (F.image flash.old) (F.image flash.new) }
-        ensures appended { result ≡ Work.Settled → IsAppended (F.image flash.old) self.old.job (F.image flash.new) }
-        ensures placed { result ≡ Work.Settled → IsPlaced (F.image flash.old) self.old.job (F.image flash.new) }
-        ensures turns { result ≡ Work.Working → Turns (F.image flash.old) (F.image flash.new) }
+        ensures torn { result ≡ Work.Failed → MayOperate (F.image flash.old) (F.image flash.new) }
+        // a flash with an unsound slot 0 is never written, and no other gets one
+        ensures sound { IsUsable (F.image flash.old) → IsUsable (F.image flash.new) }
+        ensures unusable { (IsUsable (F.image flash.old) → ⊥) → result ≡ Work.Idle }
+        ensures operated { result ≢ Work.Idle → F.operates flash.old flash.new }
+        ensures untouched { result ≡ Work.Idle → flash.new ≡ flash.old }
+        // how many operations are made, and are left to make
+        ensures counts { CountsAs result (F.operations flash.old) (F.operations flash.new) (F.faults flash.old) (F.faults flash.new) }
+        ensures down { CountsDown result (left (F.image flash.old) self.old) (left (F.image flash.new) self.new) }
         ensures faultless { F.is_faultless flash.old → F.is_faultless flash.new × (result ≢ Work.Failed) }
-        ensures none { (result ≡ Work.Idle) ↔ (left (F.image flash.old) self.old ≡ 0) }
-        ensures fewer { result ≡ Work.Working → left (F.image flash.new) self.new + 1 ≡ left (F.image flash.old) self.old }
-        ensures last { result ≡ Work.Settled → left (F.image flash.old) self.old ≡ 1 }
-        ensures few { left (F.image flash.old) self.old ≤ 387 }
     {
         match self.job {
             Job::Resting => Work::Idle,
@@ -194,10 +211,13 @@ impl Store {
         requires job { self.old.job ≡ Job.Appending command }
         ensures mirrors { Mirrors (F.image flash.new) self.new }
         ensures works { WorksAs (F.image flash.old) self.old result (F.image flash.new) self.new }
-        ensures counts { CountsAs result (F.operations flash.old) (F.operations flash.new) (F.faults flash.old) (F.faults flash.new) }
+        ensures attempts { AttemptsNext (next_operation_of (F.image flash.old) self.old) (F.image flash.old) result (F.image flash.new) }
+        ensures writes { WritesAs (F.image flash.old) self.old.job result (F.image flash.new) }
         ensures operates { result ≢ Work.Idle → result ≢ Work.Failed → Operates (F.image flash.old) (F.image flash.new) }
-        ensures appended { result ≡ Work.Settled → IsAppended (F.image flash.old) self.old.job (F.image flash.new) }
-        ensures placed { result ≡ Work.Settled → IsPlaced (F.image flash.old) self.old.job (F.image flash.new) }
+        ensures torn { result ≡ Work.Failed → MayOperate (F.image flash.old) (F.image flash.new) }
+        ensures sound { IsUsable (F.image flash.old) → IsUsable (F.image flash.new) }
+        ensures operated { result ≢ Work.Idle → F.operates flash.old flash.new }
+        ensures counts { CountsAs result (F.operations flash.old) (F.operations flash.new) (F.faults flash.old) (F.faults flash.new) }
         ensures faultless { F.is_faultless flash.old → F.is_faultless flash.new × (result ≢ Work.Failed) }
         ensures some { (result ≢ Work.Idle) × (result ≢ Work.Working) }
     {
@@ -207,7 +227,10 @@ impl Store {
                 self.job = Job::Resting;
                 Work::Settled
             }
-            Step::Failed => self.fail(flash),
+            Step::Failed => {
+                self.job = Job::Resting;
+                Work::Failed
+            }
             Step::Idle | Step::Moved => unreachable!(),
         }
     }
@@ -218,14 +241,18 @@ impl Store {
         requires job { self.old.job ≡ Job.Turning command from }
         ensures mirrors { Mirrors (F.image flash.new) self.new }
         ensures works { WorksAs (F.image flash.old) self.old result (F.image flash.new) self.new }
-        ensures counts { CountsAs result (F.operations flash.old) (F.operations flash.new) (F.faults flash.old) (F.faults flash.new) }
+        ensures attempts { AttemptsNext (next_operation_of (F.image flash.old) self.old) (F.image flash.old) result (F.image flash.new) }
+        ensures writes { WritesAs (F.image flash.old) self.old.job result (F.image flash.new) }
         ensures operates { result ≢ Work.Idle → result ≢ Work.Failed → Operates (F.image flash.old) (F.image flash.new) }
-        ensures appended { result ≡ Work.Settled → IsAppended (F.image flash.old) self.old.job (F.image flash.new) }
-        ensures turns { result ≡ Work.Working → Turns (F.image flash.old) (F.image flash.new) }
+        ensures torn { result ≡ Work.Failed → MayOperate (F.image flash.old) (F.image flash.new) }
+        ensures sound { IsUsable (F.image flash.old) → IsUsable (F.image flash.new) }
+        ensures operated { result ≢ Work.Idle → F.operates flash.old flash.new }
+        ensures counts { CountsAs result (F.operations flash.old) (F.operations flash.new) (F.faults flash.old) (F.faults flash.new) }
         ensures faultless { F.is_faultless flash.old → F.is_faultless flash.new × (result ≢ Work.Failed) }
         ensures some { (result ≢ Work.Idle) × (result ≢ Work.Settled) }
         ensures fewer { result ≡ Work.Working → left (F.image flash.new) self.new + 1 ≡ left (F.image flash.old) self.old }
     {
+        // By reference, since more than one way takes it.
         let command = &command;
         let from = offer_next(&mut self.log, &self.keymap, from);
         match self.log.step(flash) {
@@ -241,19 +268,12 @@ impl Store {
                 self.job = Job::Appending(*command);
                 Work::Working
             }
-            Step::Failed => self.fail(flash),
+            Step::Failed => {
+                self.job = Job::Resting;
+                Work::Failed
+            }
             Step::Idle => unreachable!(),
         }
-    }
-
-    /// Reads log and keymap anew after a fault.
-    fn fail<F: NorFlash>(&mut self, flash: &F) -> Work
-        ensures mirrors { Mirrors (F.image flash.now) self.new }
-        ensures rests { working self.new.job ≡ None }
-        ensures failed { result ≡ Work.Failed }
-    {
-        *self = Store::mount(flash);
-        Work::Failed
     }
 }
 
@@ -263,7 +283,7 @@ fn offer_next(log: &mut Log, keymap: &Keymap, from: u16) -> u16
     requires few { CanOfferIfWaiting log.old.task }
     requires within { from ≤ 384 }
     ensures stands { (image : List ℕ) (entries : ℕ → ℕ → ℕ) → HasEntries entries keymap.now → Describes image log.old → OffersBelow entries from image log.old.task
-        → Describes image log.new × OffersBelow entries result image log.new.task × IsPending log.new.task }
+        → IsOffered entries image log.old log.new result }
     ensures within { result ≤ 384 }
     ensures target { target_of log.new.task ≡ target_of log.old.task }
 {
@@ -272,7 +292,8 @@ fn offer_next(log: &mut Log, keymap: &Keymap, from: u16) -> u16
     }
     match keymap.next_changed(from) {
         Some((place, command)) => {
-            log.offer_copy(command.word());
+            let word = command.word();
+            log.offer_copy(word);
             place + 1
         }
         None => {
@@ -285,13 +306,24 @@ fn offer_next(log: &mut Log, keymap: &Keymap, from: u16) -> u16
 /// The keymap of the words of a log.
 fn read_keymap<F: NorFlash>(log: &Log, flash: &F) -> Keymap
     requires { Describes (F.image flash.now) log.now }
-    ensures { StandsFor (words (F.image flash.now)) result }
+    ensures { HasEntries (entries_of (F.image flash.now)) result }
 {
     let mut keymap = Keymap::standard();
+    let format = log.format();
     for word in log.words(flash) {
-        if let Some(command) = Command::from_word(word) {
+        if let Some(command) = command_in(format, word) {
             keymap.apply(command);
         }
     }
     keymap
+}
+
+/// The command that a word stands for on a page of this format.
+fn command_in(format: Option<u8>, word: u32) -> Option<Command>
+    ensures { result ≡ command_in (unwrap_or format 2) word }
+{
+    match format {
+        Some(1) => Command::from_format_1(word),
+        _ => Command::from_word(word),
+    }
 }

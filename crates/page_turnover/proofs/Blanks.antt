@@ -5,7 +5,8 @@ use Rattle.records.specs.declared.Slot.TheVariants.{Free, Good, Spoiled}
 use Rattle.records.specs.Slots.{slot_of}
 use Rattle.flash_model.specs.Image.{slot_at}
 use Rattle.page_turnover.specs.Words.{IsBlank}
-use Rattle.page_turnover.specs.Blank.{is_free, is_free_below, is_blank}
+use Rattle.records.specs.Blocks.{is_free}
+use Rattle.page_turnover.specs.Blank.{is_free_below, is_blank}
 
 is_free-true : (slot : Slot) → is_free slot ≡ true → slot ≡ Free
 is_free-true Free e = refl
@@ -27,12 +28,16 @@ free_of image page (suc n) e s l =
       | inr d ↦ free_of image page n p.1 s (omega arith)
     ]
 
--- the test is true of a blank page
+-- the test is true of a blank page alone
+pub blank_of : (image : List ℕ) (page : ℕ) → is_blank image page ≡ true → IsBlank image page
+unfolding is_blank
+blank_of image page e s a l = free_of image page 512 e s l
+
+-- and of each
 pub is_blank-blank : (image : List ℕ) (page : ℕ) → IsBlank image page → is_blank image page ≡ true
 unfolding is_blank
 is_blank-blank image page b = is_free_below-is image page 512 (λ s l. b s (omega arith) l)
 
--- and of no other
 pub is_blank-used : (image : List ℕ) (page : ℕ) → (IsBlank image page → ⊥) → is_blank image page ≡ false
 unfolding is_blank
 is_blank-used image page u = elim (cases_Bool (is_blank image page)) [

@@ -6,9 +6,9 @@ use Rattle.records.specs.Slots.{slot_of}
 use Rattle.flash_model.specs.Image.{slot_at, page_count}
 use Rattle.page_turnover.specs.declared.log.ActivePage.{ActivePage}
 use Rattle.page_turnover.specs.Active.{active}
-use Rattle.page_turnover.specs.Words.{IsTail, HasRoom, words, words_up_to}
+use Rattle.page_turnover.specs.Words.{HasRoom, words, words_up_to}
 use Rattle.page_turnover.specs.Value.{LogValue}
-use Rattle.page_turnover.specs.Log.{Describes, HasTailRoom}
+use Rattle.page_turnover.specs.Log.{Describes, IsHeld, HasTailRoom}
 use Rattle.page_turnover.specs.Usable.{IsUsable, IsFirstUnsound}
 use Rattle.std.specs.Prelude.{IsSomeAnd, Option, MatchOption}
 use Rattle.page_turnover.proofs.Headers.{is_active}
@@ -30,28 +30,35 @@ pub le_test : (a b : ℕ) → a ≤ b → nat_le a b ≡ true
 le_test a b l = grind (arith, nat_tests)
 
 -- the active page that a log holds
-pub held_active : (image : List ℕ) (log : LogValue) (a : ActivePage) → Describes image log → log.active ≡ Some a → (active image ≡ Some (a.page, a.seq)) × IsTail image a.page a.tail
+pub held_active : (image : List ℕ) (log : LogValue) (a : ActivePage) → Describes image log → log.active ≡ Some a → IsHeld image a
 held_active image log a d e = rw e at d.active_is
 
 pub held_none : (image : List ℕ) (log : LogValue) → Describes image log → log.active ≡ None → active image ≡ None
 held_none image log d e = rw e at d.active_is
 
 pub held_inside : (image : List ℕ) (log : LogValue) (a : ActivePage) → Describes image log → log.active ≡ Some a → a.page < page_count image
-held_inside image log a d e = (is_active image a.page a.seq (held_active image log a d e).0).in_pages
+held_inside image log a d e = (is_active image a.page a.seq (held_active image log a d e).is_active).in_pages
 
--- a tail of at most 511 is room
-pub room_of_tail : (image : List ℕ) (log : LogValue) (a : ActivePage) → Describes image log → log.active ≡ Some a → a.tail ≤ 511 → HasRoom image
-room_of_tail image log a d e l = let h = held_active image log a d e in record { page = a.page; seq = a.seq; is_active = h.0; free = h.1.free 511 l (omega arith) }
+some_number : (x y : ℕ) → Some x ≡ Some y → x ≡ y
+some_number x y e = cc
 
-pub tail_of_room : (image : List ℕ) (log : LogValue) (a : ActivePage) → Describes image log → log.active ≡ Some a → HasRoom image → a.tail ≤ 511
+-- format 2 and a tail of at most 511 is room
+pub room_of_tail : (image : List ℕ) (log : LogValue) (a : ActivePage) → Describes image log → log.active ≡ Some a → (a.format ≡ 2) × (a.tail ≤ 511) → HasRoom image
+room_of_tail image log a d e l =
+    let h = held_active image log a d e in
+    record { page = a.page; seq = a.seq; is_active = h.is_active; current = h.format_is ∙ ap Some l.0; free = h.is_tail.free 511 l.1 (omega arith) }
+
+pub tail_of_room : (image : List ℕ) (log : LogValue) (a : ActivePage) → Describes image log → log.active ≡ Some a → HasRoom image → (a.format ≡ 2) × (a.tail ≤ 511)
 tail_of_room image log a d e r =
     let h = held_active image log a d e in
-    let same : a.page ≡ r.page = same_page image a.page a.seq r.page r.seq h.0 r.is_active in
-    let free : slot_of (slot_at image a.page 511) ≡ Free = rw same r.free in
-    elim (cases_lt 511 a.tail) [
-      | inl b ↦ (let t : a.tail - 1 ≡ 511 = omega (arith, h.1.high) in absurd (h.1.used (omega arith) (rw t free)))
-      | inr b ↦ b
-    ]
+    let same : a.page ≡ r.page = same_page image a.page a.seq r.page r.seq h.is_active r.is_active in
+    let free : slot_of (slot_at image a.page 511) ≡ Free = rw same r.free in (
+      some_number a.format 2 (sym h.format_is ∙ r.current),
+      elim (cases_lt 511 a.tail) [
+        | inl b ↦ (let t : a.tail - 1 ≡ 511 = omega (arith, h.is_tail.high) in absurd (h.is_tail.used (omega arith) (rw t free)))
+        | inr b ↦ b
+      ],
+    )
 
 pub room_of_none : (image : List ℕ) (log : LogValue) → Describes image log → log.active ≡ None → HasRoom image → ⊥
 room_of_none image log d e r = let f = held_none image log d e in let k = r.is_active in cc
@@ -73,7 +80,7 @@ unsound_by image (Some p) h u = absurd (h.unsound (u.sound p h.in_pages))
 pub unsound_none : (image : List ℕ) (log : LogValue) → Describes image log → IsUsable image → log.unsound ≡ None
 unsound_none image log d u = unsound_by image log.unsound d.unsound_is u
 
-room_by : (image : List ℕ) (log : LogValue) (held : Option ActivePage) → Describes image log → log.active ≡ held → HasRoom image → IsSomeAnd held (λ a. a.tail ≤ 511)
+room_by : (image : List ℕ) (log : LogValue) (held : Option ActivePage) → Describes image log → log.active ≡ held → HasRoom image → IsSomeAnd held (λ a. (a.format ≡ 2) × (a.tail ≤ 511))
 room_by image log None d e r = absurd (room_of_none image log d e r)
 room_by image log (Some a) d e r = tail_of_room image log a d e r
 

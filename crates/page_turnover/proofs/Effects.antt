@@ -2,23 +2,26 @@ use Rattle.page_turnover.specs.declared.log.stepping.Step.TheVariants.{Idle}
 use Rattle.page_turnover.specs.Turn.{IsPending}
 use Rattle.std.proofs.Common.{◌≡◌, ◌≢◌, ◌∙◌, ℕ, ◌+◌, refl, arith, List, [], ◌∷◌, ◌++◌, inl, inr}
 use Rattle.std.proofs.lemmas.List.{append-nil}
+use Rattle.records.specs.Slots.{encoded}
 use Rattle.flash_model.specs.Image.{IsImage}
-use Rattle.page_turnover.specs.declared.log.Target.{Target}
-use Rattle.page_turnover.specs.declared.log.Target.TheVariants.{Unread, Holds}
-use Rattle.page_turnover.specs.declared.log.Task.{Task}
-use Rattle.page_turnover.specs.declared.log.Task.TheVariants.{Rest, Append, Wait, Copy, Seal}
+use Rattle.flash_model.specs.Operations.{Programs}
+use Rattle.page_turnover.specs.Header.{header_word}
+use Rattle.page_turnover.specs.Value.{Target}
+use Rattle.page_turnover.specs.Value.{Unread, Holds}
+use Rattle.page_turnover.specs.Value.{Task}
+use Rattle.page_turnover.specs.Value.{Rest, Append, Wait, Copy, Seal}
 use Rattle.page_turnover.specs.declared.log.stepping.Step.{Step}
 use Rattle.page_turnover.specs.declared.log.stepping.Step.TheVariants.{Moved, Committed, Failed}
 use Rattle.page_turnover.specs.Words.{words_up_to}
 use Rattle.page_turnover.specs.Usable.{IsUsable}
 use Rattle.page_turnover.specs.Value.{LogValue}
 use Rattle.page_turnover.specs.Turn.{target_page, next_seq, HoldsCopies, Turning, Copying, copied, copies, offered}
-use Rattle.page_turnover.specs.Steps.{ErasesTarget, Copies, Seals, StepsFor, EndsAs, Moves, Commits, CommitsTurn}
+use Rattle.page_turnover.specs.Steps.{ErasesTarget, Copies, StepsFor, EndsAs, Moves, Commits, CommitsTurn, IsReady}
 use Rattle.page_turnover.specs.Log.{Describes}
 use Rattle.page_turnover.proofs.WordLists.{words_none}
 use Rattle.page_turnover.proofs.Operating.{Appended, Headed, usable_same}
 use Rattle.page_turnover.proofs.Turns.{target_inside, ready_holds, words_of_copies, count_of_copies}
-use Rattle.page_turnover.proofs.Kept.{KeepsActive, words_kept, target_kept}
+use Rattle.page_turnover.proofs.Kept.{KeepsActive, words_kept, target_kept, format_kept}
 use Rattle.page_turnover.proofs.Endings.{under_way, append_fact, erased_keep, copy_keep, copied_words, seal_fact}
 
 -- an erase that keeps what is pending
@@ -33,13 +36,14 @@ moves_erase old before target pending step new after d i shown same m =
     record {
       words_are = words_kept old new k;
       active_is = k.active_is;
+      format_is = format_kept old new k;
       copies_are = rw (task, none, none_before, same (Holds 0) target) refl;
     }
 
 moves_copy : (old : List ℕ) (before : LogValue) (target : Target) (word : ℕ) (step : Step) (new : List ℕ) (after : LogValue) → Describes old before → Copying old target word → IsImage new
     → Copies old before target word step new after → Moves old (Copy target word) new after.task
 moves_copy old before target word step new after d c i m =
-    let k : KeepsActive old new = copy_keep old before (copied target) word new d m.programmed in
+    let k : KeepsActive old new = copy_keep old before (copied target) new d m.programmed.rest in
     let h : HoldsCopies old (target_page old) (copied target) = ready_holds old target c.turning.target_is m.ready in
     let task : after.task ≡ Wait (Holds (copied target + 1)) = rw m.next refl in
     let more : words_up_to new (target_page old) (copied target + 1) ≡ words_up_to old (target_page old) (copied target) ++ word ∷ [] =
@@ -47,6 +51,7 @@ moves_copy old before target word step new after d c i m =
     record {
       words_are = words_kept old new k;
       active_is = k.active_is;
+      format_is = format_kept old new k;
       copies_are = rw (task, target_kept old new k) (append-nil (words_up_to new (target_page old) (copied target + 1)) ∙ more);
     }
 
@@ -67,22 +72,23 @@ pub moved : (old : List ℕ) (before : LogValue) (step : Step) (new : List ℕ) 
 moved old before step new after d m e = moved_for old before before.task step new after d refl e.describes.whole m (e.done (λ x. cc))
 
 -- a turn that is committed
-commits_turn : (old : List ℕ) (before : LogValue) (target : Target) (step : Step) (new : List ℕ) (after : LogValue) → Describes old before → before.task ≡ Seal target → IsImage new → Seals old before target step new after → CommitsTurn old (Seal target) new
-commits_turn old before target step new after d e i m =
+pub turn_committed : (old : List ℕ) (before : LogValue) (target : Target) (new : List ℕ) → Describes old before → before.task ≡ Seal target → IsReady old target → IsImage new → Programs old (target_page old) 0 (encoded (header_word 2 (next_seq old))) new → CommitsTurn old (Seal target) new
+turn_committed old before target new d e ready i g =
     let c : Turning old target = under_way old before (Seal target) d e in
-    let h : HoldsCopies old (target_page old) (copied target) = ready_holds old target c.target_is m.ready in
-    let f : Headed old (target_page old) (next_seq old) new = seal_fact old before target new d e m.ready i m.programmed in
+    let h : HoldsCopies old (target_page old) (copied target) = ready_holds old target c.target_is ready in
+    let f : Headed old (target_page old) (next_seq old) new = seal_fact old before target new d e ready i g in
     record {
       words_are = f.words_are ∙ words_of_copies old (target_page old) (copied target) h;
       active_is = f.active_is;
-      rest = λ s a b. rw (m.programmed.rest.others (target_page old) s b (λ x y. omega arith)) (h.rest s (rw (count_of_copies old (target_page old) (copied target) h) at a) b);
+      format_is = f.format_is;
+      rest = λ s a b. rw (g.rest.others (target_page old) s b (λ x y. omega arith)) (h.rest s (rw (count_of_copies old (target_page old) (copied target) h) at a) b);
     }
 
 committed_for : (old : List ℕ) (before : LogValue) (task : Task) (step : Step) (new : List ℕ) (after : LogValue) → Describes old before → before.task ≡ task → IsImage new → step ≡ Committed → StepsFor task old before step new after → Commits old task new
 committed_for old before Rest step new after d e i m s = let f = s.answer in cc
 committed_for old before (Append word) step new after d e i m s =
     let f : Appended old s.place.page s.place.tail word new = append_fact old before word s.place new d e s.is_active i s.programmed in
-    record { words_are = f.words_are; active_is = f.active_is }
+    record { words_are = f.words_are; active_is = f.active_is; format_is = f.format_is }
 committed_for old before (Wait target) step new after d e i m s = let f = s.answer in cc
 committed_for old before (Copy target word) step new after d e i m s = elim s [
   | inl a ↦ (let f = a.answer in cc)
@@ -90,7 +96,7 @@ committed_for old before (Copy target word) step new after d e i m s = elim s [
 ]
 committed_for old before (Seal target) step new after d e i m s = elim s [
   | inl a ↦ (let f = a.answer in cc)
-  | inr a ↦ commits_turn old before target step new after d e i a
+  | inr a ↦ turn_committed old before target new d e a.ready i a.programmed
 ]
 
 pub committed : (old : List ℕ) (before : LogValue) (step : Step) (new : List ℕ) (after : LogValue) → Describes old before → step ≡ Committed → EndsAs old before step new after → Commits old before.task new
@@ -105,7 +111,7 @@ usable_for old before (Append word) step new after d e i s u =
 usable_for old before (Wait target) step new after d e i s u = rw s.same_image u
 usable_for old before (Copy target word) step new after d e i s u = elim s [
   | inl a ↦ (erased_keep old before new d i a.erased).usable u
-  | inr a ↦ (copy_keep old before (copied target) word new d a.programmed).usable u
+  | inr a ↦ (copy_keep old before (copied target) new d a.programmed.rest).usable u
 ]
 usable_for old before (Seal target) step new after d e i s u = elim s [
   | inl a ↦ (erased_keep old before new d i a.erased).usable u

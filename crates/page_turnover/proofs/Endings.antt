@@ -8,22 +8,21 @@ use Rattle.records.specs.declared.Slot.{Slot}
 use Rattle.records.specs.declared.Slot.TheVariants.{Good}
 use Rattle.records.specs.Slots.{slot_of, encoded}
 use Rattle.flash_model.specs.Image.{slot_at, page_count, IsImage}
-use Rattle.flash_model.specs.Operations.{Programs, Erases}
+use Rattle.flash_model.specs.Operations.{OneSlot, Programs, Erases}
 use Rattle.page_turnover.specs.declared.log.ActivePage.{ActivePage}
-use Rattle.page_turnover.specs.declared.log.Target.{Target}
-use Rattle.page_turnover.specs.declared.log.Target.TheVariants.{Unread, Holds}
-use Rattle.page_turnover.specs.declared.log.Task.{Task}
-use Rattle.page_turnover.specs.declared.log.Task.TheVariants.{Rest, Append, Wait, Copy, Seal}
-use Rattle.page_turnover.specs.declared.log.stepping.Step.{Step}
+use Rattle.page_turnover.specs.Value.{Target}
+use Rattle.page_turnover.specs.Value.{Unread, Holds}
+use Rattle.page_turnover.specs.Value.{Task}
+use Rattle.page_turnover.specs.Value.{Rest, Append, Wait, Copy, Seal}
 use Rattle.page_turnover.specs.declared.log.stepping.Step.TheVariants.{Moved, Committed}
 use Rattle.page_turnover.specs.Header.{header_word}
 use Rattle.page_turnover.specs.Active.{active}
-use Rattle.page_turnover.specs.Words.{words_up_to, IsTail, IsBlank}
+use Rattle.page_turnover.specs.Words.{words_up_to, IsBlank}
 use Rattle.page_turnover.specs.Usable.{IsUsable, IsFirstUnsound}
 use Rattle.page_turnover.specs.Value.{LogValue}
 use Rattle.page_turnover.specs.Turn.{target_page, next_seq, HoldsCopies, Turning, Copying, UnderWay, TargetIs, copied, copies, IsGood, IsPending}
-use Rattle.page_turnover.specs.Steps.{Appends, ErasesTarget, Copies, Seals, Steps, StepsFor, IsReady, EndsAs, ErasesOrFails}
-use Rattle.page_turnover.specs.Log.{Describes}
+use Rattle.page_turnover.specs.Steps.{Appends, ErasesTarget, Copies, Seals, Steps, StepsFor, IsReady, EndsAs}
+use Rattle.page_turnover.specs.Log.{Describes, IsHeld}
 use Rattle.page_turnover.proofs.WordLists.{words_same, up_to_more}
 use Rattle.page_turnover.proofs.Describing.{held_active, tail_of_room}
 use Rattle.page_turnover.proofs.Operating.{Appended, appended, Headed, headed, usable_same, programmed_good}
@@ -42,31 +41,32 @@ unsound_kept old new held h u k = still_usable old new held h u (k u)
 
 -- the tail slot of the active page is a slot where a word is to be appended
 pub append_room : (old : List ℕ) (before : LogValue) (word : ℕ) (a : ActivePage) → Describes old before → before.task ≡ Append word → before.active ≡ Some a → a.tail ≤ 511
-append_room old before word a d e h = tail_of_room old before a d h (under_way old before (Append word) d e).room
+append_room old before word a d e h = (tail_of_room old before a d h (under_way old before (Append word) d e).room).1
 
 pub append_fact : (old : List ℕ) (before : LogValue) (word : ℕ) (a : ActivePage) (new : List ℕ) → Describes old before → before.task ≡ Append word → before.active ≡ Some a → IsImage new → Programs old a.page a.tail (encoded word) new → Appended old a.page a.tail word new
 append_fact old before word a new d e h i g =
     let at = held_active old before a d h in
-    appended old a.page a.seq a.tail word new (under_way old before (Append word) d e).fits d.whole i at.0 at.1 (append_room old before word a d e h) g
+    appended old a.page a.seq a.tail word new (under_way old before (Append word) d e).fits d.whole i at.is_active at.is_tail (append_room old before word a d e h) g
 
 pub append_ends : (old : List ℕ) (before : LogValue) (word : ℕ) (a : ActivePage) (new : List ℕ) → Describes old before → before.task ≡ Append word → before.active ≡ Some a → IsImage new → Programs old a.page a.tail (encoded word) new
-    → EndsAs old before Committed new (record { active = Some (record { page = a.page; seq = a.seq; tail = a.tail + 1 }); unsound = before.unsound; task = Rest })
+    → EndsAs old before Committed new (record { active = Some (record a { tail = a.tail + 1 }); unsound = before.unsound; task = Rest })
 append_ends old before word a new d e h i g =
     let f : Appended old a.page a.tail word new = append_fact old before word a new d e h i g in
     let at = held_active old before a d h in
     let u : IsUsable old = (under_way old before (Append word) d e).usable in
-    let m : Appends old before word Committed new (record { active = Some (record { page = a.page; seq = a.seq; tail = a.tail + 1 }); unsound = before.unsound; task = Rest }) =
+    let m : Appends old before word Committed new (record { active = Some (record a { tail = a.tail + 1 }); unsound = before.unsound; task = Rest }) =
     record { answer = refl; place = a; is_active = h; programmed = g; next = refl } in
     record {
       describes = record {
         whole = i;
-        active_is = (f.active_is ∙ at.0, f.tail_is);
+        active_is = record { is_active = f.active_is ∙ at.is_active; format_is = f.format_is ∙ at.format_is; is_tail = f.tail_is };
         unsound_is = unsound_kept old new before.unsound d.unsound_is u (usable_same old new f.headers);
         task_is = tt;
       };
-      done = λ n. let P : Task → Type 0 = λ t. StepsFor t old before Committed new (record { active = Some (record { page = a.page; seq = a.seq; tail = a.tail + 1 }); unsound = before.unsound; task = Rest }) in subst P (sym e) m;
-      rests = λ x. cc;
+      done = λ n. let P : Task → Type 0 = λ t. StepsFor t old before Committed new (record { active = Some (record a { tail = a.tail + 1 }); unsound = before.unsound; task = Rest }) in subst P (sym e) m;
       pending = λ x. cc;
+      rests = λ x. cc;
+      kept = λ x. cc;
     }
 
 -- a target that was erased
@@ -83,46 +83,36 @@ erased_holds old before new d i g =
       rest = λ s a b. erased_free old (target_page old) new s b g;
     })
 
-erase_ends : (old : List ℕ) (before : LogValue) (task : Task) (pending : Target → Task) (step : Step) (new : List ℕ) (after : LogValue) → Describes old before → before.task ≡ task → IsPending task → IsUsable old → (IsImage new → Erases old (target_page old) new → UnderWay new (pending (Holds 0)))
+erase_ends : (old : List ℕ) (before : LogValue) (pending : Target → Task) (new : List ℕ) → Describes old before → IsUsable old → IsImage new → Erases old (target_page old) new → UnderWay new (pending (Holds 0))
     → (ErasesTarget old before Unread pending Moved new (record before { task = pending (Holds 0) }) → Steps old before Moved new (record before { task = pending (Holds 0) }))
-    → (IsBlank old (target_page old) → ⊥) → ErasesOrFails old before (pending (Holds 0)) step new after → EndsAs old before step new after
-erase_ends old before task pending step new after d e p u w made used r = elim r.answer [
-  | inl moved ↦ (
-      let i : IsImage new = r.whole in
-      let g : Erases old (target_page old) new = r.erased moved in
-      let k : KeepsActive old new = erased_keep old before new d i g in
-      let ends : EndsAs old before Moved new (record before { task = pending (Holds 0) }) = record {
-        describes = describes_kept old before new (pending (Holds 0)) d i k u (w i g);
-        done = λ n. made (record { answer = refl; unread = refl; used = used; erased = g; next = refl });
-        rests = λ x. cc;
-        pending = λ x. cc;
-      } in
-      rw (moved, r.next_is moved) ends)
-  | inr failed ↦ record {
-    describes = r.describes failed;
-    done = λ n. absurd (n failed);
-    rests = r.rests;
-    pending = λ x. rw e p;
-  }
-]
+    → (IsBlank old (target_page old) → ⊥) → EndsAs old before Moved new (record before { task = pending (Holds 0) })
+erase_ends old before pending new d u i g w made used = record {
+  describes = describes_kept old before new (pending (Holds 0)) d i (erased_keep old before new d i g) u w;
+  done = λ n. made (record { answer = refl; unread = refl; used = used; erased = g; next = refl });
+  pending = λ x. cc;
+  rests = λ x. cc;
+  kept = λ x. cc;
+}
 
-pub erase_for_copy : (old : List ℕ) (before : LogValue) (target : Target) (word : ℕ) (step : Step) (new : List ℕ) (after : LogValue) → Describes old before → before.task ≡ Copy target word → target ≡ Unread → (IsBlank old (target_page old) → ⊥) → ErasesOrFails old before (Copy (Holds 0) word) step new after → EndsAs old before step new after
-erase_for_copy old before target word step new after d e unread used r =
+pub erase_for_copy : (old : List ℕ) (before : LogValue) (target : Target) (word : ℕ) (new : List ℕ) → Describes old before → before.task ≡ Copy target word → target ≡ Unread → (IsBlank old (target_page old) → ⊥) → IsImage new → Erases old (target_page old) new
+    → EndsAs old before Moved new (record before { task = Copy (Holds 0) word })
+erase_for_copy old before target word new d e unread used i g =
     let f : before.task ≡ Copy Unread word = rw unread at e in
     let c : Copying old Unread word = under_way old before (Copy Unread word) d f in
     let P : Task → Type 0 = λ t. StepsFor t old before Moved new (record before { task = Copy (Holds 0) word }) in
-    erase_ends old before (Copy Unread word) (λ t. Copy t word) step new after d f tt c.turning.can.usable
-    (λ i g. record { turning = record { can = can_kept old new (erased_keep old before new d i g) c.turning.can; target_is = erased_holds old before new d i g }; few = omega arith; fits = c.fits })
-    (λ m. subst P (sym f) (inl m)) used r
+    erase_ends old before (λ t. Copy t word) new d c.turning.can.usable i g
+    (record { turning = record { can = can_kept old new (erased_keep old before new d i g) c.turning.can; target_is = erased_holds old before new d i g }; few = omega arith; fits = c.fits })
+    (λ m. subst P (sym f) (inl m)) used
 
-pub erase_for_seal : (old : List ℕ) (before : LogValue) (target : Target) (step : Step) (new : List ℕ) (after : LogValue) → Describes old before → before.task ≡ Seal target → target ≡ Unread → (IsBlank old (target_page old) → ⊥) → ErasesOrFails old before (Seal (Holds 0)) step new after → EndsAs old before step new after
-erase_for_seal old before target step new after d e unread used r =
+pub erase_for_seal : (old : List ℕ) (before : LogValue) (target : Target) (new : List ℕ) → Describes old before → before.task ≡ Seal target → target ≡ Unread → (IsBlank old (target_page old) → ⊥) → IsImage new → Erases old (target_page old) new
+    → EndsAs old before Moved new (record before { task = Seal (Holds 0) })
+erase_for_seal old before target new d e unread used i g =
     let f : before.task ≡ Seal Unread = rw unread at e in
     let c : Turning old Unread = under_way old before (Seal Unread) d f in
     let P : Task → Type 0 = λ t. StepsFor t old before Moved new (record before { task = Seal (Holds 0) }) in
-    erase_ends old before (Seal Unread) Seal step new after d f tt c.can.usable
-    (λ i g. record { can = can_kept old new (erased_keep old before new d i g) c.can; target_is = erased_holds old before new d i g })
-    (λ m. subst P (sym f) (inl m)) used r
+    erase_ends old before Seal new d c.can.usable i g
+    (record { can = can_kept old new (erased_keep old before new d i g) c.can; target_is = erased_holds old before new d i g })
+    (λ m. subst P (sym f) (inl m)) used
 
 -- the copies in a target after one more
 pub copied_holds : (old new : List ℕ) (page n word : ℕ) → n < 511 → word < 2 ^ 32 → IsImage old → IsImage new → page < page_count old → HoldsCopies old page n → Programs old page (n + 1) (encoded word) new → HoldsCopies new page (n + 1)
@@ -148,14 +138,14 @@ copied_words old new page n word few fits i j inside h g =
     more ∙ rw (good, same) refl
 
 -- a copy
-pub copy_keep : (old : List ℕ) (before : LogValue) (n word : ℕ) (new : List ℕ) → Describes old before → Programs old (target_page old) (n + 1) (encoded word) new → KeepsActive old new
-copy_keep old before n word new d g = programmed_keeps old (target_page old) (n + 1) new (omega arith) (apart old before d) g.rest
+pub copy_keep : (old : List ℕ) (before : LogValue) (n : ℕ) (new : List ℕ) → Describes old before → OneSlot old (target_page old) (n + 1) new → KeepsActive old new
+copy_keep old before n new d one = programmed_keeps old (target_page old) (n + 1) new (omega arith) (apart old before d) one
 
 pub copy_ends : (old : List ℕ) (before : LogValue) (target : Target) (word : ℕ) (new : List ℕ) → Describes old before → before.task ≡ Copy target word → IsReady old target → IsImage new → Programs old (target_page old) (copied target + 1) (encoded word) new
     → EndsAs old before Moved new (record before { task = Wait (Holds (copied target + 1)) })
 copy_ends old before target word new d e ready i g =
     let c : Copying old target word = under_way old before (Copy target word) d e in
-    let k : KeepsActive old new = copy_keep old before (copied target) word new d g in
+    let k : KeepsActive old new = copy_keep old before (copied target) new d g.rest in
     let h : HoldsCopies old (target_page old) (copied target) = ready_holds old target c.turning.target_is ready in
     let t : target_page new ≡ target_page old = target_kept old new k in
     let m : Copies old before target word Moved new (record before { task = Wait (Holds (copied target + 1)) }) = record { answer = refl; ready = ready; programmed = g; next = refl } in
@@ -166,36 +156,38 @@ copy_ends old before target word new d e ready i g =
         target_is = rw t (copied_holds old new (target_page old) (copied target) word c.few c.fits d.whole i (target_inside old d.whole) h g);
       });
       done = λ n. subst P (sym e) (inr m);
-      rests = λ x. cc;
       pending = λ x. cc;
+      rests = λ x. cc;
+      kept = λ x. cc;
     }
 
 -- a seal
-pub seal_fact : (old : List ℕ) (before : LogValue) (target : Target) (new : List ℕ) → Describes old before → before.task ≡ Seal target → IsReady old target → IsImage new → Programs old (target_page old) 0 (encoded (header_word (next_seq old))) new → Headed old (target_page old) (next_seq old) new
+pub seal_fact : (old : List ℕ) (before : LogValue) (target : Target) (new : List ℕ) → Describes old before → before.task ≡ Seal target → IsReady old target → IsImage new → Programs old (target_page old) 0 (encoded (header_word 2 (next_seq old))) new → Headed old (target_page old) (next_seq old) new
 seal_fact old before target new d e ready i g =
     let c : Turning old target = under_way old before (Seal target) d e in
     let h : HoldsCopies old (target_page old) (copied target) = ready_holds old target c.target_is ready in
     headed old (target_page old) (next_seq old) new c.can.numbered d.whole i (target_inside old d.whole) h.header (numbers_below old) g
 
-pub seal_ends : (old : List ℕ) (before : LogValue) (target : Target) (new : List ℕ) → Describes old before → before.task ≡ Seal target → IsReady old target → IsImage new → Programs old (target_page old) 0 (encoded (header_word (next_seq old))) new
-    → EndsAs old before Committed new (record { active = Some (record { page = target_page old; seq = next_seq old; tail = copied target + 1 }); unsound = before.unsound; task = Rest })
+pub seal_ends : (old : List ℕ) (before : LogValue) (target : Target) (new : List ℕ) → Describes old before → before.task ≡ Seal target → IsReady old target → IsImage new → Programs old (target_page old) 0 (encoded (header_word 2 (next_seq old))) new
+    → EndsAs old before Committed new (record { active = Some (record { page = target_page old; seq = next_seq old; format = 2; tail = copied target + 1 }); unsound = before.unsound; task = Rest })
 seal_ends old before target new d e ready i g =
     let c : Turning old target = under_way old before (Seal target) d e in
     let h : HoldsCopies old (target_page old) (copied target) = ready_holds old target c.target_is ready in
     let f : Headed old (target_page old) (next_seq old) new = seal_fact old before target new d e ready i g in
-    let after : LogValue = record { active = Some (record { page = target_page old; seq = next_seq old; tail = copied target + 1 }); unsound = before.unsound; task = Rest } in
+    let after : LogValue = record { active = Some (record { page = target_page old; seq = next_seq old; format = 2; tail = copied target + 1 }); unsound = before.unsound; task = Rest } in
     let m : Seals old before target Committed new after = record { answer = refl; ready = ready; programmed = g; next = refl } in
     let P : Task → Type 0 = λ x. StepsFor x old before Committed new after in
     record {
       describes = record {
         whole = i;
-        active_is = (f.active_is, f.tail_is (copied target + 1) (tail_of_copies old (target_page old) (copied target) h));
+        active_is = record { is_active = f.active_is; format_is = f.format_is; is_tail = f.tail_is (copied target + 1) (tail_of_copies old (target_page old) (copied target) h) };
         unsound_is = unsound_kept old new before.unsound d.unsound_is c.can.usable f.usable;
         task_is = tt;
       };
       done = λ n. subst P (sym e) (inr m);
-      rests = λ x. cc;
       pending = λ x. cc;
+      rests = λ x. cc;
+      kept = λ x. cc;
     }
 
 -- the same with the page, the number and the count that the code has
@@ -208,21 +200,21 @@ pub copy_ends_at : (old : List ℕ) (before : LogValue) (target : Target) (word 
 copy_ends_at old before target word page n new d e p m r i g =
     rw m (copy_ends old before target word new d e (ready_of old target (rw p at r)) i (rw (p, m) at g))
 
-pub seal_ends_at : (old : List ℕ) (before : LogValue) (target : Target) (page seq n : ℕ) (new : List ℕ) → Describes old before → before.task ≡ Seal target → page ≡ target_page old → seq ≡ next_seq old → n ≡ copied target → (target ≡ Unread → IsBlank old page) → IsImage new → Programs old page 0 (encoded (header_word seq)) new
-    → EndsAs old before Committed new (record { active = Some (record { page = page; seq = seq; tail = n + 1 }); unsound = before.unsound; task = Rest })
+pub seal_ends_at : (old : List ℕ) (before : LogValue) (target : Target) (page seq n : ℕ) (new : List ℕ) → Describes old before → before.task ≡ Seal target → page ≡ target_page old → seq ≡ next_seq old → n ≡ copied target → (target ≡ Unread → IsBlank old page) → IsImage new → Programs old page 0 (encoded (header_word 2 seq)) new
+    → EndsAs old before Committed new (record { active = Some (record { page = page; seq = seq; format = 2; tail = n + 1 }); unsound = before.unsound; task = Rest })
 seal_ends_at old before target page seq n new d e p q m r i g =
     rw (p, q, m) (seal_ends old before target new d e (ready_of old target (rw p at r)) i (rw (p, q) at g))
 
-seq_by : (image : List ℕ) (held : Option ActivePage) (seq : ℕ) → MatchOption held (active image ≡ None) (λ a. (active image ≡ Some (a.page, a.seq)) × IsTail image a.page a.tail) → MatchOption held (seq ≡ 1) (λ a. seq ≡ a.seq + 1) → seq ≡ next_seq image
+seq_by : (image : List ℕ) (held : Option ActivePage) (seq : ℕ) → MatchOption held (active image ≡ None) (λ a. IsHeld image a) → MatchOption held (seq ≡ 1) (λ a. seq ≡ a.seq + 1) → seq ≡ next_seq image
 seq_by image None seq h e = e ∙ sym (next_seq-none image h)
-seq_by image (Some a) seq h e = e ∙ sym (next_seq-some image a.page a.seq h.0)
+seq_by image (Some a) seq h e = e ∙ sym (next_seq-some image a.page a.seq h.is_active)
 
 pub seq_is : (image : List ℕ) (log : LogValue) (seq : ℕ) → Describes image log → MatchOption log.active (seq ≡ 1) (λ a. seq ≡ a.seq + 1) → seq ≡ next_seq image
 seq_is image log seq d e = seq_by image log.active seq d.active_is e
 
-small_by : (image : List ℕ) (held : Option ActivePage) → MatchOption held (active image ≡ None) (λ a. (active image ≡ Some (a.page, a.seq)) × IsTail image a.page a.tail) → MatchOption held ⊤ (λ a. a.seq < 2 ^ 28)
+small_by : (image : List ℕ) (held : Option ActivePage) → MatchOption held (active image ≡ None) (λ a. IsHeld image a) → MatchOption held ⊤ (λ a. a.seq < 2 ^ 28)
 small_by image None h = tt
-small_by image (Some a) h = (is_active image a.page a.seq h.0).header.bits
+small_by image (Some a) h = (is_active image a.page a.seq h.is_active).header.bits
 
 pub seq_small : (image : List ℕ) (log : LogValue) → Describes image log → MatchOption log.active ⊤ (λ a. a.seq < 2 ^ 28)
 seq_small image log d = small_by image log.active d.active_is

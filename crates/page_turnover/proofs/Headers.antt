@@ -1,47 +1,70 @@
-use Rattle.std.proofs.Common.{◌≡◌, ℕ, ◌+◌, ◌/◌, ◌%◌, ◌^◌, ◌≤◌, ◌<◌, suc, zero, Bool, true, false, ◌==◌, if◌then◌else◌, List, Option, Some, None, refl, arith, sym, subst, inl, inr, MatchOption, nat_lt}
+use Rattle.std.proofs.Common.{◌≡◌, ◌∙◌, ℕ, ◌+◌, ◌*◌, ◌/◌, ◌%◌, ◌^◌, ◌≤◌, ◌<◌, ◌⊎◌, suc, zero, Bool, true, false, ◌==◌, ◌||◌, if◌then◌else◌, List, Option, Some, None, refl, arith, sym, ap, subst, inl, inr, MatchOption, nat_lt}
 use Rattle.std.proofs.lemmas.Bool.{cases_lt}
 use Rattle.std.proofs.lemmas.Bool.Decides.{nat_tests}
 use Rattle.records.specs.declared.Slot.{Slot}
 use Rattle.records.specs.declared.Slot.TheVariants.{Free, Good, Spoiled}
 use Rattle.records.specs.Slots.{slot_of}
 use Rattle.flash_model.specs.Image.{slot_at, page_count}
-use Rattle.page_turnover.specs.Header.{HasHeader, header_word, header_of}
-use Rattle.page_turnover.specs.Active.{IsNewest, IsActive, NoneActive, newer, newest, active}
+use Rattle.page_turnover.specs.Header.{HasHeader, IsFormat, header_word, header_of, format_of}
+use Rattle.page_turnover.specs.Active.{IsNewest, IsActive, NoneActive, HasFormat, newer, newest, active, format, format_on}
 
-some_if : (b : Bool) (x y : ℕ) → (if b then Some x else None) ≡ Some y → (b ≡ true) × (x ≡ y)
-some_if true x y e = (refl, cc)
-some_if false x y e = cc
+some_if : (a b : Bool) (x y : ℕ) → (if a || b then Some x else None) ≡ Some y → ((a ≡ true) ⊎ (b ≡ true)) × (x ≡ y)
+some_if true b x y e = (inl refl, cc)
+some_if false true x y e = (inr refl, cc)
+some_if false false x y e = cc
 
 eq_of : (a b : ℕ) → (a == b) ≡ true → a ≡ b
 eq_of a b e = grind (arith, nat_tests)
 
+word_of_parts : (word format seq : ℕ) → word / 2 ^ 28 ≡ format → word % 2 ^ 28 ≡ seq → word ≡ format * 2 ^ 28 + seq
+word_of_parts word format seq e f = omega arith
+
 -- a number read from a header is that of its word
-pub header_of_some : (slot : Slot) (seq : ℕ) → header_of slot ≡ Some seq → (seq < 2 ^ 28) × (slot ≡ Good (header_word seq))
+pub header_of_some : (slot : Slot) (seq : ℕ) → header_of slot ≡ Some seq → (seq < 2 ^ 28) × ((slot ≡ Good (header_word 1 seq)) ⊎ (slot ≡ Good (header_word 2 seq)))
 unfolding header_of header_word
 header_of_some (Good word) seq e =
-    let f : ((word / 2 ^ 28 == 1) ≡ true) × (word % 2 ^ 28 ≡ seq) = some_if (word / 2 ^ 28 == 1) (word % 2 ^ 28) seq e in
-    let one : word / 2 ^ 28 ≡ 1 = eq_of (word / 2 ^ 28) 1 f.0 in
-    let w : word ≡ 2 ^ 28 + seq = omega (arith, f.1) in
-    (omega (arith, f.1), rw w refl)
+    let f : ((word / 2 ^ 28 == 1) ≡ true ⊎ (word / 2 ^ 28 == 2) ≡ true) × (word % 2 ^ 28 ≡ seq) = some_if (word / 2 ^ 28 == 1) (word / 2 ^ 28 == 2) (word % 2 ^ 28) seq e in (
+      omega (arith, f.1),
+      elim f.0 [
+        | inl t ↦ inl (ap Good (word_of_parts word 1 seq (eq_of (word / 2 ^ 28) 1 t) f.1))
+        | inr t ↦ inr (ap Good (word_of_parts word 2 seq (eq_of (word / 2 ^ 28) 2 t) f.1))
+      ],
+    )
 header_of_some Free seq e = cc
 header_of_some Spoiled seq e = cc
 
-pub header_of-word : (seq : ℕ) → seq < 2 ^ 28 → header_of (Good (header_word seq)) ≡ Some seq
+header_of-first : (seq : ℕ) → seq < 2 ^ 28 → header_of (Good (header_word 1 seq)) ≡ Some seq
 unfolding header_of header_word
-header_of-word seq l =
-    let one : (2 ^ 28 + seq) / 2 ^ 28 ≡ 1 = omega arith in
-    let same : (2 ^ 28 + seq) % 2 ^ 28 ≡ seq = omega arith in
+header_of-first seq l =
+    let one : (1 * 2 ^ 28 + seq) / 2 ^ 28 ≡ 1 = omega arith in
+    let same : (1 * 2 ^ 28 + seq) % 2 ^ 28 ≡ seq = omega arith in
     rw (one, same) refl
 
-pub header_word-small : (seq : ℕ) → seq < 2 ^ 28 → header_word seq < 2 ^ 32
+header_of-second : (seq : ℕ) → seq < 2 ^ 28 → header_of (Good (header_word 2 seq)) ≡ Some seq
+unfolding header_of header_word
+header_of-second seq l =
+    let two : (2 * 2 ^ 28 + seq) / 2 ^ 28 ≡ 2 = omega arith in
+    let same : (2 * 2 ^ 28 + seq) % 2 ^ 28 ≡ seq = omega arith in
+    rw (two, same) refl
+
+pub header_of-word : (format seq : ℕ) → IsFormat format → seq < 2 ^ 28 → header_of (Good (header_word format seq)) ≡ Some seq
+header_of-word format seq (inl e) l = rw e (header_of-first seq l)
+header_of-word format seq (inr e) l = rw e (header_of-second seq l)
+
+pub header_word-small : (seq : ℕ) → seq < 2 ^ 28 → header_word 2 seq < 2 ^ 32
 unfolding header_word
 header_word-small seq l = omega arith
 
 pub header_of-has : (image : List ℕ) (page seq : ℕ) → HasHeader image page seq → header_of (slot_of (slot_at image page 0)) ≡ Some seq
-header_of-has image page seq h = rw h.good (header_of-word seq h.bits)
+header_of-has image page seq h = rw h.good (header_of-word h.format seq h.known h.bits)
 
 pub has_of-header : (image : List ℕ) (page seq : ℕ) → header_of (slot_of (slot_at image page 0)) ≡ Some seq → HasHeader image page seq
-has_of-header image page seq e = let f = header_of_some (slot_of (slot_at image page 0)) seq e in record { bits = f.0; good = f.1 }
+has_of-header image page seq e =
+    let f = header_of_some (slot_of (slot_at image page 0)) seq e in
+    elim f.1 [
+      | inl g ↦ record { format = 1; known = inl refl; bits = f.0; good = g }
+      | inr g ↦ record { format = 2; known = inr refl; bits = f.0; good = g }
+    ]
 
 -- the best of the first n pages
 abbrev pub IsBest : List ℕ → ℕ → Option (ℕ × ℕ) → Type 0
@@ -152,3 +175,44 @@ newest-more image n = let e : n + 1 ≡ suc n = omega arith in rw e refl
 pub active-newest : (image : List ℕ) (n : ℕ) → n ≡ page_count image → newest image n ≡ active image
 unfolding active
 active-newest image n e = rw e refl
+
+-- the format of a header is read off its word
+pub format_of-word : (format seq : ℕ) → seq < 2 ^ 28 → format_of (Good (header_word format seq)) ≡ format
+unfolding format_of header_word
+format_of-word format seq l = omega arith
+
+some_number : (x y : ℕ) → Some x ≡ Some y → x ≡ y
+some_number x y e = cc
+
+has_format_by : (image : List ℕ) (number : ℕ) (place : Option (ℕ × ℕ)) → active image ≡ place → format_on image place ≡ Some number → HasFormat image number
+has_format_by image number None e f = cc
+has_format_by image number (Some place) e f =
+    let a : IsActive image place.0 place.1 = is_active image place.0 place.1 e in
+    let read : format_of (slot_of (slot_at image place.0 0)) ≡ a.header.format = rw a.header.good (format_of-word a.header.format place.1 a.header.bits) in
+    let same : a.header.format ≡ number = sym read ∙ some_number _ _ f in
+    let P : ℕ → Type 0 = λ n. slot_of (slot_at image place.0 0) ≡ Good (header_word n place.1) in
+    record { page = place.0; seq = place.1; is_active = a; known = subst IsFormat same a.header.known; good = subst P same a.header.good }
+
+pub has_format : (image : List ℕ) (number : ℕ) → format image ≡ Some number → HasFormat image number
+unfolding format
+has_format image number e = has_format_by image number (active image) refl e
+
+pub format_is : (image : List ℕ) (number : ℕ) → HasFormat image number → format image ≡ Some number
+unfolding format
+format_is image number h = rw (active_of image h.page h.seq h.is_active, h.good, format_of-word number h.seq h.is_active.header.bits) refl
+
+pub format-none : (image : List ℕ) → active image ≡ None → format image ≡ None
+unfolding format
+format-none image e = rw e refl
+
+pub format-some : (image : List ℕ) (page seq : ℕ) → active image ≡ Some (page, seq) → format image ≡ Some (format_of (slot_of (slot_at image page 0)))
+unfolding format
+format-some image page seq e = rw e refl
+
+format_by : (old new : List ℕ) (place : Option (ℕ × ℕ)) → active old ≡ place → active new ≡ place → ((p s : ℕ) → active old ≡ Some (p, s) → slot_at new p 0 ≡ slot_at old p 0) → format new ≡ format old
+format_by old new None e f h = format-none new f ∙ sym (format-none old e)
+format_by old new (Some place) e f h = format-some new place.0 place.1 f ∙ rw (h place.0 place.1 e) (sym (format-some old place.0 place.1 e))
+
+-- the same active page, with the same slot 0
+pub format-same : (old new : List ℕ) → active new ≡ active old → ((p s : ℕ) → active old ≡ Some (p, s) → slot_at new p 0 ≡ slot_at old p 0) → format new ≡ format old
+format-same old new e h = format_by old new (active old) refl e h

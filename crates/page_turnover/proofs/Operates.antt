@@ -1,7 +1,7 @@
 -- Each step that is not idle makes one operation that loses nothing.
 use Rattle.std.proofs.Common.{◌≡◌, ◌≢◌, ℕ, ◌+◌, ◌<◌, ◌≤◌, inl, inr, List, refl, arith}
-use Rattle.page_turnover.specs.declared.log.Task.{Task}
-use Rattle.page_turnover.specs.declared.log.Task.TheVariants.{Rest, Append, Wait, Copy, Seal}
+use Rattle.page_turnover.specs.Value.{Task}
+use Rattle.page_turnover.specs.Value.{Rest, Append, Wait, Copy, Seal}
 use Rattle.page_turnover.specs.declared.log.stepping.Step.{Step}
 use Rattle.page_turnover.specs.declared.log.stepping.Step.TheVariants.{Idle, Failed}
 use Rattle.page_turnover.specs.Value.{LogValue}
@@ -22,7 +22,7 @@ operates_for (Append word) old before step new after d t n s =
     let u : Appending old word = under_way old before (Append word) d t in
     let held = held_active old before s.place d s.is_active in
     let low : s.place.tail ≤ 511 = append_room old before word s.place d t s.is_active in
-    programs u.usable s.place.page s.place.tail word (held_inside old before s.place d s.is_active) (omega arith) u.fits (held.1.free s.place.tail (omega arith) (omega arith)) s.programmed
+    programs u.usable s.place.page s.place.tail word (held_inside old before s.place d s.is_active) (omega arith) u.fits (held.is_tail.free s.place.tail (omega arith) (omega arith)) s.programmed
 operates_for (Copy target word) old before step new after d t n (inl a) =
     let u : Copying old target word = under_way old before (Copy target word) d t in
     erases u.turning.can.usable (target_page old) (target_inside old d.whole) (apart old before d) a.erased
@@ -37,7 +37,7 @@ operates_for (Seal target) old before step new after d t n (inl a) =
 operates_for (Seal target) old before step new after d t n (inr a) =
     let u : Turning old target = under_way old before (Seal target) d t in
     let h : HoldsCopies old (target_page old) (copied target) = ready_holds old target u.target_is a.ready in
-    programs u.can.usable (target_page old) 0 (header_word (next_seq old)) (target_inside old d.whole) (omega arith) (header_word-small (next_seq old) u.can.numbered) h.header a.programmed
+    programs u.can.usable (target_page old) 0 (header_word 2 (next_seq old)) (target_inside old d.whole) (omega arith) (header_word-small (next_seq old) u.can.numbered) h.header a.programmed
 
 pub operates : (old : List ℕ) (before : LogValue) (step : Step) (new : List ℕ) (after : LogValue) → Describes old before → EndsAs old before step new after → step ≢ Idle → step ≢ Failed → Operates old new
 operates old before step new after d e n f = operates_for before.task old before step new after d refl n (e.done f)

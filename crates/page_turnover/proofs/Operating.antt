@@ -1,4 +1,4 @@
-use Rattle.std.proofs.Common.{◌≡◌, ◌∙◌, ℕ, ◌+◌, ◌-◌, ◌≤◌, ◌<◌, ◌^◌, suc, zero, refl, sym, arith, List, [], ◌∷◌, ◌++◌, Some, None, inl, inr, subst}
+use Rattle.std.proofs.Common.{◌≡◌, ◌∙◌, ℕ, ◌+◌, ◌-◌, ◌≤◌, ◌<◌, ◌^◌, suc, zero, refl, sym, arith, List, [], ◌∷◌, ◌++◌, Some, inl, inr, subst}
 use Rattle.std.proofs.lemmas.Bool.{cases_lt}
 use Rattle.records.specs.declared.Slot.TheVariants.{Free, Good}
 use Rattle.records.specs.Slots.{IsSlot, IsSound, slot_of, encoded}
@@ -6,12 +6,12 @@ use Rattle.records.proofs.SlotLemmas.{programmed_free, slot_of-encoded, encoded_
 use Rattle.flash_model.specs.Image.{slot_at, page_count, IsImage}
 use Rattle.flash_model.specs.Operations.{OneSlot, Programs}
 use Rattle.flash_model.proofs.Places.{slot_length, slot_bytes, page_count-one_slot}
-use Rattle.page_turnover.specs.Header.{HasHeader, header_word}
-use Rattle.page_turnover.specs.Active.{IsActive, newest, active}
-use Rattle.page_turnover.specs.Words.{words_up_to, words, FreeFrom, IsBlank, IsTail}
-use Rattle.page_turnover.specs.Usable.{IsSoundBelow, IsUsable, IsFirstUnsound}
-use Rattle.page_turnover.proofs.Headers.{is_active, active_of, is_none, header_word-small}
-use Rattle.page_turnover.proofs.WordLists.{words_appended, words_same, words_free, words_none}
+use Rattle.page_turnover.specs.Header.{HasHeader, IsFormat, header_word}
+use Rattle.page_turnover.specs.Active.{IsActive, newest, active, format}
+use Rattle.page_turnover.specs.Words.{words_up_to, words, FreeFrom, IsTail}
+use Rattle.page_turnover.specs.Usable.{IsSoundBelow, IsUsable}
+use Rattle.page_turnover.proofs.Headers.{is_active, active_of, header_word-small, format_is, format-same}
+use Rattle.page_turnover.proofs.WordLists.{words_appended, words_same}
 use Rattle.page_turnover.proofs.Describing.{words_active}
 
 -- two images of as many pages, with the same slots 0
@@ -33,13 +33,6 @@ sound_below old new n m h u = record { sound = λ p l. rw (h.slots p (omega arit
 
 pub usable_same : (old new : List ℕ) → SameHeaders old new → IsUsable old → IsUsable new
 usable_same old new h u = rw h.pages (sound_below old new (page_count old) (omega arith) h u)
-
-pub unsound_same : (old new : List ℕ) (page : ℕ) → SameHeaders old new → IsFirstUnsound old page → IsFirstUnsound new page
-unsound_same old new page h u = record {
-  in_pages = omega (arith, h.pages, u.in_pages);
-  unsound = λ s. u.unsound (rw (h.slots page u.in_pages) at s);
-  below = sound_below old new page (omega (arith, u.in_pages)) h u.below;
-}
 
 -- a program of a slot but a slot 0
 pub other_than_header : (old : List ℕ) (page slot : ℕ) (new : List ℕ) → 1 ≤ slot → OneSlot old page slot new → SameHeaders old new
@@ -70,6 +63,7 @@ tail_more old new page tail word low high free one good = record {
 pub record Appended (old : List ℕ) (page tail word : ℕ) (new : List ℕ) : Type 0 where
   pub headers : SameHeaders old new
   pub active_is : active new ≡ active old
+  pub format_is : format new ≡ format old
   pub words_are : words new ≡ words old ++ word ∷ []
   pub tail_is : IsTail new page (tail + 1)
 
@@ -84,6 +78,7 @@ appended old page seq tail word new w i j a t l g =
     record {
       headers = headers;
       active_is = same;
+      format_is = format-same old new same (λ p s e. headers.slots p (is_active old p s e).in_pages);
       words_are = words_active new page seq (same ∙ a) ∙ more ∙ rw (good, words_active old page seq a) refl;
       tail_is = tail_more old new page tail word t.low l t.free g.rest good;
     }
@@ -91,6 +86,7 @@ appended old page seq tail word new w i j a t l g =
 -- a header programmed into a Free slot 0, with a number above all others
 pub record Headed (old : List ℕ) (page seq : ℕ) (new : List ℕ) : Type 0 where
   pub active_is : active new ≡ Some (page, seq)
+  pub format_is : format new ≡ Some 2
   pub words_are : words new ≡ words_up_to old page 511
   pub usable : IsUsable old → IsUsable new
   pub tail_is : (tail : ℕ) → IsTail old page tail → IsTail new page tail
@@ -104,25 +100,26 @@ tail_same old new page tail h t = record {
 }
 
 header_kept : (old : List ℕ) (page : ℕ) (new : List ℕ) (p s : ℕ) → OneSlot old page 0 new → (p ≡ page → ⊥) → HasHeader new p s → HasHeader old p s
-header_kept old page new p s one apart h = record { bits = h.bits; good = rw (one.others p 0 (omega arith) (λ e f. apart e)) at h.good }
+header_kept old page new p s one apart h = record { format = h.format; known = h.known; bits = h.bits; good = rw (one.others p 0 (omega arith) (λ e f. apart e)) at h.good }
 
-good_same : (v w : ℕ) → Good v ≡ Good w → v ≡ w
+pub good_same : (v w : ℕ) → Good v ≡ Good w → v ≡ w
 good_same v w e = cc
 
-word_same : (s t : ℕ) → header_word s ≡ header_word t → s ≡ t
+word_same : (format s t : ℕ) → IsFormat format → s < 2 ^ 28 → header_word format s ≡ header_word 2 t → t < 2 ^ 28 → s ≡ t
 unfolding header_word
-word_same s t e = omega arith
+word_same format s t (inl e) b f c = absurd (omega arith)
+word_same format s t (inr e) b f c = omega arith
 
-pub headed : (old : List ℕ) (page seq : ℕ) (new : List ℕ) → seq < 2 ^ 28 → IsImage old → IsImage new → page < page_count old → slot_of (slot_at old page 0) ≡ Free → ((p s : ℕ) → p < page_count old → HasHeader old p s → s < seq) → Programs old page 0 (encoded (header_word seq)) new → Headed old page seq new
+pub headed : (old : List ℕ) (page seq : ℕ) (new : List ℕ) → seq < 2 ^ 28 → IsImage old → IsImage new → page < page_count old → slot_of (slot_at old page 0) ≡ Free → ((p s : ℕ) → p < page_count old → HasHeader old p s → s < seq) → Programs old page 0 (encoded (header_word 2 seq)) new → Headed old page seq new
 headed old page seq new b i j inside free below g =
-    let is : slot_at new page 0 ≡ encoded (header_word seq) = programmed_is old new page 0 (header_word seq) i j inside (omega arith) free g in
-    let good : slot_of (slot_at new page 0) ≡ Good (header_word seq) = rw is (slot_of-encoded (header_word seq) (header_word-small seq b)) in
+    let is : slot_at new page 0 ≡ encoded (header_word 2 seq) = programmed_is old new page 0 (header_word 2 seq) i j inside (omega arith) free g in
+    let good : slot_of (slot_at new page 0) ≡ Good (header_word 2 seq) = rw is (slot_of-encoded (header_word 2 seq) (header_word-small seq b)) in
     let pages : page_count new ≡ page_count old = page_count-one_slot old page 0 new g.rest in
-    let here : (s : ℕ) → HasHeader new page s → s ≡ seq = λ s h. word_same s seq (good_same (header_word s) (header_word seq) (sym h.good ∙ good)) in
+    let here : (s : ℕ) → HasHeader new page s → s ≡ seq = λ s h. word_same h.format s seq h.known h.bits (good_same (header_word h.format s) (header_word 2 seq) (sym h.good ∙ good)) b in
     let least : (p s : ℕ) → p < page_count old → HasHeader new p s → (p ≡ page → ⊥) → s < seq = λ p s l h apart. below p s l (header_kept old page new p s g.rest apart h) in
     let is_active : IsActive new page seq = record {
       in_pages = omega arith;
-      header = record { bits = b; good = good };
+      header = record { format = 2; known = inr refl; bits = b; good = good };
       greatest = λ p s l h. elim (cases_lt p page) [
         | inl a ↦ (let m : s < seq = least p s (omega arith) h (λ e. omega arith) in omega arith)
         | inr a ↦ elim (cases_lt page p) [
@@ -135,39 +132,16 @@ headed old page seq new b i j inside free below g =
     let others : (s : ℕ) → 1 ≤ s → s < 512 → slot_at new page s ≡ slot_at old page s = λ s x y. g.rest.others page s y (λ e f. omega arith) in
     record {
       active_is = active_of new page seq is_active;
+      format_is = format_is new 2 (record { page = page; seq = seq; is_active = is_active; known = inr refl; good = good });
       words_are = words_active new page seq (active_of new page seq is_active) ∙ words_same old new page 511 (λ s x y. others s x (omega arith));
       usable = λ u. record {
         sound = λ p l. elim (cases_lt p page) [
           | inl a ↦ rw (g.rest.others p 0 (omega arith) (λ e f. omega arith)) (u.sound p (omega arith))
           | inr a ↦ elim (cases_lt page p) [
             | inl c ↦ rw (g.rest.others p 0 (omega arith) (λ e f. omega arith)) (u.sound p (omega arith))
-            | inr c ↦ (let e : page ≡ p = omega arith in let P : ℕ → Type 0 = λ q. IsSound (slot_at new q 0) in subst P e (rw is (encoded_sound (header_word seq) (header_word-small seq b))))
+            | inr c ↦ (let e : page ≡ p = omega arith in let P : ℕ → Type 0 = λ q. IsSound (slot_at new q 0) in subst P e (rw is (encoded_sound (header_word 2 seq) (header_word-small seq b))))
           ]
         ];
       };
       tail_is = λ tail t. tail_same old new page tail others t;
-    }
-
--- a blank page has no words, and its tail is slot 1
-pub words_blank : (image : List ℕ) (page : ℕ) → IsBlank image page → words_up_to image page 511 ≡ []
-words_blank image page b = words_free image page 0 511 (omega arith) (λ s l m. b s (omega arith) (omega arith)) ∙ words_none image page
-
-pub tail_blank : (image : List ℕ) (page : ℕ) → IsBlank image page → IsTail image page 1
-tail_blank image page b = record { low = omega arith; high = omega arith; free = λ s a c. b s (omega arith) c; used = λ l. absurd (omega arith) }
-
--- the first header on an image without one
-pub record FirstHeader (old new : List ℕ) : Type 0 where
-  pub active_is : active new ≡ Some (0, 1)
-  pub words_are : words new ≡ []
-  pub usable : IsUsable old → IsUsable new
-  pub tail_is : IsTail new 0 1
-
-pub first_header : (old new : List ℕ) → IsImage old → IsImage new → active old ≡ None → IsBlank old 0 → Programs old 0 0 (encoded (header_word 1)) new → FirstHeader old new
-first_header old new i j none blank g =
-    let h : Headed old 0 1 new = headed old 0 1 new (omega arith) i j (omega (arith, i.least)) (blank 0 (omega arith) (omega arith)) (λ p s l has. absurd (is_none old none p s l has)) g in
-    record {
-      active_is = h.active_is;
-      words_are = h.words_are ∙ words_blank old 0 blank;
-      usable = h.usable;
-      tail_is = h.tail_is 1 (tail_blank old 0 blank);
     }

@@ -6,9 +6,9 @@ use Rattle.records.specs.declared.Slot.TheVariants.{Free, Good, Spoiled}
 use Rattle.records.specs.Slots.{slot_of}
 use Rattle.flash_model.specs.Image.{slot_at, page_count, IsImage}
 use Rattle.page_turnover.specs.declared.log.ActivePage.{ActivePage}
-use Rattle.page_turnover.specs.declared.log.Target.{Target}
-use Rattle.page_turnover.specs.declared.log.Target.TheVariants.{Unread, Holds}
-use Rattle.page_turnover.specs.declared.log.Task.TheVariants.{Wait}
+use Rattle.page_turnover.specs.Value.{Target}
+use Rattle.page_turnover.specs.Value.{Unread, Holds}
+use Rattle.page_turnover.specs.Value.{Wait}
 use Rattle.page_turnover.specs.Header.{HasHeader}
 use Rattle.page_turnover.specs.Active.{active}
 use Rattle.page_turnover.specs.Words.{IsTail, words_up_to, word_of}
@@ -16,7 +16,7 @@ use Rattle.page_turnover.specs.Usable.{IsUsable, IsFirstUnsound}
 use Rattle.page_turnover.specs.Value.{LogValue}
 use Rattle.page_turnover.specs.Turn.{target_page, next_seq, HoldsCopies, TargetIs, IsGood, copied}
 use Rattle.page_turnover.specs.Steps.{IsReady}
-use Rattle.page_turnover.specs.Log.{Describes}
+use Rattle.page_turnover.specs.Log.{Describes, IsHeld}
 use Rattle.page_turnover.specs.Refusal.{MayTurn}
 use Rattle.page_turnover.proofs.Headers.{is_active, is_none}
 use Rattle.std.proofs.lemmas.Nat.{mod_below}
@@ -41,11 +41,11 @@ unfolding target_page
 target_page-none image e = rw e refl
 
 -- the next number fits where the active page has not the last one
-numbered : (image : List ℕ) (held : Option ActivePage) → MatchOption held (active image ≡ None) (λ a. (active image ≡ Some (a.page, a.seq)) × IsTail image a.page a.tail) → MatchOption held ⊤ (λ a. a.seq ≡ 2 ^ 28 - 1 → ⊥) → next_seq image < 2 ^ 28
+numbered : (image : List ℕ) (held : Option ActivePage) → MatchOption held (active image ≡ None) (λ a. IsHeld image a) → MatchOption held ⊤ (λ a. a.seq ≡ 2 ^ 28 - 1 → ⊥) → next_seq image < 2 ^ 28
 numbered image None h n = let e = next_seq-none image h in omega arith
 numbered image (Some a) h n =
-    let e = next_seq-some image a.page a.seq h.0 in
-    let b : a.seq < 2 ^ 28 = (is_active image a.page a.seq h.0).header.bits in
+    let e = next_seq-some image a.page a.seq h.is_active in
+    let b : a.seq < 2 ^ 28 = (is_active image a.page a.seq h.is_active).header.bits in
     elim (cases_lt a.seq (2 ^ 28 - 1)) [
       | inl l ↦ omega arith
       | inr l ↦ absurd (n (omega arith))

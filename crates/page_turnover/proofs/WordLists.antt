@@ -1,4 +1,4 @@
-use Rattle.std.proofs.Common.{◌≡◌, ℕ, ◌+◌, ◌-◌, ◌≤◌, ◌<◌, suc, zero, List, [], ◌++◌, refl, arith, sym, ◌∙◌}
+use Rattle.std.proofs.Common.{◌≡◌, ℕ, ◌+◌, ◌-◌, ◌≤◌, ◌<◌, suc, zero, List, [], ◌++◌, refl, arith, ◌∙◌}
 use Rattle.std.proofs.Common.{inl, inr}
 use Rattle.std.proofs.lemmas.Bool.{cases_lt}
 use Rattle.std.proofs.lemmas.List.{append-nil}
@@ -65,12 +65,6 @@ words_appended old new page tail low high free one =
 pub words_none : (image : List ℕ) (page : ℕ) → words_up_to image page 0 ≡ []
 unfolding words_up_to
 words_none image page = refl
-
--- the step of a loop that reads a slot: what it has so far, and the slot's words
-pub read_more : (image : List ℕ) (page slot : ℕ) (before : List ℕ) → 1 ≤ slot → before ≡ words_up_to image page (slot - 1) → before ++ word_of (slot_of (slot_at image page slot)) ≡ words_up_to image page (slot + 1 - 1)
-read_more image page slot before l e =
-    let f : slot + 1 - 1 ≡ slot = omega arith in
-    rw (f, e) (sym (up_to_more image page slot l))
 
 -- the words up to a slot, and those after it
 pub words_up_to_after : (image : List ℕ) (page n m : ℕ) → words_up_to image page n ++ words_after image page (n + 1) m ≡ words_up_to image page (n + m)

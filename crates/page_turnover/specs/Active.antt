@@ -1,9 +1,10 @@
-use Rattle.std.specs.Prelude.{ℕ, ◌<◌, ◌≤◌, suc, zero, nat_lt, if◌then◌else◌, List, Option, Some, None}
+use Rattle.std.specs.Prelude.{◌≡◌, ℕ, ◌<◌, ◌≤◌, suc, zero, nat_lt, if◌then◌else◌, List, Option, Some, None}
+use Rattle.records.specs.declared.Slot.TheVariants.{Good}
 use Rattle.records.specs.Slots.{slot_of}
 use Rattle.flash_model.specs.Image.{slot_at, page_count}
-use Rattle.page_turnover.specs.Header.{HasHeader, header_of}
+use Rattle.page_turnover.specs.Header.{HasHeader, IsFormat, header_of, header_word, format_of}
 
--- among the first n pages this one has the greatest sequence number, and is the lowest of those that have it
+-- among the first n pages this one has the greatest sequence number, of either format, and is the lowest of those that have it
 pub record IsNewest (image : List ℕ) (n page seq : ℕ) : Type 0 where
   pub in_pages : page < n
   pub header : HasHeader image page seq
@@ -18,6 +19,14 @@ IsActive image page seq = IsNewest image (page_count image) page seq
 abbrev pub NoneActive : List ℕ → Type 0
 NoneActive image = (p s : ℕ) → p < page_count image → HasHeader image p s → ⊥
 
+-- the active page has a header of this format
+pub record HasFormat (image : List ℕ) (format : ℕ) : Type 0 where
+  pub page : ℕ
+  pub seq : ℕ
+  pub is_active : IsActive image page seq
+  pub known : IsFormat format
+  pub good : slot_of (slot_at image page 0) ≡ Good (header_word format seq)
+
 -- the best so far, or a page with a greater sequence number
 unfoldable pub newer : Option (ℕ × ℕ) → ℕ → Option ℕ → Option (ℕ × ℕ)
 newer best page None = best
@@ -31,3 +40,12 @@ newest image (suc n) = newer (newest image n) n (header_of (slot_of (slot_at ima
 -- the active page and its sequence number, as a value; by the laws it is the one of `IsActive`
 unfoldable pub active : List ℕ → Option (ℕ × ℕ)
 active image = newest image (page_count image)
+
+-- the format of this page, if there is one
+abbrev pub format_on : List ℕ → Option (ℕ × ℕ) → Option ℕ
+format_on image (Some place) = Some (format_of (slot_of (slot_at image place.0 0)))
+format_on image None = None
+
+-- the format of the active page, as a value; by the laws it is the one of `HasFormat`
+unfoldable pub format : List ℕ → Option ℕ
+format image = format_on image (active image)

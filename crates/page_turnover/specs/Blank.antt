@@ -1,13 +1,7 @@
-use Rattle.std.specs.Prelude.{ℕ, zero, suc, ◌&&◌, List, Bool, true, false}
-use Rattle.records.specs.declared.Slot.{Slot}
-use Rattle.records.specs.declared.Slot.TheVariants.{Free, Good, Spoiled}
+use Rattle.std.specs.Prelude.{ℕ, zero, suc, ◌&&◌, List, Bool, true}
 use Rattle.records.specs.Slots.{slot_of}
+use Rattle.records.specs.Blocks.{is_free}
 use Rattle.flash_model.specs.Image.{slot_at}
-
-abbrev pub is_free : Slot → Bool
-is_free Free = true
-is_free (Good word) = false
-is_free Spoiled = false
 
 -- whether each of the first n slots of a page is Free
 unfoldable pub is_free_below : List ℕ → ℕ → ℕ → Bool

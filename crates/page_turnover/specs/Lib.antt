@@ -6,6 +6,10 @@ pub mod Usable
 pub mod Value
 pub mod Log
 pub mod Turn
+pub mod Next
 pub mod Steps
 pub mod Refusal
+pub mod Made
+pub mod Blocks
 pub mod Operates
+pub mod Leaves

@@ -1,20 +1,18 @@
-use Rattle.std.specs.Prelude.{◌≡◌, ◌≢◌, ℕ, ◌+◌, ◌%◌, ◌^◌, ◌⊎◌, List, [], ◌∷◌, ◌++◌, length, Some}
+-- What a step of a log does to the image and to what the log holds.
+use Rattle.std.specs.Prelude.{◌≡◌, ◌≢◌, ℕ, ◌+◌, ◌%◌, ◌^◌, ◌⊎◌, List, [], ◌∷◌, ◌++◌, length, Option, Some, None}
 use Rattle.records.specs.Slots.{encoded}
-use Rattle.flash_model.specs.Image.{IsImage}
 use Rattle.flash_model.specs.Operations.{Programs, Erases}
 use Rattle.page_turnover.specs.declared.log.ActivePage.{ActivePage}
-use Rattle.page_turnover.specs.declared.log.Target.{Target}
-use Rattle.page_turnover.specs.declared.log.Target.TheVariants.{Unread, Holds}
-use Rattle.page_turnover.specs.declared.log.Task.{Task}
-use Rattle.page_turnover.specs.declared.log.Task.TheVariants.{Rest, Append, Wait, Copy, Seal}
 use Rattle.page_turnover.specs.declared.log.stepping.Step.{Step}
 use Rattle.page_turnover.specs.declared.log.stepping.Step.TheVariants.{Idle, Moved, Committed, Failed}
+use Rattle.page_turnover.specs.declared.operation.Operation.{Operation}
 use Rattle.page_turnover.specs.Header.{header_word}
-use Rattle.page_turnover.specs.Active.{active}
+use Rattle.page_turnover.specs.Active.{active, format}
 use Rattle.page_turnover.specs.Words.{words, FreeFrom, IsBlank}
-use Rattle.page_turnover.specs.Value.{LogValue}
+use Rattle.page_turnover.specs.Value.{LogValue, Target, Unread, Holds, Task, Rest, Append, Wait, Copy, Seal}
 use Rattle.page_turnover.specs.Log.{Describes}
 use Rattle.page_turnover.specs.Turn.{target_page, next_seq, copied, copies, offered, IsPending}
+use Rattle.page_turnover.specs.Next.{Makes, MayMake, ReadsBack}
 
 -- nothing is pending, and nothing changes
 pub record Idles (old : List ℕ) (before : LogValue) (step : Step) (new : List ℕ) (after : LogValue) : Type 0 where
@@ -28,7 +26,7 @@ pub record Appends (old : List ℕ) (before : LogValue) (word : ℕ) (step : Ste
   pub place : ActivePage
   pub is_active : before.active ≡ Some place
   pub programmed : Programs old place.page place.tail (encoded word) new
-  pub next : after ≡ record { active = Some (record { page = place.page; seq = place.seq; tail = place.tail + 1 }); unsound = before.unsound; task = Rest }
+  pub next : after ≡ record { active = Some (record place { tail = place.tail + 1 }); unsound = before.unsound; task = Rest }
 
 -- a target that was not read yet and is not blank is erased, and what is pending stays so
 pub record ErasesTarget (old : List ℕ) (before : LogValue) (target : Target) (pending : Target → Task) (step : Step) (new : List ℕ) (after : LogValue) : Type 0 where
@@ -50,14 +48,14 @@ pub record Copies (old : List ℕ) (before : LogValue) (target : Target) (word :
   pub programmed : Programs old (target_page old) (copied target + 1) (encoded word) new
   pub next : after ≡ record before { task = Wait (Holds (copied target + 1)) }
 
--- the header is programmed into slot 0, and makes the target the active page
+-- the header, of format 2, is programmed into slot 0, and makes the target the active page
 pub record Seals (old : List ℕ) (before : LogValue) (target : Target) (step : Step) (new : List ℕ) (after : LogValue) : Type 0 where
   pub answer : step ≡ Committed
   pub ready : IsReady old target
-  pub programmed : Programs old (target_page old) 0 (encoded (header_word (next_seq old))) new
-  pub next : after ≡ record { active = Some (record { page = target_page old; seq = next_seq old; tail = copied target + 1 }); unsound = before.unsound; task = Rest }
+  pub programmed : Programs old (target_page old) 0 (encoded (header_word 2 (next_seq old))) new
+  pub next : after ≡ record { active = Some (record { page = target_page old; seq = next_seq old; format = 2; tail = copied target + 1 }); unsound = before.unsound; task = Rest }
 
--- what a step that no fault ends does for a task: at most one operation, the log after it, and its answer
+-- what a step that is not Failed does for a task: at most one operation, the log after it, and its answer
 abbrev pub StepsFor : Task → List ℕ → LogValue → Step → List ℕ → LogValue → Type 0
 StepsFor Rest old before step new after = Idles old before step new after
 StepsFor (Append word) old before step new after = Appends old before word step new after
@@ -68,20 +66,29 @@ StepsFor (Seal target) old before step new after = ErasesTarget old before targe
 abbrev pub Steps : List ℕ → LogValue → Step → List ℕ → LogValue → Type 0
 Steps old before step new after = StepsFor before.task old before step new after
 
+-- the words, their format and the active page are as before
+pub record Keeps (old new : List ℕ) : Type 0 where
+  pub words_are : words new ≡ words old
+  pub active_is : active new ≡ active old
+  pub format_is : format new ≡ format old
+
 -- a step that commits nothing leaves the words and the active page, and no copy is lost or made twice
 pub record Moves (old : List ℕ) (before : Task) (new : List ℕ) (after : Task) : Type 0 where
   pub words_are : words new ≡ words old
   pub active_is : active new ≡ active old
+  pub format_is : format new ≡ format old
   pub copies_are : copies new after ++ offered after ≡ copies old before ++ offered before
 
 pub record CommitsWord (old : List ℕ) (word : ℕ) (new : List ℕ) : Type 0 where
   pub words_are : words new ≡ words old ++ word ∷ []
   pub active_is : active new ≡ active old
+  pub format_is : format new ≡ format old
 
--- the copies are the words of the new active page, whose other slots are Free
+-- the copies are the words of the new active page, which is of format 2, and whose other slots are Free
 pub record CommitsTurn (old : List ℕ) (before : Task) (new : List ℕ) : Type 0 where
   pub words_are : words new ≡ copies old before
   pub active_is : active new ≡ Some (target_page old, next_seq old)
+  pub format_is : format new ≡ Some 2
   pub rest : FreeFrom new (target_page old) (length (copies old before) + 1)
 
 -- what a commit does to the words
@@ -92,25 +99,29 @@ Commits old (Wait target) new = ⊥
 Commits old (Copy target word) new = ⊥
 Commits old (Seal target) new = CommitsTurn old (Seal target) new
 
--- how a step ends: with its effect, or with a fault, after which nothing is under way
+-- how a step ends: with its effect, or Failed, after which nothing is under way and the words are as before
 pub record EndsAs (old : List ℕ) (before : LogValue) (step : Step) (new : List ℕ) (after : LogValue) : Type 0 where
   pub describes : Describes new after
   pub done : step ≢ Failed → Steps old before step new after
-  pub rests : step ≡ Failed → after.task ≡ Rest
   pub pending : step ≡ Failed → IsPending before.task
+  pub rests : step ≡ Failed → after.task ≡ Rest
+  pub kept : step ≡ Failed → Keeps old new
 
--- a step makes one operation, or none if it answers Idle, and Failed alone is a fault
+-- the operation is whole and its target reads as intended; or it is torn, its target reads otherwise, and the step is Failed
+pub record Attempts (old : List ℕ) (operation : Operation) (step : Step) (new : List ℕ) : Type 0 where
+  pub not_idle : step ≢ Idle
+  pub done : step ≢ Failed → Makes old operation new × ReadsBack operation new
+  pub failed : step ≡ Failed → MayMake old operation new × (ReadsBack operation new → ⊥)
+
+-- a step makes the operation that is next, and none where nothing is
+abbrev pub AttemptsNext : Option Operation → List ℕ → Step → List ℕ → Type 0
+AttemptsNext (Some operation) old step new = Attempts old operation step new
+AttemptsNext None old step new = (step ≡ Idle) × (new ≡ old)
+
+-- a step makes one operation, or none if it answers Idle; Failed is a fault, and a fault may have read back as done
 pub record CountsAs (step : Step) (operations operations_after faults faults_after : ℕ) : Type 0 where
   pub one : step ≢ Idle → operations_after ≡ (operations + 1) % 2 ^ 64
   pub none : step ≡ Idle → operations_after ≡ operations
   pub fault : step ≡ Failed → faults_after ≡ (faults + 1) % 2 ^ 64
-  pub no_fault : step ≢ Failed → faults_after ≡ faults
-
--- how the erase of a turn's target ends
-pub record ErasesOrFails (old : List ℕ) (before : LogValue) (next : Task) (step : Step) (new : List ℕ) (after : LogValue) : Type 0 where
-  pub whole : IsImage new
-  pub answer : (step ≡ Moved) ⊎ (step ≡ Failed)
-  pub erased : step ≡ Moved → Erases old (target_page old) new
-  pub next_is : step ≡ Moved → after ≡ record before { task = next }
-  pub describes : step ≡ Failed → Describes new after
-  pub rests : step ≡ Failed → after.task ≡ Rest
+  pub no_fault : step ≡ Idle → faults_after ≡ faults
+  pub read_back : step ≢ Failed → (faults_after ≡ faults) ⊎ (faults_after ≡ (faults + 1) % 2 ^ 64)

@@ -3,10 +3,7 @@ use Rattle.records.specs.declared.Slot.{Slot}
 use Rattle.records.specs.declared.Slot.TheVariants.{Free, Good, Spoiled}
 use Rattle.records.specs.Slots.{slot_of}
 use Rattle.flash_model.specs.Image.{slot_at, page_count}
-use Rattle.page_turnover.specs.declared.log.Target.{Target}
-use Rattle.page_turnover.specs.declared.log.Target.TheVariants.{Unread, Holds}
-use Rattle.page_turnover.specs.declared.log.Task.{Task}
-use Rattle.page_turnover.specs.declared.log.Task.TheVariants.{Rest, Append, Wait, Copy, Seal}
+use Rattle.page_turnover.specs.Value.{Target, Unread, Holds, Task, Rest, Append, Wait, Copy, Seal}
 use Rattle.page_turnover.specs.Active.{active}
 use Rattle.page_turnover.specs.Words.{words_up_to, FreeFrom, HasRoom}
 use Rattle.page_turnover.specs.Usable.{IsUsable}

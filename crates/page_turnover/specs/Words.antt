@@ -3,7 +3,7 @@ use Rattle.records.specs.declared.Slot.{Slot}
 use Rattle.records.specs.declared.Slot.TheVariants.{Free, Good, Spoiled}
 use Rattle.records.specs.Slots.{slot_of}
 use Rattle.flash_model.specs.Image.{slot_at}
-use Rattle.page_turnover.specs.Active.{active}
+use Rattle.page_turnover.specs.Active.{active, format}
 
 -- the word of a slot that is Good
 abbrev pub word_of : Slot → List ℕ
@@ -52,9 +52,10 @@ pub record IsActiveTail (image : List ℕ) (tail : ℕ) : Type 0 where
   pub is_active : active image ≡ Some (page, seq)
   pub is_tail : IsTail image page tail
 
--- there is an active page, and its last slot is Free
+-- there is an active page of format 2, and its last slot is Free
 pub record HasRoom (image : List ℕ) : Type 0 where
   pub page : ℕ
   pub seq : ℕ
   pub is_active : active image ≡ Some (page, seq)
+  pub current : format image ≡ Some 2
   pub free : slot_of (slot_at image page 511) ≡ Free

@@ -1,32 +1,48 @@
 //! The header of a page.
 
 ghost use Rattle.std.specs.Prelude.{◌≡◌, ◌<◌, ◌^◌};
-ghost use Rattle.page_turnover.specs.Header.{header_of, header_word};
+ghost use Rattle.page_turnover.specs.Header.{header_of, header_word, format_of};
 
 use records::Slot;
 
-/// The header word of sequence number 0.
+/// The header word of sequence number 0 in format 1, and what a format more adds to it.
 const FIRST_HEADER: u32 = 1 << 28;
+
+/// The format of the headers that are written.
+pub const FORMAT: u8 = 2;
 
 /// The greatest sequence number, of 28 bits.
 pub const LAST_SEQ: u32 = (1 << 28) - 1;
 
-/// The sequence number that a slot has as a header, if it is one.
+/// The sequence number that a slot has as a header of either format, if it is one.
 #[tactic(auto, unfolding(crate::specs::Header::header_of))]
 pub fn header_seq(slot: Slot) -> Option<u32>
     ensures { result ≡ header_of slot }
 {
     match slot {
-        Slot::Good(word) if word / FIRST_HEADER == 1 => Some(word % FIRST_HEADER),
+        Slot::Good(word) if word / FIRST_HEADER == 1 || word / FIRST_HEADER == 2 => {
+            Some(word % FIRST_HEADER)
+        }
         Slot::Good(_) | Slot::Free | Slot::Spoiled => None,
     }
 }
 
-/// The header word of a sequence number.
+/// The format that a slot has as a header: 1 or 2 where it is one.
+#[tactic(auto, unfolding(crate::specs::Header::format_of))]
+pub fn header_format(slot: Slot) -> u8
+    ensures { result ≡ format_of slot }
+{
+    match slot {
+        Slot::Good(word) => (word / FIRST_HEADER) as u8,
+        Slot::Free | Slot::Spoiled => 0,
+    }
+}
+
+/// The header word of a sequence number, of format 2.
 #[tactic(auto, unfolding(crate::specs::Header::header_word))]
 pub fn header(seq: u32) -> u32
     requires { seq < 2 ^ 28 }
-    ensures { result ≡ header_word seq }
+    ensures { result ≡ header_word 2 seq }
 {
-    FIRST_HEADER + seq
+    2 * FIRST_HEADER + seq
 }

@@ -1,8 +1,8 @@
 //! Images of any bytes: what a log reads of them, compared with a plain second reading.
 
+use crate::test_flash::{good, halves, program};
 use crate::{Log, Unsound};
 use flash_model::{NorFlash, SimFlash};
-use records::encode;
 use std::process::Abort;
 use std::test::Fail;
 
@@ -19,16 +19,16 @@ fn random_bytes(random: u32) -> [u8; 8] {
     [a, b, c, d, e, f, g, h]
 }
 
-/// The bytes of a slot 0: any bytes, any word, Free, or a header. Of the sequence numbers 0 to 3 and
-/// the greatest one, several pages have the same.
+/// The bytes of a slot 0: any bytes, any word, Free, or a header of format 1 or 2, or of another
+/// one. Of the sequence numbers 0 to 3 and the greatest one, several pages have the same.
 fn random_header(random: u32) -> [u8; 8] {
     let [_, _, seq, kind] = random.to_le_bytes();
     match kind % 8 {
         0 => random_bytes(random),
-        1 => encode(next(random)),
+        1 => good(next(random)),
         2 | 3 => [0xff; 8],
-        4 => encode(0x1fff_ffff),
-        _ => encode(0x1000_0000 + seq as u32 % 4),
+        4 => good(0x1fff_ffff + seq as u32 % 2 * 0x1000_0000),
+        _ => good(0x1000_0000 + seq as u32 / 4 % 3 * 0x1000_0000 + seq as u32 % 4),
     }
 }
 
@@ -37,7 +37,7 @@ fn random_record(random: u32) -> [u8; 8] {
     let [_, _, _, kind] = random.to_le_bytes();
     match kind % 4 {
         0 => random_bytes(random),
-        1 => encode(next(random)),
+        1 => good(next(random)),
         _ => [0xff; 8],
     }
 }
@@ -55,23 +55,11 @@ fn fill(flash: &mut SimFlash, seed: u32) {
             } else {
                 random_record(random)
             };
-            if page < flash.pages() && slot < end {
-                let _done = flash.program_slot(page, slot, bytes);
+            if slot < end {
+                program(flash, page, slot, bytes);
             }
         }
     }
-}
-
-/// The first four bytes of a slot and the last four, zeros where there is none.
-fn halves(flash: &SimFlash, page: usize, slot: usize) -> (u32, u32) {
-    if page >= flash.pages() || slot >= 512 {
-        return (0, 0);
-    }
-    let [a, b, c, d, e, f, g, h] = flash.read_slot(page, slot);
-    (
-        u32::from_le_bytes([a, b, c, d]),
-        u32::from_le_bytes([e, f, g, h]),
-    )
 }
 
 /// The word of a slot, if it stands before its complement.
@@ -95,7 +83,7 @@ fn active_page(flash: &SimFlash) -> Option<(usize, u32)> {
                 Some((_, greatest)) => seq < greatest,
                 None => false,
             };
-            if word >> 28 == 1 && !less {
+            if (word >> 28 == 1 || word >> 28 == 2) && !less {
                 best = Some((page, seq));
             }
         }
@@ -126,8 +114,10 @@ fn expect_plain(rt: &impl Abort, flash: &SimFlash, seed: u32) {
     assert_eq!(rt; log.usable(), usable, "seed {seed}");
     let mut words = log.words(flash);
     let mut tail = None;
+    let mut format = None;
     if let Some((page, _)) = active {
         tail = Some(1);
+        format = good_word(flash, page, 0).map(|word| (word >> 28) as u8);
         for slot in 1..512 {
             if halves(flash, page, slot) != (u32::MAX, u32::MAX) {
                 tail = Some(slot + 1);
@@ -139,8 +129,9 @@ fn expect_plain(rt: &impl Abort, flash: &SimFlash, seed: u32) {
     }
     assert_eq!(rt; words.next(), None, "seed {seed}");
     assert_eq!(rt; log.tail(), tail, "seed {seed}");
+    assert_eq!(rt; log.format(), format, "seed {seed}");
     let room = match tail {
-        Some(tail) => tail <= 511,
+        Some(tail) => tail <= 511 && format == Some(2),
         None => false,
     };
     assert_eq!(rt; log.room(), room, "seed {seed}");
@@ -166,9 +157,7 @@ fn images_of_random_bytes_alone_have_no_log(rt: HostRuntime) -> Result<(), Fail>
         for page in 0..flash.pages() {
             for slot in 0..512 {
                 random = next(random);
-                if page < flash.pages() && slot < 512 {
-                    let _done = flash.program_slot(page, slot, random_bytes(random));
-                }
+                program(&mut flash, page, slot, random_bytes(random));
             }
         }
         expect_plain(&rt, &flash, random);

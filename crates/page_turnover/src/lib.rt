@@ -1,18 +1,31 @@
 //! A log of words over the pages of a NOR flash.
 //!
-//! A page is a log page where its slot 0 is a header: a Good slot whose word holds a sequence number
-//! of 28 bits. The page with the greatest number is the active one, and the Good words of its slots
-//! 1 to 511 are the words of the log.
+//! A page is a log page where its slot 0 is a header: a Good slot whose word holds a format, 1 or 2,
+//! and a sequence number of 28 bits. The page with the greatest number is the active one, and the
+//! Good words of its slots 1 to 511 are the words of the log. Pages of format 1 are only read; what
+//! is written is of format 2.
+//!
+//! A log makes one flash operation a step. After a fault it reads back what it wrote: an operation
+//! that reads as intended is done, and any other leaves the words as they were. The same holds of an
+//! operation that is cut short by the power (`laws::an_operation_leaves`).
 #![tactic(auto)]
 
+mod block;
 mod header;
 #[cfg(test)]
 mod image_tests;
 pub mod laws;
 mod log;
+mod operation;
 mod reading;
 #[cfg(test)]
+mod step_tests;
+#[cfg(test)]
+mod test_flash;
+#[cfg(test)]
 mod tests;
+#[cfg(test)]
+mod torn_tests;
 mod words;
 
 pub use log::{Log, Step, TurnRefusal, Unsound};

@@ -1,19 +1,20 @@
 //! A log over the pages of a flash.
 
-ghost use Rattle.std.specs.Prelude.{◌≡◌, ◌↔◌, ℕ, List, Option, Some, None, IsTrue, MatchResult, MatchOption, IsOk, false};
-ghost use Rattle.page_turnover.specs.Active.{active};
+ghost use Rattle.std.specs.Prelude.{◌≡◌, ◌≤◌, ◌↔◌, ℕ, List, Option, Some, None, IsTrue, MatchResult, MatchOption, IsOk, false};
+ghost use Rattle.page_turnover.specs.Active.{active, format};
 ghost use Rattle.page_turnover.specs.Words.{words, HasRoom, IsActiveTail};
 ghost use Rattle.page_turnover.specs.Usable.{IsUsable, IsFirstUnsound};
-ghost use Rattle.page_turnover.specs.declared.log.Task.{Task};
+ghost use Rattle.page_turnover.specs.Value.{Rest};
+ghost use Rattle.page_turnover.specs.Log.{IsHeld};
 
-#[cfg(test)]
-mod step_tests;
 mod stepping;
 mod turning;
 
+use crate::header::{FORMAT, header_format};
 use crate::reading::{read_headers, tail};
 use crate::words::Words;
-use flash_model::NorFlash;
+use flash_model::{NorFlash, PAGE_SLOTS};
+use records::classify;
 use std::marker::Model;
 pub use stepping::Step;
 pub use turning::TurnRefusal;
@@ -21,6 +22,7 @@ pub use turning::TurnRefusal;
 /// The lowest page whose slot 0 is not sound.
 #[derive(Clone, Copy, Debug, PartialEq, Eq)]
 pub struct Unsound {
+    /// Its number, from 0 on.
     pub page: usize,
 }
 
@@ -29,6 +31,8 @@ pub struct Unsound {
 pub struct ActivePage {
     pub page: usize,
     pub seq: u32,
+    /// 1 or 2.
+    pub format: u8,
     /// One more than its greatest slot that is not Free.
     pub tail: usize,
 }
@@ -58,6 +62,16 @@ pub enum Task {
 }
 
 /// A log of words over the pages of a flash.
+///
+/// A word is appended by `begin_append` and a `step`, where there is `room`. Where there is none, a
+/// turn makes it: `begin_turn`, then for each word that is to stay `offer_copy`, and at the end
+/// `seal`, with steps after each of them until the log `wants` the next or, after the seal, is no
+/// longer `busy`. A blank flash has no room either: it needs a turn and its seal first, without a
+/// copy. A log that is `busy` while `step` answers `Idle` waits for a copy or its seal.
+///
+/// Of a flash with one unsound slot 0 (`usable`) the words are read, but nothing is ever written, so
+/// no header is lost that a damaged page may have had. No cut and no fault of an operation of a log
+/// makes a slot 0 unsound; whoever makes the device has to erase such a page by other means.
 #[derive(Drop)]
 pub struct Log {
     active: Option<ActivePage>,
@@ -66,11 +80,11 @@ pub struct Log {
 }
 
 impl Model for Log {
-    ghost use Rattle.page_turnover.specs.Value.{LogValue};
+    ghost use Rattle.page_turnover.specs.Value.{LogValue, task_value};
 
     ghost Value = { LogValue };
 
-    ghost view = { λ s. record { active = s.active; unsound = s.unsound; task = s.task } };
+    ghost view = { λ s. record { active = s.active; unsound = s.unsound; task = task_value s.task } };
 }
 
 impl Log {
@@ -79,16 +93,12 @@ impl Log {
     /// Reads the log of a flash, and changes nothing.
     pub fn mount<F: NorFlash>(flash: &F) -> Log
         ensures describes { Describes (F.image flash.now) result }
-        ensures rests { result.task ≡ Task.Rest }
+        ensures rests { result.task ≡ Rest }
     {
         let _pages = flash.pages();
         let headers = read_headers(flash);
         let active = match headers.active {
-            Some((page, seq)) => Some(ActivePage {
-                page,
-                seq,
-                tail: tail(flash, page),
-            }),
+            Some((page, seq)) => Some(active_page(flash, page, seq)),
             None => None,
         };
         Log {
@@ -108,6 +118,17 @@ impl Log {
         }
     }
 
+    /// The format of the active page, 1 or 2, if a page has a header. Only pages of format 2 are
+    /// written; the words of one of format 1 are read, and the next turn copies them into format 2.
+    pub fn format(&self) -> Option<u8>
+        ensures { (image : List ℕ) → Describes image self.now → result ≡ format image }
+    {
+        match self.active {
+            Some(active) => Some(active.format),
+            None => None,
+        }
+    }
+
     /// Whether slot 0 of each page is sound. If not, `Unsound` has the lowest page where it is not.
     pub fn usable(&self) -> Result<(), Unsound>
         ensures sound { (image : List ℕ) → Describes image self.now → MatchResult result (λ _. IsUsable image) (λ e. IsFirstUnsound image e.page) }
@@ -119,14 +140,14 @@ impl Log {
         }
     }
 
-    /// Whether there is an active page whose tail, one more than its greatest slot that is not Free,
-    /// is at most 511.
+    /// Whether there is an active page of format 2 whose tail, one more than its greatest slot that is
+    /// not Free, is at most 511.
     pub fn room(&self) -> bool
         ensures room { (image : List ℕ) → Describes image self.now → (IsTrue result ↔ HasRoom image) }
         ensures held { IsTrue result ↔ HasTailRoom self.now }
     {
         match self.active {
-            Some(active) => active.tail <= 511,
+            Some(active) => has_room(active),
             None => false,
         }
     }
@@ -143,7 +164,7 @@ impl Log {
 
     /// Whether an append or a turn is under way.
     pub fn busy(&self) -> bool
-        ensures { (result ≡ false) ↔ (self.now.task ≡ Task.Rest) }
+        ensures { (result ≡ false) ↔ (self.now.task ≡ Rest) }
     {
         match self.task {
             Task::Rest => false,
@@ -158,8 +179,28 @@ impl Log {
         ensures { result ≡ words (F.image flash.now) }
     {
         match self.active {
-            Some(active) => Words::from_slot(flash, active.page, 1),
-            None => Words::from_slot(flash, 0, 512),
+            Some(active) => Words::of_page(flash, active.page),
+            None => Words::none(flash),
         }
+    }
+}
+
+/// Whether a record can be appended to this page.
+fn has_room(active: ActivePage) -> bool
+    ensures { IsTrue result ↔ ((active.format ≡ 2) × (active.tail ≤ 511)) }
+{
+    active.format == FORMAT && active.tail < PAGE_SLOTS
+}
+
+/// What a log holds of the active page.
+fn active_page<F: NorFlash>(flash: &F, page: usize, seq: u32) -> ActivePage
+    requires { active (F.image flash.now) ≡ Some (page, seq) }
+    ensures { IsHeld (F.image flash.now) result }
+{
+    ActivePage {
+        page,
+        seq,
+        format: header_format(classify(flash.read_slot(page, 0))),
+        tail: tail(flash, page),
     }
 }

@@ -7,6 +7,7 @@ ghost use Rattle.page_turnover.specs.Active.{active, newer};
 ghost use Rattle.page_turnover.specs.Words.{IsTail, IsBlank};
 ghost use Rattle.page_turnover.specs.Usable.{IsUsable, IsFirstUnsound};
 
+use crate::block::{BLOCK_SLOTS, PAGE_BLOCKS, is_free_block};
 use crate::header::header_seq;
 use flash_model::NorFlash;
 use records::{Slot, classify, is_sound};
@@ -60,7 +61,11 @@ pub fn tail<F: NorFlash>(flash: &F, page: usize) -> usize
     requires { page < page_count (F.image flash.now) }
     ensures { IsTail (F.image flash.now) page result }
 {
-    let mut tail = 512;
+    let mut block = PAGE_BLOCKS;
+    while block > 1 && is_free_block(flash, page, block - 1) {
+        block -= 1;
+    }
+    let mut tail = BLOCK_SLOTS * block;
     while tail > 1 && is_free(flash, page, tail - 1) {
         tail -= 1;
     }
@@ -84,8 +89,8 @@ pub fn is_blank<F: NorFlash>(flash: &F, page: usize) -> bool
     requires { page < page_count (F.image flash.now) }
     ensures { IsTrue result ↔ IsBlank (F.image flash.now) page }
 {
-    for slot in 0..512 {
-        if !is_free(flash, page, slot) {
+    for block in 0..PAGE_BLOCKS {
+        if !is_free_block(flash, page, block) {
             return false;
         }
     }

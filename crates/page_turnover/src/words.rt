@@ -1,12 +1,16 @@
 //! An iterator over the words of a page.
 
-ghost use Rattle.std.specs.Prelude.{◌≡◌, ◌-◌, ◌<◌, ◌≤◌};
+ghost use Rattle.std.specs.Prelude.{◌≡◌, ◌-◌, ◌<◌, ◌≤◌, []};
 ghost use Rattle.std.specs.Iterator.{YieldsFirst, at_most, item_count};
-ghost use Rattle.flash_model.specs.Image.{page_count};
+ghost use Rattle.flash_model.specs.Image.{page_count, slot_at};
+ghost use Rattle.records.specs.Slots.{slot_of};
 ghost use Rattle.page_turnover.specs.Words.{words_after};
+ghost use Rattle.page_turnover.specs.Blocks.{AreGoodFrom, AreGoodWithin};
+ghost use Rattle.page_turnover.specs.Turn.{IsGood};
 
-use flash_model::NorFlash;
-use records::{Slot, classify};
+use crate::block::{BLOCK_SLOTS, good_in_block};
+use flash_model::{NorFlash, PAGE_SLOTS};
+use records::Slot;
 use std::marker::Model;
 
 /// The Good words of a page that are left, in rising order of their slots.
@@ -14,28 +18,52 @@ use std::marker::Model;
 pub struct Words<'a, F: NorFlash> {
     flash: &'a F,
     page: usize,
+    /// The next slot, 512 at the end.
     next: usize,
+    /// Which slots of the next one's block are Good, from it on; at a block's first slot still to be
+    /// read.
+    good: u8,
 }
 
 impl<'a, F: NorFlash> Model for Words<'a, F> {
     ghost use Rattle.std.specs.Prelude.{ℕ, List, ◌-◌, ◌<◌};
     ghost use Rattle.flash_model.specs.Image.{page_count};
     ghost use Rattle.page_turnover.specs.Words.{words_after};
+    ghost use Rattle.page_turnover.specs.Blocks.{AreGoodWithin};
 
     ghost Value = { List ℕ };
 
     ghost view = { λ s. words_after (F.image s.flash.now) s.page s.next (512 - s.next) };
 
-    ghost invariant = { λ s. s.page < page_count (F.image s.flash.now) };
+    ghost invariant = { λ s. (s.page < page_count (F.image s.flash.now)) × AreGoodWithin (F.image s.flash.now) s.page s.next s.good };
 }
 
 impl<'a, F: NorFlash> Words<'a, F> {
-    /// The words from a slot on: none from 512 on.
-    pub(crate) fn from_slot(flash: &'a F, page: usize, next: usize) -> Words<'a, F>
+    /// The words of slots 1 to 511 of a page.
+    pub(crate) fn of_page(flash: &'a F, page: usize) -> Words<'a, F>
         requires { page < page_count (F.image flash.now) }
-        ensures { result ≡ words_after (F.image flash.now) page next (512 - next) }
+        ensures { result ≡ words_after (F.image flash.now) page 1 511 }
     {
-        Words { flash, page, next }
+        let good = good_in_block(flash, page, 0) / 2;
+        Words {
+            flash,
+            page,
+            next: 1,
+            good,
+        }
+    }
+
+    /// No words.
+    pub(crate) fn none(flash: &'a F) -> Words<'a, F>
+        ensures { result ≡ [] }
+    {
+        let _pages = flash.pages();
+        Words {
+            flash,
+            page: 0,
+            next: PAGE_SLOTS,
+            good: 0,
+        }
     }
 }
 
@@ -46,14 +74,50 @@ impl<'a, F: NorFlash> Iterator for Words<'a, F> {
 
     ghost remaining = { item_count (λ s. s) };
 
+    #[inline(always)]
     #[tactic(auto, using(crate::proofs::WordLists::words_after_less, crate::proofs::WordLists::words_after_end, crate::proofs::WordLists::word_of_none))]
     fn next(&mut self) -> Option<u32> {
-        for slot in self.next..512 {
+        for slot in self.next..PAGE_SLOTS {
+            let good = good_from(self.flash, self.page, slot, self.good);
             self.next = slot + 1;
-            if let Slot::Good(word) = classify(self.flash.read_slot(self.page, slot)) {
-                return Some(word);
+            self.good = good / 2;
+            if good % 2 == 1 {
+                return Some(word_at(self.flash, self.page, slot));
             }
         }
         None
     }
+}
+
+/// Which slots are Good from this one to the end of its block, which is read at its first slot.
+fn good_from<F: NorFlash>(flash: &F, page: usize, slot: usize, good: u8) -> u8
+    requires in_pages { page < page_count (F.image flash.now) }
+    requires in_page { slot < 512 }
+    requires within { AreGoodWithin (F.image flash.now) page slot good }
+    ensures { AreGoodFrom (F.image flash.now) page slot result }
+{
+    if slot % BLOCK_SLOTS == 0 {
+        good_in_block(flash, page, slot / BLOCK_SLOTS)
+    } else {
+        good
+    }
+}
+
+/// The word of a Good slot.
+fn word_at<F: NorFlash>(flash: &F, page: usize, slot: usize) -> u32
+    requires in_pages { page < page_count (F.image flash.now) }
+    requires in_page { slot < 512 }
+    requires good { IsGood (slot_of (slot_at (F.image flash.now) page slot)) }
+    ensures { slot_of (slot_at (F.image flash.now) page slot) ≡ Slot.Good result }
+{
+    first_half(flash.read_slot(page, slot))
+}
+
+/// The number in the first four bytes of a slot: its word where it is Good.
+fn first_half(bytes: [u8; 8]) -> u32
+    requires { IsGood (slot_of bytes) }
+    ensures { slot_of bytes ≡ Slot.Good result }
+{
+    let [a, b, c, d, _, _, _, _] = bytes;
+    u32::from_le_bytes([a, b, c, d])
 }

@@ -9,7 +9,7 @@ use Rattle.std.specs.Int.{bit_at}
 use Rattle.records.specs.declared.Slot.{Slot}
 use Rattle.records.specs.declared.Slot.TheVariants.{Free, Good, Spoiled}
 use Rattle.records.specs.Slots.{IsSlot, IsSound, slot_of, encoded, first_half, second_half}
-use Rattle.records.specs.Torn.{Within, ProgramMayLeave}
+use Rattle.flash_model.specs.Torn.{Within, ProgramMayLeave}
 use Rattle.records.proofs.BitsOf.{pinned, below_four, complement_bits}
 
 -- the tests behind an answer

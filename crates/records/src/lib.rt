@@ -8,7 +8,12 @@
 ghost use Rattle.std.specs.Prelude.{◌≡◌, ◌↔◌, IsTrue};
 ghost use Rattle.records.specs.Slots.{encoded, slot_of, Covers, IsSound};
 
+#[cfg(test)]
+mod kernel_tests;
+pub mod kernels;
 pub mod laws;
+
+pub use kernels::{Kinds, all_ones, kinds8};
 
 /// What a slot of eight bytes holds.
 #[derive(Clone, Copy, Debug, PartialEq, Eq)]

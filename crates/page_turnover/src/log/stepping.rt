@@ -1,22 +1,22 @@
 //! The steps of a log: one flash operation each.
 
-ghost use Rattle.std.specs.Prelude.{◌≡◌, ◌≢◌, ◌↔◌, ◌+◌, ◌<◌, ◌^◌, ◌%◌, ℕ, List, None, Some, Option, IsTrue, MatchResult, MatchOption, ⊤};
-ghost use Rattle.flash_model.specs.Image.{page_count, IsImage};
-ghost use Rattle.flash_model.specs.Operations.{Erases};
-ghost use Rattle.page_turnover.specs.declared.log.Task.{Task};
-ghost use Rattle.page_turnover.specs.declared.log.Target.{Target};
+ghost use Rattle.std.specs.Prelude.{◌≡◌, ◌≢◌, ◌↔◌, ◌+◌, ◌<◌, ◌^◌, ℕ, List, None, Some, Option, MatchOption, IsSomeAnd, ⊤};
+ghost use Rattle.flash_model.specs.Image.{page_count};
 ghost use Rattle.page_turnover.specs.Words.{IsBlank};
 ghost use Rattle.page_turnover.specs.Usable.{IsUsable};
+ghost use Rattle.page_turnover.specs.Value.{Rest, Append, Copy, Seal, Unread, target_value};
 ghost use Rattle.page_turnover.specs.Turn.{target_page, copied};
+ghost use Rattle.page_turnover.specs.Made.{IsPassedOver};
 
 use super::{ActivePage, Log, Target, Task};
-use crate::header::header;
-use crate::reading::is_blank;
-use flash_model::NorFlash;
-use records::encode;
+use crate::header::{FORMAT, header};
+use crate::operation::{Operation, make};
+use crate::reading::{is_blank, is_free};
+use flash_model::{NorFlash, PAGE_SLOTS};
 
 /// What a step did.
 #[derive(Clone, Copy, Debug, PartialEq, Eq)]
+#[must_use]
 pub enum Step {
     /// Nothing is pending, and no operation was made.
     Idle,
@@ -24,138 +24,173 @@ pub enum Step {
     Moved,
     /// The record or the header is Good.
     Committed,
-    /// The flash answered a fault. Nothing is under way any more.
+    /// The flash answered a fault, and the slot or page does not read as intended. Nothing is under
+    /// way any more, and the words are as before.
     Failed,
 }
 
+/// What the next step does: its operation, and what then is new of the log.
+#[derive(Clone, Copy)]
+pub struct Plan {
+    pub operation: Operation,
+    pub active: Option<ActivePage>,
+    pub task: Task,
+    pub step: Step,
+}
+
 impl Log {
-    ghost use Rattle.page_turnover.specs.Log.{Describes};
-    ghost use Rattle.page_turnover.specs.Operates.{Operates};
-    ghost use Rattle.page_turnover.specs.Steps.{EndsAs, CountsAs, ErasesOrFails, Moves, Commits};
+    ghost use Rattle.page_turnover.specs.Log.{Describes, HasTailRoom};
+    ghost use Rattle.page_turnover.specs.Next.{next_operation};
+    ghost use Rattle.page_turnover.specs.Operates.{Operates, MayOperate, FillsAtMostOne};
+    ghost use Rattle.page_turnover.specs.Made.{Plans};
+    ghost use Rattle.page_turnover.specs.Steps.{EndsAs, AttemptsNext, CountsAs, Moves, Commits};
 
     /// Makes the one operation that is pending, or none where nothing is.
     ///
     /// The flash has to be the one that the log describes. A turn first erases its target if that is
     /// not blank, and what is pending stays so. A copy goes to the slot after those made before it,
     /// from slot 1 on. The seal programs slot 0 with the header of the next sequence number, 1 without
-    /// an active page, which commits the turn: the copies are then the words. `Failed` is answered
-    /// where the flash answers a fault; the log then describes what the flash holds.
+    /// an active page, in format 2, which commits the turn: the copies are then the words.
+    ///
+    /// After a fault the slot or the page is read back. Where it reads as intended the operation
+    /// counts as done; where it does not, and only there, the answer is `Failed`. The words are then
+    /// as before; an append or a turn has to be begun anew, and a turn then erases what it wrote.
     pub fn step<F: NorFlash>(&mut self, flash: &mut F) -> Step
         requires { Describes (F.image flash.old) self.old }
+        // the log describes the flash again, and has done what was pending, or nothing of it
         ensures ends { EndsAs (F.image flash.old) self.old result (F.image flash.new) self.new }
+        // the operation that was next is made; Failed exactly where it does not read as intended
+        ensures attempts { AttemptsNext (next_operation (F.image flash.old) self.old) (F.image flash.old) result (F.image flash.new) }
+        ensures untouched { result ≡ Step.Idle → flash.new ≡ flash.old }
+        // what the answers mean for the words
         ensures moved { result ≡ Step.Moved → Moves (F.image flash.old) self.old.task (F.image flash.new) self.new.task }
         ensures committed { result ≡ Step.Committed → Commits (F.image flash.old) self.old.task (F.image flash.new) }
-        ensures usable { result ≢ Step.Failed → IsUsable (F.image flash.old) → IsUsable (F.image flash.new) }
+        // a flash with an unsound slot 0 is never written, and no other gets one
+        ensures usable { IsUsable (F.image flash.old) → IsUsable (F.image flash.new) }
         ensures unusable { (IsUsable (F.image flash.old) → ⊥) → result ≡ Step.Idle }
+        // what the operation is, whole and torn
         ensures operates { result ≢ Step.Idle → result ≢ Step.Failed → Operates (F.image flash.old) (F.image flash.new) }
+        ensures torn { result ≡ Step.Failed → MayOperate (F.image flash.old) (F.image flash.new) }
+        ensures fills { FillsAtMostOne (F.image flash.old) (F.image flash.new) }
         ensures counts { CountsAs result (F.operations flash.old) (F.operations flash.new) (F.faults flash.old) (F.faults flash.new) }
         ensures faultless { F.is_faultless flash.old → F.is_faultless flash.new × (result ≢ Step.Failed) }
+        // what this flash says of an operation beside that
+        ensures operated { result ≢ Step.Idle → F.operates flash.old flash.new }
     {
-        match self.task {
-            Task::Rest | Task::Wait(_) => Step::Idle,
-            Task::Append(word) => self.append(flash, word),
-            Task::Copy(target, word) => self.copy(flash, target, word),
-            Task::Seal(target) => self.commit(flash, target),
+        let Some(plan) = self.plan(flash) else {
+            return Step::Idle;
+        };
+        if make(flash, plan.operation) {
+            self.active = plan.active;
+            self.task = plan.task;
+            plan.step
+        } else {
+            self.fail(flash)
         }
     }
 
-    /// Programs a word into the tail slot.
-    fn append<F: NorFlash>(&mut self, flash: &mut F, word: u32) -> Step
-        requires describes { Describes (F.image flash.old) self.old }
-        requires pending { self.old.task ≡ Task.Append word }
-        ensures ends { EndsAs (F.image flash.old) self.old result (F.image flash.new) self.new }
-        ensures counts { CountsAs result (F.operations flash.old) (F.operations flash.new) (F.faults flash.old) (F.faults flash.new) }
-        ensures faultless { F.is_faultless flash.old → F.is_faultless flash.new × (result ≢ Step.Failed) }
+    /// What the next step does, if anything is pending.
+    fn plan<F: NorFlash>(&self, flash: &F) -> Option<Plan>
+        requires { Describes (F.image flash.now) self.now }
+        ensures { MatchOption result (next_operation (F.image flash.now) self.now ≡ None) (λ plan. Plans (F.image flash.now) self.now plan) }
+    {
+        match self.task {
+            Task::Rest | Task::Wait(_) => None,
+            Task::Append(word) => Some(self.plan_append(word)),
+            Task::Copy(target, word) => Some(self.plan_copy(flash, target, word)),
+            Task::Seal(target) => Some(self.plan_seal(flash, target)),
+        }
+    }
+
+    /// A word goes to the tail slot.
+    fn plan_append(&self, word: u32) -> Plan
+        requires pending { self.now.task ≡ Append word }
+        requires room { HasTailRoom self.now }
+        ensures { (image : List ℕ) → Describes image self.now → Plans image self.now result }
     {
         let Some(active) = self.active else {
             unreachable!()
         };
-        match flash.program_slot(active.page, active.tail, encode(word)) {
-            Ok(()) => {
-                self.active = Some(ActivePage {
-                    page: active.page,
-                    seq: active.seq,
-                    tail: active.tail + 1,
-                });
-                self.task = Task::Rest;
-                Step::Committed
-            }
-            Err(_) => self.fail(flash),
+        Plan {
+            operation: Operation::Program(active.page, active.tail, word),
+            active: Some(ActivePage {
+                page: active.page,
+                seq: active.seq,
+                format: active.format,
+                tail: active.tail + 1,
+            }),
+            task: Task::Rest,
+            step: Step::Committed,
         }
     }
 
-    /// Programs a word into the slot after the copies of a turn, or erases its target.
-    fn copy<F: NorFlash>(&mut self, flash: &mut F, target: Target, word: u32) -> Step
-        requires describes { Describes (F.image flash.old) self.old }
-        requires pending { self.old.task ≡ Task.Copy target word }
-        ensures ends { EndsAs (F.image flash.old) self.old result (F.image flash.new) self.new }
-        ensures counts { CountsAs result (F.operations flash.old) (F.operations flash.new) (F.faults flash.old) (F.faults flash.new) }
-        ensures faultless { F.is_faultless flash.old → F.is_faultless flash.new × (result ≢ Step.Failed) }
+    /// A word goes to the slot after the copies of a turn, or its target is erased first.
+    fn plan_copy<F: NorFlash>(&self, flash: &F, target: Target, word: u32) -> Plan
+        requires describes { Describes (F.image flash.now) self.now }
+        requires pending { self.now.task ≡ Copy (target_value target) word }
+        ensures { Plans (F.image flash.now) self.now result }
     {
         let page = self.target(flash);
-        let Some(copied) = copies_in(flash, page, target) else {
-            return self.erase(flash, Task::Copy(Target::Holds(0), word));
-        };
-        match flash.program_slot(page, copied + 1, encode(word)) {
-            Ok(()) => {
-                self.task = Task::Wait(Target::Holds(copied + 1));
-                Step::Moved
-            }
-            Err(_) => self.fail(flash),
+        match copies_in(flash, page, target) {
+            Some(copied) => Plan {
+                operation: Operation::Program(page, copied + 1, word),
+                active: self.active,
+                task: Task::Wait(Target::Holds(copied + 1)),
+                step: Step::Moved,
+            },
+            None => self.plan_erase(page, Task::Copy(Target::Holds(0), word)),
         }
     }
 
-    /// Programs the header of a turn's target, or erases the target.
-    fn commit<F: NorFlash>(&mut self, flash: &mut F, target: Target) -> Step
-        requires describes { Describes (F.image flash.old) self.old }
-        requires pending { self.old.task ≡ Task.Seal target }
-        ensures ends { EndsAs (F.image flash.old) self.old result (F.image flash.new) self.new }
-        ensures counts { CountsAs result (F.operations flash.old) (F.operations flash.new) (F.faults flash.old) (F.faults flash.new) }
-        ensures faultless { F.is_faultless flash.old → F.is_faultless flash.new × (result ≢ Step.Failed) }
+    /// The header goes to slot 0 of a turn's target, or the target is erased first.
+    fn plan_seal<F: NorFlash>(&self, flash: &F, target: Target) -> Plan
+        requires describes { Describes (F.image flash.now) self.now }
+        requires pending { self.now.task ≡ Seal (target_value target) }
+        ensures { Plans (F.image flash.now) self.now result }
     {
         let page = self.target(flash);
-        let Some(copied) = copies_in(flash, page, target) else {
-            return self.erase(flash, Task::Seal(Target::Holds(0)));
-        };
         let seq = self.next_seq();
-        match flash.program_slot(page, 0, encode(header(seq))) {
-            Ok(()) => {
-                self.active = Some(ActivePage {
+        match copies_in(flash, page, target) {
+            Some(copied) => Plan {
+                operation: Operation::Program(page, 0, header(seq)),
+                active: Some(ActivePage {
                     page,
                     seq,
+                    format: FORMAT,
                     tail: copied + 1,
-                });
-                self.task = Task::Rest;
-                Step::Committed
-            }
-            Err(_) => self.fail(flash),
+                }),
+                task: Task::Rest,
+                step: Step::Committed,
+            },
+            None => self.plan_erase(page, Task::Seal(Target::Holds(0))),
         }
     }
 
-    /// Erases the target of a turn, which then has this under way.
-    fn erase<F: NorFlash>(&mut self, flash: &mut F, next: Task) -> Step
-        requires { Describes (F.image flash.old) self.old }
-        ensures ends { ErasesOrFails (F.image flash.old) self.old next result (F.image flash.new) self.new }
-        ensures counts { CountsAs result (F.operations flash.old) (F.operations flash.new) (F.faults flash.old) (F.faults flash.new) }
-        ensures faultless { F.is_faultless flash.old → F.is_faultless flash.new × (result ≢ Step.Failed) }
+    /// The target of a turn is erased, which then has this under way.
+    fn plan_erase(&self, page: usize, next: Task) -> Plan
+        ensures { result ≡ record { operation = Operation.Erase page; active = self.now.active; task = next; step = Step.Moved } }
     {
-        let page = self.target(flash);
-        match flash.erase_page(page) {
-            Ok(()) => {
-                self.task = next;
-                Step::Moved
-            }
-            Err(_) => self.fail(flash),
+        Plan {
+            operation: Operation::Erase(page),
+            active: self.active,
+            task: next,
+            step: Step::Moved,
         }
     }
 
-    /// Reads the log anew after a fault.
+    /// Ends what is under way: its operation does not read as intended.
     fn fail<F: NorFlash>(&mut self, flash: &F) -> Step
-        ensures describes { Describes (F.image flash.now) self.new }
-        ensures rests { self.new.task ≡ Task.Rest }
+        requires { MatchOption self.old.active ⊤ (λ a. a.page < page_count (F.image flash.now)) }
+        ensures active { MatchOption self.old.active (self.new.active ≡ None) (λ a. IsSomeAnd self.new.active (λ b. IsPassedOver (F.image flash.now) a b)) }
+        ensures unsound { self.new.unsound ≡ self.old.unsound }
+        ensures rests { self.new.task ≡ Rest }
         ensures failed { result ≡ Step.Failed }
     {
-        *self = Log::mount(flash);
+        self.active = match self.active {
+            Some(active) => Some(passed_over(flash, active)),
+            None => None,
+        };
+        self.task = Task::Rest;
         Step::Failed
     }
 
@@ -184,10 +219,26 @@ impl Log {
     }
 }
 
+/// The active page after a fault: a tail slot that is no longer Free is used up.
+fn passed_over<F: NorFlash>(flash: &F, active: ActivePage) -> ActivePage
+    requires { active.page < page_count (F.image flash.now) }
+    ensures { IsPassedOver (F.image flash.now) active result }
+{
+    if active.tail >= PAGE_SLOTS || is_free(flash, active.page, active.tail) {
+        return active;
+    }
+    ActivePage {
+        page: active.page,
+        seq: active.seq,
+        format: active.format,
+        tail: active.tail + 1,
+    }
+}
+
 /// How many copies a turn's target holds, if it need not be erased first.
 fn copies_in<F: NorFlash>(flash: &F, page: usize, target: Target) -> Option<usize>
     requires { page < page_count (F.image flash.now) }
-    ensures { MatchOption result ((target ≡ Target.Unread) × (IsBlank (F.image flash.now) page → ⊥)) (λ n. (n ≡ copied target) × (target ≡ Target.Unread → IsBlank (F.image flash.now) page)) }
+    ensures { MatchOption result ((target_value target ≡ Unread) × (IsBlank (F.image flash.now) page → ⊥)) (λ n. (n ≡ copied (target_value target)) × (target_value target ≡ Unread → IsBlank (F.image flash.now) page)) }
 {
     match target {
         Target::Holds(copied) => Some(copied),

@@ -1,12 +1,12 @@
 //! What a log is asked to do.
 
 ghost use Rattle.std.specs.Prelude.{◌≡◌, ◌↔◌, ◌<◌, ◌^◌, ℕ, List, [], ◌∷◌, None, IsTrue, MatchResult};
-ghost use Rattle.page_turnover.specs.declared.log.Task.{Task};
-ghost use Rattle.page_turnover.specs.declared.log.Target.{Target};
+ghost use Rattle.page_turnover.specs.Value.{Rest, Append, Wait, Unread};
 ghost use Rattle.page_turnover.specs.Turn.{IsWaiting, CanOffer, with_copy, with_seal};
 
 use super::{Log, Target, Task};
 use crate::header::LAST_SEQ;
+use flash_model::PAGE_SLOTS;
 
 /// Why no turn was begun.
 #[derive(Clone, Copy, Debug, PartialEq, Eq)]
@@ -23,10 +23,10 @@ impl Log {
 
     /// Takes a word to append; the next step programs it.
     pub fn begin_append(&mut self, word: u32)
-        requires rests { self.old.task ≡ Task.Rest }
+        requires rests { self.old.task ≡ Rest }
         requires usable { self.old.unsound ≡ None }
         requires room { HasTailRoom self.old }
-        ensures pending { self.new ≡ record self.old { task = Task.Append word } }
+        ensures pending { self.new ≡ record self.old { task = Append word } }
         ensures describes { (image : List ℕ) → Describes image self.old → Describes image self.new }
     {
         self.task = Task::Append(word);
@@ -35,9 +35,9 @@ impl Log {
     /// Begins a turn to the page after the active one, or to page 0 without one. The turn then wants
     /// its copies and its seal. Refused are first `Unsound` and then `Worn`, and nothing changes.
     pub fn begin_turn(&mut self) -> Result<(), TurnRefusal>
-        requires { self.old.task ≡ Task.Rest }
+        requires { self.old.task ≡ Rest }
         ensures begun { MatchResult result
-            (λ _. MayTurn self.old × (self.new ≡ record self.old { task = Task.Wait Target.Unread }))
+            (λ _. MayTurn self.old × (self.new ≡ record self.old { task = Wait Unread }))
             (λ why. Refuses self.old why × (self.new ≡ self.old)) }
         ensures describes { (image : List ℕ) → Describes image self.old → Describes image self.new }
     {
@@ -69,7 +69,20 @@ impl Log {
         }
     }
 
-    /// Offers the next word to copy to a turn that wants one and has made fewer than 511 copies.
+    /// Whether a turn is under way that wants a copy or its seal and has made fewer than 511 copies,
+    /// so that it can take one more.
+    pub fn wants_copy(&self) -> bool
+        ensures { IsTrue result ↔ CanOffer self.now.task }
+    {
+        match self.task {
+            Task::Wait(Target::Holds(copied)) => copied < PAGE_SLOTS - 1,
+            Task::Wait(Target::Unread) => true,
+            Task::Rest | Task::Append(_) | Task::Copy(..) | Task::Seal(_) => false,
+        }
+    }
+
+    /// Offers the next word to copy to a turn that wants one and has made fewer than 511 copies
+    /// (`wants_copy`); the next step that does not erase the target programs it.
     pub fn offer_copy(&mut self, word: u32)
         requires { CanOffer self.old.task }
         ensures pending { self.new ≡ record self.old { task = with_copy self.old.task word } }

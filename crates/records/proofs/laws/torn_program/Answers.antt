@@ -13,3 +13,7 @@ returns-clause-good c word x y other l sx sy free p e =
 pub returns-clause-sound : goal.returns-clause-sound
 returns-clause-sound c word x y l sx sy free p =
     sound_within (encoded word) y (encoded_sound word l) (program_within word x y sx free p)
+
+pub returns-clause-whole : goal.returns-clause-whole
+returns-clause-whole c word x y other l sx sy free p e =
+    good_within (encoded word) y other (encoded_slot word) sy (encoded_sound word l) (program_within word x y sx free p) e

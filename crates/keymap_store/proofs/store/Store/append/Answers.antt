@@ -1,5 +1,6 @@
 use Rattle.std.proofs.Common.{refl}
-use Rattle.keymap_store.proofs.Working.{appended, placed}
+use Rattle.keymap_store.proofs.Working.{appended, failed}
+use Rattle.keymap_store.proofs.Stepped.{append_settled, append_failed, append_writes, append_fails}
 use Rattle.keymap_store.proofs.store.Store.append.Goals as goal
 
 pub returns-in-Committed-clause-mirrors : goal.returns-in-Committed-clause-mirrors
@@ -17,13 +18,45 @@ returns-in-Committed-clause-works g c = record {
   changes = λ entries h. c.apply.ensures.entries entries (rw (← c.self.view_is) at h);
 }
 
+pub returns-in-Committed-clause-attempts : goal.returns-in-Committed-clause-attempts
+returns-in-Committed-clause-attempts g c =
+    let old = g.F.NorFlash.image c.args.flash.now in
+    let new = g.F.NorFlash.image c.step.new.flash in
+    rw (← c.self.view_is) (append_settled old _ c.args.command c.step.result new (rw (← c.self.view_is) at c.requires.mirrors) (rw (← c.self.view_is) at c.requires.job) c.step.ensures.attempts c.in-Committed.is)
+
+pub returns-in-Committed-clause-writes : goal.returns-in-Committed-clause-writes
+returns-in-Committed-clause-writes g c =
+    let old = g.F.NorFlash.image c.args.flash.now in
+    let new = g.F.NorFlash.image c.step.new.flash in
+    rw (← c.self.view_is) (append_writes old _ c.args.command c.step.result new c.step.new.self (rw (← c.self.view_is) at c.requires.mirrors) (rw (← c.self.view_is) at c.requires.job) c.in-Committed.is c.step.ensures.ends (c.step.ensures.committed c.in-Committed.is))
+
 pub returns-in-Committed-clause-operates : goal.returns-in-Committed-clause-operates
 returns-in-Committed-clause-operates g c idle failed = let made = c.in-Committed.is in c.step.ensures.operates (λ e. cc) (λ e. cc)
 
-pub returns-in-Committed-clause-placed : goal.returns-in-Committed-clause-placed
-returns-in-Committed-clause-placed g c settled =
+pub returns-in-Failed-clause-mirrors : goal.returns-in-Failed-clause-mirrors
+returns-in-Failed-clause-mirrors g c =
     let old = g.F.NorFlash.image c.args.flash.now in
     let new = g.F.NorFlash.image c.step.new.flash in
     let m = rw (← c.self.view_is) at c.requires.mirrors in
-    let e = rw (← c.self.view_is) at c.requires.job in
-    rw c.requires.job (placed old _ c.args.command c.step.result new c.step.new.self m e c.in-Committed.is c.step.ensures.ends)
+    failed old _ _ c.step.result new c.step.new.self m c.in-Failed.is c.step.ensures.ends
+
+pub returns-in-Failed-clause-attempts : goal.returns-in-Failed-clause-attempts
+returns-in-Failed-clause-attempts g c =
+    let old = g.F.NorFlash.image c.args.flash.now in
+    let new = g.F.NorFlash.image c.step.new.flash in
+    rw (← c.self.view_is) (append_failed old _ c.args.command c.step.result new (rw (← c.self.view_is) at c.requires.mirrors) (rw (← c.self.view_is) at c.requires.job) c.step.ensures.attempts c.in-Failed.is)
+
+pub returns-in-Failed-clause-writes : goal.returns-in-Failed-clause-writes
+returns-in-Failed-clause-writes g c =
+    let old = g.F.NorFlash.image c.args.flash.now in
+    let new = g.F.NorFlash.image c.step.new.flash in
+    rw (← c.self.view_is) (append_fails old _ c.args.command c.step.result new c.step.new.self (rw (← c.self.view_is) at c.requires.mirrors) (rw (← c.self.view_is) at c.requires.job) c.in-Failed.is c.step.ensures.ends c.step.ensures.attempts)
+
+pub returns-in-Failed-clause-torn : goal.returns-in-Failed-clause-torn
+returns-in-Failed-clause-torn g c f = c.step.ensures.torn c.in-Failed.is
+
+pub returns-in-Committed-clause-operated : goal.returns-in-Committed-clause-operated
+returns-in-Committed-clause-operated g c idle = let made = c.in-Committed.is in c.step.ensures.operated (λ e. cc)
+
+pub returns-in-Failed-clause-operated : goal.returns-in-Failed-clause-operated
+returns-in-Failed-clause-operated g c idle = let made = c.in-Failed.is in c.step.ensures.operated (λ e. cc)

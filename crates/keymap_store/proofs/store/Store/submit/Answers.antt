@@ -6,8 +6,9 @@ use Rattle.keymap_store.proofs.store.Store.submit.Goals as goal
 
 pub returns-in-Ok-clause-mirrors : goal.returns-in-Ok-clause-mirrors
 returns-in-Ok-clause-mirrors c image m =
-    begins_turn image _ c.args.command c.begin_turn.new.self (rw (← c.self.view_is) at m)
-    (c.begin_turn.ensures.describes image (rw (← c.self.view_is) at m).log_is) c.in-Ok.ensures.begun.1
+    let n = rw (← c.self.view_is) at m in
+    begins_turn image _ c.args.command c.begin_turn.new.self n (iff_false (c.room.ensures.room image n.log_is) c.if-room.false)
+    (c.begin_turn.ensures.describes image n.log_is) c.in-Ok.ensures.begun.1
 
 pub returns-in-Ok-clause-needs : goal.returns-in-Ok-clause-needs
 returns-in-Ok-clause-needs c image m taken =

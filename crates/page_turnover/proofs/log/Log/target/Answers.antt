@@ -16,7 +16,7 @@ returns-in-Some-clause-page g c =
     let image = g.F.NorFlash.image c.args.flash.now in
     let a = c.in-Some.active in
     let h = held_active image c.args.self.now a c.requires (rw (← c.self.view_is) c.in-Some.is) in
-    rw c.pages-pages.ensures.count (sym (target_page-some image a.page a.seq h.0))
+    rw c.pages-pages.ensures.count (sym (target_page-some image a.page a.seq h.is_active))
 
 pub returns-in-None-clause-page : goal.returns-in-None-clause-page
 returns-in-None-clause-page g c =

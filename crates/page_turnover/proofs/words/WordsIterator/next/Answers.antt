@@ -1,15 +1,25 @@
-use Rattle.std.proofs.Common.{◌≡◌, [], refl, sym, ◌∙◌, ap}
+use Rattle.std.proofs.Common.{◌≡◌, ◌∙◌, [], refl, sym}
 use Rattle.records.specs.Slots.{slot_of}
 use Rattle.flash_model.specs.Image.{slot_at}
 use Rattle.page_turnover.specs.Words.{word_of}
-use Rattle.page_turnover.proofs.WordLists.{words_after_less, word_of_none}
+use Rattle.page_turnover.proofs.WordLists.{words_after_less}
+use Rattle.page_turnover.proofs.GoodSlots.{no_word, good_next}
 use Rattle.page_turnover.proofs.words.WordsIterator.next.Goals as goal
+
+pub invariant_of-self-then-good-eq1 : goal.invariant_of-self-then-good-eq1
+invariant_of-self-then-good-eq1 g c =
+    (c.loop-slot.invariant.in_pages, good_next (g.F.NorFlash.image c.loop-slot.self-inside.flash.now) c.loop-slot.self-inside.page c.loop-slot.slot c.good_from-good.result c.good_from-good.ensures)
 
 pub loop-slot-preserved : goal.loop-slot-preserved
 loop-slot-preserved g c =
     let image = g.F.NorFlash.image c.loop-slot.self-inside.flash.now in
     let page = c.loop-slot.self-inside.page in
     let slot = c.loop-slot.slot in
-    let e : c.classify.result ≡ slot_of (slot_at image page slot) = c.classify.ensures ∙ ap slot_of c.read_slot.ensures in
-    let none : word_of (slot_of (slot_at image page slot)) ≡ [] = word_of_none (slot_of (slot_at image page slot)) (λ w h. c.in_default.not-Good w (e ∙ h)) in
-    record { placed = refl; in_pages = c.loop-slot.invariant.in_pages; same_left = sym (rw none at (words_after_less image page slot c.loop-slot-test.true)) ∙ c.loop-slot.invariant.same_left }
+    let good = c.good_from-good.result in
+    let none : word_of (slot_of (slot_at image page slot)) ≡ [] = no_word image page slot good c.good_from-good.ensures c.if-good-eq1.false in
+    record {
+      placed = refl;
+      in_pages = c.loop-slot.invariant.in_pages;
+      good = good_next image page slot good c.good_from-good.ensures;
+      same_left = sym (rw none at (words_after_less image page slot c.loop-slot-test.true)) ∙ c.loop-slot.invariant.same_left;
+    }

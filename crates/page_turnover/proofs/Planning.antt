@@ -1,0 +1,168 @@
+-- The operation that is next, case by case, and what a step does once it is made.
+use Rattle.std.proofs.Common.{◌≡◌, ℕ, ◌+◌, ◌≤◌, refl, arith, Bool, true, false, List, Option, Some, None}
+use Rattle.page_turnover.specs.declared.log.ActivePage.{ActivePage}
+use Rattle.page_turnover.specs.declared.log.Target.TheVariants as Targets
+use Rattle.page_turnover.specs.declared.log.Task.TheVariants as Tasks
+use Rattle.page_turnover.specs.declared.log.stepping.Step.TheVariants.{Idle, Moved, Committed}
+use Rattle.page_turnover.specs.declared.operation.Operation.{Operation}
+use Rattle.page_turnover.specs.declared.operation.Operation.TheVariants.{Program, Erase}
+use Rattle.page_turnover.specs.Value.{LogValue, Target, Unread, Holds, Task, Rest, Append, Wait, Copy, Seal}
+use Rattle.page_turnover.specs.Header.{header_word}
+use Rattle.page_turnover.specs.Words.{IsBlank}
+use Rattle.page_turnover.specs.Turn.{target_page, next_seq, copied, Appending, Copying, Turning, HoldsCopies}
+use Rattle.page_turnover.specs.Log.{Describes}
+use Rattle.page_turnover.specs.Next.{next_operation, operation_for, append_operation, turn_operation, is_ready}
+use Rattle.page_turnover.specs.Steps.{IsReady, EndsAs, StepsFor}
+use Rattle.page_turnover.specs.Made.{CanMake, Plans}
+use Rattle.page_turnover.proofs.Blanks.{is_blank-blank, is_blank-used, blank_of}
+use Rattle.page_turnover.proofs.Headers.{header_word-small}
+use Rattle.page_turnover.proofs.Describing.{held_active, held_inside, room_of_none}
+use Rattle.page_turnover.proofs.Turns.{target_inside, ready_holds}
+use Rattle.page_turnover.proofs.Endings.{under_way, append_room, append_ends, copy_ends_at, seal_ends_at, erase_for_copy, erase_for_seal, ready_of}
+
+-- the cases of the operation that is next
+pub data NextIs (old : List ℕ) (log : LogValue) (operation : Operation) : Type 0 where
+  appends : (word : ℕ) (a : ActivePage) → log.task ≡ Append word → log.active ≡ Some a → operation ≡ Program a.page a.tail word → NextIs old log operation
+  copies_word : (target : Target) (word : ℕ) → log.task ≡ Copy target word → IsReady old target → operation ≡ Program (target_page old) (copied target + 1) word → NextIs old log operation
+  seals_turn : (target : Target) → log.task ≡ Seal target → IsReady old target → operation ≡ Program (target_page old) 0 (header_word 2 (next_seq old)) → NextIs old log operation
+  erases_copy : (target : Target) (word : ℕ) → log.task ≡ Copy target word → operation ≡ Erase (target_page old) → NextIs old log operation
+  erases_seal : (target : Target) → log.task ≡ Seal target → operation ≡ Erase (target_page old) → NextIs old log operation
+
+some_same : (a b : Operation) → Some a ≡ Some b → b ≡ a
+some_same a b e = cc
+
+-- the test of a ready target
+pub ready_test : (image : List ℕ) (target : Target) → IsReady image target → is_ready image target ≡ true
+ready_test image Unread r = is_blank-blank image (target_page image) r
+ready_test image (Holds n) r = refl
+
+pub unready_test : (image : List ℕ) (target : Target) → target ≡ Unread → (IsBlank image (target_page image) → ⊥) → is_ready image target ≡ false
+unready_test image Unread e u = is_blank-used image (target_page image) u
+unready_test image (Holds n) e u = cc
+
+test_ready : (image : List ℕ) (target : Target) → is_ready image target ≡ true → IsReady image target
+test_ready image Unread e = blank_of image (target_page image) e
+test_ready image (Holds n) e = tt
+
+next_append : (old : List ℕ) (log : LogValue) (operation : Operation) (word : ℕ) (held : Option ActivePage) → log.task ≡ Append word → log.active ≡ held → append_operation held word ≡ Some operation → NextIs old log operation
+next_append old log operation word None t h e = cc
+next_append old log operation word (Some a) t h e = appends word a t h (some_same _ _ e)
+
+next_copy : (old : List ℕ) (log : LogValue) (operation : Operation) (target : Target) (word : ℕ) (test : Bool) → log.task ≡ Copy target word → is_ready old target ≡ test → Some (turn_operation test old (copied target + 1) word) ≡ Some operation → NextIs old log operation
+next_copy old log operation target word true t r e = copies_word target word t (test_ready old target r) (some_same _ _ e)
+next_copy old log operation target word false t r e = erases_copy target word t (some_same _ _ e)
+
+next_seal : (old : List ℕ) (log : LogValue) (operation : Operation) (target : Target) (test : Bool) → log.task ≡ Seal target → is_ready old target ≡ test → Some (turn_operation test old 0 (header_word 2 (next_seq old))) ≡ Some operation → NextIs old log operation
+next_seal old log operation target true t r e = seals_turn target t (test_ready old target r) (some_same _ _ e)
+next_seal old log operation target false t r e = erases_seal target t (some_same _ _ e)
+
+next_for : (old : List ℕ) (log : LogValue) (operation : Operation) (task : Task) → log.task ≡ task → operation_for task old log ≡ Some operation → NextIs old log operation
+next_for old log operation Rest t e = cc
+next_for old log operation (Append word) t e = next_append old log operation word log.active t refl e
+next_for old log operation (Wait target) t e = cc
+next_for old log operation (Copy target word) t e = next_copy old log operation target word (is_ready old target) t refl e
+next_for old log operation (Seal target) t e = next_seal old log operation target (is_ready old target) t refl e
+
+pub next_is : (old : List ℕ) (log : LogValue) (operation : Operation) → next_operation old log ≡ Some operation → NextIs old log operation
+next_is old log operation e = next_for old log operation log.task refl e
+
+-- the operation that is next is within the flash, and programs only a Free slot
+can_for : (old : List ℕ) (log : LogValue) (operation : Operation) → Describes old log → NextIs old log operation → CanMake old operation
+can_for old log operation d (appends word a t h e) =
+    let held = held_active old log a d h in
+    let u : Appending old word = under_way old log (Append word) d t in
+    let low : a.tail ≤ 511 = append_room old log word a d t h in
+    rw e (held_inside old log a d h, omega arith, u.fits, held.is_tail.free a.tail (omega arith) (omega arith))
+can_for old log operation d (copies_word target word t r e) =
+    let u : Copying old target word = under_way old log (Copy target word) d t in
+    let h : HoldsCopies old (target_page old) (copied target) = ready_holds old target u.turning.target_is r in
+    rw e (target_inside old d.whole, omega (arith, u.few), u.fits, h.rest (copied target + 1) (omega arith) (omega (arith, u.few)))
+can_for old log operation d (seals_turn target t r e) =
+    let u : Turning old target = under_way old log (Seal target) d t in
+    let h : HoldsCopies old (target_page old) (copied target) = ready_holds old target u.target_is r in
+    rw e (target_inside old d.whole, omega arith, header_word-small (next_seq old) u.can.numbered, h.header)
+can_for old log operation d (erases_copy target word t e) = rw e (target_inside old d.whole)
+can_for old log operation d (erases_seal target t e) = rw e (target_inside old d.whole)
+
+pub can_make : (old : List ℕ) (log : LogValue) (operation : Operation) → Describes old log → next_operation old log ≡ Some operation → CanMake old operation
+can_make old log operation d e = can_for old log operation d (next_is old log operation e)
+
+-- nothing is next where nothing is pending
+append_some : (old : List ℕ) (log : LogValue) (word : ℕ) (held : Option ActivePage) → Describes old log → log.task ≡ Append word → log.active ≡ held → append_operation held word ≡ None → ⊥
+append_some old log word None d t h e = room_of_none old log d h (under_way old log (Append word) d t).room
+append_some old log word (Some a) d t h e = cc
+
+idle_none : (old : List ℕ) (log : LogValue) (task : Task) → Describes old log → log.task ≡ task → operation_for task old log ≡ None → StepsFor task old log Idle old log
+idle_none old log Rest d t e = record { answer = refl; same_image = refl; same_log = refl }
+idle_none old log (Append word) d t e = absurd (append_some old log word log.active d t refl e)
+idle_none old log (Wait target) d t e = record { answer = refl; same_image = refl; same_log = refl }
+idle_none old log (Copy target word) d t e = cc
+idle_none old log (Seal target) d t e = cc
+
+pub idle_ends : (old : List ℕ) (log : LogValue) → Describes old log → next_operation old log ≡ None → EndsAs old log Idle old log
+idle_ends old log d e = record {
+  describes = d;
+  done = λ n. idle_none old log log.task d refl e;
+  pending = λ x. cc;
+  rests = λ x. cc;
+  kept = λ x. cc;
+}
+
+-- nothing is next of a log that rests or waits
+pub none_of_rest : (old : List ℕ) (log : LogValue) → log.task ≡ Rest → next_operation old log ≡ None
+none_of_rest old log e = rw e refl
+
+pub none_of_wait : (old : List ℕ) (log : LogValue) (target : Target) → log.task ≡ Wait target → next_operation old log ≡ None
+none_of_wait old log target e = rw e refl
+
+-- the plan of an append
+pub append_plan : (old : List ℕ) (log : LogValue) (word : ℕ) (a : ActivePage) → Describes old log → log.task ≡ Append word → log.active ≡ Some a
+    → Plans old log (record { operation = Program a.page a.tail word; active = Some (record a { tail = a.tail + 1 }); task = Tasks.Rest; step = Committed })
+append_plan old log word a d t h = record {
+  next = rw (t, h) refl;
+  not_idle = λ x. cc;
+  not_failed = λ x. cc;
+  ends = λ new i g. append_ends old log word a new d t h i g;
+}
+
+-- the plan of a copy
+pub copy_plan : (old : List ℕ) (log : LogValue) (target : Target) (word page n : ℕ) → Describes old log → log.task ≡ Copy target word → page ≡ target_page old → n ≡ copied target → (target ≡ Unread → IsBlank old page)
+    → Plans old log (record { operation = Program page (n + 1) word; active = log.active; task = Tasks.Wait (Targets.Holds (n + 1)); step = Moved })
+copy_plan old log target word page n d t p m r = record {
+  next = rw (t, ready_test old target (ready_of old target (rw p at r)), p, m) refl;
+  not_idle = λ x. cc;
+  not_failed = λ x. cc;
+  ends = λ new i g. copy_ends_at old log target word page n new d t p m r i g;
+}
+
+pub copy_erase_plan : (old : List ℕ) (log : LogValue) (target : Target) (word page : ℕ) → Describes old log → log.task ≡ Copy target word → page ≡ target_page old → target ≡ Unread → (IsBlank old page → ⊥)
+    → Plans old log (record { operation = Erase page; active = log.active; task = Tasks.Copy (Targets.Holds 0) word; step = Moved })
+copy_erase_plan old log target word page d t p unread used =
+    let u : IsBlank old (target_page old) → ⊥ = rw p at used in
+    record {
+      next = rw (t, unready_test old target unread u, p) refl;
+      not_idle = λ x. cc;
+      not_failed = λ x. cc;
+      ends = λ new i g. erase_for_copy old log target word new d t unread u i (rw p at g);
+    }
+
+-- the plan of a seal
+pub seal_plan : (old : List ℕ) (log : LogValue) (target : Target) (page seq n word : ℕ) → Describes old log → log.task ≡ Seal target → page ≡ target_page old → seq ≡ next_seq old → n ≡ copied target → (target ≡ Unread → IsBlank old page) → word ≡ header_word 2 seq
+    → Plans old log (record { operation = Program page 0 word; active = Some (record { page = page; seq = seq; format = 2; tail = n + 1 }); task = Tasks.Rest; step = Committed })
+seal_plan old log target page seq n word d t p q m r w = record {
+  next = rw (t, ready_test old target (ready_of old target (rw p at r)), p, w, q) refl;
+  not_idle = λ x. cc;
+  not_failed = λ x. cc;
+  ends = λ new i g. seal_ends_at old log target page seq n new d t p q m r i (rw w at g);
+}
+
+pub seal_erase_plan : (old : List ℕ) (log : LogValue) (target : Target) (page : ℕ) → Describes old log → log.task ≡ Seal target → page ≡ target_page old → target ≡ Unread → (IsBlank old page → ⊥)
+    → Plans old log (record { operation = Erase page; active = log.active; task = Tasks.Seal (Targets.Holds 0); step = Moved })
+seal_erase_plan old log target page d t p unread used =
+    let u : IsBlank old (target_page old) → ⊥ = rw p at used in
+    record {
+      next = rw (t, unready_test old target unread u, p) refl;
+      not_idle = λ x. cc;
+      not_failed = λ x. cc;
+      ends = λ new i g. erase_for_seal old log target new d t unread u i (rw p at g);
+    }

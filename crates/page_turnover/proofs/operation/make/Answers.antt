@@ -1,0 +1,21 @@
+use Rattle.page_turnover.proofs.Making.{programmed, program_judged, erased, erase_judged}
+use Rattle.page_turnover.proofs.operation.make.Goals as goal
+
+pub returns-in-Ok-clause-made : goal.returns-in-Ok-clause-made
+returns-in-Ok-clause-made g c =
+    programmed (g.F.NorFlash.image c.args.flash.now) (g.F.NorFlash.image c.program_slot.new.self) c.args.operation c.in-Program.page c.in-Program.slot c.in-Program.word c.in-Program.is
+    c.pages-pages.ensures.whole c.in-Ok.ensures.whole c.requires (rw c.encode.ensures at c.in-Ok.ensures.outcome)
+
+pub returns-in-Err-clause-made : goal.returns-in-Err-clause-made
+returns-in-Err-clause-made g c =
+    program_judged (g.F.NorFlash.image c.args.flash.now) (g.F.NorFlash.image c.program_slot.new.self) c.args.operation c.in-Program.page c.in-Program.slot c.in-Program.word c.holds.result c.in-Program.is
+    c.holds.ensures c.pages-pages.ensures.whole c.in-Err.ensures.whole c.requires (rw c.encode.ensures at c.in-Err.ensures.outcome)
+
+pub returns-in-Ok-erase_page-clause-made : goal.returns-in-Ok-erase_page-clause-made
+returns-in-Ok-erase_page-clause-made g c =
+    erased (g.F.NorFlash.image c.args.flash.now) (g.F.NorFlash.image c.erase_page.new.self) c.args.operation c.in-Erase.page c.in-Erase.is c.in-Ok-erase_page.ensures.outcome
+
+pub returns-in-Err-erase_page-clause-made : goal.returns-in-Err-erase_page-clause-made
+returns-in-Err-erase_page-clause-made g c =
+    erase_judged (g.F.NorFlash.image c.args.flash.now) (g.F.NorFlash.image c.erase_page.new.self) c.args.operation c.in-Erase.page c.is_blank.result c.in-Erase.is
+    c.is_blank.ensures c.in-Err-erase_page.ensures.whole c.requires c.in-Err-erase_page.ensures.outcome

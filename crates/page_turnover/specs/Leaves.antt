@@ -1,0 +1,33 @@
+-- What the operation that is next leaves, whole or torn: by a fault, or by a cut before anything is read back.
+use Rattle.std.specs.Prelude.{ℕ, List}
+use Rattle.page_turnover.specs.declared.operation.Operation.{Operation}
+use Rattle.page_turnover.specs.declared.operation.Operation.TheVariants.{Program, Erase}
+use Rattle.page_turnover.specs.Header.{HasHeader}
+use Rattle.page_turnover.specs.Usable.{IsUsable}
+use Rattle.page_turnover.specs.Value.{LogValue, Task, Rest, Append, Wait, Copy, Seal}
+use Rattle.page_turnover.specs.Next.{Makes, ReadsBack}
+use Rattle.page_turnover.specs.Operates.{MayOperate, FillsAtMostOne}
+use Rattle.page_turnover.specs.Steps.{Keeps, CommitsWord, CommitsTurn}
+
+-- what an operation does whose target reads as intended: a record and a header commit, an erase and a copy change no word
+abbrev pub IsEffect : List ℕ → Task → Operation → List ℕ → Type 0
+IsEffect old Rest operation new = ⊥
+IsEffect old (Append word) operation new = CommitsWord old word new
+IsEffect old (Wait target) operation new = ⊥
+IsEffect old (Copy target word) operation new = Keeps old new
+IsEffect old (Seal target) (Program page slot word) new = CommitsTurn old (Seal target) new
+IsEffect old (Seal target) (Erase page) new = Keeps old new
+
+-- an erase makes no header that its page did not have
+abbrev pub MakesNoHeader : List ℕ → Operation → List ℕ → Type 0
+MakesNoHeader old (Program page slot word) new = Unit {0}
+MakesNoHeader old (Erase page) new = (p s : ℕ) → HasHeader new p s → HasHeader old p s
+
+pub record Leaves (old : List ℕ) (log : LogValue) (operation : Operation) (new : List ℕ) : Type 0 where
+  pub operates : MayOperate old new
+  pub usable : IsUsable new
+  pub fills : FillsAtMostOne old new
+  pub no_header : MakesNoHeader old operation new
+  pub whole : ReadsBack operation new → Makes old operation new
+  pub effect : ReadsBack operation new → IsEffect old log.task operation new
+  pub kept : (ReadsBack operation new → ⊥) → Keeps old new

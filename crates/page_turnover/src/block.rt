@@ -1,0 +1,63 @@
+//! Reading a page in blocks of eight slots.
+
+ghost use Rattle.std.specs.Prelude.{◌≡◌, ◌+◌, ◌*◌, ◌<◌, ◌↔◌, ℕ, IsTrue, if◌then◌else◌, length};
+ghost use Rattle.std.specs.Int.{bit_at};
+ghost use Rattle.flash_model.specs.Image.{page_count, slot_at};
+ghost use Rattle.records.specs.Slots.{slot_of};
+ghost use Rattle.records.specs.Blocks.{slot_in, is_good};
+
+use flash_model::{NorFlash, PAGE_SLOTS};
+use records::{Slot, all_ones, kinds8};
+
+/// How many slots are read at once.
+pub const BLOCK_SLOTS: usize = 8;
+
+/// How many blocks a page has.
+pub const PAGE_BLOCKS: usize = PAGE_SLOTS / BLOCK_SLOTS;
+
+/// Whether each slot of a block is Free.
+#[inline]
+pub fn is_free_block<F: NorFlash>(flash: &F, page: usize, block: usize) -> bool
+    requires in_pages { page < page_count (F.image flash.now) }
+    requires in_page { block < 64 }
+    ensures { IsTrue result ↔ ((i : ℕ) → i < 8 → slot_of (slot_at (F.image flash.now) page (8 * block + i)) ≡ Slot.Free) }
+{
+    let _pages = flash.pages();
+    all_ones(&read_block(flash, page, block))
+}
+
+/// Which slots of a block are Good: bit `i` is that of slot `i` of the block.
+#[inline]
+pub fn good_in_block<F: NorFlash>(flash: &F, page: usize, block: usize) -> u8
+    requires in_pages { page < page_count (F.image flash.now) }
+    requires in_page { block < 64 }
+    ensures { (i : ℕ) → i < 8 → bit_at result i ≡ (if is_good (slot_of (slot_at (F.image flash.now) page (8 * block + i))) then 1 else 0) }
+{
+    kinds8(&read_block(flash, page, block)).good
+}
+
+/// The bytes of a block's slots, one slot after the other.
+#[inline]
+fn read_block<F: NorFlash>(flash: &F, page: usize, block: usize) -> [u8; 64]
+    requires in_pages { page < page_count (F.image flash.now) }
+    requires in_page { block < 64 }
+    ensures long { length result ≡ 64 }
+    ensures slots { (i : ℕ) → i < 8 → slot_in result i ≡ slot_at (F.image flash.now) page (8 * block + i) }
+{
+    let _pages = flash.pages();
+    let at = BLOCK_SLOTS * block;
+    let slots = [
+        flash.read_slot(page, at),
+        flash.read_slot(page, at + 1),
+        flash.read_slot(page, at + 2),
+        flash.read_slot(page, at + 3),
+        flash.read_slot(page, at + 4),
+        flash.read_slot(page, at + 5),
+        flash.read_slot(page, at + 6),
+        flash.read_slot(page, at + 7),
+    ];
+    match <&[u8; 64]>::try_from(slots.as_flattened()) {
+        Ok(bytes) => *bytes,
+        Err(_) => unreachable!(),
+    }
+}
