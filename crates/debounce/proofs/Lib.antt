@@ -1,5 +1,7 @@
 pub mod Rows
+pub mod Counts
+pub mod Words
 pub mod Fed
-pub mod Again
 pub mod Feeding
 pub mod Newest
+pub mod SetKeys

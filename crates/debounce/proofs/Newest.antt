@@ -1,18 +1,9 @@
-use Rattle.std.proofs.Common.{◌≡◌, ◌+◌, ◌<◌, ◌≤◌, ℕ, Bool, true, false, List, [], ◌∷◌, Some, None, arith, refl, ◌∙◌, nat_le, inl, inr, zero-add, suc, zero}
+use Rattle.std.proofs.Common.{◌≡◌, ◌+◌, ◌<◌, ◌≤◌, ℕ, Bool, true, false, List, [], ◌∷◌, Some, None, arith, refl, ◌∙◌, inl, inr, zero-add, suc, zero}
 use Rattle.std.specs.List.{slice_get}
 use Rattle.std.proofs.lemmas.Bool.{cases_lt}
-use Rattle.std.proofs.lemmas.Bool.Decides.{nat_tests}
 use Rattle.debounce.specs.Samples.{run_of, debounced}
 use Rattle.debounce.specs.Windows.{IsWindow, IsNewestWindow}
-use Rattle.debounce.proofs.Again.{debounced_run}
-
-gt_test : (a b : ℕ) → b < a → nat_le a b ≡ false
-gt_test a b l = grind (arith, nat_tests)
-
--- a run too short decides nothing
-debounced_short : (x : Bool) (past : List Bool) → run_of x (x ∷ past) < 5 → debounced (x ∷ past) ≡ debounced past
-unfolding debounced
-debounced_short x past l = rw (gt_test 5 (run_of x (x ∷ past)) l) refl
+use Rattle.debounce.proofs.Counts.{debounced_run, debounced_short}
 
 -- the newest samples that have a value are a run of it
 run_from_samples : (x : Bool) (samples : List Bool) (n : ℕ) → ((k : ℕ) → k < n → slice_get samples k ≡ Some x) → n ≤ run_of x samples

@@ -1,4 +1,4 @@
-use Rattle.std.specs.Prelude.{ℕ, ◌+◌, Bool, true, false, List, [], ◌∷◌, map, if◌then◌else◌, nat_le}
+use Rattle.std.specs.Prelude.{ℕ, ◌+◌, min, Bool, true, false, List, [], ◌∷◌, map, if◌then◌else◌, nat_le}
 use Rattle.debounce.specs.declared.Scan.{Scan}
 use Rattle.debounce.specs.Scans.{has}
 
@@ -16,6 +16,11 @@ run_of x (y ∷ ys) = if same x y then run_of x ys + 1 else 0
 unfoldable pub debounced : List Bool → Bool
 debounced [] = false
 debounced (x ∷ xs) = if nat_le 5 (run_of x (x ∷ xs)) then x else debounced xs
+
+-- how many of the latest samples are equal, newest first, counted to five
+unfoldable pub equal_latest : List Bool → ℕ
+equal_latest [] = 0
+equal_latest (x ∷ xs) = min 5 (run_of x (x ∷ xs))
 
 -- the samples of a key in these scans, both newest first
 abbrev pub samples : List Scan → ℕ → List Bool

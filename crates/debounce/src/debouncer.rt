@@ -1,23 +1,14 @@
 //! What is kept of the keys from scan to scan.
 
-ghost use Rattle.std.specs.Prelude.{◌≡◌, ◌<◌, ◌&&◌, ◌||◌, ◌==◌, not, ℕ, Bool, List, [], ◌∷◌};
+ghost use Rattle.std.specs.Prelude.{◌≡◌, ◌<◌, ◌/◌, ◌%◌, ◌&&◌, not, ℕ, Bool, List, [], ◌∷◌, slice_index, slice_index_or};
+ghost use Rattle.std.specs.Int.{bit_at};
 ghost use Rattle.debounce.specs.Scans.{has};
-ghost use Rattle.debounce.specs.Samples.{down};
+ghost use Rattle.debounce.specs.Samples.{samples, down, equal_latest};
 ghost use Rattle.debounce.specs.declared.Scan.{Scan};
 
 use crate::Scan;
+use crate::row::Row;
 use std::marker::Model;
-
-/// How many equal samples in a row decide the value of a key.
-const ENOUGH: u8 = 5;
-
-/// What is kept of one key: how many of its latest samples are equal, counted to `ENOUGH`, and its
-/// value.
-#[derive(Clone, Copy)]
-struct KeyRun {
-    run: u8,
-    down: bool,
-}
 
 /// The keys whose value a scan changed.
 #[derive(Clone, Copy, Debug, PartialEq, Eq)]
@@ -31,70 +22,23 @@ pub struct Edges {
 /// The value of each key, up or down, after the scans that were fed.
 #[derive(Drop)]
 pub struct Debouncer {
-    keys: [KeyRun; 96],
+    /// How many of the latest samples of a key are equal, counted to five: plane p has its bit p, at
+    /// the place that the key has in a scan.
+    planes: [[u16; 6]; 3],
     /// The latest scan.
     last: Scan,
-    /// Set only where the run of each key is full, so that one more equal scan changes nothing.
-    settled: bool,
+    /// The keys that are down.
+    down: Scan,
 }
 
 impl Model for Debouncer {
-    ghost use Rattle.std.specs.Prelude.{◌≡◌, length};
-    ghost use Rattle.debounce.specs.Kept.{Kept};
+    ghost use Rattle.debounce.specs.Kept.{Kept, HasSixRows};
 
     ghost Value = { Kept };
 
-    ghost view = { λ d. record { keys = d.keys; last = d.last; settled = d.settled } };
+    ghost view = { λ d. record { planes = d.planes; last = d.last; down = d.down } };
 
-    ghost invariant = { λ d. length d.keys ≡ 96 };
-}
-
-impl KeyRun {
-    /// A key that was never sampled.
-    const UNSAMPLED: KeyRun = KeyRun {
-        run: 0,
-        down: false,
-    };
-
-    ghost use Rattle.debounce.specs.Stands.{KeyStandsFor};
-
-    /// This key after one more sample, where `last` is the sample before.
-    #[tactic(auto, unfolding(crate::specs::Samples::debounced))]
-    fn sampled(self, last: bool, sample: bool) -> KeyRun
-        ensures { (past : List Bool) → KeyStandsFor past last self
-            → KeyStandsFor (sample ∷ past) sample result }
-    {
-        let run = if last != sample {
-            1
-        } else if self.run < ENOUGH {
-            self.run + 1
-        } else {
-            ENOUGH
-        };
-        let down = if run == ENOUGH { sample } else { self.down };
-        KeyRun { run, down }
-    }
-}
-
-impl Edges {
-    const NONE: Edges = Edges {
-        released: Scan::NONE,
-        pressed: Scan::NONE,
-    };
-
-    /// These edges, with the change of one key.
-    fn with(self, key: u8, before: bool, after: bool) -> Edges
-        requires { key < 96 }
-        ensures released { (other : ℕ) → other < 96
-            → has result.released other ≡ (((before && not after) && (other == key)) || has self.released other) }
-        ensures pressed { (other : ℕ) → other < 96
-            → has result.pressed other ≡ (((after && not before) && (other == key)) || has self.pressed other) }
-    {
-        Edges {
-            released: self.released.with(key, before && !after),
-            pressed: self.pressed.with(key, after && !before),
-        }
-    }
+    ghost invariant = { λ d. HasSixRows d.planes d.down };
 }
 
 impl Debouncer {
@@ -104,11 +48,10 @@ impl Debouncer {
     pub fn new() -> Debouncer
         ensures { StandsFor [] result }
     {
-        let keys = [KeyRun::UNSAMPLED; 96];
         Debouncer {
-            keys,
+            planes: [[0; 6]; 3],
             last: Scan::NONE,
-            settled: false,
+            down: Scan::NONE,
         }
     }
 
@@ -121,21 +64,32 @@ impl Debouncer {
         ensures pressed { (scans : List Scan) → StandsFor scans self.old → (key : ℕ) → key < 96
             → has result.pressed key ≡ (down (scan ∷ scans) key && not (down scans key)) }
     {
-        if self.settled && scan == self.last {
-            return Edges::NONE;
+        let [mut ones, mut twos, mut fours] = self.planes;
+        let mut down = self.down;
+        let mut edges = Edges {
+            released: Scan::NONE,
+            pressed: Scan::NONE,
+        };
+        for row in 0..6usize {
+            let before = Row {
+                ones: ones[row],
+                twos: twos[row],
+                fours: fours[row],
+                last: self.last.rows[row],
+                down: down.rows[row],
+            };
+            let after = before.sampled(scan.rows[row]);
+            ones[row] = after.ones;
+            twos[row] = after.twos;
+            fours[row] = after.fours;
+            down.rows[row] = after.down;
+            let changed = before.down ^ after.down;
+            edges.released.rows[row] = changed & before.down;
+            edges.pressed.rows[row] = changed & after.down;
         }
-        let last = self.last;
-        let mut edges = Edges::NONE;
-        let mut settled = true;
-        for key in 0..96u8 {
-            let before = self.keys[key as usize];
-            let after = before.sampled(last.has(key), scan.has(key));
-            self.keys[key as usize] = after;
-            edges = edges.with(key, before.down, after.down);
-            settled &= after.run == ENOUGH;
-        }
+        self.planes = [ones, twos, fours];
         self.last = scan;
-        self.settled = settled;
+        self.down = down;
         edges
     }
 
@@ -145,6 +99,16 @@ impl Debouncer {
         requires { key < 96 }
         ensures { (scans : List Scan) → StandsFor scans self.now → result ≡ down scans key }
     {
-        self.keys[key as usize].down
+        self.down.has(key)
+    }
+
+    /// The planes of the counts: bit c of row r of plane p is bit p of how many of the latest samples
+    /// of key 16 * r + c are equal, counted to five.
+    pub fn planes(&self) -> &[[u16; 6]; 3]
+        ensures { (scans : List Scan) → StandsFor scans self.now → (plane key : ℕ) → plane < 3 → key < 96
+            → bit_at (slice_index (slice_index_or result.now plane []) (key / 16)) (key % 16)
+            ≡ bit_at (equal_latest (samples scans key)) plane }
+    {
+        &self.planes
     }
 }

@@ -5,16 +5,19 @@
 
 ghost use Rattle.std.specs.Prelude.{◌≡◌, ◌/◌, ◌%◌, ◌<◌, ◌&&◌, ◌||◌, ◌==◌, ℕ, length, slice_index};
 ghost use Rattle.std.specs.Int.{bit_at};
-ghost use Rattle.debounce.specs.Scans.{has};
+ghost use Rattle.debounce.specs.Scans.{has, set_keys};
 
 pub mod debouncer;
+pub mod keys;
 pub mod laws;
 #[cfg(test)]
 mod plain;
+mod row;
 #[cfg(test)]
 mod tests;
 
 pub use debouncer::{Debouncer, Edges};
+pub use keys::Keys;
 
 /// One look at the matrix, six rows of 16 keys: bit c of row r is set where key 16 * r + c is
 /// pressed.
@@ -34,6 +37,13 @@ impl Scan {
         ensures { result ≡ has self.now key }
     {
         (self.rows[key as usize / 16] >> (key % 16)) & 1 == 1
+    }
+
+    /// The numbers of its keys, in rising order, at most 96.
+    pub fn keys(&self) -> Keys
+        ensures { result ≡ set_keys self.now }
+    {
+        Keys::of(*self)
     }
 
     /// This scan, with a key, one of 0 to 95, too where `on` says so.

@@ -2,7 +2,7 @@
 //! samples, for the debouncer to be compared with.
 
 ghost use Rattle.std.specs.Prelude.{◌≡◌, ◌≤◌, length};
-ghost use Rattle.debounce.specs.Samples.{debounced, run_of};
+ghost use Rattle.debounce.specs.Samples.{debounced, equal_latest, run_of};
 
 /// How many of these samples, from the newest on, have this value.
 fn run_of(value: bool, samples: &[bool]) -> usize
@@ -36,5 +36,16 @@ pub fn debounced(samples: &[bool]) -> bool
                 debounced(earlier)
             }
         },
+    }
+}
+
+/// How many of the latest samples are equal, newest first, counted to five.
+#[tactic(auto, unfolding(crate::specs::Samples::equal_latest))]
+pub fn equal_latest(samples: &[bool]) -> u8
+    ensures { result ≡ equal_latest samples.now }
+{
+    match samples {
+        [] => 0,
+        [newest, ..] => run_of(*newest, samples).min(5) as u8,
     }
 }

@@ -1,5 +1,5 @@
-//! Bounces of every length, presses and releases in one scan, and the debouncer beside the plain
-//! definition.
+//! Bounces of every length, presses and releases in one scan, the keys of scans, the planes, and the
+//! debouncer beside the plain definition.
 
 use crate::{Debouncer, Scan, plain};
 use std::process::Abort;
@@ -23,6 +23,71 @@ fn a_scan_has_its_bits(rt: HostRuntime) {
         let wanted = key == 0 || key == 15 || key == 36 || key == 95;
         assert_eq!(rt; scan.has(key), wanted, "at key {key}");
     }
+}
+
+/// The keys of a scan, in the order in which the iterator gives them.
+fn assert_keys(rt: &impl Abort, scan: Scan, wanted: &[u8]) {
+    let mut count = 0;
+    for key in scan.keys() {
+        assert_eq!(rt; wanted.get(count), Some(&key), "place {count}");
+        count = count.saturating_add(1);
+    }
+    assert_eq!(rt; count, wanted.len());
+}
+
+/// The keys that the iterator gives are set, and those between them are not.
+fn assert_keys_are_set(rt: &impl Abort, scan: Scan) {
+    let mut next = 0u8;
+    for key in scan.keys() {
+        assert!(rt; next <= key && key < 96);
+        for between in next..key {
+            assert!(rt; !scan.has(between), "key {between}");
+        }
+        assert!(rt; scan.has(key), "key {key}");
+        next = key + 1;
+    }
+    for between in next..96 {
+        assert!(rt; !scan.has(between), "key {between}");
+    }
+}
+
+#[test]
+fn the_keys_of_a_scan_rise(rt: HostRuntime) {
+    assert_keys(&rt, NONE, &[]);
+    assert_keys(&rt, KEY_95, &[95]);
+    let corners = Scan {
+        rows: [0x8001, 0, 0, 0, 0, 0x8000],
+    };
+    assert_keys(&rt, corners, &[0, 15, 95]);
+    let all = Scan { rows: [0xFFFF; 6] };
+    let mut numbers = [0; 96];
+    for (key, number) in (0..96u8).zip(numbers.iter_mut()) {
+        *number = key;
+    }
+    assert_keys(&rt, all, &numbers);
+}
+
+#[test]
+fn the_planes_count_to_five(rt: HostRuntime) {
+    let mut keys = Debouncer::new();
+    assert_eq!(rt; *keys.planes(), [[0; 6]; 3]);
+    for _ in 0..3 {
+        let _ = keys.feed(NONE);
+    }
+    let _ = keys.feed(KEY_0);
+    assert_eq!(rt;
+        *keys.planes(),
+        [
+            [0x0001, 0, 0, 0, 0, 0],
+            [0x0000; 6],
+            [0xFFFE, 0xFFFF, 0xFFFF, 0xFFFF, 0xFFFF, 0xFFFF],
+        ]
+    );
+    // Five and more are five.
+    for _ in 0..9 {
+        let _ = keys.feed(KEY_0);
+    }
+    assert_eq!(rt; *keys.planes(), [[0xFFFF; 6], [0x0000; 6], [0xFFFF; 6]]);
 }
 
 // Four samples, one that differs, four more: no run of five. The fifth in a row presses.
@@ -136,7 +201,17 @@ fn compare(rt: &impl Abort, seed: u64) {
                 before && !now,
                 "key {key}, seed {seed}"
             );
+            let count = plain::equal_latest(&samples[later..]);
+            for (bit, plane) in keys.planes().iter().enumerate() {
+                let word = plane[key as usize / 16];
+                assert_eq!(rt;
+                    (word >> (key % 16)) & 1,
+                    ((count >> (bit % 8)) & 1) as u16,
+                    "plane {bit}, key {key}, seed {seed}"
+                );
+            }
         }
+        assert_keys_are_set(rt, scan);
     }
 }
 

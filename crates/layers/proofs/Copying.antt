@@ -4,7 +4,7 @@ use Rattle.std.proofs.lemmas.Bool.{cases_eq, cases_lt, eq-eqb, ne_eqb, lt-ltb, l
 use Rattle.std.proofs.lemmas.Bool.Decides.{nat_tests}
 use Rattle.layers.specs.Codes.{layers, keys, is_code, default_code, default_at}
 use Rattle.layers.specs.Commands.{IsCommand, word_of}
-use Rattle.layers.specs.Entries.{entry, written}
+use Rattle.layers.specs.Entries.{entry_in, written}
 use Rattle.layers.specs.Keymaps.{place_of}
 use Rattle.layers.specs.Copies.{places, entry_at, set_key_at, copies_below, IsNextChanged, IsDefaultFrom, AreCopies}
 use Rattle.layers.specs.declared.command.Command.{Command}
@@ -46,7 +46,7 @@ key_usage-is_code code low high = grind (arith, nat_tests)
 modifier-is_code : (code : ℕ) → 0xE0 ≤ code → code ≤ 0xE7 → is_code code ≡ true
 modifier-is_code code low high = grind (arith, nat_tests)
 
-default_code-is_code : (layer key : ℕ) → key < keys → is_code (default_code layer key) ≡ true
+pub default_code-is_code : (layer key : ℕ) → key < keys → is_code (default_code layer key) ≡ true
 default_code-is_code layer key k =
     elim (cases_eq layer 0) [
       | inl e ↦ elim (cases_lt key 88) [
@@ -96,20 +96,20 @@ copies_below-length entries (suc place) =
 
 -- the entries by the copies below a place
 record ByCopies (entries : ℕ → ℕ → ℕ) (place layer key : ℕ) : Type 0 where
-  below : place_of layer key < place → entry (copies_below entries place) layer key ≡ entries layer key
-  above : place ≤ place_of layer key → entry (copies_below entries place) layer key ≡ default_code layer key
+  below : place_of layer key < place → entry_in 2 (copies_below entries place) layer key ≡ entries layer key
+  above : place ≤ place_of layer key → entry_in 2 (copies_below entries place) layer key ≡ default_code layer key
 
 by_copy : (entries : ℕ → ℕ → ℕ) (place layer key : ℕ) → place < places → IsCommand (set_key_at entries place) → layer < layers → key < keys → entry_at entries place ≢ default_at place
-    → entry (copies_below entries (suc place)) layer key ≡ unwrap_or (written (set_key_at entries place) layer key) (entry (copies_below entries place) layer key)
+    → entry_in 2 (copies_below entries (suc place)) layer key ≡ unwrap_or (written (set_key_at entries place) layer key) (entry_in 2 (copies_below entries place) layer key)
 by_copy entries place layer key l is m k d =
     rw (copies_below-other entries place d)
-    (entry-append_command (copies_below entries place) (word_of (set_key_at entries place)) (set_key_at entries place) layer key (command_of_word (set_key_at entries place) is)
-    ∙ changed-one (entry (copies_below entries place)) (set_key_at entries place) layer key)
+    (entry-append_command 2 (copies_below entries place) (word_of (set_key_at entries place)) (set_key_at entries place) layer key (command_of_word (set_key_at entries place) is)
+    ∙ changed-one (entry_in 2 (copies_below entries place)) (set_key_at entries place) layer key)
 
 by_copies : (entries : ℕ → ℕ → ℕ) (place layer key : ℕ) → place ≤ places → ((other : ℕ) → other < place → is_code (entry_at entries other) ≡ true) → layer < layers → key < keys → ByCopies entries place layer key
 by_copies entries zero layer key l codes m k = record {
   below = λ b. absurd (omega arith);
-  above = λ a. rw (copies_below-zero entries) (entry-nil layer key);
+  above = λ a. rw (copies_below-zero entries) (entry-nil 2 layer key);
 }
 by_copies entries (suc place) layer key l codes m k =
     let h = by_copies entries place layer key (omega arith) (λ other b. codes other (omega arith)) m k in
@@ -145,7 +145,7 @@ by_copies entries (suc place) layer key l codes m k =
     ]
 
 -- the copies of all entries have these entries
-pub entry-copies : (entries : ℕ → ℕ → ℕ) (words : List ℕ) (layer key : ℕ) → AreCopies entries places words → layer < layers → key < keys → entry words layer key ≡ entries layer key
+pub entry-copies : (entries : ℕ → ℕ → ℕ) (words : List ℕ) (layer key : ℕ) → AreCopies entries places words → layer < layers → key < keys → entry_in 2 words layer key ≡ entries layer key
 entry-copies entries words layer key a l k =
     let whole : places ≤ places = omega arith in
     let h = by_copies entries places layer key whole a.codes l k in

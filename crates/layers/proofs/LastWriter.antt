@@ -3,8 +3,8 @@ use Rattle.std.proofs.Common.{◌≡◌, ℕ, ◌<◌, Option, Some, None, suc, 
 use Rattle.std.proofs.Math.Seq.{drop-length}
 use Rattle.std.proofs.lemmas.List.{take-append-drop}
 use Rattle.layers.specs.Codes.{layers, keys, default_code}
-use Rattle.layers.specs.Commands.{command_of}
-use Rattle.layers.specs.Entries.{written, or_else, last_written, changed, commands_of, entry, written_by_word, NoneWrites, ChangesNothing}
+use Rattle.layers.specs.Formats.{command_in}
+use Rattle.layers.specs.Entries.{written, or_else, last_written, changed, commands_in, entry_in, written_by_word, NoneWrites, ChangesNothing}
 use Rattle.layers.specs.declared.command.Command.{Command}
 
 or_else-none : (a : Option ℕ) → or_else a None ≡ a
@@ -48,51 +48,51 @@ pub changed-same : (m n : ℕ → ℕ → ℕ) (commands : List Command) (layer 
 unfolding changed
 changed-same m n commands layer key e = ap (λ (d : ℕ). unwrap_or (last_written commands layer key) d) e
 
-pub commands_of-nil : commands_of [] ≡ []
-unfolding commands_of
-commands_of-nil = refl
+pub commands_in-nil : (format : ℕ) → commands_in format [] ≡ []
+unfolding commands_in
+commands_in-nil format = refl
 
-pub commands_of-command : (word : ℕ) (words : List ℕ) (command : Command) → command_of word ≡ Some command → commands_of (word ∷ words) ≡ command ∷ commands_of words
-unfolding commands_of
-commands_of-command word words command e = rw e refl
+pub commands_in-command : (format : ℕ) (word : ℕ) (words : List ℕ) (command : Command) → command_in format word ≡ Some command → commands_in format (word ∷ words) ≡ command ∷ commands_in format words
+unfolding commands_in
+commands_in-command format word words command e = rw e refl
 
-pub commands_of-other : (word : ℕ) (words : List ℕ) → command_of word ≡ None → commands_of (word ∷ words) ≡ commands_of words
-unfolding commands_of
-commands_of-other word words e = rw e refl
+pub commands_in-other : (format : ℕ) (word : ℕ) (words : List ℕ) → command_in format word ≡ None → commands_in format (word ∷ words) ≡ commands_in format words
+unfolding commands_in
+commands_in-other format word words e = rw e refl
 
-commands_of-cons : (word : ℕ) (xs ys : List ℕ) → commands_of (xs ++ ys) ≡ commands_of xs ++ commands_of ys → commands_of ((word ∷ xs) ++ ys) ≡ commands_of (word ∷ xs) ++ commands_of ys
-commands_of-cons word xs ys h = by_option (command_of word) refl
+commands_in-cons : (format : ℕ) (word : ℕ) (xs ys : List ℕ) → commands_in format (xs ++ ys) ≡ commands_in format xs ++ commands_in format ys → commands_in format ((word ∷ xs) ++ ys) ≡ commands_in format (word ∷ xs) ++ commands_in format ys
+commands_in-cons format word xs ys h = by_option (command_in format word) refl
   where
-    by_option : (o : Option Command) → command_of word ≡ o → commands_of (word ∷ (xs ++ ys)) ≡ commands_of (word ∷ xs) ++ commands_of ys
-    by_option None e = commands_of-other word (xs ++ ys) e ∙ h ∙ ap (λ (cs : List Command). cs ++ commands_of ys) (sym (commands_of-other word xs e))
-    by_option (Some c) e = commands_of-command word (xs ++ ys) c e ∙ ap (λ (cs : List Command). c ∷ cs) h ∙ ap (λ (cs : List Command). cs ++ commands_of ys) (sym (commands_of-command word xs c e))
+    by_option : (o : Option Command) → command_in format word ≡ o → commands_in format (word ∷ (xs ++ ys)) ≡ commands_in format (word ∷ xs) ++ commands_in format ys
+    by_option None e = commands_in-other format word (xs ++ ys) e ∙ h ∙ ap (λ (cs : List Command). cs ++ commands_in format ys) (sym (commands_in-other format word xs e))
+    by_option (Some c) e = commands_in-command format word (xs ++ ys) c e ∙ ap (λ (cs : List Command). c ∷ cs) h ∙ ap (λ (cs : List Command). cs ++ commands_in format ys) (sym (commands_in-command format word xs c e))
 
-pub commands_of-append : (xs ys : List ℕ) → commands_of (xs ++ ys) ≡ commands_of xs ++ commands_of ys
-commands_of-append [] ys = rw commands_of-nil refl
-commands_of-append (x ∷ xs) ys = commands_of-cons x xs ys (commands_of-append xs ys)
+pub commands_in-append : (format : ℕ) (xs ys : List ℕ) → commands_in format (xs ++ ys) ≡ commands_in format xs ++ commands_in format ys
+commands_in-append format [] ys = rw (commands_in-nil format) refl
+commands_in-append format (x ∷ xs) ys = commands_in-cons format x xs ys (commands_in-append format xs ys)
 
 -- entries by no word are the defaults
-pub entry-nil : (layer key : ℕ) → entry [] layer key ≡ default_code layer key
-unfolding entry
-entry-nil layer key = rw commands_of-nil (changed-nil default_code layer key)
+pub entry-nil : (format : ℕ) (layer key : ℕ) → entry_in format [] layer key ≡ default_code layer key
+unfolding entry_in
+entry-nil format layer key = rw (commands_in-nil format) (changed-nil default_code layer key)
 
 -- words after words change the entries by their commands
-pub entry-append : (xs ys : List ℕ) (layer key : ℕ) → entry (xs ++ ys) layer key ≡ changed (entry xs) (commands_of ys) layer key
-unfolding entry
-entry-append xs ys layer key =
-    rw commands_of-append (changed-append default_code (commands_of xs) (commands_of ys) layer key)
+pub entry-append : (format : ℕ) (xs ys : List ℕ) (layer key : ℕ) → entry_in format (xs ++ ys) layer key ≡ changed (entry_in format xs) (commands_in format ys) layer key
+unfolding entry_in
+entry-append format xs ys layer key =
+    rw (commands_in-append format xs ys) (changed-append default_code (commands_in format xs) (commands_in format ys) layer key)
 
 -- one word more
-pub entry-append_command : (words : List ℕ) (word : ℕ) (command : Command) (layer key : ℕ) → command_of word ≡ Some command → entry (words ++ word ∷ []) layer key ≡ changed (entry words) (command ∷ []) layer key
-entry-append_command words word command layer key e =
-    entry-append words (word ∷ []) layer key
-    ∙ ap (λ (cs : List Command). changed (entry words) cs layer key) (commands_of-command word [] command e ∙ ap (λ (cs : List Command). command ∷ cs) commands_of-nil)
+pub entry-append_command : (format : ℕ) (words : List ℕ) (word : ℕ) (command : Command) (layer key : ℕ) → command_in format word ≡ Some command → entry_in format (words ++ word ∷ []) layer key ≡ changed (entry_in format words) (command ∷ []) layer key
+entry-append_command format words word command layer key e =
+    entry-append format words (word ∷ []) layer key
+    ∙ ap (λ (cs : List Command). changed (entry_in format words) cs layer key) (commands_in-command format word [] command e ∙ ap (λ (cs : List Command). command ∷ cs) (commands_in-nil format))
 
-pub entry-append_other : (words : List ℕ) (word : ℕ) (layer key : ℕ) → command_of word ≡ None → entry (words ++ word ∷ []) layer key ≡ entry words layer key
-entry-append_other words word layer key e =
-    entry-append words (word ∷ []) layer key
-    ∙ ap (λ (cs : List Command). changed (entry words) cs layer key) (commands_of-other word [] e ∙ commands_of-nil)
-    ∙ changed-nil (entry words) layer key
+pub entry-append_other : (format : ℕ) (words : List ℕ) (word : ℕ) (layer key : ℕ) → command_in format word ≡ None → entry_in format (words ++ word ∷ []) layer key ≡ entry_in format words layer key
+entry-append_other format words word layer key e =
+    entry-append format words (word ∷ []) layer key
+    ∙ ap (λ (cs : List Command). changed (entry_in format words) cs layer key) (commands_in-other format word [] e ∙ commands_in-nil format)
+    ∙ changed-nil (entry_in format words) layer key
 
 pub changed-cons : (entries : ℕ → ℕ → ℕ) (command : Command) (later : List Command) (layer key : ℕ) → changed entries (command ∷ later) layer key ≡ changed (changed entries (command ∷ [])) later layer key
 changed-cons entries command later layer key = changed-append entries (command ∷ []) later layer key
@@ -102,32 +102,32 @@ pub changed-nothing : (entries : ℕ → ℕ → ℕ) (command : Command) (layer
 changed-nothing entries command layer key n l k = n.each layer key l k
 
 -- what is written by words, the first of them apart
-pub last_written-word : (word : ℕ) (later : List ℕ) (layer key : ℕ) → last_written (commands_of (word ∷ later)) layer key ≡ or_else (last_written (commands_of later) layer key) (written_by_word word layer key)
+pub last_written-word : (format : ℕ) (word : ℕ) (later : List ℕ) (layer key : ℕ) → last_written (commands_in format (word ∷ later)) layer key ≡ or_else (last_written (commands_in format later) layer key) (written_by_word format word layer key)
 unfolding last_written
-last_written-word word later layer key = by_option (command_of word) refl
+last_written-word format word later layer key = by_option (command_in format word) refl
   where
-    by_option : (o : Option Command) → command_of word ≡ o → last_written (commands_of (word ∷ later)) layer key ≡ or_else (last_written (commands_of later) layer key) (written_by_word word layer key)
-    by_option None e = rw (commands_of-other word later e, e) (sym (or_else-none (last_written (commands_of later) layer key)))
-    by_option (Some c) e = rw (commands_of-command word later c e, e) refl
+    by_option : (o : Option Command) → command_in format word ≡ o → last_written (commands_in format (word ∷ later)) layer key ≡ or_else (last_written (commands_in format later) layer key) (written_by_word format word layer key)
+    by_option None e = rw (commands_in-other format word later e, e) (sym (or_else-none (last_written (commands_in format later) layer key)))
+    by_option (Some c) e = rw (commands_in-command format word later c e, e) refl
 
-pub last_written-none : (words : List ℕ) (layer key : ℕ) → NoneWrites words layer key → last_written (commands_of words) layer key ≡ None
+pub last_written-none : (format : ℕ) (words : List ℕ) (layer key : ℕ) → NoneWrites format words layer key → last_written (commands_in format words) layer key ≡ None
 unfolding last_written
-last_written-none [] layer key n = rw commands_of-nil refl
-last_written-none (word ∷ later) layer key n =
-    let first : written_by_word word layer key ≡ None = n 0 0 (omega arith) in
-    let rest : NoneWrites later layer key = λ k d l. n (suc k) d (omega arith) in
-    rw (last_written-word word later layer key, last_written-none later layer key rest, first) refl
+last_written-none format [] layer key n = rw (commands_in-nil format) refl
+last_written-none format (word ∷ later) layer key n =
+    let first : written_by_word format word layer key ≡ None = n 0 0 (omega arith) in
+    let rest : NoneWrites format later layer key = λ k d l. n (suc k) d (omega arith) in
+    rw (last_written-word format word later layer key, last_written-none format later layer key rest, first) refl
 
 -- no writer: the default
-pub entry-none : (words : List ℕ) (layer key : ℕ) → NoneWrites words layer key → entry words layer key ≡ default_code layer key
-unfolding entry changed
-entry-none words layer key n = rw (last_written-none words layer key n) refl
+pub entry-none : (format : ℕ) (words : List ℕ) (layer key : ℕ) → NoneWrites format words layer key → entry_in format words layer key ≡ default_code layer key
+unfolding entry_in changed
+entry-none format words layer key n = rw (last_written-none format words layer key n) refl
 
 -- the last writer decides
-pub entry-last : (before : List ℕ) (word : ℕ) (after : List ℕ) (layer key code : ℕ) → written_by_word word layer key ≡ Some code → NoneWrites after layer key → entry (before ++ word ∷ after) layer key ≡ code
-unfolding entry changed
-entry-last before word after layer key code w n =
-    rw (commands_of-append before (word ∷ after), last_written-append (commands_of before) (commands_of (word ∷ after)) layer key, last_written-word word after layer key, last_written-none after layer key n, w) refl
+pub entry-last : (format : ℕ) (before : List ℕ) (word : ℕ) (after : List ℕ) (layer key code : ℕ) → written_by_word format word layer key ≡ Some code → NoneWrites format after layer key → entry_in format (before ++ word ∷ after) layer key ≡ code
+unfolding entry_in changed
+entry-last format before word after layer key code w n =
+    rw (commands_in-append format before (word ∷ after), last_written-append (commands_in format before) (commands_in format (word ∷ after)) layer key, last_written-word format word after layer key, last_written-none format after layer key n, w) refl
 
 -- the last n words and one before them
 drop_one_more : (words : List ℕ) (n : ℕ) → n < length words → drop (length words - (n + 1)) words ≡ get_or words (length words - 1 - n) 0 ∷ drop (length words - n) words
@@ -137,33 +137,33 @@ drop_one_more words n l =
     rw e (drop-cons words (length words - 1 - n) 0 (omega arith) ∙ rw f refl)
 
 -- where none of the last n words writes, the word before them decides if it does
-pub back-none : (words : List ℕ) (n layer key : ℕ) → n < length words → last_written (commands_of (drop (length words - n) words)) layer key ≡ None
-    → written_by_word (get_or words (length words - 1 - n) 0) layer key ≡ None
-    → last_written (commands_of (drop (length words - (n + 1)) words)) layer key ≡ None
-back-none words n layer key l later w =
-    rw (drop_one_more words n l, last_written-word (get_or words (length words - 1 - n) 0) (drop (length words - n) words) layer key, later, w) refl
+pub back-none : (format : ℕ) (words : List ℕ) (n layer key : ℕ) → n < length words → last_written (commands_in format (drop (length words - n) words)) layer key ≡ None
+    → written_by_word format (get_or words (length words - 1 - n) 0) layer key ≡ None
+    → last_written (commands_in format (drop (length words - (n + 1)) words)) layer key ≡ None
+back-none format words n layer key l later w =
+    rw (drop_one_more words n l, last_written-word format (get_or words (length words - 1 - n) 0) (drop (length words - n) words) layer key, later, w) refl
 
-pub back-some : (words : List ℕ) (n layer key code : ℕ) → n < length words → last_written (commands_of (drop (length words - n) words)) layer key ≡ None
-    → written_by_word (get_or words (length words - 1 - n) 0) layer key ≡ Some code
-    → entry words layer key ≡ code
-unfolding entry changed
-back-some words n layer key code l later w =
+pub back-some : (format : ℕ) (words : List ℕ) (n layer key code : ℕ) → n < length words → last_written (commands_in format (drop (length words - n) words)) layer key ≡ None
+    → written_by_word format (get_or words (length words - 1 - n) 0) layer key ≡ Some code
+    → entry_in format words layer key ≡ code
+unfolding entry_in changed
+back-some format words n layer key code l later w =
     let at = length words - (n + 1) in
-    let d : last_written (commands_of (drop at words)) layer key ≡ Some code =
-    rw (drop_one_more words n l, last_written-word (get_or words (length words - 1 - n) 0) (drop (length words - n) words) layer key, later, w) refl in
+    let d : last_written (commands_in format (drop at words)) layer key ≡ Some code =
+    rw (drop_one_more words n l, last_written-word format (get_or words (length words - 1 - n) 0) (drop (length words - n) words) layer key, later, w) refl in
     let whole : take at words ++ drop at words ≡ words = take-append-drop at words in
-    let a : last_written (commands_of (take at words ++ drop at words)) layer key ≡ Some code =
-    rw (commands_of-append (take at words) (drop at words), last_written-append (commands_of (take at words)) (commands_of (drop at words)) layer key, d) refl in
+    let a : last_written (commands_in format (take at words ++ drop at words)) layer key ≡ Some code =
+    rw (commands_in-append format (take at words) (drop at words), last_written-append (commands_in format (take at words)) (commands_in format (drop at words)) layer key, d) refl in
     rw (rw whole at a) refl
 
-pub back-all : (words : List ℕ) (n layer key : ℕ) → length words ≤ n → last_written (commands_of (drop (length words - n) words)) layer key ≡ None → entry words layer key ≡ default_code layer key
-unfolding entry changed
-back-all words n layer key l later =
+pub back-all : (format : ℕ) (words : List ℕ) (n layer key : ℕ) → length words ≤ n → last_written (commands_in format (drop (length words - n) words)) layer key ≡ None → entry_in format words layer key ≡ default_code layer key
+unfolding entry_in changed
+back-all format words n layer key l later =
     let e : length words - n ≡ 0 = omega arith in
     rw (rw e at later) refl
 
-pub back-start : (words : List ℕ) (layer key : ℕ) → last_written (commands_of (drop (length words - 0) words)) layer key ≡ None
+pub back-start : (format : ℕ) (words : List ℕ) (layer key : ℕ) → last_written (commands_in format (drop (length words - 0) words)) layer key ≡ None
 unfolding last_written
-back-start words layer key =
+back-start format words layer key =
     let e : length words - 0 ≡ length words = omega arith in
-    rw (e, drop-length words, commands_of-nil) refl
+    rw (e, drop-length words, commands_in-nil format) refl

@@ -1,7 +1,10 @@
 pub mod CommandWords
+pub mod FormatWords
 pub mod LastWriter
 pub mod Tables
 pub mod Copying
+pub mod EntryCodes
 pub mod BitSets
 pub mod HeldKeys
+pub mod NamedUsages
 pub mod PlainCodes

@@ -4,8 +4,8 @@ use Rattle.std.proofs.Math.ListN.{set}
 use Rattle.std.proofs.lemmas.Bool.{cases_eq, cases_lt, eq-eqb, ne_eqb}
 use Rattle.std.proofs.lemmas.List.{get_or_default, get_or-set_same, get_or-set_other, length-set}
 use Rattle.layers.specs.Codes.{layers, keys, default_code, default_at}
-use Rattle.layers.specs.Commands.{command_of}
-use Rattle.layers.specs.Entries.{written, changed, entry, ChangesSome, ChangesNothing}
+use Rattle.layers.specs.Formats.{command_in}
+use Rattle.layers.specs.Entries.{written, changed, entry_in, ChangesSome, ChangesNothing}
 use Rattle.layers.specs.Keymaps.{place_of, code_at, HasEntries, StandsFor}
 use Rattle.layers.specs.declared.command.Command.{Command}
 use Rattle.layers.specs.declared.command.Command.TheVariants.{SetKey, ResetLayer, ResetAll}
@@ -25,11 +25,11 @@ has_changed entries command old new w h = record {
 pub has_same : (m n : ℕ → ℕ → ℕ) (keymap : List ℕ) → ((layer key : ℕ) → layer < layers → key < keys → m layer key ≡ n layer key) → HasEntries m keymap → HasEntries n keymap
 has_same m n keymap e h = record { whole = h.whole; each = λ layer key l k. h.each layer key l k ∙ e layer key l k }
 
-pub stands_changed : (command : Command) (old new : List ℕ) (words : List ℕ) (word : ℕ) → Writes command old new → StandsFor words old → command_of word ≡ Some command → StandsFor (words ++ word ∷ []) new
-stands_changed command old new words word w h e =
-    has_same (changed (entry words) (command ∷ [])) (entry (words ++ word ∷ [])) new
-    (λ layer key l k. sym (entry-append_command words word command layer key e))
-    (has_changed (entry words) command old new w h)
+pub stands_changed : (command : Command) (old new : List ℕ) (format : ℕ) (words : List ℕ) (word : ℕ) → Writes command old new → StandsFor format words old → command_in format word ≡ Some command → StandsFor format (words ++ word ∷ []) new
+stands_changed command old new format words word w h e =
+    has_same (changed (entry_in format words) (command ∷ [])) (entry_in format (words ++ word ∷ [])) new
+    (λ layer key l k. sym (entry-append_command format words word command layer key e))
+    (has_changed (entry_in format words) command old new w h)
 
 pub place_of-injective : (l k layer key : ℕ) → k < keys → key < keys → place_of layer key ≡ place_of l k → (layer ≡ l) × (key ≡ k)
 place_of-injective l k layer key a b e = (omega arith, omega arith)
@@ -89,8 +89,8 @@ has_defaults new n inside = record {
   each = λ layer key m j. inside (place_of layer key) (omega arith) ∙ default_at-place_of layer key j;
 }
 
-pub stands_at_first : (new : List ℕ) → HasEntries default_code new → StandsFor [] new
-stands_at_first new h = has_same default_code (entry []) new (λ layer key l k. sym (entry-nil layer key)) h
+pub stands_at_first : (new : List ℕ) → HasEntries default_code new → (format : ℕ) → StandsFor format [] new
+stands_at_first new h format = has_same default_code (entry_in format []) new (λ layer key l k. sym (entry-nil format layer key)) h
 
 -- what a command changes rests on the entries alone
 pub changes_by_entries : (entries : ℕ → ℕ → ℕ) (keymap : List ℕ) (command : Command) (answer : Bool) → HasEntries entries keymap

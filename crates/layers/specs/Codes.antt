@@ -26,9 +26,9 @@ is_key_usage code = is_between 0x0004 0x00A4 code
 abbrev pub is_modifier : ℕ → Bool
 is_modifier code = is_between 0x00E0 0x00E7 code
 
--- a usage of page 0Ch, by its index in the list of 16
+-- a usage of page 0Ch, 001h to 3FFh
 abbrev pub is_consumer : ℕ → Bool
-is_consumer code = is_between 0x4000 0x400F code
+is_consumer code = is_between 0x4001 0x43FF code
 
 -- a layer, 1 to 3, that is active while the key is held
 abbrev pub is_momentary : ℕ → Bool
@@ -42,9 +42,9 @@ is_code code =
 abbrev pub names_key_usage : ℕ → ℕ → Bool
 names_key_usage usage code = (is_key_usage code || is_modifier code) && (code == usage)
 
--- a code names the consumer usage of this index
+-- a code names this usage of page 0Ch
 abbrev pub names_consumer : ℕ → ℕ → Bool
-names_consumer index code = is_consumer code && (code == 0x4000 + index)
+names_consumer usage code = is_consumer code && (code == 0x4000 + usage)
 
 -- a code activates this layer
 abbrev pub activates : ℕ → ℕ → Bool

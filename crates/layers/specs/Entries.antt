@@ -3,7 +3,7 @@ use Rattle.std.specs.Prelude.{◌≡◌, ◌≢◌, ℕ, ◌<◌, ◌==◌, ◌&
 use Rattle.std.specs.List.{filter_map}
 use Rattle.std.specs.Option.{option_and_then}
 use Rattle.layers.specs.Codes.{layers, keys, default_code}
-use Rattle.layers.specs.Commands.{command_of}
+use Rattle.layers.specs.Formats.{command_in}
 use Rattle.layers.specs.declared.command.Command.{Command}
 use Rattle.layers.specs.declared.command.Command.TheVariants.{SetKey, ResetLayer, ResetAll}
 
@@ -26,21 +26,21 @@ last_written (command ∷ later) layer key = or_else (last_written later layer k
 unfoldable pub changed : (ℕ → ℕ → ℕ) → List Command → ℕ → ℕ → ℕ
 changed entries commands layer key = unwrap_or (last_written commands layer key) (entries layer key)
 
--- the commands among words, in order; a word that is no command is passed over
-unfoldable pub commands_of : List ℕ → List Command
-commands_of words = filter_map command_of words
+-- the commands among the words of a page of this format, in order; a word that is no command is passed over
+unfoldable pub commands_in : ℕ → List ℕ → List Command
+commands_in format words = filter_map (command_in format) words
 
--- the entry of a key on a layer by the words of a log
-unfoldable pub entry : List ℕ → ℕ → ℕ → ℕ
-entry words layer key = changed default_code (commands_of words) layer key
+-- the entry of a key on a layer by the words of a page of this format
+unfoldable pub entry_in : ℕ → List ℕ → ℕ → ℕ → ℕ
+entry_in format words layer key = changed default_code (commands_in format words) layer key
 
 -- what a word gives an entry, if it is a command that writes it
-abbrev pub written_by_word : ℕ → ℕ → ℕ → Option ℕ
-written_by_word word layer key = option_and_then (λ command. written command layer key) (command_of word)
+abbrev pub written_by_word : ℕ → ℕ → ℕ → ℕ → Option ℕ
+written_by_word format word layer key = option_and_then (λ command. written command layer key) (command_in format word)
 
 -- none of these words writes the entry
-abbrev pub NoneWrites : List ℕ → ℕ → ℕ → Type 0
-NoneWrites words layer key = All (λ word. written_by_word word layer key ≡ None) words
+abbrev pub NoneWrites : ℕ → List ℕ → ℕ → ℕ → Type 0
+NoneWrites format words layer key = All (λ word. written_by_word format word layer key ≡ None) words
 
 -- some entry differs after the command
 pub record ChangesSome (entries : ℕ → ℕ → ℕ) (command : Command) : Type 0 where

@@ -1,7 +1,7 @@
 -- A keymap as the list of its codes, layer by layer.
 use Rattle.std.specs.Prelude.{◌≡◌, ℕ, ◌+◌, ◌*◌, ◌<◌, List, length, slice_index}
 use Rattle.layers.specs.Codes.{layers, keys}
-use Rattle.layers.specs.Entries.{entry}
+use Rattle.layers.specs.Entries.{entry_in}
 
 -- the place of a key on a layer
 abbrev pub place_of : ℕ → ℕ → ℕ
@@ -16,6 +16,6 @@ pub record HasEntries (entries : ℕ → ℕ → ℕ) (keymap : List ℕ) : Type
   pub whole : length keymap ≡ layers * keys
   pub each : (layer key : ℕ) → layer < layers → key < keys → code_at keymap layer key ≡ entries layer key
 
--- a keymap stands for the words of a log
-abbrev pub StandsFor : List ℕ → List ℕ → Type 0
-StandsFor words keymap = HasEntries (entry words) keymap
+-- a keymap stands for the words of a page of this format
+abbrev pub StandsFor : ℕ → List ℕ → List ℕ → Type 0
+StandsFor format words keymap = HasEntries (entry_in format words) keymap

@@ -1,5 +1,6 @@
 pub mod Codes
 pub mod Commands
+pub mod Formats
 pub mod Entries
 pub mod Keymaps
 pub mod Copies

@@ -1,5 +1,5 @@
 -- The usages of the keys that are held, as sets.
-use Rattle.std.specs.Prelude.{ℕ, ◌/◌, ◌%◌, ◌==◌, Bool, List, slice_index}
+use Rattle.std.specs.Prelude.{◌≡◌, ℕ, ◌/◌, ◌%◌, ◌<◌, ◌≤◌, ◌==◌, Bool, true, false, List, slice_index}
 use Rattle.std.specs.Int.{bit_at}
 use Rattle.layers.specs.Codes.{names_key_usage, names_consumer}
 use Rattle.layers.specs.Held.{HeldCall, any_has, code}
@@ -8,20 +8,37 @@ use Rattle.layers.specs.Held.{HeldCall, any_has, code}
 abbrev pub key_usages : List HeldCall → ℕ → Bool
 key_usages past usage = any_has (code past) (names_key_usage usage)
 
--- the consumer usages that they name, by their index in the list
+-- the usages of page 0Ch that they name
 abbrev pub consumer_usages : List HeldCall → ℕ → Bool
-consumer_usages past index = any_has (code past) (names_consumer index)
+consumer_usages past usage = any_has (code past) (names_consumer usage)
 
--- two sets of numbers, a bit for each number, eight to a byte
+-- two sets of numbers, a bit for each number, eight to a byte and 64 to a word
 pub record UsageSets : Type 0 where
   pub key_bits : List ℕ
-  pub consumer_bits : List ℕ
+  pub consumer_words : List ℕ
 
-abbrev pub has_bit : List ℕ → ℕ → Bool
-has_bit bytes number = bit_at (slice_index bytes (number / 8)) (number % 8) == 1
+abbrev pub has_bit : ℕ → List ℕ → ℕ → Bool
+has_bit size cells number = bit_at (slice_index cells (number / size)) (number % size) == 1
 
 unfoldable pub has_key : UsageSets → ℕ → Bool
-has_key usages usage = has_bit usages.key_bits usage
+has_key usages usage = has_bit 8 usages.key_bits usage
 
 unfoldable pub has_consumer : UsageSets → ℕ → Bool
-has_consumer usages index = has_bit usages.consumer_bits index
+has_consumer usages usage = has_bit 64 usages.consumer_words usage
+
+-- the least number at or after `from` that passes
+pub record IsNext (test : ℕ → Bool) (from number : ℕ) : Type 0 where
+  pub after : from ≤ number
+  pub is : test number ≡ true
+  pub first : (other : ℕ) → from ≤ other → other < number → test other ≡ false
+
+-- no number at or after `from` passes
+pub record PassesNoneFrom (test : ℕ → Bool) (from : ℕ) : Type 0 where
+  pub each : (number : ℕ) → from ≤ number → test number ≡ false
+
+-- the least usage of page 0Ch in the set at or after `from`, and that there is none
+abbrev pub IsNextConsumer : UsageSets → ℕ → ℕ → Type 0
+IsNextConsumer usages from usage = IsNext (has_consumer usages) from usage
+
+abbrev pub HasNoConsumerFrom : UsageSets → ℕ → Type 0
+HasNoConsumerFrom usages from = PassesNoneFrom (has_consumer usages) from

@@ -31,10 +31,12 @@ const MODIFIER_FIRST: u16 = 0x00E0;
 
 const MODIFIER_LAST: u16 = 0x00E7;
 
-/// The codes of the consumer usages, in the order of their list.
-const CONSUMER_FIRST: u16 = 0x4000;
+/// The codes of the consumer usages 001h to 3FFh: the usage above this number.
+const CONSUMER_BASE: u16 = 0x4000;
 
-const CONSUMER_LAST: u16 = 0x400F;
+const CONSUMER_FIRST: u16 = 0x4001;
+
+const CONSUMER_LAST: u16 = 0x43FF;
 
 /// The codes that activate layers 1 to 3: the layer above this number.
 const MOMENTARY_BASE: u16 = 0x5000;
@@ -44,9 +46,9 @@ const MOMENTARY_FIRST: u16 = 0x5001;
 const MOMENTARY_LAST: u16 = 0x5003;
 
 /// What a key does, in 16 bits: 0000h nothing, 0001h what a lower active layer says, 0004h to
-/// 00A4h and 00E0h to 00E7h this usage of the keyboard page (HUT section 10), 4000h to 400Fh a
-/// usage of the consumer page (HUT section 15) by its index in a list of 16, 5001h to 5003h to
-/// activate layer 1 to 3 while it is held. Nothing else is a code.
+/// 00A4h and 00E0h to 00E7h this usage of the keyboard page (HUT section 10), 4001h to 43FFh the
+/// usage 001h to 3FFh of the consumer page (HUT section 15), 5001h to 5003h to activate layer 1 to
+/// 3 while it is held. Nothing else is a code.
 #[derive(Clone, Copy, Debug, PartialEq, Eq)]
 pub struct Code {
     bits: u16,
@@ -149,13 +151,13 @@ impl Code {
         }
     }
 
-    /// The index in the list of the consumer usage that the code names, if it names one.
-    pub(crate) fn consumer_index(self) -> Option<u8>
-        ensures names { MatchOption result ((index : ℕ) → names_consumer index self ≡ false) (λ i. (index : ℕ) → names_consumer index self ≡ (i == index)) }
-        ensures in_list { IfSome result (λ i. i < 16) }
+    /// The usage of page 0Ch that the code names, if it names one.
+    pub(crate) fn consumer_usage(self) -> Option<u16>
+        ensures names { MatchOption result ((usage : ℕ) → names_consumer usage self ≡ false) (λ u. (usage : ℕ) → names_consumer usage self ≡ (u == usage)) }
+        ensures within { IfSome result (λ u. u < 0x400) }
     {
         match self.bits {
-            CONSUMER_FIRST..=CONSUMER_LAST => Some((self.bits - CONSUMER_FIRST) as u8),
+            CONSUMER_FIRST..=CONSUMER_LAST => Some(self.bits - CONSUMER_BASE),
             _ => None,
         }
     }
@@ -189,7 +191,7 @@ impl LayerNo {
     }
 
     /// The layer of a number that is known to be one.
-    pub(crate) fn known(layer: u8) -> LayerNo
+    pub fn known(layer: u8) -> LayerNo
         requires { layer < layers }
         ensures { result ≡ layer }
     {
@@ -225,6 +227,14 @@ impl KeyNo {
         } else {
             Err(KeymapError::BadKey)
         }
+    }
+
+    /// The key of a number that is known to be one.
+    pub fn known(key: u8) -> KeyNo
+        requires { key < keys }
+        ensures { result ≡ key }
+    {
+        KeyNo { key }
     }
 
     /// The key of a place.

@@ -1,6 +1,7 @@
 //! Commands that change a keymap, and the words that they are stored as.
 
-ghost use Rattle.std.specs.Prelude.{◌≡◌, ◌≢◌, ◌<◌, MatchOption, IfOk, Some};
+ghost use Rattle.std.specs.Prelude.{◌≡◌, ◌≢◌, ◌<◌, MatchOption, IfOk, IfSome, Some};
+ghost use Rattle.layers.specs.Formats.{code_of_format_1, command_of_format_1};
 ghost use Rattle.layers.specs.Commands.{command_read, command_of, unused_is_zero, word_of, word_with, IsCommand};
 ghost use Rattle.layers.specs.declared.command.Command.{Command};
 
@@ -20,6 +21,12 @@ pub enum Command {
     /// Each key of each layer gets its default code.
     ResetAll,
 }
+
+/// The usages of the consumer page that format 1 has codes for, in the order of their codes.
+const CONSUMER_LIST: [u16; 16] = [
+    0xB0, 0xB1, 0xB2, 0xB3, 0xB4, 0xB5, 0xB6, 0xB7, 0xB8, 0xCD, 0xE2, 0xE9, 0xEA, 0x192, 0x223,
+    0x224,
+];
 
 impl Command {
     /// The command of operation 1, 2 or 3; what the operation does not use is ignored. In this
@@ -57,6 +64,19 @@ impl Command {
         }
     }
 
+    /// The command that a word stands for on a page of format 1. There the codes 4000h to 400Fh are
+    /// the usages B0h to B8h, CDh, E2h, E9h, EAh, 192h, 223h and 224h of the consumer page, and no
+    /// other code is a consumer usage; all else is as `from_word` reads it.
+    pub fn from_format_1(word: u32) -> Option<Command>
+        ensures value { result ≡ command_of_format_1 word }
+        ensures a_command { IfSome result (λ c. IsCommand c) }
+    {
+        match code_of_format_1((word % 0x1_0000) as u16) {
+            Some(code) => Command::from_word(0x1_0000 * (word / 0x1_0000) + code as u32),
+            None => None,
+        }
+    }
+
     /// The word of the command.
     pub fn word(self) -> u32
         ensures value { result ≡ word_of self }
@@ -73,6 +93,17 @@ impl Command {
             Command::ResetLayer(layer) => word_with(2, layer.number(), 0, 0),
             Command::ResetAll => word_with(3, 0, 0, 0),
         }
+    }
+}
+
+/// The code of format 2 that a code of format 1 is, if it is one.
+fn code_of_format_1(code: u16) -> Option<u16>
+    ensures value { result ≡ code_of_format_1 code }
+{
+    match code {
+        0x4000..=0x400F => Some(0x4000 + CONSUMER_LIST[(code - 0x4000) as usize]),
+        0x4010..=0x43FF => None,
+        _ => Code::read(code).ok().map(|code| code.bits()),
     }
 }
 

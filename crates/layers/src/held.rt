@@ -3,7 +3,7 @@
 ghost use Rattle.std.specs.Prelude.{◌≡◌, ◌<◌, ℕ, Option, None, List, [], ◌∷◌, length};
 ghost use Rattle.layers.specs.Codes.{keys, activates, names_key_usage, names_consumer};
 ghost use Rattle.layers.specs.Held.{any_below, any_has, passes, is_active, resolved, code, active, HeldCall, Press, Release};
-ghost use Rattle.layers.specs.HeldStands.{kept, HeldStandsFor};
+ghost use Rattle.layers.specs.HeldStands.{kept, HeldStandsFor, AreNamed};
 ghost use Rattle.layers.specs.Keymaps.{code_at};
 ghost use Rattle.layers.specs.Usages.{has_key, has_consumer, key_usages, consumer_usages};
 
@@ -11,20 +11,22 @@ use crate::code::KEYS;
 use crate::{Code, KeyNo, Keymap, LayerNo, Usages};
 use std::marker::Model;
 
-/// The code of each key that is held.
+/// The code of each key that is held, and the usages that these codes name.
 #[derive(Drop)]
 pub struct Held {
     codes: [Option<Code>; KEYS],
+    usages: Usages,
 }
 
 impl Model for Held {
     ghost use Rattle.std.specs.Prelude.{◌≡◌, ℕ, Option, List, length};
+    ghost use Rattle.layers.specs.HeldStands.{AreNamed};
 
     ghost Value = { List (Option ℕ) };
 
     ghost view = { λ h. h.codes };
 
-    ghost invariant = { λ h. length h.codes ≡ 96 };
+    ghost invariant = { λ h. (length h.codes ≡ 96) × AreNamed h.codes h.usages };
 }
 
 impl Held {
@@ -34,6 +36,7 @@ impl Held {
     {
         Held {
             codes: [None; KEYS],
+            usages: Usages::none(),
         }
     }
 
@@ -45,7 +48,9 @@ impl Held {
     {
         let place = key.number() as usize;
         if self.codes[place].is_none() {
-            self.codes[place] = Some(resolve(&self.codes, keymap, key));
+            let code = resolve(&self.codes, keymap, key);
+            self.codes[place] = Some(code);
+            self.usages.add(code);
         }
     }
 
@@ -55,6 +60,7 @@ impl Held {
     {
         let place = key.number() as usize;
         self.codes[place] = None;
+        self.usages = named(&self.codes);
     }
 
     /// Whether a layer is active: layer 0 is, another while a key with its momentary code is held.
@@ -74,9 +80,9 @@ impl Held {
     /// The usages that the codes of the held keys name.
     pub fn usages(&self) -> Usages
         ensures keys { (past : List HeldCall) (usage : ℕ) → HeldStandsFor past self.now → has_key result usage ≡ key_usages past usage }
-        ensures consumer { (past : List HeldCall) (index : ℕ) → HeldStandsFor past self.now → has_consumer result index ≡ consumer_usages past index }
+        ensures consumer { (past : List HeldCall) (usage : ℕ) → HeldStandsFor past self.now → has_consumer result usage ≡ consumer_usages past usage }
     {
-        named(&self.codes)
+        self.usages
     }
 }
 
@@ -121,8 +127,7 @@ fn is_kept_active(codes: &[Option<Code>], layer: LayerNo) -> bool
 /// The usages that these codes name.
 fn named(codes: &[Option<Code>]) -> Usages
     requires { length codes.now ≡ 96 }
-    ensures keys { (usage : ℕ) → has_key result usage ≡ any_has (kept codes.now) (names_key_usage usage) }
-    ensures consumer { (index : ℕ) → has_consumer result index ≡ any_has (kept codes.now) (names_consumer index) }
+    ensures { AreNamed codes.now result }
 {
     let mut usages = Usages::none();
     for code in codes {

@@ -2,7 +2,8 @@
 
 ghost use Rattle.std.specs.Prelude.{◌≡◌, ◌≢◌, ◌+◌, ◌*◌, ◌/◌, ◌%◌, ◌<◌, ◌≤◌, ℕ, List, [], ◌∷◌, ◌++◌, Some, length, slice_index, MatchBool, MatchOption, IfSome};
 ghost use Rattle.layers.specs.Codes.{layers, keys, default_code, default_at};
-ghost use Rattle.layers.specs.Commands.{command_of, IsCommand};
+ghost use Rattle.layers.specs.Commands.{IsCommand};
+ghost use Rattle.layers.specs.Formats.{command_in};
 ghost use Rattle.layers.specs.Entries.{changed, ChangesSome, ChangesNothing};
 ghost use Rattle.layers.specs.Copies.{IsNextChanged, IsDefaultFrom};
 ghost use Rattle.layers.specs.Keymaps.{code_at, place_of, HasEntries, StandsFor};
@@ -34,7 +35,7 @@ impl Keymap {
     /// The default keymap.
     pub fn standard() -> Keymap
         ensures entries { HasEntries default_code result }
-        ensures stands { StandsFor [] result }
+        ensures stands { (format : ℕ) → StandsFor format [] result }
     {
         let mut codes = [Code::TRANSPARENT; ENTRIES];
         reset(&mut codes, 0, ENTRIES);
@@ -52,7 +53,7 @@ impl Keymap {
     /// Takes a command: the entries that it writes get their codes, the others stay.
     pub fn apply(&mut self, command: Command)
         ensures entries { (entries : ℕ → ℕ → ℕ) → HasEntries entries self.old → HasEntries (changed entries (command ∷ [])) self.new }
-        ensures stands { (words : List ℕ) (word : ℕ) → StandsFor words self.old → command_of word ≡ Some command → StandsFor (words ++ word ∷ []) self.new }
+        ensures stands { (format : ℕ) (words : List ℕ) (word : ℕ) → StandsFor format words self.old → command_in format word ≡ Some command → StandsFor format (words ++ word ∷ []) self.new }
     {
         match command {
             Command::SetKey { layer, key, code } => self.codes[place(layer, key)] = code,

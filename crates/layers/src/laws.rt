@@ -1,29 +1,34 @@
 //! What the definitions come to.
 
 ghost use Rattle.std.specs.Prelude.{◌≡◌, ◌≢◌, ◌↔◌, ◌≤◌, ◌<◌, ◌+◌, ◌++◌, ◌∷◌, [], ℕ, Bool, IsTrue, List, Option, None, Some, length};
-ghost use Rattle.layers.specs.Codes.{layers, keys, none, default_code};
+ghost use Rattle.layers.specs.Codes.{layers, keys, none, is_code, default_code};
 ghost use Rattle.layers.specs.Commands.{word_of, IsCommand};
 ghost use Rattle.layers.specs.Copies.{places, AreCopies, IsNextChanged, IsDefaultFrom};
-ghost use Rattle.layers.specs.Entries.{entry, written_by_word, NoneWrites};
+ghost use Rattle.layers.specs.Entries.{entry_in, written_by_word, NoneWrites};
 ghost use Rattle.layers.specs.Held.{any_has, resolved, code, HeldCall, Press, Release};
 ghost use Rattle.layers.specs.Keymaps.{code_at};
 ghost use Rattle.layers.specs.Resolved.{SomeHas, IsHighest, IsTransparent};
 ghost use Rattle.layers.specs.declared.command.Command.{Command};
 
-/// The entry of a key is what the last word that writes it gives it, and the default where no
-/// word writes it.
+/// The entry of a key is what the last word of a page that writes it gives it, and the default where
+/// no word writes it.
 pub fn last_writer()
-    ensures written { (before : List ℕ) (word : ℕ) (after : List ℕ) (layer key code : ℕ) → written_by_word word layer key ≡ Some code → NoneWrites after layer key → entry (before ++ word ∷ after) layer key ≡ code }
-    ensures default { (words : List ℕ) (layer key : ℕ) → NoneWrites words layer key → entry words layer key ≡ default_code layer key }
+    ensures written { (format : ℕ) (before : List ℕ) (word : ℕ) (after : List ℕ) (layer key code : ℕ) → written_by_word format word layer key ≡ Some code → NoneWrites format after layer key → entry_in format (before ++ word ∷ after) layer key ≡ code }
+    ensures default { (format : ℕ) (words : List ℕ) (layer key : ℕ) → NoneWrites format words layer key → entry_in format words layer key ≡ default_code layer key }
+{}
+
+/// Each entry that words give is a code.
+pub fn entries_are_codes()
+    ensures { (format : ℕ) (words : List ℕ) (layer key : ℕ) → key < keys → IsTrue (is_code (entry_in format words layer key)) }
 {}
 
 /// The words of the commands that `next_changed` gives, one after the other from place 0 on, have
-/// the entries of the keymap; they are at most 384.
+/// the entries of the keymap on a page of format 2; they are at most 384.
 pub fn copies()
     ensures start { (entries : ℕ → ℕ → ℕ) → AreCopies entries 0 [] }
     ensures next { (entries : ℕ → ℕ → ℕ) (from place : ℕ) (command : Command) (words : List ℕ) → AreCopies entries from words → IsNextChanged entries from place command → IsCommand command → AreCopies entries (place + 1) (words ++ word_of command ∷ []) }
     ensures end { (entries : ℕ → ℕ → ℕ) (from : ℕ) (words : List ℕ) → from ≤ places → AreCopies entries from words → IsDefaultFrom entries from → AreCopies entries places words }
-    ensures same_entries { (entries : ℕ → ℕ → ℕ) (words : List ℕ) (layer key : ℕ) → AreCopies entries places words → layer < layers → key < keys → entry words layer key ≡ entries layer key }
+    ensures same_entries { (entries : ℕ → ℕ → ℕ) (words : List ℕ) (layer key : ℕ) → AreCopies entries places words → layer < layers → key < keys → entry_in 2 words layer key ≡ entries layer key }
     ensures count { (entries : ℕ → ℕ → ℕ) (place : ℕ) (words : List ℕ) → AreCopies entries place words → length words ≤ place }
 {}
 

@@ -2,15 +2,20 @@
 
 ghost use Rattle.std.specs.Prelude.{◌≡◌, ℕ};
 ghost use Rattle.layers.specs.Codes.{default_code};
-ghost use Rattle.layers.specs.Entries.{entry, written_by_word};
+ghost use Rattle.layers.specs.Entries.{entry_in, written_by_word};
 
 use crate::{Code, Command, KeyNo, LayerNo};
 
-/// The code that a word gives the entry, if it is a command that writes it.
-fn written(word: u32, layer: LayerNo, key: KeyNo) -> Option<Code>
-    ensures { result ≡ written_by_word word layer key }
+/// The code that a word of a page of this format gives the entry, if it is a command that writes it.
+fn written(format: u8, word: u32, layer: LayerNo, key: KeyNo) -> Option<Code>
+    ensures { result ≡ written_by_word format word layer key }
 {
-    match Command::from_word(word)? {
+    let command = if format == 1 {
+        Command::from_format_1(word)
+    } else {
+        Command::from_word(word)
+    };
+    match command? {
         Command::SetKey {
             layer: l,
             key: k,
@@ -37,11 +42,11 @@ fn standard(layer: LayerNo, key: KeyNo) -> Code
 }
 
 /// The code of the last word that writes the entry, else the default.
-pub fn entry(words: &[u32], layer: LayerNo, key: KeyNo) -> Code
-    ensures { result ≡ entry words.now layer key }
+pub fn entry(format: u8, words: &[u32], layer: LayerNo, key: KeyNo) -> Code
+    ensures { result ≡ entry_in format words.now layer key }
 {
     for later in 0..words.len() {
-        if let Some(code) = written(words[words.len() - 1 - later], layer, key) {
+        if let Some(code) = written(format, words[words.len() - 1 - later], layer, key) {
             return code;
         }
     }

@@ -1,4 +1,4 @@
-use crate::{Code, Command, Held, KeyNo, Keymap, KeymapError, LayerNo, plain, plain_held};
+use crate::{Code, Command, Held, KeyNo, Keymap, KeymapError, LayerNo, Usages, plain, plain_held};
 use std::process::Abort;
 
 fn layer(number: u8, rt: &impl Abort) -> LayerNo {
@@ -12,13 +12,13 @@ fn key(number: u8, rt: &impl Abort) -> KeyNo {
 #[test]
 fn the_codes(rt: HostRuntime) {
     for bits in [
-        0x0000, 0x0001, 0x0004, 0x00A4, 0x00E0, 0x00E7, 0x4000, 0x400F, 0x5001, 0x5003,
+        0x0000, 0x0001, 0x0004, 0x00A4, 0x00E0, 0x00E7, 0x4001, 0x43FF, 0x5001, 0x5003,
     ] {
         let code = Code::read(bits);
         assert_eq!(rt; code.map(|c| c.bits()), Ok(bits), "at {bits}");
     }
     for bits in [
-        0x0002, 0x0003, 0x00A5, 0x00DF, 0x00E8, 0x3FFF, 0x4010, 0x5000, 0x5004, 0xFFFF,
+        0x0002, 0x0003, 0x00A5, 0x00DF, 0x00E8, 0x3FFF, 0x4000, 0x4400, 0x5000, 0x5004, 0xFFFF,
     ] {
         assert_eq!(rt; Code::read(bits), Err(KeymapError::BadCode), "at {bits}");
     }
@@ -30,6 +30,8 @@ fn layers_and_keys(rt: HostRuntime) {
     assert_eq!(rt; LayerNo::read(4), Err(KeymapError::BadLayer));
     assert_eq!(rt; KeyNo::read(95).map(|k| k.number()), Ok(95));
     assert_eq!(rt; KeyNo::read(96), Err(KeymapError::BadKey));
+    assert_eq!(rt; LayerNo::known(0).number(), 0);
+    assert_eq!(rt; KeyNo::known(95), key(95, &rt));
 }
 
 #[test]
@@ -51,7 +53,7 @@ fn the_checks_of_a_command(rt: HostRuntime) {
 fn commands_and_their_words(rt: HostRuntime) {
     for (op, l, k, code, word) in [
         (1, 0, 0, 0x0005, 0x1000_0005),
-        (1, 3, 95, 0x400D, 0x135F_400D),
+        (1, 3, 95, 0x4192, 0x135F_4192),
         (2, 3, 0, 0, 0x2300_0000),
         (3, 0, 0, 0, 0x3000_0000),
     ] {
@@ -64,6 +66,8 @@ fn commands_and_their_words(rt: HostRuntime) {
         0x1400_0004,
         0x1060_0004,
         0x1000_00A5,
+        0x1000_4000,
+        0x1000_4400,
         0x2400_0000,
         0x2000_0001,
         0x2001_0000,
@@ -73,6 +77,53 @@ fn commands_and_their_words(rt: HostRuntime) {
         0xFFFF_FFFF,
     ] {
         assert_eq!(rt; Command::from_word(word), None, "at {word}");
+    }
+}
+
+#[test]
+fn words_of_format_1(rt: HostRuntime) {
+    let usages = [
+        0xB0, 0xB1, 0xB2, 0xB3, 0xB4, 0xB5, 0xB6, 0xB7, 0xB8, 0xCD, 0xE2, 0xE9, 0xEA, 0x192, 0x223,
+        0x224,
+    ];
+    for i in 0..16 {
+        let command = Command::read(1, 2, 3, 0x4000 + usages[i]).expect(&rt, "a command");
+        assert_eq!(rt;
+            Command::from_format_1(0x1203_4000 + i as u32),
+            Some(command),
+            "at {i}"
+        );
+    }
+    for word in [
+        0x1000_0000,
+        0x1000_0001,
+        0x135F_00A4,
+        0x1000_00E7,
+        0x1000_5003,
+        0x2300_0000,
+        0x3000_0000,
+    ] {
+        assert_eq!(rt;
+            Command::from_format_1(word),
+            Command::from_word(word),
+            "at {word}"
+        );
+    }
+    for word in [
+        0x1000_4010,
+        0x1000_4192,
+        0x1000_43FF,
+        0x1000_4400,
+        0x1000_5000,
+        0x1000_5004,
+        0x1000_00A5,
+        0x2300_4000,
+        0x3000_4000,
+        0x1060_4000,
+        0x1400_4000,
+        0x0000_4000,
+    ] {
+        assert_eq!(rt; Command::from_format_1(word), None, "at {word}");
     }
 }
 
@@ -137,18 +188,25 @@ fn the_table_is_the_look_back(rt: HostRuntime) {
         0x1001_0009,
         0x1001_000A,
     ];
-    let mut keymap = Keymap::standard();
-    for n in 0..words.len() {
-        for (l, k) in [(0, 0), (0, 1), (0, 3), (1, 5), (2, 95), (3, 95)] {
-            let (l, k) = (layer(l, &rt), key(k, &rt));
-            assert_eq!(rt;
-                keymap.get(l, k),
-                plain::entry(&words[..n], l, k),
-                "after {n} words"
-            );
-        }
-        if let Some(command) = Command::from_word(words[n]) {
-            keymap.apply(command);
+    for format in 1..3 {
+        let mut keymap = Keymap::standard();
+        for n in 0..words.len() {
+            for (l, k) in [(0, 0), (0, 1), (0, 3), (1, 5), (2, 95), (3, 95)] {
+                let (l, k) = (layer(l, &rt), key(k, &rt));
+                assert_eq!(rt;
+                    keymap.get(l, k),
+                    plain::entry(format, &words[..n], l, k),
+                    "after {n} words of format {format}"
+                );
+            }
+            let command = if format == 1 {
+                Command::from_format_1(words[n])
+            } else {
+                Command::from_word(words[n])
+            };
+            if let Some(command) = command {
+                keymap.apply(command);
+            }
         }
     }
 }
@@ -292,7 +350,7 @@ fn the_highest_layer_counts_and_the_code_stays(rt: HostRuntime) {
         &[
             (0, 1, 0x5003),
             (0, 2, 0x5001),
-            (1, 0, 0x400D),
+            (1, 0, 0x4192),
             (3, 0, 0x00E7),
             (1, 2, 0x0005),
         ],
@@ -304,21 +362,128 @@ fn the_highest_layer_counts_and_the_code_stays(rt: HostRuntime) {
     held.press(&keymap, key(0, &rt));
     assert_eq!(rt; bits_of(&held, 0, &rt), Some(0x00E7));
     assert_eq!(rt; held.usages().modifiers(), 0x80);
-    held.press(&Keymap::standard(), key(0, &rt));
-    assert_eq!(rt; bits_of(&held, 0, &rt), Some(0x00E7));
     held.release(key(5, &rt));
     held.release(key(1, &rt));
     assert_eq!(rt; bits_of(&held, 0, &rt), Some(0x00E7));
     held.release(key(0, &rt));
     held.press(&keymap, key(0, &rt));
-    assert_eq!(rt; bits_of(&held, 0, &rt), Some(0x400D));
-    assert!(rt; held.usages().has_consumer(13));
-    assert!(rt; !held.usages().has_consumer(12));
-    assert!(rt; !held.usages().has_consumer(255));
+    assert_eq!(rt; bits_of(&held, 0, &rt), Some(0x4192));
+    assert!(rt; held.usages().has_consumer(0x192));
+    assert!(rt; !held.usages().has_consumer(0x191));
+    assert!(rt; !held.usages().has_consumer(0));
+    assert!(rt; !held.usages().has_consumer(0xFFFF));
     // The key that activates a layer keeps its own code.
     held.release(key(0, &rt));
     held.press(&keymap, key(0, &rt));
     assert_eq!(rt; bits_of(&held, 2, &rt), Some(0x5001));
+}
+
+#[test]
+fn a_press_of_a_held_key_changes_nothing(rt: HostRuntime) {
+    let mut held = Held::new();
+    held.press(&Keymap::standard(), key(0, &rt));
+    let other = keymap_with(&[(0, 0, 0x40E9), (0, 1, 0x40EA)], &rt);
+    held.press(&other, key(0, &rt));
+    assert_eq!(rt; bits_of(&held, 0, &rt), Some(0x0004));
+    assert!(rt; held.usages().has_key(0x04));
+    assert!(rt; !held.usages().has_consumer(0xE9));
+    held.press(&other, key(1, &rt));
+    assert!(rt; held.usages().has_consumer(0xEA));
+    held.release(key(0, &rt));
+    held.press(&other, key(0, &rt));
+    assert_eq!(rt; bits_of(&held, 0, &rt), Some(0x40E9));
+    assert!(rt; !held.usages().has_key(0x04));
+    // A release of a key that is not held.
+    held.release(key(5, &rt));
+    assert!(rt; held.usages().has_consumer(0xE9));
+}
+
+#[test]
+fn the_next_consumer_usage(rt: HostRuntime) {
+    let keymap = keymap_with(
+        &[
+            (0, 0, 0x4001),
+            (0, 1, 0x403F),
+            (0, 2, 0x4040),
+            (0, 3, 0x4041),
+            (0, 4, 0x4180),
+            (0, 5, 0x43FF),
+        ],
+        &rt,
+    );
+    let mut held = Held::new();
+    assert_eq!(rt; held.usages().next_consumer(0), None);
+    for k in [5, 3, 1, 0, 2, 4] {
+        held.press(&keymap, key(k, &rt));
+    }
+    for (from, next) in [
+        (0, 0x001),
+        (1, 0x001),
+        (2, 0x03F),
+        (0x3F, 0x03F),
+        (0x40, 0x040),
+        (0x41, 0x041),
+        (0x42, 0x180),
+        (0x180, 0x180),
+        (0x181, 0x3FF),
+        (0x3FF, 0x3FF),
+    ] {
+        assert_eq!(rt;
+            held.usages().next_consumer(from),
+            Some(next),
+            "from {from}"
+        );
+    }
+    for from in [0x400, 0x401, 0xFFFF] {
+        assert_eq!(rt; held.usages().next_consumer(from), None, "from {from}");
+    }
+    held.release(key(5, &rt));
+    assert_eq!(rt; held.usages().next_consumer(0x181), None);
+}
+
+#[test]
+fn the_bits_of_the_keys(rt: HostRuntime) {
+    let keymap = Keymap::standard();
+    let mut held = Held::new();
+    for k in [0, 4, 87, 88, 95] {
+        held.press(&keymap, key(k, &rt));
+    }
+    let usages = held.usages();
+    let bits = usages.key_bits();
+    for usage in 0..=255 {
+        let bit = (bits[usage / 8] >> (usage % 8)) & 1 == 1;
+        assert_eq!(rt; bit, usages.has_key(usage as u8), "at {usage}");
+    }
+    assert_eq!(rt; bits[0], 0x10);
+    assert_eq!(rt; bits[28], 0x81);
+}
+
+/// The usages of held keys with these codes.
+fn usages_of(codes: &[u16], rt: &impl Abort) -> Usages {
+    let mut held = Held::new();
+    for (k, code) in (0..96u8).zip(codes) {
+        held.press(&keymap_with(&[(0, k, *code)], rt), key(k, rt));
+    }
+    held.usages()
+}
+
+// Two sets are the same where they have the same usages, however many keys name one.
+#[test]
+fn the_same_usages(rt: HostRuntime) {
+    let rows: &[(&[u16], &[u16], bool)] = &[
+        (&[], &[0x0000], true),
+        (&[0x04, 0x4001], &[0x4001, 0x04, 0x04], true),
+        (&[0x04], &[0x05], false),
+        (&[0x04], &[], false),
+        (&[], &[0xE7], false),
+        (&[0x4001], &[0x43FF], false),
+        (&[0x04], &[0x04, 0x43FF], false),
+    ];
+    for (one, other, same) in rows {
+        let one = usages_of(one, &rt);
+        assert_eq!(rt; one.same(&usages_of(other, &rt)), *same);
+    }
+    assert!(rt; Usages::none().same(&usages_of(&[], &rt)));
 }
 
 #[test]

@@ -1,19 +1,22 @@
 //! The usages of the keys that are held, as sets of bits.
 
-ghost use Rattle.std.specs.Prelude.{◌≡◌, ◌+◌, ◌*◌, ◌/◌, ◌<◌, ◌==◌, ◌||◌, ℕ, List, false, length};
+ghost use Rattle.std.specs.Prelude.{◌≡◌, ◌+◌, ◌*◌, ◌/◌, ◌<◌, ◌≤◌, ◌==◌, ◌||◌, ℕ, List, true, false, length, slice_index, MatchOption, IfSome, IsTrue, ◌↔◌};
 ghost use Rattle.std.specs.Int.{bit_at};
 ghost use Rattle.layers.specs.Codes.{names_key_usage, names_consumer};
-ghost use Rattle.layers.specs.Usages.{has_bit, has_key, has_consumer};
+ghost use Rattle.layers.specs.Usages.{has_bit, has_key, has_consumer, IsNext, PassesNoneFrom, IsNextConsumer, HasNoConsumerFrom};
 
 use crate::Code;
 use std::marker::Model;
 
-/// A set of usages of the keyboard page 07h (HUT section 10), and one of the 16 usages of the
-/// consumer page 0Ch (HUT section 15) that codes can name.
-#[derive(Drop)]
+/// How many words of 64 bits hold the usages 000h to 3FFh.
+const CONSUMER_WORDS: usize = 16;
+
+/// A set of usages of the keyboard page 07h (HUT section 10), and one of usages 001h to 3FFh of the
+/// consumer page 0Ch (HUT section 15).
+#[derive(Clone, Copy)]
 pub struct Usages {
     keys: [u8; 32],
-    consumer: [u8; 2],
+    consumer: [u64; CONSUMER_WORDS],
 }
 
 impl Model for Usages {
@@ -22,27 +25,29 @@ impl Model for Usages {
 
     ghost Value = { UsageSets };
 
-    ghost view = { λ u. record { key_bits = u.keys; consumer_bits = u.consumer } };
+    ghost view = { λ u. record { key_bits = u.keys; consumer_words = u.consumer } };
 
-    ghost invariant = { λ u. (length u.keys ≡ 32) × (length u.consumer ≡ 2) };
+    ghost invariant = { λ u. (length u.keys ≡ 32) × (length u.consumer ≡ 16) };
+
+    ghost inverse = { λ s. record { keys = s.key_bits; consumer = s.consumer_words } };
 }
 
 impl Usages {
     /// No usage.
-    pub(crate) fn none() -> Usages
+    pub fn none() -> Usages
         ensures no_keys { (usage : ℕ) → has_key result usage ≡ false }
-        ensures no_consumer { (index : ℕ) → has_consumer result index ≡ false }
+        ensures no_consumer { (usage : ℕ) → has_consumer result usage ≡ false }
     {
         Usages {
             keys: [0; 32],
-            consumer: [0; 2],
+            consumer: [0; CONSUMER_WORDS],
         }
     }
 
     /// Adds the usage that a code names, if it names one.
     pub(crate) fn add(&mut self, code: Code)
         ensures keys { (usage : ℕ) → has_key self.new usage ≡ (names_key_usage usage code || has_key self.old usage) }
-        ensures consumer { (index : ℕ) → has_consumer self.new index ≡ (names_consumer index code || has_consumer self.old index) }
+        ensures consumer { (usage : ℕ) → has_consumer self.new usage ≡ (names_consumer usage code || has_consumer self.old usage) }
     {
         insert_key_usage(&mut self.keys, code);
         insert_consumer(&mut self.consumer, code);
@@ -52,7 +57,7 @@ impl Usages {
     pub fn has_key(&self, usage: u8) -> bool
         ensures { result ≡ has_key self.now usage }
     {
-        contains(&self.keys, usage)
+        (self.keys[usage as usize / 8] >> (usage % 8)) & 1 == 1
     }
 
     /// The modifiers in the set: bit i is usage E0h + i of page 07h.
@@ -62,47 +67,92 @@ impl Usages {
         self.keys[0xE0 / 8]
     }
 
-    /// Whether the consumer usage of this index is in the set; none is from index 16 on. Indexes 0
-    /// to 15 stand for the usages B0h to B8h, CDh, E2h, E9h, EAh, 192h, 223h and 224h.
-    pub fn has_consumer(&self, index: u8) -> bool
-        ensures { result ≡ has_consumer self.now index }
+    /// The set of page 07h as bits: bit i of byte b is usage 8 * b + i.
+    pub fn key_bits(&self) -> &[u8; 32]
+        ensures size { length result.now ≡ 32 }
+        ensures bits { (byte i : ℕ) → i < 8 → (bit_at (slice_index result.now byte) i == 1) ≡ has_key self.now (8 * byte + i) }
     {
-        index < 16 && contains(&self.consumer, index)
+        &self.keys
     }
+
+    /// Whether a usage of page 0Ch is in the set.
+    pub fn has_consumer(&self, usage: u16) -> bool
+        ensures { result ≡ has_consumer self.now usage }
+    {
+        usage < 0x400 && (self.consumer[usage as usize / 64] >> (usage % 64)) & 1 == 1
+    }
+
+    /// The least usage of page 0Ch in the set that is at or after `from`, if there is one.
+    pub fn next_consumer(&self, from: u16) -> Option<u16>
+        ensures next { MatchOption result (HasNoConsumerFrom self.now from) (λ usage. IsNextConsumer self.now from usage) }
+        ensures within { IfSome result (λ usage. usage < 0x400) }
+    {
+        next_member(&self.consumer, from)
+    }
+
+    /// Whether both have the same usages.
+    pub fn same(&self, other: &Usages) -> bool
+        ensures { IsTrue result ↔ (self.now ≡ other.now) }
+    {
+        self.keys == other.keys && self.consumer == other.consumer
+    }
+}
+
+/// The least number at or after `from` in a set of bits, 64 to a word, if there is one.
+fn next_member(words: &[u64], from: u16) -> Option<u16>
+    requires { length words.now ≡ 16 }
+    ensures next { MatchOption result (PassesNoneFrom (has_bit 64 words.now) from) (λ number. IsNext (has_bit 64 words.now) from number) }
+    ensures within { IfSome result (λ number. number < 0x400) }
+{
+    let first = from as usize / 64;
+    if first >= words.len() {
+        return None;
+    }
+    let bits = words[first] >> (from % 64);
+    if bits != 0 {
+        return Some(from + bits.trailing_zeros() as u16);
+    }
+    for place in first + 1..words.len() {
+        let bits = words[place];
+        if bits != 0 {
+            return Some(64 * place as u16 + bits.trailing_zeros() as u16);
+        }
+    }
+    None
 }
 
 /// Adds the usage of page 07h that a code names, if it names one.
 fn insert_key_usage(set: &mut [u8], code: Code)
     requires { length set.old ≡ 32 }
-    ensures { (usage : ℕ) → has_bit set.new usage ≡ (names_key_usage usage code || has_bit set.old usage) }
+    ensures { (usage : ℕ) → has_bit 8 set.new usage ≡ (names_key_usage usage code || has_bit 8 set.old usage) }
 {
     if let Some(usage) = code.key_usage() {
-        insert(set, usage);
+        insert_byte_bit(set, usage);
     }
 }
 
-/// Adds the index of the consumer usage that a code names, if it names one.
-fn insert_consumer(set: &mut [u8], code: Code)
-    requires { length set.old ≡ 2 }
-    ensures { (index : ℕ) → has_bit set.new index ≡ (names_consumer index code || has_bit set.old index) }
+/// Adds the usage of page 0Ch that a code names, if it names one.
+fn insert_consumer(set: &mut [u64], code: Code)
+    requires { length set.old ≡ 16 }
+    ensures { (usage : ℕ) → has_bit 64 set.new usage ≡ (names_consumer usage code || has_bit 64 set.old usage) }
 {
-    if let Some(index) = code.consumer_index() {
-        insert(set, index);
+    if let Some(usage) = code.consumer_usage() {
+        insert_word_bit(set, usage);
     }
 }
 
 /// Adds a number to a set of bits, eight to a byte.
-fn insert(set: &mut [u8], number: u8)
+fn insert_byte_bit(set: &mut [u8], number: u8)
     requires { number / 8 < length set.old }
-    ensures { (other : ℕ) → has_bit set.new other ≡ ((number == other) || has_bit set.old other) }
+    ensures { (other : ℕ) → has_bit 8 set.new other ≡ ((number == other) || has_bit 8 set.old other) }
 {
     set[number as usize / 8] |= 1 << (number % 8);
 }
 
-/// Whether a number is in a set of bits, eight to a byte.
-fn contains(set: &[u8], number: u8) -> bool
-    requires { number / 8 < length set.now }
-    ensures { result ≡ has_bit set.now number }
+/// Adds a number to a set of bits, 64 to a word.
+fn insert_word_bit(set: &mut [u64], number: u16)
+    requires { number / 64 < length set.old }
+    ensures { (other : ℕ) → has_bit 64 set.new other ≡ ((number == other) || has_bit 64 set.old other) }
 {
-    (set[number as usize / 8] >> (number % 8)) & 1 == 1
+    set[number as usize / 64] |= 1 << (number % 64);
 }

@@ -1,12 +1,12 @@
-use Rattle.std.proofs.Common.{◌≡◌, ◌+◌, ◌-◌, ◌*◌, ◌/◌, ◌%◌, ◌<◌, ◌≤◌, ℕ, zero, suc, Bool, true, false, List, [], ◌∷◌, ◌++◌, length, replicate, get_or, arith, refl, ◌∙◌, ap, inl, inr, nat_lt, if◌then◌else◌, length-append}
+use Rattle.std.proofs.Common.{◌≡◌, ◌+◌, ◌-◌, ◌*◌, ◌/◌, ◌%◌, ◌<◌, ◌≤◌, ℕ, zero, suc, Bool, true, false, List, [], ◌∷◌, ◌++◌, length, replicate, take, get_or, length-take, arith, refl, ◌∙◌, ap, inl, inr, nat_lt, if◌then◌else◌, length-append}
 use Rattle.std.specs.Int.{bit_at}
 use Rattle.std.proofs.Math.ListN.{get_or-append}
 use Rattle.std.proofs.Math.Seq.{get_or-append_seam, get_or-append_right}
 use Rattle.std.proofs.lemmas.Bool.{cases_eq}
 use Rattle.std.proofs.lemmas.Bool.Decides.{nat_tests}
-use Rattle.std.proofs.lemmas.List.{get_or-replicate}
-use Rattle.reports.specs.Wanted.{members, listed, places_of, bytes_of, byte_of, boot_bytes, bitmap_bytes, bitmap_bit, consumer_bytes}
-use Rattle.reports.specs.Layouts.{IsBootReport, IsBitmapReport, IsConsumerReport, bit_of}
+use Rattle.std.proofs.lemmas.List.{get_or-replicate, get_or-take, length-replicate}
+use Rattle.reports.specs.Wanted.{members, listed, places_of, bytes_of, byte_of, boot_bytes, bitmap_bytes, bitmap_bit, consumer_listed, words_of, padded, consumer_bytes}
+use Rattle.reports.specs.Layouts.{IsBootReport, IsBitmapReport, IsConsumerReport, bit_of, word_after_id}
 use Rattle.reports.proofs.Members.{members-in, length-members-mono, length-places_of, le_test, gt_test}
 use Rattle.reports.proofs.Bits.{bit_at-byte_of}
 
@@ -110,10 +110,56 @@ bitmap-layout keys = record {
   padding = λ b low high. bit_after 1 (bitmap_bit keys) 22 b (omega arith) ∙ ap (λ b. bit_of b) (bitmap_bit-padding keys b low);
 }
 
+-- ---- four places of two bytes
+
+words_of-low : (xs : List ℕ) (p : ℕ) → get_or (words_of xs) (2 * p) 0 ≡ get_or xs p 0 % 256
+unfolding words_of
+words_of-low [] p = refl
+words_of-low (x ∷ xs) zero = refl
+words_of-low (x ∷ xs) (suc p) = let e : 2 * suc p ≡ suc (suc (2 * p)) = omega arith in rw e (words_of-low xs p)
+
+words_of-high : (xs : List ℕ) (p : ℕ) → get_or (words_of xs) (2 * p + 1) 0 ≡ get_or xs p 0 / 256
+unfolding words_of
+words_of-high [] p = refl
+words_of-high (x ∷ xs) zero = refl
+words_of-high (x ∷ xs) (suc p) = let e : 2 * suc p + 1 ≡ suc (suc (2 * p + 1)) = omega arith in rw e (words_of-high xs p)
+
+-- the number in a place after the ID
+word-after : (xs : List ℕ) (p : ℕ) → word_after_id (2 ∷ words_of xs) p ≡ get_or xs p 0
+word-after xs p =
+    let a : 1 + 2 * p ≡ suc (2 * p) = omega arith in
+    let b : 2 + 2 * p ≡ suc (2 * p + 1) = omega arith in
+    rw (a, b) (rw (words_of-low xs p, words_of-high xs p) (omega arith))
+
+length-words_of : (xs : List ℕ) → length (words_of xs) ≡ 2 * length xs
+unfolding words_of
+length-words_of [] = refl
+length-words_of (x ∷ xs) = omega (arith, length-words_of xs)
+
+length-padded : (xs : List ℕ) → length xs ≤ 4 → length (padded xs) ≡ 4
+length-padded xs l = omega (arith, length-append xs (replicate {A = ℕ} (4 - length xs) 0), length-replicate {A = ℕ} (4 - length xs) 0)
+
+length-take4 : (xs : List ℕ) → length (take 4 xs) ≤ 4
+length-take4 xs = omega (arith, length-take 4 xs)
+
 pub consumer-layout : (consumer : ℕ → Bool) → IsConsumerReport consumer (consumer_bytes consumer)
 unfolding consumer_bytes
-consumer-layout consumer = record {
-  size = omega (arith, length-bytes_of consumer 2);
-  id = refl;
-  usages = λ i l. bit_after 2 consumer 2 i (omega arith);
-}
+consumer-layout consumer =
+    let usages = consumer_listed consumer in
+    let four = take 4 usages in
+    record {
+      size = omega (arith, length-words_of (padded four), length-padded four (length-take4 usages));
+      id = refl;
+      rising = λ u low high in_set few.
+          let at : 1 + (u - 1) ≡ u = omega arith in
+          let e : consumer (1 + (u - 1)) ≡ true = rw at in_set in
+          let p = length (members consumer 1 (u - 1)) in
+          let there : p < length usages = members-length consumer 1 (u - 1) 1023 (omega arith) e in
+          let here : p < length four = omega (arith, length-take 4 usages) in
+          word-after (padded four) p ∙ get_or-append four (replicate (4 - length four) 0) 0 p here ∙ get_or-take 4 usages p 0 few
+          ∙ members-at consumer 1 (u - 1) 1023 0 (omega arith) e ∙ at;
+      zeros = λ p past l.
+          let all : length four ≤ p = omega (arith, length-take 4 usages) in
+          word-after (padded four) p ∙ get_or-append_right four (replicate (4 - length four) 0) p 0 all
+          ∙ get_or-replicate_default (4 - length four) (p - length four) 0;
+    }

@@ -1,6 +1,14 @@
 pub mod Members
 pub mod Bits
 pub mod Empty
-pub mod Due
 pub mod LayoutLaws
 pub mod Rising
+pub mod Waiting
+pub mod Rule
+pub mod Due
+pub mod ByteBits
+pub mod Following
+pub mod Mapped
+pub mod FromLast
+pub mod LatestPoll
+pub mod Ring

@@ -1,11 +1,28 @@
-use Rattle.std.specs.Prelude.{ℕ, List, Option}
+use Rattle.std.specs.Prelude.{ℕ, Bool, true, false, List, Option}
 use Rattle.reports.specs.declared.Protocol.{Protocol}
 use Rattle.reports.specs.declared.IdleId.{IdleId}
+use Rattle.reports.specs.declared.Input.{Input}
 
--- a call of a poller; a poll with the protocol in force and the bytes that it answered, if any
+-- a call of a poller
 pub data PollerCall : Type 0 where
-  ticked : PollerCall
-  polled : Protocol → Option (List ℕ) → PollerCall
-  idle_set : IdleId → ℕ → PollerCall
+  -- a scan in this protocol, with the bytes that each report has to have before it and now
+  ticked : (protocol : Protocol) → (before now : Input → List ℕ) → PollerCall
+  -- a poll in this protocol, with the bytes that it answered, if any
+  polled : (protocol : Protocol) → (answer : Option (List ℕ)) → PollerCall
+  idle_set : (id : IdleId) → (duration : ℕ) → PollerCall
   forgot : PollerCall
   was_reset : PollerCall
+
+-- whether nothing that was sent or pushed before the call counts
+abbrev pub forgets : PollerCall → Bool
+forgets forgot = true
+forgets was_reset = true
+forgets _ = false
+
+abbrev pub is_tick : PollerCall → Bool
+is_tick (ticked protocol before now) = true
+is_tick _ = false
+
+abbrev pub is_poll : PollerCall → Bool
+is_poll (polled protocol answer) = true
+is_poll _ = false

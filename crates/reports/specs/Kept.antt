@@ -1,8 +1,17 @@
-use Rattle.std.specs.Prelude.{ℕ, List}
+-- What a poller keeps; callers know it only by the calls that it stands for.
+use Rattle.std.specs.Prelude.{ℕ, List, Option}
+use Rattle.reports.specs.declared.Input.{Input}
 
--- what a poller keeps; callers know it only by the calls that it stands for
+-- of one report
+pub record SentValue : Type 0 where
+  pub bytes : List ℕ
+  pub age : ℕ
+
 pub record Kept : Type 0 where
-  pub boot_bytes : List ℕ
-  pub boot_age : ℕ
+  pub boot : SentValue
+  pub one : SentValue
+  pub two : SentValue
+  pub sent_last : Option Input
+  pub queue : List (List ℕ)
   pub idle_one : ℕ
   pub idle_two : ℕ

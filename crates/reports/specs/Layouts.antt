@@ -1,8 +1,8 @@
 -- The layouts of the reports, said of each bit and place.
-use Rattle.std.specs.Prelude.{◌≡◌, ℕ, ◌+◌, ◌-◌, ◌/◌, ◌%◌, ◌<◌, ◌≤◌, ◌↔◌, Bool, true, List, length, Contains, slice_index, if◌then◌else◌}
+use Rattle.std.specs.Prelude.{◌≡◌, ℕ, ◌+◌, ◌-◌, ◌*◌, ◌/◌, ◌%◌, ◌<◌, ◌≤◌, ◌↔◌, Bool, true, List, length, Contains, slice_index, if◌then◌else◌}
 use Rattle.std.specs.Int.{bit_at}
 use Rattle.std.specs.List.Sorted.{IsStrictlyIncreasing}
-use Rattle.reports.specs.Wanted.{members, listed}
+use Rattle.reports.specs.Wanted.{members, listed, consumer_listed}
 
 -- the usages of a set that a boot report has to list, each once, rising
 pub record AreListed (keys : ℕ → Bool) (usages : List ℕ) : Type 0 where
@@ -44,8 +44,22 @@ pub record IsBitmapReport (keys : ℕ → Bool) (bytes : List ℕ) : Type 0 wher
   pub usages : (u : ℕ) → 4 ≤ u → u ≤ 164 → bit_after_id bytes (8 + (u - 4)) ≡ bit_of (keys u)
   pub padding : (b : ℕ) → 169 ≤ b → b < 176 → bit_after_id bytes b ≡ 0
 
+-- how many consumer usages a report has to list, and how many of them are less than u
+abbrev pub consumer_count : (ℕ → Bool) → ℕ
+consumer_count consumer = length (consumer_listed consumer)
+
+abbrev pub consumer_below : (ℕ → Bool) → ℕ → ℕ
+consumer_below consumer u = length (members consumer 1 (u - 1))
+
+-- the number of two bytes in place p after the ID, the low byte first
+abbrev pub word_after_id : List ℕ → ℕ → ℕ
+word_after_id bytes p = slice_index bytes (1 + 2 * p) + 256 * slice_index bytes (2 + 2 * p)
+
 -- the input report of ID 2
 pub record IsConsumerReport (consumer : ℕ → Bool) (bytes : List ℕ) : Type 0 where
-  pub size : length bytes ≡ 3
+  pub size : length bytes ≡ 9
   pub id : slice_index bytes 0 ≡ 2
-  pub usages : (i : ℕ) → i < 16 → bit_after_id bytes i ≡ bit_of (consumer i)
+  -- a usage with p lesser ones stands in place p, where there is such a place
+  pub rising : (u : ℕ) → 1 ≤ u → u ≤ 1023 → consumer u ≡ true → consumer_below consumer u < 4
+      → word_after_id bytes (consumer_below consumer u) ≡ u
+  pub zeros : (p : ℕ) → consumer_count consumer ≤ p → p < 4 → word_after_id bytes p ≡ 0

@@ -1,8 +1,11 @@
 pub mod Wanted
 pub mod Layouts
 pub mod Calls
+pub mod Queue
 pub mod Poll
+pub mod Answers
+pub mod LookBack
 pub mod Kept
 pub mod Stands
-pub mod Answers
+pub mod Next
 pub mod Plain

@@ -1,5 +1,5 @@
 -- What the calls and bytes of the plain program stand for.
-use Rattle.std.specs.Prelude.{ℕ, List}
+use Rattle.std.specs.Prelude.{ℕ, ◌-◌, nat_lt, if◌then◌else◌, List, length, slice_get, Option, None}
 use Rattle.std.specs.Option.{option_map}
 use Rattle.reports.specs.declared.Input.{Input}
 use Rattle.reports.specs.declared.Input.TheVariants.{Boot, One, Two}
@@ -8,14 +8,18 @@ use Rattle.reports.specs.declared.plain.Call.TheVariants as call
 use Rattle.reports.specs.declared.plain.Wanted.{Wanted}
 use Rattle.reports.specs.Calls.{PollerCall, ticked, polled, idle_set, forgot, was_reset}
 
+abbrev pub bytes_in : Wanted → Input → List ℕ
+bytes_in wanted Boot = wanted.boot
+bytes_in wanted One = wanted.one
+bytes_in wanted Two = wanted.two
+
 abbrev pub call_of : Call → PollerCall
-call_of call.Ticked = ticked
+call_of (call.Ticked protocol before now) = ticked protocol (bytes_in before) (bytes_in now)
 call_of (call.Polled protocol answer) = polled protocol (option_map (λ r. r.items) answer)
 call_of (call.IdleSet which duration) = idle_set which duration
 call_of call.Forgot = forgot
 call_of call.WasReset = was_reset
 
-abbrev pub bytes_in : Wanted → Input → List ℕ
-bytes_in wanted Boot = wanted.boot
-bytes_in wanted One = wanted.one
-bytes_in wanted Two = wanted.two
+-- the item of a list before its last `back` ones, if there is one
+abbrev pub from_last : List (List ℕ) → ℕ → Option (List ℕ)
+from_last items back = if nat_lt back (length items) then slice_get items (length items - back - 1) else None

@@ -1,6 +1,6 @@
 -- What a poll answers, by a look back over the poller's calls, newest first.
-use Rattle.std.specs.Prelude.{ℕ, ◌+◌, ◌*◌, ◌==◌, Bool, true, false, ◌&&◌, ◌||◌, not, List, [], ◌∷◌, Option, Some, None, is_some, unwrap_or, slice_index, if◌then◌else◌, nat_le}
-use Rattle.std.specs.Option.{option_map}
+use Rattle.std.specs.Prelude.{ℕ, ◌+◌, ◌*◌, ◌==◌, Bool, true, false, ◌&&◌, ◌||◌, not, List, [], ◌∷◌, length, Option, Some, None, is_some, unwrap_or, slice_get, if◌then◌else◌, nat_le}
+use Rattle.std.specs.Option.{option_map, option_or}
 use Rattle.std.specs.Str.{bytes_eq}
 use Rattle.reports.specs.declared.Protocol.{Protocol}
 use Rattle.reports.specs.declared.Protocol.TheVariants as protocol
@@ -8,43 +8,24 @@ use Rattle.reports.specs.declared.IdleId.{IdleId}
 use Rattle.reports.specs.declared.IdleId.TheVariants as id
 use Rattle.reports.specs.declared.Input.{Input}
 use Rattle.reports.specs.declared.Input.TheVariants.{Boot, One, Two}
-use Rattle.reports.specs.Calls.{PollerCall, ticked, polled, idle_set, forgot, was_reset}
+use Rattle.reports.specs.Calls.{PollerCall, polled, idle_set, was_reset, forgets, is_tick}
+use Rattle.reports.specs.Queue.{queue}
 use Rattle.reports.specs.Wanted.{wanted}
 
--- whether bytes that were answered in this protocol are this report: there are IDs in report protocol
--- alone
-abbrev pub is_report : Input → Protocol → List ℕ → Bool
-is_report Boot protocol.Boot bytes = true
-is_report Boot protocol.Report bytes = false
-is_report One protocol.Boot bytes = false
-is_report One protocol.Report bytes = slice_index bytes 0 == 1
-is_report Two protocol.Boot bytes = false
-is_report Two protocol.Report bytes = slice_index bytes 0 == 2
+-- how many bytes each report has
+abbrev pub size_of : Input → ℕ
+size_of Boot = 8
+size_of One = 23
+size_of Two = 9
+
+-- whether these bytes are this report: no two reports have the same length
+abbrev pub is_report : Input → List ℕ → Bool
+is_report report bytes = length bytes == size_of report
 
 -- the bytes of this report that the call answered
 abbrev pub sent_by : Input → PollerCall → Option (List ℕ)
-sent_by report (polled protocol (Some bytes)) =
-    if is_report report protocol bytes then Some bytes else None
-sent_by report (polled protocol None) = None
-sent_by report ticked = None
-sent_by report (idle_set which duration) = None
-sent_by report forgot = None
-sent_by report was_reset = None
-
--- whether nothing that was sent before the call counts
-abbrev pub forgets : PollerCall → Bool
-forgets forgot = true
-forgets was_reset = true
-forgets ticked = false
-forgets (polled protocol answer) = false
-forgets (idle_set which duration) = false
-
-abbrev pub is_tick : PollerCall → Bool
-is_tick ticked = true
-is_tick (polled protocol answer) = false
-is_tick (idle_set which duration) = false
-is_tick forgot = false
-is_tick was_reset = false
+sent_by report (polled protocol (Some bytes)) = if is_report report bytes then Some bytes else None
+sent_by report _ = None
 
 -- the last bytes sent of a report; those without usages if none were
 unfoldable pub last_bytes : Input → List PollerCall → List ℕ
@@ -91,9 +72,7 @@ idle_value report [] = default_idle report
 idle_value report (was_reset ∷ past) = default_idle report
 idle_value report (idle_set which duration ∷ past) =
     if is_for which report then duration else idle_value report past
-idle_value report (ticked ∷ past) = idle_value report past
-idle_value report (polled protocol answer ∷ past) = idle_value report past
-idle_value report (forgot ∷ past) = idle_value report past
+idle_value report (_ ∷ past) = idle_value report past
 
 -- its wanted bytes are not the last ones
 abbrev pub is_changed : (Input → List ℕ) → List PollerCall → Input → Bool
@@ -120,6 +99,10 @@ chosen protocol.Report bytes past =
     then one_of_two (is_changed bytes past) (sent_last past)
     else one_of_two (is_elapsed past) (sent_last past)
 
--- the answer of a poll that wants these bytes of each report
+-- the bytes of that report
+unfoldable pub rule_answer : Protocol → (Input → List ℕ) → List PollerCall → Option (List ℕ)
+rule_answer protocol bytes past = option_map bytes (chosen protocol bytes past)
+
+-- the answer of a poll that wants these bytes of each report: the first report that waits, else the poll rule's
 unfoldable pub poll_answer : Protocol → (Input → List ℕ) → List PollerCall → Option (List ℕ)
-poll_answer protocol bytes past = option_map bytes (chosen protocol bytes past)
+poll_answer protocol bytes past = option_or (slice_get (queue past) 0) (rule_answer protocol bytes past)

@@ -1,6 +1,6 @@
 -- The bytes of each report for a set of usages. A set is a test: `keys u` says that usage u of page
--- 07h is in it, `consumer i` that the usage at index i of the consumer list is.
-use Rattle.std.specs.Prelude.{ℕ, zero, suc, ◌+◌, ◌-◌, ◌*◌, ◌^◌, Bool, ◌&&◌, List, [], ◌∷◌, ◌++◌, length, replicate, if◌then◌else◌, nat_le, nat_lt}
+-- 07h is in it, `consumer u` that usage u of page 0Ch is.
+use Rattle.std.specs.Prelude.{ℕ, zero, suc, ◌+◌, ◌-◌, ◌*◌, ◌/◌, ◌%◌, ◌^◌, Bool, ◌&&◌, List, [], ◌∷◌, ◌++◌, length, take, replicate, if◌then◌else◌, nat_le, nat_lt}
 use Rattle.reports.specs.declared.Input.{Input}
 use Rattle.reports.specs.declared.Input.TheVariants.{Boot, One, Two}
 
@@ -49,9 +49,22 @@ bitmap_bit keys b = if nat_lt b 8 then keys (224 + b) else nat_lt b 169 && keys 
 unfoldable pub bitmap_bytes : (ℕ → Bool) → List ℕ
 bitmap_bytes keys = 1 ∷ bytes_of (bitmap_bit keys) 22
 
--- the input report of ID 2
+-- the usages 001h to 3FFh, rising
+abbrev pub consumer_listed : (ℕ → Bool) → List ℕ
+consumer_listed consumer = members consumer 1 1023
+
+-- numbers of two bytes, the low one first
+unfoldable pub words_of : List ℕ → List ℕ
+words_of [] = []
+words_of (n ∷ ns) = n % 256 ∷ n / 256 ∷ words_of ns
+
+-- four places: these usages and then zeros
+abbrev pub padded : List ℕ → List ℕ
+padded usages = usages ++ replicate (4 - length usages) 0
+
+-- the input report of ID 2: the usages, or the four least of more
 unfoldable pub consumer_bytes : (ℕ → Bool) → List ℕ
-consumer_bytes consumer = 2 ∷ bytes_of consumer 2
+consumer_bytes consumer = 2 ∷ words_of (padded (take 4 (consumer_listed consumer)))
 
 -- the bytes that an input report has for these usages
 abbrev pub wanted : (ℕ → Bool) → (ℕ → Bool) → Input → List ℕ

@@ -1,8 +1,10 @@
 //! The bytes of the reports.
 
-ghost use Rattle.std.specs.Prelude.{◌≡◌};
-ghost use Rattle.reports.specs.Wanted.{boot_bytes, places_of, listed};
-ghost use Rattle.layers.specs.Usages.{has_key};
+ghost use Rattle.std.specs.Prelude.{◌≡◌, ◌+◌, ◌-◌, ◌<◌, ◌==◌, ℕ, if◌then◌else◌, nat_lt};
+ghost use Rattle.std.specs.Int.{bit_at};
+ghost use Rattle.reports.specs.Next.{FindsNext};
+ghost use Rattle.reports.specs.Wanted.{boot_bytes, bitmap_bytes, consumer_bytes, places_of, listed};
+ghost use Rattle.layers.specs.Usages.{has_key, has_consumer};
 
 use layers::Usages;
 
@@ -13,6 +15,11 @@ const LAST_USAGE: u8 = 0xA4;
 
 /// Stands in each place of a boot report that has more usages than places (HUT page 07h).
 const ERROR_ROLL_OVER: u8 = 0x01;
+
+/// The Report IDs of the reports of the report protocol.
+const BITMAP_ID: u8 = 1;
+
+const CONSUMER_ID: u8 = 2;
 
 /// The boot keyboard's input report (HID 1.11 appendix B.1 and C): the modifiers, bit i for usage
 /// E0h + i, a byte 0, and six places. They hold the distinct usages 04h to A4h in rising order and
@@ -37,15 +44,92 @@ fn places(usages: &Usages) -> [u8; 6]
     ensures { result ≡ places_of (listed (has_key usages.now)) }
 {
     let mut places = [0; 6];
-    let mut used = 0;
-    for usage in FIRST_USAGE..=LAST_USAGE {
-        if usages.has_key(usage) {
-            if used == places.len() {
-                return [ERROR_ROLL_OVER; 6];
-            }
-            places[used] = usage;
-            used += 1;
+    let mut from = FIRST_USAGE;
+    for place in 0..6 {
+        match next_listed(usages, from) {
+            Some(usage) => {
+                places[place] = usage;
+                from = usage + 1;
+            },
+            None => return places,
         }
     }
-    places
+    match next_listed(usages, from) {
+        Some(_) => [ERROR_ROLL_OVER; 6],
+        None => places,
+    }
+}
+
+/// The least usage from `from` to A4h in the set, if there is one.
+fn next_listed(usages: &Usages, from: u8) -> Option<u8>
+    ensures { FindsNext (has_key usages.now) from 164 result }
+{
+    let bits = usages.key_bits();
+    for byte in from / 8..=LAST_USAGE / 8 {
+        if let Some(bit) = next_bit(bits[byte as usize], from.saturating_sub(8 * byte)) {
+            let usage = 8 * byte + bit;
+            return if usage <= LAST_USAGE {
+                Some(usage)
+            } else {
+                None
+            };
+        }
+    }
+    None
+}
+
+/// The least bit from `first` on that is set, if there is one.
+fn next_bit(byte: u8, first: u8) -> Option<u8>
+    requires { first < 8 }
+    ensures { FindsNext (λ i. bit_at byte i == 1) first 7 result }
+{
+    let rest = byte >> first;
+    if rest == 0 {
+        None
+    } else {
+        Some(first + rest.trailing_zeros() as u8)
+    }
+}
+
+/// The input report of ID 1: the ID, the modifiers, bit i for usage E0h + i, then a bit for each
+/// usage 04h to A4h, counted from the least significant bit of the first byte on, and seven bits 0.
+pub fn bitmap(usages: &Usages) -> [u8; 23]
+    ensures { result ≡ bitmap_bytes (has_key usages.now) }
+{
+    let bits = usages.key_bits();
+    let mut bytes = [0; 23];
+    bytes[0] = BITMAP_ID;
+    bytes[1] = usages.modifiers();
+    for place in 0..20 {
+        bytes[place + 2] = across(bits[place], bits[place + 1]);
+    }
+    bytes[22] = u8::from(usages.has_key(LAST_USAGE));
+    bytes
+}
+
+/// The byte of the high half of one byte and the low half of the next.
+fn across(low: u8, high: u8) -> u8
+    ensures { (i : ℕ) → i < 8 → bit_at result i ≡ (if nat_lt i 4 then bit_at low (i + 4) else bit_at high (i - 4)) }
+{
+    (low >> 4) | (high << 4)
+}
+
+/// The input report of ID 2: the ID and four places of two bytes, the low one first. They hold the
+/// usages 001h to 3FFh of page 0Ch in rising order and then zeros; of more than four the four least.
+pub fn consumer(usages: &Usages) -> [u8; 9]
+    ensures { result ≡ consumer_bytes (has_consumer usages.now) }
+{
+    let mut bytes = [CONSUMER_ID, 0, 0, 0, 0, 0, 0, 0, 0];
+    let mut from = 1;
+    for place in 0..4 {
+        match usages.next_consumer(from) {
+            Some(usage) => {
+                bytes[2 * place + 1] = (usage % 256) as u8;
+                bytes[2 * place + 2] = (usage / 256) as u8;
+                from = usage + 1;
+            },
+            None => return bytes,
+        }
+    }
+    bytes
 }

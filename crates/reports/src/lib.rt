@@ -1,17 +1,23 @@
-//! Input reports: the bytes of each report for a set of usages, and which of them a poll sends.
-//! In report protocol a poll has nothing to send: only the boot report is made.
+//! Input reports: the bytes of each report for a set of usages, and which of them a poll sends. A
+//! report that a scan changes waits in a queue of eight, so that the host sees a key that is pressed and
+//! released between two polls. `Poller::new` takes the queue's memory, and nothing else takes any.
 #![tactic(auto)]
 
 use arrayvec::ArrayVec;
 
 pub mod bytes;
+#[cfg(test)]
+mod histories;
 pub mod laws;
+mod made;
 pub mod plain;
 pub mod poller;
+mod queue;
+mod sent;
 #[cfg(test)]
 mod tests;
 
-pub use bytes::boot;
+pub use bytes::{bitmap, boot, consumer};
 pub use poller::Poller;
 
 /// The bytes of one report, with its Report ID first where the protocol has IDs.
@@ -44,6 +50,6 @@ pub enum Input {
     Boot,
     /// The keys as a bitmap, 23 bytes with Report ID 1, in report protocol.
     One,
-    /// The consumer usages, 3 bytes with Report ID 2, in report protocol.
+    /// The consumer usages, 9 bytes with Report ID 2, in report protocol.
     Two,
 }

@@ -1,30 +1,34 @@
-//! The poll rule as its definition says it: a plain, slow program that looks back over all calls of a
-//! poller, for the poller to be compared with.
+//! The answer of a poll as its definition says it: a plain, slow program that looks back over all calls
+//! of a poller, for the poller to be compared with. It shares no code with the poller.
 
-ghost use Rattle.std.specs.Prelude.{◌≡◌, ◌≤◌, ◌||◌, Bool, false, map, length, if◌then◌else◌};
+ghost use Rattle.std.specs.Prelude.{◌≡◌, ◌≤◌, ◌||◌, Bool, false, not, map, length, slice_get, if◌then◌else◌};
 ghost use Rattle.std.specs.Option.{option_map, option_copied};
+ghost use Rattle.std.specs.Str.{bytes_eq};
 ghost use Rattle.reports.specs.Wanted as wanted;
+ghost use Rattle.reports.specs.Calls as calls;
+ghost use Rattle.reports.specs.Queue as queue;
 ghost use Rattle.reports.specs.Poll as poll;
-ghost use Rattle.reports.specs.Plain.{call_of, bytes_in};
+ghost use Rattle.reports.specs.Plain.{call_of, bytes_in, from_last};
 
 use crate::{IdleId, Input, Protocol, Report};
 
-/// A call of a poller; a poll with the protocol in force and its answer.
+/// A call of a poller: a scan with the protocol in force and the bytes of each report before it and
+/// now, a poll with the protocol in force and its answer.
 #[derive(Drop)]
 pub enum Call {
-    Ticked,
+    Ticked(Protocol, Wanted, Wanted),
     Polled(Protocol, Option<Report>),
     IdleSet(IdleId, u8),
     Forgot,
     WasReset,
 }
 
-/// The bytes that each report has at a poll.
-#[derive(Drop)]
+/// The bytes that each report has at a scan or a poll.
+#[derive(Clone, Copy, Drop)]
 pub struct Wanted {
     pub boot: [u8; 8],
     pub one: [u8; 23],
-    pub two: [u8; 3],
+    pub two: [u8; 9],
 }
 
 static BOOT_UNUSED: [u8; 8] = [0; 8];
@@ -33,7 +37,7 @@ static ONE_UNUSED: [u8; 23] = [
     1, 0, 0, 0, 0, 0, 0, 0, 0, 0, 0, 0, 0, 0, 0, 0, 0, 0, 0, 0, 0, 0, 0,
 ];
 
-static TWO_UNUSED: [u8; 3] = [2, 0, 0];
+static TWO_UNUSED: [u8; 9] = [2, 0, 0, 0, 0, 0, 0, 0, 0];
 
 /// The bytes of a report for no usages.
 #[tactic(auto, using(crate::proofs::Empty::boot_bytes_none, crate::proofs::Empty::bitmap_bytes_none, crate::proofs::Empty::consumer_bytes_none))]
@@ -47,15 +51,14 @@ fn unused(report: Input) -> &'static [u8]
     }
 }
 
-/// Whether bytes that were answered in this protocol are this report.
-fn is_report(report: Input, protocol: Protocol, bytes: &[u8]) -> bool
-    ensures { result ≡ poll.is_report report protocol bytes.now }
+/// Whether these bytes are this report, by their number.
+fn is_report(report: Input, bytes: &[u8]) -> bool
+    ensures { result ≡ poll.is_report report bytes.now }
 {
-    match (report, protocol) {
-        (Input::Boot, Protocol::Boot) => true,
-        (Input::One, Protocol::Report) => !bytes.is_empty() && bytes[0] == 1,
-        (Input::Two, Protocol::Report) => !bytes.is_empty() && bytes[0] == 2,
-        _ => false,
+    match report {
+        Input::Boot => bytes.len() == 8,
+        Input::One => bytes.len() == 23,
+        Input::Two => bytes.len() == 9,
     }
 }
 
@@ -64,9 +67,9 @@ fn sent_by(report: Input, call: &Call) -> Option<&[u8]>
     ensures { option_copied result ≡ poll.sent_by report (call_of call.now) }
 {
     match call {
-        Call::Polled(protocol, Some(answer)) => {
+        Call::Polled(_, Some(answer)) => {
             let bytes = answer.as_slice();
-            if is_report(report, *protocol, bytes) {
+            if is_report(report, bytes) {
                 Some(bytes)
             } else {
                 None
@@ -77,7 +80,7 @@ fn sent_by(report: Input, call: &Call) -> Option<&[u8]>
 }
 
 fn forgets(call: &Call) -> bool
-    ensures { result ≡ poll.forgets (call_of call.now) }
+    ensures { result ≡ calls.forgets (call_of call.now) }
 {
     match call {
         Call::Forgot | Call::WasReset => true,
@@ -117,7 +120,7 @@ fn age(report: Input, past: &[Call]) -> usize
                 return 0;
             }
             match call {
-                Call::Ticked => age(report, earlier) + 1,
+                Call::Ticked(_, _, _) => age(report, earlier) + 1,
                 _ => age(report, earlier),
             }
         },
@@ -253,14 +256,117 @@ fn chosen(protocol: Protocol, wanted: &Wanted, past: &[Call]) -> Option<Input>
     }
 }
 
+/// Whether a scan changed the bytes of a report.
+fn changes(before: &Wanted, now: &Wanted, report: Input) -> bool
+    ensures { result ≡ not (bytes_eq (bytes_in before.now report) (bytes_in now.now report)) }
+{
+    bytes_in(before, report) != bytes_in(now, report)
+}
+
+/// How many reports a call pushes.
+#[tactic(auto, unfolding(crate::specs::Queue::pushed_by))]
+fn pushes(call: &Call) -> usize
+    ensures value { result ≡ length (queue.pushed_by (call_of call.now)) }
+    ensures bound { result ≤ 2 }
+{
+    match call {
+        Call::Ticked(Protocol::Boot, before, now) => usize::from(changes(before, now, Input::Boot)),
+        Call::Ticked(Protocol::Report, before, now) => {
+            usize::from(changes(before, now, Input::One))
+                + usize::from(changes(before, now, Input::Two))
+        },
+        _ => 0,
+    }
+}
+
+/// The report that a call pushed before the last `back` ones that it pushed, if there is one.
+#[tactic(auto, unfolding(crate::specs::Queue::pushed_by))]
+fn pushed_by(call: &Call, back: usize) -> Option<&[u8]>
+    ensures { option_copied result ≡ from_last (queue.pushed_by (call_of call.now)) back }
+{
+    match call {
+        Call::Ticked(Protocol::Boot, before, now) => {
+            if back == 0 && changes(before, now, Input::Boot) {
+                Some(&now.boot)
+            } else {
+                None
+            }
+        },
+        Call::Ticked(Protocol::Report, before, now) => {
+            let two = changes(before, now, Input::Two);
+            if back == 0 && two {
+                Some(&now.two)
+            } else if back == usize::from(two) && changes(before, now, Input::One) {
+                Some(&now.one)
+            } else {
+                None
+            }
+        },
+        _ => None,
+    }
+}
+
+/// How many reports wait.
+#[tactic(auto, unfolding(crate::specs::Queue::waiting))]
+fn waiting(past: &[Call]) -> usize
+    ensures value { result ≡ queue.waiting (map call_of past.now) }
+    ensures bound { result ≤ 8 }
+{
+    match past {
+        [] => 0,
+        [call, earlier @ ..] => {
+            if forgets(call) {
+                return 0;
+            }
+            match call {
+                Call::Polled(_, _) => waiting(earlier).saturating_sub(1),
+                _ => (waiting(earlier) + pushes(call)).min(8),
+            }
+        },
+    }
+}
+
+/// The report that was pushed before the last `back` ones, if there is one.
+#[tactic(auto, unfolding(crate::specs::Queue::pushed))]
+fn pushed(past: &[Call], back: usize) -> Option<&[u8]>
+    ensures { option_copied result ≡ from_last (queue.pushed (map call_of past.now)) back }
+{
+    match past {
+        [] => None,
+        [call, earlier @ ..] => {
+            if forgets(call) {
+                None
+            } else if back < pushes(call) {
+                pushed_by(call, back)
+            } else {
+                pushed(earlier, back - pushes(call))
+            }
+        },
+    }
+}
+
+/// The first report that waits.
+fn front(past: &[Call]) -> Option<&[u8]>
+    ensures { option_copied result ≡ slice_get (queue.queue (map call_of past.now)) 0 }
+{
+    let waiting = waiting(past);
+    if waiting == 0 {
+        return None;
+    }
+    pushed(past, waiting - 1)
+}
+
 /// The answer of a poll that wants these bytes of each report, after these calls, newest first.
-#[tactic(auto, unfolding(crate::specs::Poll::poll_answer))]
-pub fn poll_answer<'a>(protocol: Protocol, wanted: &'a Wanted, past: &[Call]) -> Option<&'a [u8]>
+#[tactic(auto, unfolding(crate::specs::Poll::poll_answer, crate::specs::Poll::rule_answer))]
+pub fn poll_answer<'a>(protocol: Protocol, wanted: &'a Wanted, past: &'a [Call]) -> Option<&'a [u8]>
     ensures { option_copied result
         ≡ poll.poll_answer protocol (bytes_in wanted.now) (map call_of past.now) }
 {
-    match chosen(protocol, wanted, past) {
-        Some(report) => Some(bytes_in(wanted, report)),
-        None => None,
+    match front(past) {
+        Some(bytes) => Some(bytes),
+        None => match chosen(protocol, wanted, past) {
+            Some(report) => Some(bytes_in(wanted, report)),
+            None => None,
+        },
     }
 }

@@ -1,15 +1,22 @@
 //! Which report a poll of the interrupt endpoint sends.
 
-ghost use Rattle.std.specs.Prelude.{◌≡◌, ◌≤◌, ◌*◌, ◌==◌, ◌&&◌, not, nat_le, min, if◌then◌else◌, length, List, [], ◌∷◌, Some, None, ℕ};
+ghost use Rattle.std.specs.Prelude.{◌≡◌, ◌||◌, ◌∷◌, [], ℕ, List, Option, Some, None, Bool, IfOk};
 ghost use Rattle.std.specs.Option.{option_map};
+ghost use Rattle.reports.specs.declared.Input.{Input};
+ghost use Rattle.reports.specs.declared.Protocol.{Protocol};
 ghost use Rattle.reports.specs.Calls.{PollerCall, ticked, polled, idle_set, forgot, was_reset};
-ghost use Rattle.reports.specs.Poll.{idle_value, poll_answer};
+ghost use Rattle.reports.specs.Poll as poll;
+ghost use Rattle.reports.specs.Poll.{idle_value, poll_answer, rule_answer};
+ghost use Rattle.reports.specs.Queue.{queue};
 ghost use Rattle.reports.specs.Wanted.{wanted};
 ghost use Rattle.layers.specs.Usages.{has_key, has_consumer};
 
-use crate::bytes::boot;
-use crate::{IdleId, Protocol, Report};
+use crate::made::Made;
+use crate::queue::{Queue, report_of};
+use crate::sent::Sent;
+use crate::{IdleId, Input, Protocol, Report};
 use layers::Usages;
+use std::alloc::{AllocError, Global};
 use std::marker::Model;
 
 /// The idle values at the start, in units of 4 ms: 500 ms for ID 1, and no repeats for ID 2.
@@ -17,92 +24,210 @@ const IDLE_ONE: u8 = 125;
 
 const IDLE_TWO: u8 = 0;
 
-/// What was sent last, and the idle values.
+/// The bytes of each report for no usages.
+const BOOT_UNUSED: [u8; 8] = [0; 8];
+
+const ONE_UNUSED: [u8; 23] = [
+    1, 0, 0, 0, 0, 0, 0, 0, 0, 0, 0, 0, 0, 0, 0, 0, 0, 0, 0, 0, 0, 0, 0,
+];
+
+const TWO_UNUSED: [u8; 9] = [2, 0, 0, 0, 0, 0, 0, 0, 0];
+
+/// What was sent last of each report, the reports that wait, and the idle values.
 #[derive(Drop)]
 pub struct Poller {
-    boot_bytes: [u8; 8],
-    /// The ticks since then, counted to 65,535, which is more than any idle value needs.
-    boot_age: u16,
+    boot: Sent<8>,
+    one: Sent<23>,
+    two: Sent<9>,
+    /// Which of the reports 1 and 2 was sent last.
+    sent_last: Option<Input>,
+    queue: Queue,
     idle_one: u8,
     idle_two: u8,
+    /// What was made last: for the usages that the latest scan or poll found, or for none since a reset.
+    /// No contract speaks of it.
+    made: Made,
 }
 
 impl Model for Poller {
-    ghost use Rattle.std.specs.Prelude.{◌≡◌, length};
     ghost use Rattle.reports.specs.Kept.{Kept};
 
     ghost Value = { Kept };
 
     ghost view = { λ p. record {
-      boot_bytes = p.boot_bytes;
-      boot_age = p.boot_age;
+      boot = p.boot;
+      one = p.one;
+      two = p.two;
+      sent_last = p.sent_last;
+      queue = p.queue;
       idle_one = p.idle_one;
       idle_two = p.idle_two;
     } };
-
-    ghost invariant = { λ p. length p.boot_bytes ≡ 8 };
 }
 
-#[tactic(auto, unfolding(crate::specs::Poll::last_bytes, crate::specs::Poll::age, crate::specs::Poll::idle_value))]
 impl Poller {
-    ghost use Rattle.reports.specs.Stands.{StandsFor};
-    ghost use Rattle.reports.specs.Answers.{idle_input, is_due};
+    ghost use Rattle.reports.specs.Stands.{StandsFor, RuleStandsFor, NothingSent};
+    ghost use Rattle.reports.specs.Answers.{idle_input};
 
-    /// Nothing sent, and the idle values 125 (500 ms) for ID 1 and 0 (no repeats) for ID 2.
-    pub fn new() -> Poller
-        ensures { StandsFor [] result }
+    /// Nothing sent and nothing waiting, and the idle values 125 (500 ms) for ID 1 and 0 (no repeats)
+    /// for ID 2. Takes the memory of the queue, and is refused where there is none.
+    pub fn new(alloc: Global) -> Result<Poller, AllocError>
+        ensures { IfOk result (λ poller. StandsFor [] poller) }
     {
-        Poller {
-            boot_bytes: [0; 8],
-            boot_age: 0,
+        let queue = Queue::new(alloc)?;
+        Ok(Poller {
+            boot: Sent::now(BOOT_UNUSED),
+            one: Sent::now(ONE_UNUSED),
+            two: Sent::now(TWO_UNUSED),
+            sent_last: None,
+            queue,
             idle_one: IDLE_ONE,
             idle_two: IDLE_TWO,
-        }
+            made: Made::of(&Usages::none()),
+        })
     }
 
-    /// Takes the passing of one scan, one millisecond.
-    pub fn tick(&mut self)
+    /// Takes the passing of one scan, one millisecond, which found the usages `now` after `before`.
+    /// Each report of the protocol whose bytes that changes waits from now on, ID 1 before ID 2. Of
+    /// more than eight that wait the oldest are dropped.
+    pub fn tick(&mut self, before: &Usages, now: &Usages, protocol: Protocol)
         ensures { (past : List PollerCall) → StandsFor past self.old
-            → StandsFor (ticked ∷ past) self.new }
+            → StandsFor (ticked protocol (wanted (has_key before.now) (has_consumer before.now))
+            (wanted (has_key now.now) (has_consumer now.now)) ∷ past) self.new }
     {
-        self.boot_age = self.boot_age.saturating_add(1);
+        self.grow_older();
+        self.push_changes(before, now, protocol);
     }
 
-    /// The answer to a poll: the report if its bytes are not those last sent, or if its idle value is
-    /// not 0 and as long has passed since it was sent. It then counts as sent. In report protocol
-    /// there is no report to send, and the answer is `None`.
+    fn grow_older(&mut self)
+        ensures rule { (past : List PollerCall) (protocol : Protocol) (before now : Input → List ℕ)
+            → RuleStandsFor past self.old → RuleStandsFor (ticked protocol before now ∷ past) self.new }
+        ensures queue { self.new.queue ≡ self.old.queue }
+    {
+        self.boot.tick();
+        self.one.tick();
+        self.two.tick();
+    }
+
+    /// Lets the reports wait that a scan changed, and keeps the bytes that it made.
+    fn push_changes(&mut self, before: &Usages, now: &Usages, protocol: Protocol)
+        ensures rule { (past : List PollerCall) → RuleStandsFor past self.old → RuleStandsFor past self.new }
+        ensures queue { (past : List PollerCall) → self.old.queue ≡ queue past
+            → self.new.queue ≡ queue (ticked protocol (wanted (has_key before.now) (has_consumer before.now))
+            (wanted (has_key now.now) (has_consumer now.now)) ∷ past) }
+    {
+        if before.same(now) {
+            return;
+        }
+        self.made.set(before);
+        let made = Made::of(now);
+        self.queue.push_changes(&self.made, &made, protocol);
+        self.made = made;
+    }
+
+    /// The answer to a poll: the report that has waited longest. Where none waits, the report of the
+    /// protocol whose bytes are not those last sent; else one whose idle value is not 0 and for which
+    /// as long has passed since it was sent; of two the one that was not sent last; else `None`. What
+    /// is answered then counts as sent.
     pub fn poll(&mut self, usages: &Usages, protocol: Protocol) -> Option<Report>
         ensures stands { (past : List PollerCall) → StandsFor past self.old
             → StandsFor (polled protocol (option_map (λ r. r.items) result) ∷ past) self.new }
-        ensures boot { protocol ≡ Protocol.Boot → (past : List PollerCall) → StandsFor past self.old
+        ensures answer { (past : List PollerCall) → StandsFor past self.old
             → option_map (λ r. r.items) result
             ≡ poll_answer protocol (wanted (has_key usages.now) (has_consumer usages.now)) past }
-        ensures report { protocol ≡ Protocol.Report → result ≡ None }
     {
+        let answer = match self.queue.pop() {
+            Some(front) => Some(front),
+            None => self.due(usages, protocol),
+        };
+        self.count_as_sent(&answer);
+        answer
+    }
+
+    /// What the poll rule sends where no report waits.
+    fn due(&mut self, usages: &Usages, protocol: Protocol) -> Option<Report>
+        ensures answer { (past : List PollerCall) → RuleStandsFor past self.old
+            → option_map (λ r. r.items) result
+            ≡ rule_answer protocol (wanted (has_key usages.now) (has_consumer usages.now)) past }
+        ensures same { self.new ≡ self.old }
+    {
+        self.made.set(usages);
         match protocol {
-            Protocol::Boot => self.poll_boot(boot(usages)),
-            Protocol::Report => None,
+            Protocol::Boot => self.due_boot(self.made.boot()),
+            Protocol::Report => self.due_report(self.made.one(), self.made.two()),
         }
     }
 
-    fn poll_boot(&mut self, wanted: [u8; 8]) -> Option<Report>
-        ensures stands { (past : List PollerCall) → StandsFor past self.old
-            → StandsFor (polled Protocol.Boot (option_map (λ r. r.items) result) ∷ past) self.new }
-        ensures answer { (past : List PollerCall) → StandsFor past self.old
-            → option_map (λ r. r.items) result ≡ (if is_due wanted past then Some wanted else None) }
+    fn due_boot(&self, boot: &[u8; 8]) -> Option<Report>
+        ensures { (past : List PollerCall) (bytes : Input → List ℕ) → bytes Input.Boot ≡ boot.now
+            → RuleStandsFor past self.now
+            → option_map (λ r. r.items) result ≡ rule_answer Protocol.Boot bytes past }
     {
-        if !self.is_due(&wanted) {
-            return None;
+        if self.boot_is_due(boot) {
+            Some(report_of(boot))
+        } else {
+            None
         }
-        self.boot_bytes = wanted;
-        self.boot_age = 0;
-        Some(report_of(&wanted))
     }
 
-    fn is_due(&self, wanted: &[u8; 8]) -> bool
-        ensures { (past : List PollerCall) → StandsFor past self.now → result ≡ is_due wanted.now past }
+    fn boot_is_due(&self, boot: &[u8; 8]) -> bool
+        ensures { (past : List PollerCall) (bytes : Input → List ℕ) → bytes Input.Boot ≡ boot.now
+            → RuleStandsFor past self.now
+            → result ≡ (poll.is_changed bytes past Input.Boot || poll.is_elapsed past Input.Boot) }
     {
-        *wanted != self.boot_bytes || is_elapsed(self.idle_one, self.boot_age)
+        self.boot.is_changed(boot) || self.boot.is_elapsed(self.idle_one)
+    }
+
+    fn due_report(&self, one: &[u8; 23], two: &[u8; 9]) -> Option<Report>
+        ensures { (past : List PollerCall) (bytes : Input → List ℕ) → bytes Input.One ≡ one.now
+            → bytes Input.Two ≡ two.now → RuleStandsFor past self.now
+            → option_map (λ r. r.items) result ≡ rule_answer Protocol.Report bytes past }
+    {
+        match self.chosen(self.one.is_changed(one), self.two.is_changed(two)) {
+            Some(Input::One) => Some(report_of(one)),
+            Some(Input::Two) => Some(report_of(two)),
+            Some(Input::Boot) => None,
+            None => None,
+        }
+    }
+
+    /// Of the reports 1 and 2 one that is changed, else one that is elapsed.
+    fn chosen(&self, one_changed: bool, two_changed: bool) -> Option<Input>
+        ensures { (past : List PollerCall) (bytes : Input → List ℕ)
+            → poll.is_changed bytes past Input.One ≡ one_changed
+            → poll.is_changed bytes past Input.Two ≡ two_changed → RuleStandsFor past self.now
+            → result ≡ poll.chosen Protocol.Report bytes past }
+    {
+        if one_changed || two_changed {
+            one_of_two(one_changed, two_changed, self.sent_last)
+        } else {
+            one_of_two(
+                self.one.is_elapsed(self.idle_one),
+                self.two.is_elapsed(self.idle_two),
+                self.sent_last,
+            )
+        }
+    }
+
+    /// Counts an answer as sent, if there is one: of the report that has as many bytes.
+    fn count_as_sent(&mut self, answer: &Option<Report>)
+        ensures rule { (past : List PollerCall) (protocol : Protocol) → RuleStandsFor past self.old
+            → RuleStandsFor (polled protocol (option_map (λ r. r.items) answer.now) ∷ past) self.new }
+        ensures queue { self.new.queue ≡ self.old.queue }
+    {
+        let bytes = match answer {
+            Some(report) => report.as_slice(),
+            None => return,
+        };
+        if bytes.len() == BOOT_UNUSED.len() {
+            self.boot.send(bytes);
+        } else if bytes.len() == ONE_UNUSED.len() {
+            self.one.send(bytes);
+            self.sent_last = Some(Input::One);
+        } else if bytes.len() == TWO_UNUSED.len() {
+            self.two.send(bytes);
+            self.sent_last = Some(Input::Two);
+        }
     }
 
     /// Sets the idle value of a report, or of all, in units of 4 ms; 0 stands for no repeats (HID 1.11
@@ -133,39 +258,52 @@ impl Poller {
         }
     }
 
-    /// Counts nothing as sent, as at the start; the idle values stay.
+    /// Counts nothing as sent, as at the start, and drops what waits; the idle values stay.
     pub fn forget_sent(&mut self)
         ensures { (past : List PollerCall) → StandsFor past self.old
             → StandsFor (forgot ∷ past) self.new }
     {
-        self.boot_bytes = [0; 8];
-        self.boot_age = 0;
+        self.clear();
     }
 
-    /// Counts nothing as sent, and restores the idle values of the start.
+    /// Leaves what `new` gives: nothing counts as sent, nothing waits, and the idle values are those of
+    /// the start. Takes no memory.
     pub fn reset(&mut self)
-        ensures { (past : List PollerCall) → StandsFor past self.old
+        ensures stands { (past : List PollerCall) → StandsFor past self.old
             → StandsFor (was_reset ∷ past) self.new }
+        ensures fresh { StandsFor [] self.new }
     {
-        *self = Poller::new();
+        self.clear();
+        self.idle_one = IDLE_ONE;
+        self.idle_two = IDLE_TWO;
+        self.made = Made::of(&Usages::none());
+    }
+
+    fn clear(&mut self)
+        ensures cleared { NothingSent self.new }
+        ensures idle_one { self.new.idle_one ≡ self.old.idle_one }
+        ensures idle_two { self.new.idle_two ≡ self.old.idle_two }
+    {
+        self.boot.send(&BOOT_UNUSED);
+        self.one.send(&ONE_UNUSED);
+        self.two.send(&TWO_UNUSED);
+        self.sent_last = None;
+        self.queue.clear();
     }
 }
 
-/// Whether a report that was sent `age` ticks ago, counted to 65,535, is to be sent again.
-fn is_elapsed(idle: u8, age: u16) -> bool
-    ensures { (ticks : ℕ) → age ≡ min 65535 ticks
-        → result ≡ (not (idle == 0) && nat_le (4 * idle) ticks) }
+/// Of the reports 1 and 2 one that passes its test; if both do, the one that was not sent last.
+fn one_of_two(one: bool, two: bool, sent_last: Option<Input>) -> Option<Input>
+    ensures { (test : Input → Bool) → test Input.One ≡ one → test Input.Two ≡ two
+        → result ≡ poll.one_of_two test sent_last }
 {
-    idle != 0 && age >= 4 * u16::from(idle)
-}
-
-fn report_of(bytes: &[u8]) -> Report
-    requires { length bytes.now ≤ 32 }
-    ensures { result.items ≡ bytes.now }
-{
-    let mut report = Report::new();
-    match report.try_extend_from_slice(bytes) {
-        Ok(()) => report,
-        Err(_) => unreachable!(),
+    match (one, two) {
+        (true, true) => match sent_last {
+            Some(Input::One) => Some(Input::Two),
+            _ => Some(Input::One),
+        },
+        (true, false) => Some(Input::One),
+        (false, true) => Some(Input::Two),
+        (false, false) => None,
     }
 }

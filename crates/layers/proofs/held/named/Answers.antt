@@ -37,12 +37,10 @@ loop-code-preserved c = elim c.match-code.branch [
   }
 ]
 
-pub returns-clause-keys : goal.returns-clause-keys
-returns-clause-keys c usage =
+pub returns : goal.returns
+returns c =
     let all : c.loop-code.code-index ≡ 96 = omega (arith, c.requires, c.loop-code.auto.code-index-end, c.loop-code-test.false) in
-    rw all at (c.loop-code.invariant.keys usage)
-
-pub returns-clause-consumer : goal.returns-clause-consumer
-returns-clause-consumer c index =
-    let all : c.loop-code.code-index ≡ 96 = omega (arith, c.requires, c.loop-code.auto.code-index-end, c.loop-code-test.false) in
-    rw all at (c.loop-code.invariant.consumer index)
+    record {
+      keys = λ usage. rw all at (c.loop-code.invariant.keys usage);
+      consumer = λ usage. rw all at (c.loop-code.invariant.consumer usage);
+    }

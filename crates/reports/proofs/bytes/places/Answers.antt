@@ -1,23 +1,24 @@
-use Rattle.std.proofs.Common.{arith, sym, ◌∙◌}
+use Rattle.std.proofs.Common.{◌≡◌, arith}
 use Rattle.layers.specs.Usages.{has_key}
-use Rattle.reports.proofs.Members.{placed_none, placed_in, placed_out, places-overflow}
+use Rattle.reports.proofs.Following.{listed_none, listed_more, listed_all, listed_over}
 use Rattle.reports.proofs.bytes.places.Goals as goal
-use Rattle.reports.proofs.bytes.places.Goals.{then-has_key+else-used-eq6, else-has_key}
 
-pub loop-usage-init : goal.loop-usage-init
-loop-usage-init c = placed_none (has_key c.args.usages.now)
+pub loop-place-init : goal.loop-place-init
+loop-place-init c = listed_none (has_key c.args.usages.now)
 
-pub returns-then-used-eq6 : goal.returns-then-used-eq6
-returns-then-used-eq6 c =
-    places-overflow (has_key c.args.usages.now) c.loop-usage.usage c.loop-usage.used c.loop-usage.places c.loop-usage.invariant
-    (sym c.has_key.ensures ∙ c.if-has_key.true) c.if-used-eq6.true (omega arith)
+pub returns-in-None : goal.returns-in-None
+returns-in-None c =
+    listed_all (has_key c.args.usages.now) c.loop-place.from c.loop-place.place c.loop-place.places c.loop-place.invariant (omega (arith, c.loop-place-test.true)) c.in-None.ensures
 
-pub loop-usage-preserved : goal.loop-usage-preserved
-loop-usage-preserved c = elim c.if-has_key.branch [
-  | then-has_key+else-used-eq6 w ↦ rw (w.used-is, w.places-is)
-      (placed_in (has_key c.args.usages.now) c.loop-usage.usage c.loop-usage.used c.loop-usage.places c.loop-usage.invariant
-      (sym c.has_key.ensures ∙ w.if-has_key.true) w.if-used-eq6.false)
-  | else-has_key w ↦ rw (w.used-is, w.places-is)
-      (placed_out (has_key c.args.usages.now) c.loop-usage.usage c.loop-usage.used c.loop-usage.places c.loop-usage.invariant
-      (sym c.has_key.ensures ∙ w.if-has_key.false))
-]
+pub loop-place-preserved : goal.loop-place-preserved
+loop-place-preserved c =
+    listed_more (has_key c.args.usages.now) c.loop-place.from c.loop-place.place c.in-Some.usage c.loop-place.places c.loop-place.invariant c.loop-place-test.true c.in-Some.ensures
+
+pub returns-in-Some-next_listed : goal.returns-in-Some-next_listed
+returns-in-Some-next_listed c =
+    let six : c.loop-place.place ≡ 6 = omega (arith, c.loop-place.auto.place-end, c.loop-place-test.false) in
+    listed_over (has_key c.args.usages.now) c.loop-place.from c.in-Some-next_listed.field-0 c.loop-place.places (rw six at c.loop-place.invariant) c.in-Some-next_listed.ensures
+
+pub returns-in-None-next_listed : goal.returns-in-None-next_listed
+returns-in-None-next_listed c =
+    listed_all (has_key c.args.usages.now) c.loop-place.from c.loop-place.place c.loop-place.places c.loop-place.invariant (omega (arith, c.loop-place.auto.place-end)) c.in-None-next_listed.ensures

@@ -1,5 +1,5 @@
-use Rattle.debounce.proofs.Fed.{FedBelow}
+use Rattle.debounce.proofs.Fed.{FedBelow, kept_of}
 use Rattle.debounce.proofs.debouncer.Debouncer.feed.Given as goal
 
-abbrev pub invariant-loop-key : goal.invariant-loop-key
-invariant-loop-key l = FedBelow l.key l.last l.scan l.fn.self.keys l.self-inside.keys l.edges.released l.edges.pressed l.settled
+abbrev pub invariant-loop-row : goal.invariant-loop-row
+invariant-loop-row l = FedBelow l.row l.scan l.fn.self (kept_of l.ones l.twos l.fours l.scan l.down) l.edges.released l.edges.pressed

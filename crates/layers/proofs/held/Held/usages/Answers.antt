@@ -6,7 +6,7 @@ use Rattle.layers.proofs.HeldKeys.{any_has-same}
 use Rattle.layers.proofs.held.Held.usages.Goals as goal
 
 pub returns-clause-keys : goal.returns-clause-keys
-returns-clause-keys c past usage h = c.named.ensures.keys usage ∙ any_has-same (kept c.self.inside.codes) (code past) (names_key_usage usage) (rw (← c.self.view_is) at h.each)
+returns-clause-keys c past usage h = c.self.invariant.1.keys usage ∙ any_has-same (kept c.self.inside.codes) (code past) (names_key_usage usage) (rw (← c.self.view_is) at h.each)
 
 pub returns-clause-consumer : goal.returns-clause-consumer
-returns-clause-consumer c past index h = c.named.ensures.consumer index ∙ any_has-same (kept c.self.inside.codes) (code past) (names_consumer index) (rw (← c.self.view_is) at h.each)
+returns-clause-consumer c past usage h = c.self.invariant.1.consumer usage ∙ any_has-same (kept c.self.inside.codes) (code past) (names_consumer usage) (rw (← c.self.view_is) at h.each)

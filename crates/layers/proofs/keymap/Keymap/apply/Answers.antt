@@ -8,10 +8,10 @@ returns-in-SetKey-clause-entries c entries h =
     (has_changed entries _ _ _ (writes_key c.in-SetKey.layer c.in-SetKey.key c.in-SetKey.code c.self.inside.codes c.place.ensures.in_layers c.place.ensures.in_keys c.self.invariant) (rw c.self.view_is h))
 
 pub returns-in-SetKey-clause-stands : goal.returns-in-SetKey-clause-stands
-returns-in-SetKey-clause-stands c words word h e =
+returns-in-SetKey-clause-stands c format words word h e =
     let f = rw c.in-SetKey.is at e in
     rw (c.place.ensures.value)
-    (stands_changed _ _ _ words word (writes_key c.in-SetKey.layer c.in-SetKey.key c.in-SetKey.code c.self.inside.codes c.place.ensures.in_layers c.place.ensures.in_keys c.self.invariant) (rw c.self.view_is h) f)
+    (stands_changed _ _ _ format words word (writes_key c.in-SetKey.layer c.in-SetKey.key c.in-SetKey.code c.self.inside.codes c.place.ensures.in_layers c.place.ensures.in_keys c.self.invariant) (rw c.self.view_is h) f)
 
 pub returns-in-ResetAll-clause-entries : goal.returns-in-ResetAll-clause-entries
 returns-in-ResetAll-clause-entries c entries h =
@@ -19,9 +19,9 @@ returns-in-ResetAll-clause-entries c entries h =
     (has_changed entries _ _ _ (writes_all c.self.inside.codes _ c.reset-in-ResetAll.auto.codes (λ place l. c.reset-in-ResetAll.ensures.inside place (omega arith) l)) (rw c.self.view_is h))
 
 pub returns-in-ResetAll-clause-stands : goal.returns-in-ResetAll-clause-stands
-returns-in-ResetAll-clause-stands c words word h e =
+returns-in-ResetAll-clause-stands c format words word h e =
     let f = rw c.in-ResetAll.is at e in
-    stands_changed _ _ _ words word (writes_all c.self.inside.codes _ c.reset-in-ResetAll.auto.codes (λ place l. c.reset-in-ResetAll.ensures.inside place (omega arith) l)) (rw c.self.view_is h) f
+    stands_changed _ _ _ format words word (writes_all c.self.inside.codes _ c.reset-in-ResetAll.auto.codes (λ place l. c.reset-in-ResetAll.ensures.inside place (omega arith) l)) (rw c.self.view_is h) f
 
 pub returns-in-ResetLayer-clause-entries : goal.returns-in-ResetLayer-clause-entries
 returns-in-ResetLayer-clause-entries c entries h =
@@ -33,9 +33,9 @@ returns-in-ResetLayer-clause-entries c entries h =
     (rw c.self.view_is h))
 
 pub returns-in-ResetLayer-clause-stands : goal.returns-in-ResetLayer-clause-stands
-returns-in-ResetLayer-clause-stands c words word h e =
+returns-in-ResetLayer-clause-stands c format words word h e =
     let f = rw c.in-ResetLayer.is at e in
-    stands_changed _ _ _ words word (writes_layer c.in-ResetLayer.layer c.self.inside.codes c.reset.new.codes c.reset.auto.codes
+    stands_changed _ _ _ format words word (writes_layer c.in-ResetLayer.layer c.self.inside.codes c.reset.new.codes c.reset.auto.codes
     (λ place a b. c.reset.ensures.inside place (rw c.number.ensures.value a) (rw c.number.ensures.value b))
     (λ place a. c.reset.ensures.below place (rw c.number.ensures.value a))
     (λ place a. c.reset.ensures.above place (rw c.number.ensures.value a)))

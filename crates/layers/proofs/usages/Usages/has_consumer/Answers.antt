@@ -1,16 +1,16 @@
-use Rattle.std.proofs.Common.{◌≤◌, ◌/◌, length, arith, sym, ◌∙◌}
+use Rattle.std.proofs.Common.{◌≤◌, ◌/◌, length, arith, sym, refl, ◌∙◌}
 use Rattle.std.proofs.lemmas.Bool.{le-ltb}
+use Rattle.std.proofs.lemmas.Nat.Bits.{shr_and_one}
 use Rattle.layers.specs.Usages.{has_consumer}
 use Rattle.layers.proofs.BitSets.{has_bit-past}
 use Rattle.layers.proofs.usages.Usages.has_consumer.Goals as goal
 
-pub returns-then-index-lt16 : goal.returns-then-index-lt16
+pub returns-then-usage-lt1024 : goal.returns-then-usage-lt1024
 unfolding has_consumer
-returns-then-index-lt16 c = rw (← c.self.view_is) c.contains.ensures
+returns-then-usage-lt1024 c = rw (← c.self.view_is, shr_and_one) refl
 
-pub returns-else-index-lt16 : goal.returns-else-index-lt16
+pub returns-else-usage-lt1024 : goal.returns-else-usage-lt1024
 unfolding has_consumer
-returns-else-index-lt16 c =
-    let two = c.self.invariant.1 in
-    let past : length c.self.inside.consumer ≤ c.args.index / 8 = omega (arith, c.if-index-lt16.false) in
-    rw (← c.self.view_is) (le-ltb c.args.index 16 c.if-index-lt16.false ∙ sym (has_bit-past c.self.inside.consumer c.args.index past))
+returns-else-usage-lt1024 c =
+    let past : length c.self.inside.consumer ≤ c.args.usage / 64 = omega (arith, c.self.invariant.1, c.if-usage-lt1024.false) in
+    rw (← c.self.view_is) (le-ltb c.args.usage 1024 c.if-usage-lt1024.false ∙ sym (has_bit-past 64 c.self.inside.consumer c.args.usage past))

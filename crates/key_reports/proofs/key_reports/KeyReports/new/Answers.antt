@@ -1,0 +1,5 @@
+use Rattle.key_reports.proofs.Standing.{stands_new}
+use Rattle.key_reports.proofs.key_reports.KeyReports.new.Goals as goal
+
+pub returns : goal.returns
+returns c = stands_new _ c.new-2.ensures c.new-3.ensures c.in_ok-poller.ensures

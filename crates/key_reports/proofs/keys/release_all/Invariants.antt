@@ -1,0 +1,8 @@
+use Rattle.std.proofs.Common.{◌≡◌, ◌++◌}
+use Rattle.debounce.specs.Scans.{set_keys}
+use Rattle.layers.specs.Held.{Release}
+use Rattle.key_reports.proofs.Edges.{Called, SoFar}
+use Rattle.key_reports.proofs.keys.release_all.Given as goal
+
+abbrev pub invariant-loop-key : goal.invariant-loop-key
+invariant-loop-key l = SoFar (l.yielded ++ l.key-iterator ≡ set_keys l.released) (Called (λ key. Release key) l.yielded l.fn.held l.held)

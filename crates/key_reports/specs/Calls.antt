@@ -1,0 +1,11 @@
+-- What the keys were asked, and what they answered.
+use Rattle.std.specs.Prelude.{ℕ, List}
+use Rattle.debounce.specs.declared.Scan.{Scan}
+use Rattle.reports.specs.declared.Protocol.{Protocol}
+use Rattle.reports.specs.Calls.{PollerCall}
+
+pub data KeyCall : Type 0 where
+  -- a scan in this protocol, with the codes of the keymap at that moment
+  Scanned : (scan : Scan) → (keymap : List ℕ) → (protocol : Protocol) → KeyCall
+  -- a poll with its answer, an idle value that is set, or a loss of what was sent: a call of the poller alone
+  Asked : (call : PollerCall) → KeyCall

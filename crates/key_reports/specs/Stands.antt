@@ -1,0 +1,14 @@
+-- Not part of the promise: what ties the code to a past. It holds of new keys, and each call keeps it.
+use Rattle.std.specs.Prelude.{List}
+use Rattle.debounce.specs.Stands as debounce
+use Rattle.layers.specs.HeldStands.{HeldStandsFor}
+use Rattle.reports.specs.Stands as reports
+use Rattle.key_reports.specs.Calls.{KeyCall}
+use Rattle.key_reports.specs.Past.{scans_of, held_calls, poller_calls}
+use Rattle.key_reports.specs.Value.{KeysValue}
+
+-- what is kept stands for these calls, newest first: each part stands for its own among them
+pub record StandsFor (past : List KeyCall) (value : KeysValue) : Type 0 where
+  pub debouncer : debounce.StandsFor (scans_of past) value.debouncer
+  pub held : HeldStandsFor (held_calls past) value.held
+  pub poller : reports.StandsFor (poller_calls past) value.poller

@@ -1,0 +1,158 @@
+//! The debouncer, the held keys and the poller as one value.
+
+ghost use Rattle.std.specs.Prelude.{◌≡◌, ℕ, List, [], ◌∷◌, IfOk};
+ghost use Rattle.std.specs.Option.{option_map};
+ghost use Rattle.layers.specs.Keymaps.{HasEntries};
+ghost use Rattle.layers.specs.Usages.{has_key, has_consumer};
+ghost use Rattle.reports.specs.declared.Input.{Input};
+ghost use Rattle.reports.specs.Answers.{idle_input};
+ghost use Rattle.reports.specs.Calls.{polled, idle_set, forgot, was_reset};
+ghost use Rattle.reports.specs.Poll.{idle_value};
+ghost use Rattle.key_reports.specs.Calls.{KeyCall, Scanned, Asked};
+ghost use Rattle.key_reports.specs.Past.{keys_after, consumer_after, wanted_after, poller_calls, answer_after};
+ghost use Rattle.key_reports.specs.Tables.{table};
+
+use crate::keys::take_edges;
+use debounce::{Debouncer, Scan};
+use layers::{Held, Keymap, Usages};
+use reports::{IdleId, Poller, Protocol, Report};
+use std::alloc::{AllocError, Global};
+use std::marker::Model;
+
+/// The keys of the device, and what the host was sent of them.
+#[derive(Drop)]
+pub struct KeyReports {
+    debouncer: Debouncer,
+    held: Held,
+    poller: Poller,
+}
+
+impl Model for KeyReports {
+    ghost use Rattle.key_reports.specs.Value.{KeysValue};
+
+    ghost Value = { KeysValue };
+
+    ghost view = { λ k. record { debouncer = k.debouncer; held = k.held; poller = k.poller } };
+}
+
+impl KeyReports {
+    ghost use Rattle.key_reports.specs.Stands.{StandsFor};
+
+    /// Every key up, and nothing sent. Takes the memory of the reports that wait, and is refused where
+    /// there is none; no other call takes memory.
+    pub fn new(alloc: Global) -> Result<KeyReports, AllocError>
+        ensures { IfOk result (λ keys. StandsFor [] keys) }
+    {
+        let poller = Poller::new(alloc)?;
+        Ok(KeyReports {
+            debouncer: Debouncer::new(),
+            held: Held::new(),
+            poller,
+        })
+    }
+
+    /// Leaves what `new` gives: every key up, nothing sent, nothing waiting, and the idle values of the
+    /// start.
+    pub fn restart(&mut self)
+        ensures { StandsFor [] self.new }
+    {
+        self.debouncer = Debouncer::new();
+        self.held = Held::new();
+        self.poller.reset();
+    }
+
+    /// Takes one scan, one millisecond after the last. The keys that the debounced scan releases are
+    /// released, then those that it presses are pressed, each by rising key and with this keymap. The
+    /// reports of the protocol whose bytes this changes wait for a poll.
+    pub fn scan(&mut self, scan: Scan, keymap: &Keymap, protocol: Protocol)
+        ensures stands { (past : List KeyCall) → StandsFor past self.old
+            → StandsFor (Scanned scan keymap.now protocol ∷ past) self.new }
+        ensures entries { (past : List KeyCall) (entries : ℕ → ℕ → ℕ) → HasEntries entries keymap.now
+            → StandsFor past self.old → StandsFor (Scanned scan (table entries) protocol ∷ past) self.new }
+    {
+        let edges = self.debouncer.feed(scan);
+        let before = self.held.usages();
+        take_edges(&mut self.held, keymap, &edges);
+        let now = self.held.usages();
+        self.poller.tick(&before, &now, protocol);
+    }
+
+    /// The answer to a poll of endpoint 1: the report that has waited longest. Where none waits, the
+    /// report of the protocol whose bytes are not those last sent, else one whose idle time has passed
+    /// since then, or `None`. It then counts as sent.
+    pub fn poll(&mut self, protocol: Protocol) -> Option<Report>
+        ensures stands { (past : List KeyCall) → StandsFor past self.old
+            → StandsFor (Asked (polled protocol (option_map (λ r. r.items) result)) ∷ past) self.new }
+        ensures answer { (past : List KeyCall) → StandsFor past self.old
+            → option_map (λ r. r.items) result ≡ answer_after protocol past }
+    {
+        let usages = self.usages();
+        self.poller.poll(&usages, protocol)
+    }
+
+    /// The usages that the codes of the held keys name.
+    #[tactic(auto, unfolding(crate::specs::Past::keys_after, crate::specs::Past::consumer_after))]
+    pub fn usages(&self) -> Usages
+        ensures keys { (past : List KeyCall) (usage : ℕ) → StandsFor past self.now
+            → has_key result usage ≡ keys_after past usage }
+        ensures consumer { (past : List KeyCall) (usage : ℕ) → StandsFor past self.now
+            → has_consumer result usage ≡ consumer_after past usage }
+    {
+        self.held.usages()
+    }
+
+    /// The bytes that the boot report has now. To ask for them sends nothing.
+    #[tactic(auto, using(crate::proofs::Standing::boot_after))]
+    pub fn boot(&self) -> [u8; 8]
+        ensures { (past : List KeyCall) → StandsFor past self.now → result ≡ wanted_after past Input.Boot }
+    {
+        reports::boot(&self.usages())
+    }
+
+    /// The bytes that the report of ID 1 has now. To ask for them sends nothing.
+    #[tactic(auto, using(crate::proofs::Standing::bitmap_after))]
+    pub fn bitmap(&self) -> [u8; 23]
+        ensures { (past : List KeyCall) → StandsFor past self.now → result ≡ wanted_after past Input.One }
+    {
+        reports::bitmap(&self.usages())
+    }
+
+    /// The bytes that the report of ID 2 has now. To ask for them sends nothing.
+    #[tactic(auto, using(crate::proofs::Standing::consumer_bytes_after))]
+    pub fn consumer(&self) -> [u8; 9]
+        ensures { (past : List KeyCall) → StandsFor past self.now → result ≡ wanted_after past Input.Two }
+    {
+        reports::consumer(&self.usages())
+    }
+
+    /// Sets the idle value of a report, or of all, in units of 4 ms; 0 stands for no repeats (HID 1.11
+    /// section 7.2.4). The time that has passed since a report was sent still counts.
+    pub fn set_idle(&mut self, id: IdleId, duration: u8)
+        ensures { (past : List KeyCall) → StandsFor past self.old → StandsFor (Asked (idle_set id duration) ∷ past) self.new }
+    {
+        self.poller.set_idle(id, duration);
+    }
+
+    /// The idle value of a report, in units of 4 ms; for all reports that of ID 1 (HID 1.11 section
+    /// 7.2.3).
+    pub fn idle(&self, id: IdleId) -> u8
+        ensures { (past : List KeyCall) → StandsFor past self.now → result ≡ idle_value (idle_input id) (poller_calls past) }
+    {
+        self.poller.idle(id)
+    }
+
+    /// Counts nothing as sent, as at the start, and drops what waits; the keys and the idle values stay.
+    pub fn forget_sent(&mut self)
+        ensures { (past : List KeyCall) → StandsFor past self.old → StandsFor (Asked forgot ∷ past) self.new }
+    {
+        self.poller.forget_sent();
+    }
+
+    /// Counts nothing as sent, drops what waits, and restores the idle values of the start; the keys
+    /// stay.
+    pub fn bus_reset(&mut self)
+        ensures { (past : List KeyCall) → StandsFor past self.old → StandsFor (Asked was_reset ∷ past) self.new }
+    {
+        self.poller.reset()
+    }
+}

@@ -1,7 +1,0 @@
-pub mod Calls
-pub mod Past
-pub mod Codes
-pub mod Tables
-pub mod Plain
-pub mod Value
-pub mod Stands

@@ -1,0 +1,106 @@
+//! The reports that wait to be sent.
+
+ghost use Rattle.std.specs.Prelude.{◌≡◌, ◌≤◌, ◌++◌, ◌∷◌, [], List, drop, length, slice_get, if◌then◌else◌, IfOk};
+ghost use Rattle.std.specs.Str.{bytes_eq};
+ghost use Rattle.std.specs.Option.{option_map};
+ghost use Rattle.circular_buffer.specs.Buffer.{keep_last};
+ghost use Rattle.layers.specs.Usages.{has_key, has_consumer};
+ghost use Rattle.reports.specs.Calls.{PollerCall, ticked};
+ghost use Rattle.reports.specs.Queue.{queue};
+ghost use Rattle.reports.specs.Wanted.{wanted};
+
+use crate::made::Made;
+use crate::{Protocol, Report};
+use circular_buffer::HeapCircularBuffer;
+use std::alloc::{AllocError, Global};
+use std::marker::Model;
+
+/// How many reports can wait.
+const ROOM: usize = 8;
+
+/// At most eight reports; where one more comes, the oldest is dropped.
+#[derive(Drop)]
+pub(crate) struct Queue {
+    ring: HeapCircularBuffer<Report>,
+}
+
+impl Model for Queue {
+    ghost use Rattle.std.specs.Prelude.{◌≡◌, ℕ, List, map};
+
+    ghost Value = { List (List ℕ) };
+
+    ghost view = { λ q. map (λ r. r.items) q.ring.items };
+
+    ghost invariant = { λ q. q.ring.capacity ≡ 8 };
+}
+
+impl Queue {
+    /// No report, and room for eight.
+    pub(crate) fn new(alloc: Global) -> Result<Queue, AllocError>
+        ensures { IfOk result (λ q. q ≡ []) }
+    {
+        let ring = HeapCircularBuffer::with_capacity(alloc, ROOM)?;
+        Ok(Queue { ring })
+    }
+
+    /// Appends the reports of the protocol whose bytes a scan changed, which found the usages of `now`
+    /// after those of `before`: ID 1 before ID 2.
+    pub(crate) fn push_changes(&mut self, before: &Made, now: &Made, protocol: Protocol)
+        ensures { (past : List PollerCall) → self.old ≡ queue past
+            → self.new ≡ queue (ticked protocol (wanted (has_key before.now) (has_consumer before.now))
+            (wanted (has_key now.now) (has_consumer now.now)) ∷ past) }
+    {
+        match protocol {
+            Protocol::Boot => self.push_change(before.boot(), now.boot()),
+            Protocol::Report => {
+                self.push_change(before.one(), now.one());
+                self.push_change(before.two(), now.two());
+            },
+        }
+    }
+
+    /// Appends the new bytes of a report where they are not the old ones.
+    fn push_change(&mut self, before: &[u8], now: &[u8])
+        requires { length now.now ≤ 32 }
+        ensures { self.new ≡ (if bytes_eq before.now now.now then self.old else keep_last 8 (self.old ++ now.now ∷ [])) }
+    {
+        if before != now {
+            self.push(report_of(now));
+        }
+    }
+
+    /// Appends a report.
+    #[tactic(auto, using(crate::proofs::Ring::pushed_on))]
+    fn push(&mut self, report: Report)
+        ensures { self.new ≡ keep_last 8 (self.old ++ report.items ∷ []) }
+    {
+        self.ring.push_back(report);
+    }
+
+    /// Takes the report that has waited longest.
+    pub(crate) fn pop(&mut self) -> Option<Report>
+        ensures front { option_map (λ r. r.items) result ≡ slice_get self.old 0 }
+        ensures rest { self.new ≡ drop 1 self.old }
+    {
+        self.ring.pop_front()
+    }
+
+    /// Drops all reports.
+    pub(crate) fn clear(&mut self)
+        ensures { self.new ≡ [] }
+    {
+        self.ring.clear();
+    }
+}
+
+/// A report of these bytes.
+pub(crate) fn report_of(bytes: &[u8]) -> Report
+    requires { length bytes.now ≤ 32 }
+    ensures { result.items ≡ bytes.now }
+{
+    let mut report = Report::new();
+    match report.try_extend_from_slice(bytes) {
+        Ok(()) => report,
+        Err(_) => unreachable!(),
+    }
+}
