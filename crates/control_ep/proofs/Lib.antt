@@ -3,3 +3,5 @@ pub mod Clean
 pub mod Moves
 pub mod Reports
 pub mod Joined
+mod Next
+pub mod Inputs

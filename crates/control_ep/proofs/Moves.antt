@@ -1,5 +1,5 @@
 -- What stands after one more call, stage by stage.
-use Rattle.std.proofs.Common.{◌≡◌, ◌≢◌, ℕ, ◌+◌, true, List, [], ◌∷◌, Some, Ok, Err, refl, sym, ap, ◌∙◌}
+use Rattle.std.proofs.Common.{◌≡◌, ◌≢◌, ℕ, ◌+◌, true, List, [], ◌∷◌, Some, Ok, refl, sym, ap, ◌∙◌}
 use Rattle.control_ep.specs.declared.why.Why.{Why}
 use Rattle.control_ep.specs.declared.why.Why.TheVariants.{FlashFault}
 use Rattle.control_ep.specs.declared.answer.EpAnswer.TheVariants.{Ack, Nak, Packet, Stall}
@@ -7,21 +7,16 @@ use Rattle.control_ep.specs.declared.answer.OutStep.TheVariants.{Answered, Leds,
 use Rattle.control_ep.specs.declared.answer.Verdict.TheVariants.{Done, Working, Busy, Refused}
 use Rattle.control_ep.specs.declared.answer.Effect.{Effect}
 use Rattle.control_ep.specs.declared.answer.Effect.TheVariants.{Nothing}
-use Rattle.control_ep.specs.declared.answer.DeviceView.{DeviceView}
-use Rattle.control_ep.specs.declared.request.Taken.{Taken}
-use Rattle.control_ep.specs.declared.endpoint.Stage.{Stage}
-use Rattle.control_ep.specs.declared.endpoint.Stage.TheVariants.{Rest, Sending, Taking, Waiting, Status, Stalled}
-use Rattle.control_ep.specs.declared.report.Received.TheVariants as Receiveds
-use Rattle.control_ep.specs.Requests.{request_of, transfer_of}
-use Rattle.control_ep.specs.declared.request.Transfer.{Transfer}
-use Rattle.control_ep.specs.Calls.{EpCall, Setup, Out, Judged, In, Settle, Fail, Reset}
+use Rattle.control_ep.specs.Transfers.{HostReport, FeatureData, Stage, Rest, Sending, Taking, Waiting, Status, Stalled}
+use Rattle.control_ep.specs.Calls.{EpCall, Out, Judged, In, Settle, Fail}
 use Rattle.control_ep.specs.Packets.{packet_at}
-use Rattle.control_ep.specs.Stage.{calls_since, last_setup, first_stall, count_in, Settled, Failed, progress_of, stage_in, stage}
-use Rattle.control_ep.specs.Answers.{in_answer, in_effect, received_report, report_step, out_step, Ends}
+use Rattle.control_ep.specs.Stage.{calls_since, last_setup, first_stall, count_in, Settled, Failed, progress_of, stage}
+use Rattle.control_ep.specs.Answers.{in_answer, in_effect, received_report, report_step, out_step}
+use Rattle.arrayvec.specs.ArrayVec.{ArrayVec}
+use Rattle.control_ep.specs.Moves.{after_end}
 use Rattle.control_ep.specs.Stands.{is_offered, StandsFor}
 use Rattle.control_ep.proofs.Stages.{stage-is, stalled_again, stalled_again_out, sending_is, waiting_is, taking_is, status_confirmed, ended_others}
 use Rattle.control_ep.proofs.Clean.{offered_taking, clean, taking_unconfirmed, waiting_unconfirmed}
-use Rattle.arrayvec.specs.ArrayVec.{ArrayVec}
 
 pub in_stalled : (past : List EpCall) (s : Stage) (why : Why) → StandsFor past s → in_answer s ≡ Stall why → in_effect s ≡ Nothing
     → StandsFor (In (Stall why) Nothing ∷ past) (Stalled why)
@@ -33,8 +28,8 @@ in_stalled past s why h a e =
       stage = rw again refl;
     }
 
-pub in_sent : (past : List EpCall) (x : ArrayVec ℕ) (asked n : ℕ) (packet : ArrayVec ℕ) → StandsFor past (Sending x asked n)
-    → packet_at x.items asked n ≡ Some packet.items → StandsFor (In (Packet packet) Nothing ∷ past) (Sending x asked (n + 1))
+pub in_sent : (past : List EpCall) (x : List ℕ) (asked n : ℕ) (packet : ArrayVec ℕ) → StandsFor past (Sending x asked n)
+    → packet_at x asked n ≡ Some packet.items → StandsFor (In (Packet packet) Nothing ∷ past) (Sending x asked (n + 1))
 unfolding stage
 in_sent past x asked n packet h p =
     let s = sending_is x asked n (first_stall (calls_since past)) (last_setup past) (progress_of (calls_since past)) (h.stage ∙ stage-is past) in
@@ -73,7 +68,7 @@ out_stalled past s packet why h a =
       stage = rw again refl;
     }
 
-pub out_closed : (past : List EpCall) (x : ArrayVec ℕ) (asked n : ℕ) → StandsFor past (Sending x asked n) → StandsFor (Out [] (Answered Ack) ∷ past) Rest
+pub out_closed : (past : List EpCall) (x : List ℕ) (asked n : ℕ) → StandsFor past (Sending x asked n) → StandsFor (Out [] (Answered Ack) ∷ past) Rest
 unfolding stage
 out_closed past x asked n h =
     let s = sending_is x asked n (first_stall (calls_since past)) (last_setup past) (progress_of (calls_since past)) (h.stage ∙ stage-is past) in
@@ -82,8 +77,8 @@ out_closed past x asked n h =
       stage = rw (s.unstalled, s.begins, s.some) refl;
     }
 
-pub out_leds : (past : List EpCall) (kind : Taken) (packet : List ℕ) (leds : ℕ) → StandsFor past (Taking kind)
-    → received_report kind packet ≡ Ok (Receiveds.Leds leds) → StandsFor (Out packet (Leds leds) ∷ past) (Status Nothing)
+pub out_leds : (past : List EpCall) (kind : HostReport) (packet : List ℕ) (leds : ℕ) → StandsFor past (Taking kind)
+    → received_report kind packet ≡ Ok (Leds leds) → StandsFor (Out packet (Leds leds) ∷ past) (Status Nothing)
 unfolding stage
 out_leds past kind packet leds h r =
     let t = taking_is kind (first_stall (calls_since past)) (last_setup past) (progress_of (calls_since past)) (h.stage ∙ stage-is past) in
@@ -94,8 +89,8 @@ out_leds past kind packet leds h r =
       stage = rw (t.unstalled, t.begins, idle, open_still) refl;
     }
 
-pub out_offered : (past : List EpCall) (kind : Taken) (packet bytes : List ℕ) → StandsFor past (Taking kind)
-    → received_report kind packet ≡ Ok (Receiveds.Feature bytes) → StandsFor (Out packet (Offer bytes) ∷ past) (Taking kind)
+pub out_offered : (past : List EpCall) (kind : HostReport) (packet bytes : List ℕ) → StandsFor past (Taking kind)
+    → received_report kind packet ≡ Ok (Offer bytes) → StandsFor (Out packet (Offer bytes) ∷ past) (Taking kind)
 unfolding stage
 out_offered past kind packet bytes h r =
     let t = taking_is kind (first_stall (calls_since past)) (last_setup past) (progress_of (calls_since past)) (h.stage ∙ stage-is past) in
@@ -107,10 +102,9 @@ out_offered past kind packet bytes h r =
 pub judged_done : (past : List EpCall) (s : Stage) → StandsFor past s → is_offered past ≡ true → StandsFor (Judged Done Ack ∷ past) (Status Nothing)
 unfolding stage
 judged_done past s h o =
-    let offered = offered_taking past h.answered o in
-    let t = offered.1 in
+    let t = offered_taking past h.answered o in
     let idle = (clean past h.answered).idle t.not_taken in
-    let open_still = taking_unconfirmed past offered.0 h.answered t in
+    let open_still = taking_unconfirmed past FeatureData h.answered t in
     record {
       answered = ((o, refl), h.answered);
       stage = rw (t.unstalled, t.begins, idle, open_still) refl;
@@ -119,7 +113,7 @@ judged_done past s h o =
 pub judged_working : (past : List EpCall) (s : Stage) → StandsFor past s → is_offered past ≡ true → StandsFor (Judged Working Ack ∷ past) Waiting
 unfolding stage
 judged_working past s h o =
-    let t = (offered_taking past h.answered o).1 in
+    let t = offered_taking past h.answered o in
     record {
       answered = ((o, refl), h.answered);
       stage = rw (t.unstalled, t.begins) refl;
@@ -128,9 +122,8 @@ judged_working past s h o =
 pub judged_busy : (past : List EpCall) (s : Stage) → StandsFor past s → is_offered past ≡ true → StandsFor (Judged Busy Nak ∷ past) s
 unfolding stage
 judged_busy past s h o =
-    let offered = offered_taking past h.answered o in
-    let t = offered.1 in
-    let was : s ≡ Taking offered.0 = h.stage ∙ stage-is past ∙ rw (t.unstalled, t.begins, t.not_taken) refl in
+    let t = offered_taking past h.answered o in
+    let was : s ≡ Taking FeatureData = h.stage ∙ stage-is past ∙ rw (t.unstalled, t.begins, t.not_taken) refl in
     record {
       answered = ((o, refl), h.answered);
       stage = was ∙ rw (t.unstalled, t.begins, t.not_taken) refl;
@@ -140,7 +133,7 @@ pub judged_refused : (past : List EpCall) (s : Stage) (why : Why) → StandsFor 
     → StandsFor (Judged (Refused why) (Stall why) ∷ past) (Stalled why)
 unfolding stage
 judged_refused past s why h o =
-    let t = (offered_taking past h.answered o).1 in
+    let t = offered_taking past h.answered o in
     record {
       answered = ((o, refl), h.answered);
       stage = rw t.unstalled refl;
@@ -183,43 +176,21 @@ failed_others past s h n =
       stage = was ∙ sym (ended_others (first_stall (calls_since past)) (last_setup past) (progress_of (calls_since past)) Failed (λ e. n (was ∙ sym e)));
     }
 
-pub settled : (past : List EpCall) (s new : Stage) → StandsFor past s → Ends s (Status Nothing) new → StandsFor (Settle ∷ past) new
-settled past Waiting new h e = rw e (settled_waiting past h)
-settled past Rest new h e = rw e (settled_others past Rest h (λ q. cc))
-settled past (Sending bytes asked sent) new h e = rw e (settled_others past (Sending bytes asked sent) h (λ q. cc))
-settled past (Taking taken) new h e = rw e (settled_others past (Taking taken) h (λ q. cc))
-settled past (Status effect) new h e = rw e (settled_others past (Status effect) h (λ q. cc))
-settled past (Stalled why) new h e = rw e (settled_others past (Stalled why) h (λ q. cc))
+pub settled : (past : List EpCall) (s : Stage) → StandsFor past s → StandsFor (Settle ∷ past) (after_end s (Status Nothing))
+settled past Waiting h = settled_waiting past h
+settled past Rest h = settled_others past Rest h (λ q. cc)
+settled past (Sending bytes asked sent) h = settled_others past (Sending bytes asked sent) h (λ q. cc)
+settled past (Taking taken) h = settled_others past (Taking taken) h (λ q. cc)
+settled past (Status effect) h = settled_others past (Status effect) h (λ q. cc)
+settled past (Stalled why) h = settled_others past (Stalled why) h (λ q. cc)
 
-pub failed : (past : List EpCall) (s new : Stage) → StandsFor past s → Ends s (Stalled FlashFault) new → StandsFor (Fail ∷ past) new
-failed past Waiting new h e = rw e (failed_waiting past h)
-failed past Rest new h e = rw e (failed_others past Rest h (λ q. cc))
-failed past (Sending bytes asked sent) new h e = rw e (failed_others past (Sending bytes asked sent) h (λ q. cc))
-failed past (Taking taken) new h e = rw e (failed_others past (Taking taken) h (λ q. cc))
-failed past (Status effect) new h e = rw e (failed_others past (Status effect) h (λ q. cc))
-failed past (Stalled why) new h e = rw e (failed_others past (Stalled why) h (λ q. cc))
-
-pub ends_others : (s next new : Stage) → Ends s next new → s ≢ Waiting → new ≡ s
-ends_others Waiting next new e n = absurd (n refl)
-ends_others Rest next new e n = e
-ends_others (Sending bytes asked sent) next new e n = e
-ends_others (Taking taken) next new e n = e
-ends_others (Status effect) next new e n = e
-ends_others (Stalled why) next new e n = e
-
-pub was_reset : (past : List EpCall) (s new : Stage) → StandsFor past s → StandsFor [] new → StandsFor (Reset ∷ past) new
-unfolding stage
-was_reset past s new h r = record { answered = (tt, h.answered); stage = r.stage }
-
-pub begun_served : (past : List EpCall) (s : Stage) (setup : List ℕ) (view : DeviceView) (transfer : Transfer) → StandsFor past s
-    → transfer_of (request_of setup) view ≡ Ok transfer → StandsFor (Setup setup view ∷ past) (stage_in transfer (request_of setup).length (progress_of []))
-unfolding stage
-begun_served past s setup view transfer h e = record { answered = (tt, h.answered); stage = rw e refl }
-
-pub begun_refused : (past : List EpCall) (s : Stage) (setup : List ℕ) (view : DeviceView) (why : Why) → StandsFor past s
-    → transfer_of (request_of setup) view ≡ Err why → StandsFor (Setup setup view ∷ past) (Stalled why)
-unfolding stage
-begun_refused past s setup view why h e = record { answered = (tt, h.answered); stage = rw e refl }
+pub failed : (past : List EpCall) (s : Stage) → StandsFor past s → StandsFor (Fail ∷ past) (after_end s (Stalled FlashFault))
+failed past Waiting h = failed_waiting past h
+failed past Rest h = failed_others past Rest h (λ q. cc)
+failed past (Sending bytes asked sent) h = failed_others past (Sending bytes asked sent) h (λ q. cc)
+failed past (Taking taken) h = failed_others past (Taking taken) h (λ q. cc)
+failed past (Status effect) h = failed_others past (Status effect) h (λ q. cc)
+failed past (Stalled why) h = failed_others past (Stalled why) h (λ q. cc)
 
 pub nothing_begun : StandsFor [] Rest
 unfolding stage

@@ -5,15 +5,10 @@ use Rattle.control_ep.specs.declared.answer.EpAnswer.TheVariants.{Stall}
 use Rattle.control_ep.specs.declared.answer.OutStep.TheVariants.{Answered}
 use Rattle.control_ep.specs.declared.answer.Effect.{Effect}
 use Rattle.control_ep.specs.declared.answer.Effect.TheVariants.{Nothing}
-use Rattle.control_ep.specs.declared.request.Taken.{Taken}
-use Rattle.control_ep.specs.declared.request.Transfer.{Transfer}
-use Rattle.control_ep.specs.declared.request.Transfer.TheVariants.{Reads, Takes, Sets}
-use Rattle.control_ep.specs.declared.endpoint.Stage.{Stage}
-use Rattle.control_ep.specs.declared.endpoint.Stage.TheVariants.{Rest, Sending, Taking, Waiting, Status}
+use Rattle.control_ep.specs.Transfers.{HostReport, Transfer, Reads, Takes, Sets, Stage, Rest, Sending, Taking, Waiting, Status}
 use Rattle.control_ep.specs.Calls.{EpCall}
 use Rattle.control_ep.specs.Stage.{calls_since, last_setup, first_stall, or_else, CommandState, NoCommand, Works, Settled, Failed, state_after, Progress, progress_of, stage_after, until_confirmed, after_command, unless_stalled, stage}
 use Rattle.control_ep.specs.Answers.{in_answer, out_step}
-use Rattle.arrayvec.specs.ArrayVec.{ArrayVec}
 
 -- the stage of these look-backs
 abbrev pub stage_by : Option Why → Option (Result Transfer Why × ℕ) → Progress → Stage
@@ -40,42 +35,42 @@ stalled_again_out (Some w) start progress packet why e = cc
 
 -- what a stage tells of the look-backs
 
-pub record IsSending (x : ArrayVec ℕ) (asked n : ℕ) (stalled : Option Why) (start : Option (Result Transfer Why × ℕ)) (progress : Progress) : Type 0 where
+pub record IsSending (x : List ℕ) (asked n : ℕ) (stalled : Option Why) (start : Option (Result Transfer Why × ℕ)) (progress : Progress) : Type 0 where
   pub unstalled : stalled ≡ None
   pub begins : start ≡ Some (Ok (Reads x), asked)
   pub some : (asked == 0) ≡ false
   pub open_still : progress.closed ≡ false
   pub count : progress.sent ≡ n
 
-pub record IsTaking (taken : Taken) (stalled : Option Why) (start : Option (Result Transfer Why × ℕ)) (progress : Progress) : Type 0 where
+pub record IsTaking (taken : HostReport) (stalled : Option Why) (start : Option (Result Transfer Why × ℕ)) (progress : Progress) : Type 0 where
   pub length : ℕ
   pub unstalled : stalled ≡ None
   pub begins : start ≡ Some (Ok (Takes taken), length)
   pub not_taken : progress.taken ≡ false
 
 pub record IsWaiting (stalled : Option Why) (start : Option (Result Transfer Why × ℕ)) (progress : Progress) : Type 0 where
-  pub taken : Taken
+  pub taken : HostReport
   pub length : ℕ
   pub unstalled : stalled ≡ None
   pub begins : start ≡ Some (Ok (Takes taken), length)
   pub is_taken : progress.taken ≡ true
   pub works : progress.command ≡ Works
 
-not_sending_until : (confirmed : Bool) (effect : Effect) (x : ArrayVec ℕ) (asked n : ℕ) → Sending x asked n ≡ until_confirmed confirmed effect → ⊥
+not_sending_until : (confirmed : Bool) (effect : Effect) (x : List ℕ) (asked n : ℕ) → Sending x asked n ≡ until_confirmed confirmed effect → ⊥
 not_sending_until true effect x asked n e = cc
 not_sending_until false effect x asked n e = cc
 
-not_sending_after : (state : CommandState) (confirmed : Bool) (x : ArrayVec ℕ) (asked n : ℕ) → Sending x asked n ≡ after_command state confirmed → ⊥
+not_sending_after : (state : CommandState) (confirmed : Bool) (x : List ℕ) (asked n : ℕ) → Sending x asked n ≡ after_command state confirmed → ⊥
 not_sending_after Works confirmed x asked n e = cc
 not_sending_after Failed confirmed x asked n e = cc
 not_sending_after NoCommand confirmed x asked n e = not_sending_until confirmed Nothing x asked n e
 not_sending_after Settled confirmed x asked n e = not_sending_until confirmed Nothing x asked n e
 
-not_taking_until : (confirmed : Bool) (effect : Effect) (taken : Taken) → Taking taken ≡ until_confirmed confirmed effect → ⊥
+not_taking_until : (confirmed : Bool) (effect : Effect) (taken : HostReport) → Taking taken ≡ until_confirmed confirmed effect → ⊥
 not_taking_until true effect taken e = cc
 not_taking_until false effect taken e = cc
 
-not_taking_after : (state : CommandState) (confirmed : Bool) (taken : Taken) → Taking taken ≡ after_command state confirmed → ⊥
+not_taking_after : (state : CommandState) (confirmed : Bool) (taken : HostReport) → Taking taken ≡ after_command state confirmed → ⊥
 not_taking_after Works confirmed taken e = cc
 not_taking_after Failed confirmed taken e = cc
 not_taking_after NoCommand confirmed taken e = not_taking_until confirmed Nothing taken e
@@ -91,26 +86,26 @@ waiting_after Failed confirmed e = cc
 waiting_after NoCommand confirmed e = absurd (not_waiting_until confirmed Nothing e)
 waiting_after Settled confirmed e = absurd (not_waiting_until confirmed Nothing e)
 
-abbrev reading_by : Bool → Bool → Bool → ArrayVec ℕ → ℕ → ℕ → Stage
+abbrev reading_by : Bool → Bool → Bool → List ℕ → ℕ → ℕ → Stage
 reading_by none closed confirmed bytes length sent =
     cond none (until_confirmed confirmed Nothing) (cond closed Rest (Sending bytes length sent))
 
-abbrev taking_by : Bool → CommandState → Bool → Taken → Stage
+abbrev taking_by : Bool → CommandState → Bool → HostReport → Stage
 taking_by taken state confirmed kind = cond taken (after_command state confirmed) (Taking kind)
 
-reading : (none closed confirmed : Bool) (bytes x : ArrayVec ℕ) (length asked sent n : ℕ)
+reading : (none closed confirmed : Bool) (bytes x : List ℕ) (length asked sent n : ℕ)
     → Sending x asked n ≡ reading_by none closed confirmed bytes length sent
     → (none ≡ false) × (closed ≡ false) × (bytes ≡ x) × (length ≡ asked) × (sent ≡ n)
 reading true closed confirmed bytes x length asked sent n e = absurd (not_sending_until confirmed Nothing x asked n e)
 reading false true confirmed bytes x length asked sent n e = cc
 reading false false confirmed bytes x length asked sent n e = (refl, refl, cc, cc, cc)
 
-not_sending_takes : (taken : Bool) (state : CommandState) (confirmed : Bool) (kind : Taken) (x : ArrayVec ℕ) (asked n : ℕ)
+not_sending_takes : (taken : Bool) (state : CommandState) (confirmed : Bool) (kind : HostReport) (x : List ℕ) (asked n : ℕ)
     → Sending x asked n ≡ taking_by taken state confirmed kind → ⊥
 not_sending_takes true state confirmed kind x asked n e = not_sending_after state confirmed x asked n e
 not_sending_takes false state confirmed kind x asked n e = cc
 
-pub sending_is : (x : ArrayVec ℕ) (asked n : ℕ) (stalled : Option Why) (start : Option (Result Transfer Why × ℕ)) (progress : Progress)
+pub sending_is : (x : List ℕ) (asked n : ℕ) (stalled : Option Why) (start : Option (Result Transfer Why × ℕ)) (progress : Progress)
     → Sending x asked n ≡ stage_by stalled start progress → IsSending x asked n stalled start progress
 sending_is x asked n (Some why) start progress e = cc
 sending_is x asked n None None progress e = cc
@@ -128,18 +123,18 @@ sending_is x asked n None (Some (Ok (Takes kind), length)) progress e =
     absurd (not_sending_takes progress.taken progress.command progress.confirmed kind x asked n e)
 sending_is x asked n None (Some (Ok (Sets effect), length)) progress e = absurd (not_sending_until progress.confirmed effect x asked n e)
 
-not_taking_reads : (none closed confirmed : Bool) (bytes : ArrayVec ℕ) (length sent : ℕ) (kind : Taken)
+not_taking_reads : (none closed confirmed : Bool) (bytes : List ℕ) (length sent : ℕ) (kind : HostReport)
     → Taking kind ≡ reading_by none closed confirmed bytes length sent → ⊥
 not_taking_reads true closed confirmed bytes length sent kind e = not_taking_until confirmed Nothing kind e
 not_taking_reads false true confirmed bytes length sent kind e = cc
 not_taking_reads false false confirmed bytes length sent kind e = cc
 
-taking_takes : (taken : Bool) (state : CommandState) (confirmed : Bool) (kind other : Taken)
+taking_takes : (taken : Bool) (state : CommandState) (confirmed : Bool) (kind other : HostReport)
     → Taking other ≡ taking_by taken state confirmed kind → (taken ≡ false) × (kind ≡ other)
 taking_takes true state confirmed kind other e = absurd (not_taking_after state confirmed other e)
 taking_takes false state confirmed kind other e = (refl, cc)
 
-pub taking_is : (kind : Taken) (stalled : Option Why) (start : Option (Result Transfer Why × ℕ)) (progress : Progress)
+pub taking_is : (kind : HostReport) (stalled : Option Why) (start : Option (Result Transfer Why × ℕ)) (progress : Progress)
     → Taking kind ≡ stage_by stalled start progress → IsTaking kind stalled start progress
 taking_is kind (Some why) start progress e = cc
 taking_is kind None None progress e = cc
@@ -151,13 +146,13 @@ taking_is kind None (Some (Ok (Takes other), length)) progress e =
     record { length = length; unstalled = refl; begins = cc; not_taken = t.0 }
 taking_is kind None (Some (Ok (Sets effect), length)) progress e = absurd (not_taking_until progress.confirmed effect kind e)
 
-not_waiting_reads : (none closed confirmed : Bool) (bytes : ArrayVec ℕ) (length sent : ℕ)
+not_waiting_reads : (none closed confirmed : Bool) (bytes : List ℕ) (length sent : ℕ)
     → Waiting ≡ reading_by none closed confirmed bytes length sent → ⊥
 not_waiting_reads true closed confirmed bytes length sent e = not_waiting_until confirmed Nothing e
 not_waiting_reads false true confirmed bytes length sent e = cc
 not_waiting_reads false false confirmed bytes length sent e = cc
 
-waiting_takes : (taken : Bool) (state : CommandState) (confirmed : Bool) (kind : Taken)
+waiting_takes : (taken : Bool) (state : CommandState) (confirmed : Bool) (kind : HostReport)
     → Waiting ≡ taking_by taken state confirmed kind → (taken ≡ true) × (state ≡ Works)
 waiting_takes true state confirmed kind e = (refl, waiting_after state confirmed e)
 waiting_takes false state confirmed kind e = cc
@@ -175,13 +170,13 @@ waiting_is None (Some (Ok (Takes kind), length)) progress e =
 waiting_is None (Some (Ok (Sets effect), length)) progress e = absurd (not_waiting_until progress.confirmed effect e)
 
 -- the status packet ends the transfer
-status_reads : (none closed confirmed : Bool) (bytes : ArrayVec ℕ) (length sent more : ℕ) (effect : Effect)
+status_reads : (none closed confirmed : Bool) (bytes : List ℕ) (length sent more : ℕ) (effect : Effect)
     → Status effect ≡ reading_by none closed confirmed bytes length sent → reading_by none closed true bytes length more ≡ Rest
 status_reads true closed confirmed bytes length sent more effect e = refl
 status_reads false true confirmed bytes length sent more effect e = refl
 status_reads false false confirmed bytes length sent more effect e = cc
 
-status_takes : (taken : Bool) (state : CommandState) (confirmed : Bool) (kind : Taken) (effect : Effect)
+status_takes : (taken : Bool) (state : CommandState) (confirmed : Bool) (kind : HostReport) (effect : Effect)
     → Status effect ≡ taking_by taken state confirmed kind → taking_by taken state true kind ≡ Rest
 status_takes false state confirmed kind effect e = cc
 status_takes true Works confirmed kind effect e = cc
@@ -202,7 +197,7 @@ status_confirmed effect None (Some (Ok (Takes kind), length)) progress more e =
 status_confirmed effect None (Some (Ok (Sets other), length)) progress more e = refl
 
 -- where no command works, an end of one changes nothing
-ended_takes : (taken : Bool) (state end : CommandState) (confirmed : Bool) (kind : Taken)
+ended_takes : (taken : Bool) (state end : CommandState) (confirmed : Bool) (kind : HostReport)
     → (Waiting ≡ taking_by taken state confirmed kind → ⊥) → taking_by taken (state_after state end) confirmed kind ≡ taking_by taken state confirmed kind
 ended_takes false state end confirmed kind n = refl
 ended_takes true Works end confirmed kind n = absurd (n refl)

@@ -1,7 +1,11 @@
 pub mod Reasons
+pub mod Transfers
 pub mod Requests
 pub mod Packets
 pub mod Calls
 pub mod Stage
 pub mod Answers
+pub mod Moves
 pub mod Stands
+pub mod ReadData
+pub mod Views

@@ -3,15 +3,12 @@ use Rattle.std.specs.Prelude.{ℕ, ◌+◌, ◌==◌, ◌||◌, Bool, true, fals
 use Rattle.control_ep.specs.declared.why.Why.{Why}
 use Rattle.control_ep.specs.declared.why.Why.TheVariants.{FlashFault}
 use Rattle.control_ep.specs.declared.answer.EpAnswer.{EpAnswer}
-use Rattle.control_ep.specs.declared.answer.EpAnswer.TheVariants.{Ack, Nak, Packet, Stall}
+use Rattle.control_ep.specs.declared.answer.EpAnswer.TheVariants.{Ack, Packet, Stall}
 use Rattle.control_ep.specs.declared.answer.OutStep.TheVariants.{Answered, Leds}
 use Rattle.control_ep.specs.declared.answer.Verdict.TheVariants as Verdicts
 use Rattle.control_ep.specs.declared.answer.Effect.{Effect}
 use Rattle.control_ep.specs.declared.answer.Effect.TheVariants.{Nothing}
-use Rattle.control_ep.specs.declared.request.Transfer.{Transfer}
-use Rattle.control_ep.specs.declared.request.Transfer.TheVariants.{Reads, Takes, Sets}
-use Rattle.control_ep.specs.declared.endpoint.Stage.{Stage}
-use Rattle.control_ep.specs.declared.endpoint.Stage.TheVariants.{Rest, Sending, Taking, Waiting, Status, Stalled}
+use Rattle.control_ep.specs.Transfers.{Transfer, Reads, Takes, Sets, Stage, Rest, Sending, Taking, Waiting, Status, Stalled}
 use Rattle.control_ep.specs.Calls.{EpCall, Setup, Out, Judged, In, Settle, Fail, Reset}
 use Rattle.control_ep.specs.Requests.{request_of, transfer_of}
 
@@ -40,9 +37,7 @@ last_setup (Fail ∷ past) = last_setup past
 
 abbrev pub reason_in : EpAnswer → Option Why
 reason_in (Stall why) = Some why
-reason_in Ack = None
-reason_in Nak = None
-reason_in (Packet _) = None
+reason_in _ = None
 
 -- why a packet was stalled, if it was
 abbrev pub stall_of : EpCall → Option Why
@@ -99,9 +94,7 @@ pub data CommandState : Type 0 where
 -- a command that works ends as the first end after it says
 abbrev pub state_after : CommandState → CommandState → CommandState
 state_after Works end = end
-state_after NoCommand end = NoCommand
-state_after Settled end = Settled
-state_after Failed end = Failed
+state_after state end = state
 
 -- what became of the command that these calls began
 abbrev pub command_of : List EpCall → CommandState
@@ -162,7 +155,7 @@ abbrev pub stage_in : Transfer → ℕ → Progress → Stage
 stage_in (Reads bytes) length progress =
     if length == 0 then until_confirmed progress.confirmed Nothing
     else (if progress.closed then Rest else Sending bytes length progress.sent)
-stage_in (Takes taken) length progress = if progress.taken then after_command progress.command progress.confirmed else Taking taken
+stage_in (Takes report) length progress = if progress.taken then after_command progress.command progress.confirmed else Taking report
 stage_in (Sets effect) length progress = until_confirmed progress.confirmed effect
 
 -- no transfer, a refused one, or one that goes on

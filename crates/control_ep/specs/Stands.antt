@@ -1,10 +1,10 @@
 -- A control endpoint stands for the calls that were made on it, newest first.
 use Rattle.std.specs.Prelude.{◌≡◌, Bool, true, false, List, [], ◌∷◌, IsTrue}
 use Rattle.control_ep.specs.declared.answer.OutStep.TheVariants.{Offer}
-use Rattle.control_ep.specs.declared.endpoint.Stage.{Stage}
+use Rattle.control_ep.specs.Transfers.{Stage}
 use Rattle.control_ep.specs.Calls.{EpCall, Setup, Out, Judged, In, Settle, Fail, Reset}
 use Rattle.control_ep.specs.Stage.{stage}
-use Rattle.control_ep.specs.Answers.{in_answer, in_effect, out_step, verdict_answer}
+use Rattle.control_ep.specs.Answers.{in_answer, in_effect, out_step, judged_answer}
 
 -- the latest call is an OUT packet that was offered
 abbrev pub is_offered : List EpCall → Bool
@@ -15,7 +15,7 @@ is_offered _ = false
 abbrev pub IsAnswered : List EpCall → EpCall → Type 0
 IsAnswered past (Setup _ _) = Unit {0}
 IsAnswered past (Out packet step) = step ≡ out_step (stage past) packet
-IsAnswered past (Judged verdict answer) = IsTrue (is_offered past) × (answer ≡ verdict_answer verdict)
+IsAnswered past (Judged verdict answer) = IsTrue (is_offered past) × (answer ≡ judged_answer verdict)
 IsAnswered past (In answer effect) = (answer ≡ in_answer (stage past)) × (effect ≡ in_effect (stage past))
 IsAnswered past Settle = Unit {0}
 IsAnswered past Fail = Unit {0}

@@ -6,6 +6,7 @@ use reports::{IdleId, Protocol};
 
 /// The answer to a packet of endpoint 0 (USB 2.0 section 8.5.3).
 #[derive(Debug, Drop, PartialEq, Eq)]
+#[must_use]
 pub enum EpAnswer {
     /// The packet is acknowledged.
     Ack,
@@ -19,6 +20,7 @@ pub enum EpAnswer {
 
 /// What an OUT packet comes to.
 #[derive(Debug, Drop, PartialEq, Eq)]
+#[must_use]
 pub enum OutStep {
     /// The packet is answered.
     Answered(EpAnswer),
@@ -71,7 +73,7 @@ pub struct DeviceView {
     /// The input report of Report ID 1, with the ID.
     pub bitmap: [u8; 23],
     /// The input report of Report ID 2, with the ID.
-    pub consumer: [u8; 3],
+    pub consumer: [u8; 9],
     /// The boot input report.
     pub boot: [u8; 8],
 }

@@ -1,32 +1,57 @@
 //! The control endpoint and the stages of its transfer.
 
-ghost use Rattle.std.specs.Prelude.{◌≡◌, ◌≢◌, List, [], ◌∷◌, IsTrue};
+ghost use Rattle.std.specs.Prelude.{◌≡◌, ◌+◌, List, [], ◌∷◌, None, IsSome, IsTrue};
+ghost use Rattle.std.specs.Option.{option_map};
+ghost use Rattle.control_ep.specs.Packets.{packet_at};
 ghost use Rattle.control_ep.specs.declared.answer.EpAnswer.{EpAnswer};
 ghost use Rattle.control_ep.specs.declared.answer.Effect.{Effect};
 ghost use Rattle.control_ep.specs.declared.answer.OutStep.{OutStep};
+ghost use Rattle.control_ep.specs.declared.why.Why.{Why};
 ghost use Rattle.control_ep.specs.Stage.{stage_in, progress_of};
+ghost use Rattle.control_ep.specs.Transfers.{Rest, Taking, Status, Stalled, FeatureData};
+ghost use Rattle.control_ep.specs.Views.{stage_view, transfer_view};
 ghost use Rattle.control_ep.specs.Calls.{EpCall, Setup, Out, Judged, In, Settle, Fail, Reset};
 
+use crate::data::ReadData;
 use crate::packets::packet_at;
-use crate::report::{Received, received_report};
-use crate::request::{Request, Taken, Transfer};
+use crate::report::received_report;
+use crate::request::{HostReport, Request, Transfer};
 use crate::{DeviceView, Effect, EpAnswer, OutStep, Verdict, Why};
 use arrayvec::ArrayVec;
 use std::marker::Model;
+
+/// A read: its bytes, how many were asked for, and how many packets were sent.
+#[derive(Drop)]
+pub(crate) struct Sending {
+    bytes: ReadData,
+    asked: u16,
+    sent: u16,
+}
+
+impl Sending {
+    /// The next packet, and none where all were sent.
+    fn next_packet(&mut self) -> Option<ArrayVec<u8, 8>>
+        ensures packet { option_map (λ packet. packet.items) result ≡ packet_at self.old.bytes self.old.asked self.old.sent }
+        ensures counted { IsSome result → self.new ≡ record { bytes = self.old.bytes; asked = self.old.asked; sent = self.old.sent + 1 } }
+        ensures ended { result ≡ None → self.new ≡ self.old }
+    {
+        let packet = packet_at(self.bytes.as_slice(), self.asked, self.sent);
+        if packet.is_some() {
+            self.sent += 1;
+        }
+        packet
+    }
+}
 
 /// Where the transfer stands.
 #[derive(Drop)]
 pub(crate) enum Stage {
     /// No transfer is under way.
     Rest,
-    /// A read: its bytes, how many were asked for, and how many packets were sent.
-    Sending {
-        bytes: ArrayVec<u8, 256>,
-        asked: u16,
-        sent: u8,
-    },
+    /// A read.
+    Sending(Sending),
     /// A report is expected.
-    Taking(Taken),
+    Taking(HostReport),
     /// A feature command works.
     Waiting,
     /// The status packet is due, with this effect.
@@ -42,54 +67,155 @@ pub struct ControlEp {
 }
 
 impl Model for ControlEp {
-    ghost use Rattle.control_ep.specs.declared.endpoint.Stage.{Stage};
+    ghost use Rattle.control_ep.specs.Transfers.{Stage};
+    ghost use Rattle.control_ep.specs.Views.{stage_view};
 
     ghost Value = { Stage };
 
-    ghost view = { λ e. e.stage };
+    ghost view = { λ e. stage_view e.stage };
 }
 
 /// The stage that a transfer begins in.
 fn first_stage(transfer: Transfer, length: u16) -> Stage
-    ensures { result ≡ stage_in transfer length (progress_of []) }
+    ensures { stage_view result ≡ stage_in (transfer_view transfer) length (progress_of []) }
 {
     match transfer {
         Transfer::Reads(_) if length == 0 => Stage::Status(Effect::Nothing),
-        Transfer::Reads(bytes) => Stage::Sending {
+        Transfer::Reads(bytes) => Stage::Sending(Sending {
             bytes,
             asked: length,
             sent: 0,
-        },
-        Transfer::Takes(taken) => Stage::Taking(taken),
+        }),
+        Transfer::Takes(report) => Stage::Taking(report),
         Transfer::Sets(effect) => Stage::Status(effect),
     }
 }
 
 impl ControlEp {
-    ghost use Rattle.control_ep.specs.declared.endpoint.Stage.{Stage};
     ghost use Rattle.control_ep.specs.Stage.{stage};
-    ghost use Rattle.control_ep.specs.Answers.{in_answer, in_effect, out_step, verdict_answer, IfNak, IfStall, IfAnswered, IfOffer, Ends};
+    ghost use Rattle.control_ep.specs.Moves.{begun, after_in, after_out, after_verdict, after_end};
+    ghost use Rattle.control_ep.specs.Answers.{in_answer, in_effect, out_step, verdict_answer, IfNak, IfStall, IfAnswered, IfOffer};
     ghost use Rattle.control_ep.specs.Stands.{StandsFor, is_offered};
 
     /// An endpoint at its start: no transfer is under way, and an IN or OUT packet is answered by
     /// `Stall(WrongStage)` until a SETUP packet comes.
     #[tactic(auto, using(crate::proofs::Moves::nothing_begun))]
     pub fn new() -> ControlEp
-        ensures { StandsFor [] result }
+        ensures stands { StandsFor [] result }
+        ensures rests { result ≡ Rest }
     {
         ControlEp { stage: Stage::Rest }
     }
 
     /// Takes a SETUP packet of 8 bytes (USB 2.0 sections 8.5.3 and 9.3), which is always acknowledged and
     /// ends the transfer under way, also one that waits for a command. What is read is what `view` has
-    /// now. A request that is refused leaves the new transfer stalled, by the first of these that holds:
-    /// `UnknownRequest` where bmRequestType and bRequest are not served; `WrongInterface` where wIndex is
-    /// not 0, but for requests to the device; `UnknownDescriptor`, `UnknownReport` or `BadProtocol` where
-    /// wValue names none; `WrongLength` where wLength is not the report's length in SET_REPORT, or not 0
-    /// in SET_IDLE and SET_PROTOCOL.
+    /// now; its input reports are looked at only where `asks_for_input` holds. A request that is refused
+    /// leaves the new transfer stalled, by the first of these that holds: `UnknownRequest` where
+    /// bmRequestType and bRequest are not served; `WrongInterface` where wIndex is not 0, but for requests
+    /// to the device; `UnknownDescriptor`, `UnknownReport` or `BadProtocol` where wValue names none;
+    /// `WrongLength` where wLength is not the report's length in SET_REPORT, or not 0 in SET_IDLE and
+    /// SET_PROTOCOL.
+    #[tactic(auto, using(crate::proofs::Next::next_setup))]
     pub fn setup(&mut self, setup: [u8; 8], view: &DeviceView)
-        ensures { (past : List EpCall) → StandsFor past self.old
+        ensures stands { (past : List EpCall) → StandsFor past self.old
             → StandsFor (Setup setup view.now ∷ past) self.new }
+        ensures left { self.new ≡ begun setup view.now }
+    {
+        self.begin(setup, view);
+    }
+
+    /// Takes an IN packet (USB 2.0 section 8.5.3): the next data packet of at most 8 bytes, the empty
+    /// packet of the status stage with what it brings about, `Nak` while the transfer's command works, or
+    /// a `Stall`, which leaves the transfer stalled: for the reason of a transfer that is stalled already
+    /// (`FlashFault` where its command failed), and with `WrongStage` where no IN packet is due.
+    ///
+    /// The answer is given at the token, and its effect with it: where a controller is handed packets
+    /// before they are asked for, the call is made when the packet is taken.
+    #[tactic(auto, using(crate::proofs::Next::next_in))]
+    pub fn in_packet(&mut self) -> (EpAnswer, Effect)
+        ensures answer { (past : List EpCall) → StandsFor past self.old
+            → result.0 ≡ in_answer (stage past) }
+        ensures effect { (past : List EpCall) → StandsFor past self.old
+            → result.1 ≡ in_effect (stage past) }
+        ensures stands { (past : List EpCall) → StandsFor past self.old
+            → StandsFor (In result.0 result.1 ∷ past) self.new }
+        ensures left { self.new ≡ after_in self.old result.0 }
+        ensures nak { IfNak result.0 ((self.new ≡ self.old) × (result.1 ≡ Effect.Nothing)) }
+        ensures stall { IfStall result.0 (λ why. (self.new ≡ Stalled why) × (result.1 ≡ Effect.Nothing)) }
+    {
+        self.answer_in()
+    }
+
+    /// Takes an OUT packet (USB 2.0 section 8.5.3): an output report is taken, a feature report is offered
+    /// and changes nothing before its verdict, and an empty packet ends a read. Any other packet is
+    /// answered by a `Stall`, which leaves the transfer stalled: where a report is due, in this order,
+    /// with `ShortData` and `LongData` for another length than wLength, and `UnknownReport` for another
+    /// Report ID; for the reason of a transfer that is stalled already; else with `WrongStage`.
+    #[tactic(auto, using(crate::proofs::Next::next_out, crate::proofs::Next::offer_due))]
+    pub fn out(&mut self, packet: &[u8]) -> OutStep
+        ensures step { (past : List EpCall) → StandsFor past self.old
+            → result ≡ out_step (stage past) packet.now }
+        ensures stands { (past : List EpCall) → StandsFor past self.old
+            → StandsFor (Out packet.now result ∷ past) self.new }
+        ensures left { self.new ≡ after_out self.old result }
+        ensures offer { IfOffer result ((self.old ≡ Taking FeatureData) × (self.new ≡ self.old)) }
+        ensures stall { IfAnswered result (λ answer.
+            IfStall answer (λ why. self.new ≡ Stalled why)) }
+    {
+        self.answer_out(packet)
+    }
+
+    /// The answer to the packet that `out` has just offered; to be called next after the offer. `Done`
+    /// and `Working` are `Ack`, `Busy` is `Nak` and leaves the report to be sent again, and `Refused` is
+    /// a `Stall` with its reason, which leaves the transfer stalled. Where no feature report is due the
+    /// verdict is out of place: a `Stall` with the reason of a transfer that is stalled already, else
+    /// with `WrongStage`, which stalls the transfer.
+    #[tactic(auto, using(crate::proofs::Next::next_verdict, crate::proofs::Next::feature_due))]
+    pub fn verdict(&mut self, verdict: Verdict) -> EpAnswer
+        ensures answer { result ≡ verdict_answer self.old verdict }
+        ensures stands { (past : List EpCall) → StandsFor past self.old → IsTrue (is_offered past)
+            → StandsFor (Judged verdict result ∷ past) self.new }
+        ensures left { self.new ≡ after_verdict self.old verdict }
+    {
+        self.judge(verdict)
+    }
+
+    /// The command that works has settled: the status packet of its transfer is due, if the transfer
+    /// still waits for it. Any other transfer stays as it is.
+    #[tactic(auto, using(crate::proofs::Moves::settled))]
+    pub fn settle(&mut self)
+        ensures stands { (past : List EpCall) → StandsFor past self.old
+            → StandsFor (Settle ∷ past) self.new }
+        ensures left { self.new ≡ after_end self.old (Status Effect.Nothing) }
+    {
+        self.end_command(Stage::Status(Effect::Nothing));
+    }
+
+    /// The command that works has failed: its transfer is stalled with `FlashFault`, if it still waits
+    /// for it. Any other transfer stays as it is.
+    #[tactic(auto, using(crate::proofs::Moves::failed))]
+    pub fn fail(&mut self)
+        ensures stands { (past : List EpCall) → StandsFor past self.old
+            → StandsFor (Fail ∷ past) self.new }
+        ensures left { self.new ≡ after_end self.old (Stalled Why.FlashFault) }
+    {
+        self.end_command(Stage::Stalled(Why::FlashFault));
+    }
+
+    /// A bus reset (USB 2.0 section 7.1.7.5): no transfer is under way, as in an endpoint at its start.
+    #[tactic(auto, using(crate::proofs::Next::next_reset))]
+    pub fn reset(&mut self)
+        ensures stands { (past : List EpCall) → StandsFor past self.old
+            → StandsFor (Reset ∷ past) self.new }
+        ensures left { self.new ≡ Rest }
+    {
+        *self = ControlEp::new();
+    }
+
+    /// Begins the transfer that a SETUP packet asks for, or stalls it.
+    #[tactic(auto, using(crate::proofs::Next::begun_by))]
+    fn begin(&mut self, setup: [u8; 8], view: &DeviceView)
+        ensures { self.new ≡ begun setup view.now }
     {
         let request = Request::read(setup);
         self.stage = match request.transfer(view) {
@@ -98,33 +224,15 @@ impl ControlEp {
         };
     }
 
-    /// Takes an IN packet (USB 2.0 section 8.5.3): the next data packet of at most 8 bytes, the empty
-    /// packet of the status stage with what it brings about, `Nak` while the transfer's command works, or
-    /// a `Stall`, which leaves the transfer stalled: for the reason of a transfer that is stalled already
-    /// (`FlashFault` where its command failed), and with `WrongStage` where no IN packet is due.
-    #[tactic(auto, using(crate::proofs::Moves::in_confirmed))]
-    pub fn in_packet(&mut self) -> (EpAnswer, Effect)
-        ensures answer { (past : List EpCall) → StandsFor past self.old
-            → result.0 ≡ in_answer (stage past) }
-        ensures effect { (past : List EpCall) → StandsFor past self.old
-            → result.1 ≡ in_effect (stage past) }
-        ensures stands { (past : List EpCall) → StandsFor past self.old
-            → StandsFor (In result.0 result.1 ∷ past) self.new }
-        ensures nak { IfNak result.0 (self.new ≡ self.old) }
-        ensures nak_effect { IfNak result.0 (result.1 ≡ Effect.Nothing) }
-        ensures stall { IfStall result.0 (λ why. self.new ≡ Stage.Stalled why) }
-        ensures stall_effect { IfStall result.0 (λ _. result.1 ≡ Effect.Nothing) }
+    /// The answer to an IN packet in this stage, and its effect.
+    fn answer_in(&mut self) -> (EpAnswer, Effect)
+        ensures answer { result.0 ≡ in_answer self.old }
+        ensures effect { result.1 ≡ in_effect self.old }
+        ensures left { self.new ≡ after_in self.old result.0 }
     {
         match &mut self.stage {
-            Stage::Sending { bytes, asked, sent } => match packet_at(
-                bytes.as_slice(),
-                *asked,
-                *sent,
-            ) {
-                Some(packet) => {
-                    *sent += 1;
-                    (EpAnswer::Packet(packet), Effect::Nothing)
-                }
+            Stage::Sending(sending) => match sending.next_packet() {
+                Some(packet) => (EpAnswer::Packet(packet), Effect::Nothing),
                 None => (self.stall(Why::WrongStage), Effect::Nothing),
             },
             Stage::Status(effect) => {
@@ -138,63 +246,47 @@ impl ControlEp {
         }
     }
 
-    /// Takes an OUT packet (USB 2.0 section 8.5.3): an output report is taken, a feature report is offered
-    /// and changes nothing before its verdict, and an empty packet ends a read. Any other packet is
-    /// answered by a `Stall`, which leaves the transfer stalled: where a report is due, in this order,
-    /// with `ShortData` and `LongData` for another length than wLength, and `UnknownReport` for another
-    /// Report ID; for the reason of a transfer that is stalled already; else with `WrongStage`.
-    pub fn out(&mut self, packet: &[u8]) -> OutStep
-        ensures step { (past : List EpCall) → StandsFor past self.old
-            → result ≡ out_step (stage past) packet.now }
-        ensures stands { (past : List EpCall) → StandsFor past self.old
-            → StandsFor (Out packet.now result ∷ past) self.new }
-        ensures offer { IfOffer result (self.new ≡ self.old) }
-        ensures stall { IfAnswered result (λ answer.
-            IfStall answer (λ why. self.new ≡ Stage.Stalled why)) }
-    {
-        self.take_packet(packet)
-    }
-
-    // The body of `out`, under another name: the toolchain keeps what it makes in folders called out,
-    // so that no proof folder may have that name.
-    fn take_packet(&mut self, packet: &[u8]) -> OutStep
-        ensures step { (past : List EpCall) → StandsFor past self.old
-            → result ≡ out_step (stage past) packet.now }
-        ensures stands { (past : List EpCall) → StandsFor past self.old
-            → StandsFor (Out packet.now result ∷ past) self.new }
-        ensures offer { IfOffer result (self.new ≡ self.old) }
-        ensures stall { IfAnswered result (λ answer.
-            IfStall answer (λ why. self.new ≡ Stage.Stalled why)) }
+    /// What an OUT packet comes to in this stage.
+    fn answer_out(&mut self, packet: &[u8]) -> OutStep
+        ensures step { result ≡ out_step self.old packet.now }
+        ensures left { self.new ≡ after_out self.old result }
     {
         match &self.stage {
-            Stage::Sending { .. } if packet.is_empty() => {
+            Stage::Sending(_) if packet.is_empty() => {
                 self.stage = Stage::Rest;
                 OutStep::Answered(EpAnswer::Ack)
             }
-            Stage::Taking(taken) => match received_report(*taken, packet) {
-                Ok(Received::Leds(leds)) => {
+            Stage::Taking(report) => match received_report(*report, packet) {
+                Ok(OutStep::Leds(leds)) => {
                     self.stage = Stage::Status(Effect::Nothing);
                     OutStep::Leds(leds)
                 }
-                Ok(Received::Feature(bytes)) => OutStep::Offer(bytes),
+                Ok(step) => step,
                 Err(why) => OutStep::Answered(self.stall(why)),
             },
             Stage::Stalled(why) => OutStep::Answered(EpAnswer::Stall(*why)),
-            Stage::Rest | Stage::Sending { .. } | Stage::Status(_) | Stage::Waiting =>
+            Stage::Rest | Stage::Sending(_) | Stage::Status(_) | Stage::Waiting =>
                 OutStep::Answered(self.stall(Why::WrongStage)),
         }
     }
 
-    /// The answer to the packet that `out` has just offered; to be called next after the offer, and
-    /// only then. `Done` and `Working` are `Ack`, `Busy` is `Nak` and leaves the report to be sent again,
-    /// and `Refused` is a `Stall` with its reason, which leaves the transfer stalled.
-    #[tactic(auto, using(crate::proofs::Moves::judged_done, crate::proofs::Moves::judged_working, crate::proofs::Moves::judged_busy))]
-    pub fn verdict(&mut self, verdict: Verdict) -> EpAnswer
-        ensures answer { result ≡ verdict_answer verdict }
-        ensures stands { (past : List EpCall) → StandsFor past self.old → IsTrue (is_offered past)
-            → StandsFor (Judged verdict result ∷ past) self.new }
-        ensures nak { IfNak result (self.new ≡ self.old) }
-        ensures stall { IfStall result (λ why. self.new ≡ Stage.Stalled why) }
+    /// The answer of a verdict in this stage.
+    fn judge(&mut self, verdict: Verdict) -> EpAnswer
+        ensures answer { result ≡ verdict_answer self.old verdict }
+        ensures left { self.new ≡ after_verdict self.old verdict }
+    {
+        match self.stage {
+            Stage::Taking(HostReport::Feature) => self.judge_report(verdict),
+            Stage::Stalled(why) => EpAnswer::Stall(why),
+            _ => self.stall(Why::WrongStage),
+        }
+    }
+
+    /// The answer of a verdict on a feature report that is due.
+    fn judge_report(&mut self, verdict: Verdict) -> EpAnswer
+        requires { self.old ≡ Taking FeatureData }
+        ensures answer { result ≡ verdict_answer self.old verdict }
+        ensures left { self.new ≡ after_verdict self.old verdict }
     {
         match verdict {
             Verdict::Done => self.acknowledge(Stage::Status(Effect::Nothing)),
@@ -204,38 +296,10 @@ impl ControlEp {
         }
     }
 
-    /// The command that works has settled: the status packet of its transfer is due, if the transfer
-    /// still waits for it. Any other transfer stays as it is.
-    pub fn settle(&mut self)
-        ensures stands { (past : List EpCall) → StandsFor past self.old
-            → StandsFor (Settle ∷ past) self.new }
-        ensures others { self.old ≢ Stage.Waiting → self.new ≡ self.old }
-    {
-        self.end_command(Stage::Status(Effect::Nothing));
-    }
-
-    /// The command that works has failed: its transfer is stalled with `FlashFault`, if it still waits
-    /// for it. Any other transfer stays as it is.
-    pub fn fail(&mut self)
-        ensures stands { (past : List EpCall) → StandsFor past self.old
-            → StandsFor (Fail ∷ past) self.new }
-        ensures others { self.old ≢ Stage.Waiting → self.new ≡ self.old }
-    {
-        self.end_command(Stage::Stalled(Why::FlashFault));
-    }
-
-    /// A bus reset (USB 2.0 section 7.1.7.5): no transfer is under way, as in an endpoint at its start.
-    pub fn reset(&mut self)
-        ensures { (past : List EpCall) → StandsFor past self.old
-            → StandsFor (Reset ∷ past) self.new }
-    {
-        *self = ControlEp::new();
-    }
-
     /// Stalls the transfer.
     fn stall(&mut self, why: Why) -> EpAnswer
         ensures answer { result ≡ EpAnswer.Stall why }
-        ensures stalled { self.new ≡ Stage.Stalled why }
+        ensures stalled { self.new ≡ Stalled why }
     {
         self.stage = Stage::Stalled(why);
         EpAnswer::Stall(why)
@@ -244,7 +308,7 @@ impl ControlEp {
     /// Acknowledges a report, after which the transfer goes on so.
     fn acknowledge(&mut self, next: Stage) -> EpAnswer
         ensures answer { result ≡ EpAnswer.Ack }
-        ensures stage { self.new ≡ next }
+        ensures stage { self.new ≡ stage_view next }
     {
         self.stage = next;
         EpAnswer::Ack
@@ -252,7 +316,7 @@ impl ControlEp {
 
     /// The command that works has ended: a transfer that waits for it goes on so.
     fn end_command(&mut self, next: Stage)
-        ensures { Ends self.old next self.new }
+        ensures { self.new ≡ after_end self.old (stage_view next) }
     {
         if let Stage::Waiting = self.stage {
             self.stage = next;

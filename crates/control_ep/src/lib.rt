@@ -4,20 +4,30 @@
 //! GET_DESCRIPTOR and the class requests of HID 1.11 section 7.2, and answers every other request by a
 //! STALL. What it can't decide itself it hands out: the LED bits of an output report, the change that a
 //! status packet brings, and the command of a feature report, for which its caller gives a verdict.
+//!
+//! **In a controller's firmware.** `setup` is called at each SETUP packet of a served request, `out` and
+//! `in_packet` at the OUT and IN tokens of endpoint 0; the answer goes onto the bus at once, and an
+//! effect is given with its packet. A controller that is handed IN packets before they are asked for
+//! calls `in_packet` when one is taken, and hands the next one over then. After a NAK the endpoint has to
+//! be armed again when what it waits for has come: after `settle` and `fail` for a command's status
+//! stage. A SETUP packet that is served elsewhere (SET_ADDRESS, SET_CONFIGURATION, GET_STATUS,
+//! CLEAR_FEATURE) ends the transfer of this endpoint: call `reset` first. At a bus reset call `reset`.
 #![tactic(auto)]
 
 mod answer;
+mod data;
 mod endpoint;
 pub mod laws;
+#[cfg(test)]
+mod look_back_tests;
 mod packets;
 mod report;
 mod request;
-#[cfg(test)]
-mod request_tests;
 #[cfg(test)]
 mod tests;
 mod why;
 
 pub use answer::{DeviceView, Effect, EpAnswer, OutStep, Verdict};
 pub use endpoint::ControlEp;
+pub use request::asks_for_input;
 pub use why::Why;

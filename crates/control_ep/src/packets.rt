@@ -9,9 +9,9 @@ use arrayvec::ArrayVec;
 /// Packet `index` of a transfer that reads these bytes and asked for `asked`; none where the packets
 /// end before it.
 #[tactic(auto, unfolding(crate::specs::Packets::packet_at))]
-pub(crate) fn packet_at(bytes: &[u8], asked: u16, index: u8) -> Option<ArrayVec<u8, 8>>
+pub(crate) fn packet_at(bytes: &[u8], asked: u16, index: u16) -> Option<ArrayVec<u8, 8>>
     ensures packet { option_map (λ packet. packet.items) result ≡ packet_at bytes.now asked index }
-    ensures in_data { OnSome result (8 * index ≤ length bytes.now) }
+    ensures in_data { OnSome result (8 * index ≤ asked) }
 {
     let asked = usize::from(asked);
     let sent = &bytes[..bytes.len().min(asked)];

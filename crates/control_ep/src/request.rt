@@ -1,13 +1,14 @@
 //! What a SETUP packet asks for.
 
 ghost use Rattle.std.specs.Prelude.{◌≡◌, ◌≤◌, ◌/◌, ◌%◌, length};
-ghost use Rattle.control_ep.specs.declared.request.Transfer.{Transfer};
 ghost use Rattle.control_ep.specs.declared.why.Why.{Why};
-ghost use Rattle.control_ep.specs.Requests.{request_of, requests, asked_at, device_descriptors, interface_descriptors, reports_read, idle_values, protocol_byte, reports_taken, length_of, takes_length, idle_effects, protocol_effects, reads, named, transfer_of};
+ghost use Rattle.control_ep.specs.Requests.{request_of, requests, asked_at, device_descriptors, interface_descriptors, reports_read, idle_values, protocol_byte, reports_taken, length_of, takes_length, idle_effects, protocol_effects, named, transfer_of, asks_for_input};
+ghost use Rattle.control_ep.specs.Transfers.{Reads};
+ghost use Rattle.control_ep.specs.Views.{fields_view, report_view, transfer_view, begun_view, asked_view};
 
+use crate::data::ReadData;
 use crate::{DeviceView, Effect, Why};
-use arrayvec::ArrayVec;
-use descriptor_build::{CONFIGURATION, DEVICE, HID, served_report};
+use descriptor_build::{CONFIGURATION, DEVICE, HID, SERVED_REPORT};
 use reports::{IdleId, Protocol};
 
 /// The fields of a SETUP packet (USB 2.0 table 9-2).
@@ -25,13 +26,23 @@ pub(crate) struct Request {
     pub(crate) length: u16,
 }
 
+/// Whether a SETUP packet asks for an input report (HID 1.11 section 7.2.1). Only then does
+/// `ControlEp::setup` look at the view's input reports, so that a device need not make them for any
+/// other packet (`laws::input_reports_unread`).
+pub fn asks_for_input(setup: [u8; 8]) -> bool
+    ensures { result ≡ asks_for_input (request_of setup) }
+{
+    let request = Request::read(setup);
+    request.kind == 0xA1 && request.code == 0x01 && request.value / 256 == 1
+}
+
 /// The reports that SET_REPORT takes.
 #[derive(Clone, Copy)]
-pub(crate) enum Taken {
+pub(crate) enum HostReport {
     /// The LED byte after its Report ID.
     LedsWithId,
     /// The LED byte alone.
-    Leds,
+    LedsAlone,
     /// The feature report.
     Feature,
 }
@@ -40,9 +51,9 @@ pub(crate) enum Taken {
 #[derive(Drop)]
 pub(crate) enum Transfer {
     /// A read of these bytes.
-    Reads(ArrayVec<u8, 256>),
+    Reads(ReadData),
     /// A report from the host.
-    Takes(Taken),
+    Takes(HostReport),
     /// No data, and this effect.
     Sets(Effect),
 }
@@ -50,7 +61,7 @@ pub(crate) enum Transfer {
 impl Request {
     /// The fields of a SETUP packet's bytes.
     pub(crate) fn read(setup: [u8; 8]) -> Request
-        ensures { result ≡ request_of setup }
+        ensures { fields_view result ≡ request_of setup }
     {
         let [
             kind,
@@ -76,7 +87,7 @@ impl Request {
     /// reason of a wValue that names nothing, and `WrongLength` by wLength.
     #[tactic(auto, unfolding(crate::specs::Requests::transfer_of))]
     pub(crate) fn transfer(self, view: &DeviceView) -> Result<Transfer, Why>
-        ensures { result ≡ transfer_of self view.now }
+        ensures { begun_view result ≡ transfer_of (fields_view self) view.now }
     {
         let Some(asked) = self.asked(view) else {
             return Err(Why::UnknownRequest);
@@ -93,14 +104,14 @@ impl Request {
 
     /// What wValue asks for; none where bmRequestType and bRequest are not served.
     fn asked(self, view: &DeviceView) -> Option<Result<Transfer, Why>>
-        ensures { result ≡ asked_at (requests view.now self.value) self.kind self.code }
+        ensures { asked_view result ≡ asked_at (requests view.now self.value) self.kind self.code }
     {
         match (self.kind, self.code) {
             (0x80, 0x06) => Some(device_descriptor(self.value)),
             (0x81, 0x06) => Some(interface_descriptor(self.value)),
             (0xA1, 0x01) => Some(get_report(self.value, view)),
             (0xA1, 0x02) => Some(get_idle(self.value, view)),
-            (0xA1, 0x03) => Some(Ok(reads(&[protocol_byte(view.protocol)]))),
+            (0xA1, 0x03) => Some(Ok(copied(&[protocol_byte(view.protocol)]))),
             (0x21, 0x09) => Some(set_report(self.value, view.protocol)),
             (0x21, 0x0A) => Some(set_idle(self.value)),
             (0x21, 0x0B) => Some(set_protocol(self.value)),
@@ -113,83 +124,88 @@ impl Transfer {
     /// Whether its request takes this wLength: a read takes each, a report from the host its own
     /// length, and a request without data 0.
     fn takes_length(&self, length: u16) -> bool
-        ensures { result ≡ takes_length self.now length }
+        ensures { result ≡ takes_length (transfer_view self.now) length }
     {
         match self {
             Transfer::Reads(_) => true,
-            Transfer::Takes(taken) => usize::from(length) == taken.length(),
+            Transfer::Takes(report) => usize::from(length) == report.length(),
             Transfer::Sets(_) => length == 0,
         }
     }
 }
 
-impl Taken {
+impl HostReport {
     /// How many bytes the report has.
     pub(crate) fn length(self) -> usize
-        ensures { result ≡ length_of self }
+        ensures { result ≡ length_of (report_view self) }
     {
         match self {
-            Taken::LedsWithId => 2,
-            Taken::Leds => 1,
-            Taken::Feature => 6,
+            HostReport::LedsWithId => 2,
+            HostReport::LedsAlone => 1,
+            HostReport::Feature => 6,
         }
     }
 }
 
-/// A read of these bytes.
-fn reads(bytes: &[u8]) -> Transfer
-    requires { length bytes.now ≤ 256 }
-    ensures { result ≡ reads bytes.now }
+/// A read of a descriptor.
+fn lent(bytes: &'static [u8]) -> Transfer
+    ensures { transfer_view result ≡ Reads bytes.now }
 {
-    let mut reply = ArrayVec::new();
-    let _full = reply.try_extend_from_slice(bytes);
-    Transfer::Reads(reply)
+    Transfer::Reads(ReadData::lent(bytes))
+}
+
+/// A read of a report or a value, at most 23 bytes, as it is now.
+fn copied(bytes: &[u8]) -> Transfer
+    requires { length bytes.now ≤ 23 }
+    ensures { transfer_view result ≡ Reads bytes.now }
+{
+    Transfer::Reads(ReadData::copied(bytes))
 }
 
 /// GET_DESCRIPTOR of the device (USB 2.0 section 9.4.3).
 fn device_descriptor(value: u16) -> Result<Transfer, Why>
-    ensures { result ≡ named Why.UnknownDescriptor device_descriptors value }
+    ensures { begun_view result ≡ named Why.UnknownDescriptor device_descriptors value }
 {
     match value {
-        0x0100 => Ok(reads(&DEVICE)),
-        0x0200 => Ok(reads(&CONFIGURATION)),
+        0x0100 => Ok(lent(&DEVICE)),
+        0x0200 => Ok(lent(&CONFIGURATION)),
         _ => Err(Why::UnknownDescriptor),
     }
 }
 
 /// GET_DESCRIPTOR of the interface (HID 1.11 section 7.1.1).
 fn interface_descriptor(value: u16) -> Result<Transfer, Why>
-    ensures { result ≡ named Why.UnknownDescriptor interface_descriptors value }
+    ensures { begun_view result ≡ named Why.UnknownDescriptor interface_descriptors value }
 {
     match value {
-        0x2100 => Ok(reads(&HID)),
-        0x2200 => Ok(Transfer::Reads(served_report())),
+        0x2100 => Ok(lent(&HID)),
+        0x2200 => Ok(lent(&SERVED_REPORT)),
         _ => Err(Why::UnknownDescriptor),
     }
 }
 
 /// GET_REPORT (HID 1.11 section 7.2.1).
 fn get_report(value: u16, view: &DeviceView) -> Result<Transfer, Why>
-    ensures { result ≡ named Why.UnknownReport (reports_read view.now view.now.protocol) value }
+    ensures { begun_view result ≡ named Why.UnknownReport (reports_read view.now view.now.protocol) value }
 {
     match (view.protocol, value) {
-        (Protocol::Report, 0x0101) => Ok(reads(&view.bitmap)),
-        (Protocol::Report, 0x0102) => Ok(reads(&view.consumer)),
-        (Protocol::Report, 0x0201) => Ok(reads(&[0x01, view.leds])),
-        (Protocol::Boot, 0x0100) => Ok(reads(&view.boot)),
-        (Protocol::Boot, 0x0200) => Ok(reads(&[view.leds])),
-        (_, 0x0303) => Ok(reads(&view.feature)),
+        (Protocol::Report, 0x0101) => Ok(copied(&view.bitmap)),
+        (Protocol::Report, 0x0102) => Ok(copied(&view.consumer)),
+        (Protocol::Report, 0x0201) => Ok(copied(&[0x01, view.leds])),
+        (Protocol::Boot, 0x0100) => Ok(copied(&view.boot)),
+        (Protocol::Boot, 0x0200) => Ok(copied(&[view.leds])),
+        (_, 0x0303) => Ok(copied(&view.feature)),
         _ => Err(Why::UnknownReport),
     }
 }
 
 /// GET_IDLE (HID 1.11 section 7.2.3).
 fn get_idle(value: u16, view: &DeviceView) -> Result<Transfer, Why>
-    ensures { result ≡ named Why.UnknownReport (idle_values view.now) value }
+    ensures { begun_view result ≡ named Why.UnknownReport (idle_values view.now) value }
 {
     match value {
-        0x0000 | 0x0001 => Ok(reads(&[view.idle_one])),
-        0x0002 => Ok(reads(&[view.idle_two])),
+        0x0000 | 0x0001 => Ok(copied(&[view.idle_one])),
+        0x0002 => Ok(copied(&[view.idle_two])),
         _ => Err(Why::UnknownReport),
     }
 }
@@ -206,20 +222,20 @@ fn protocol_byte(protocol: Protocol) -> u8
 
 /// SET_REPORT (HID 1.11 section 7.2.2).
 fn set_report(value: u16, protocol: Protocol) -> Result<Transfer, Why>
-    ensures { result ≡ named Why.UnknownReport (reports_taken protocol) value }
+    ensures { begun_view result ≡ named Why.UnknownReport (reports_taken protocol) value }
 {
-    let taken = match (protocol, value) {
-        (Protocol::Report, 0x0201) => Taken::LedsWithId,
-        (Protocol::Boot, 0x0200) => Taken::Leds,
-        (_, 0x0303) => Taken::Feature,
+    let report = match (protocol, value) {
+        (Protocol::Report, 0x0201) => HostReport::LedsWithId,
+        (Protocol::Boot, 0x0200) => HostReport::LedsAlone,
+        (_, 0x0303) => HostReport::Feature,
         _ => return Err(Why::UnknownReport),
     };
-    Ok(Transfer::Takes(taken))
+    Ok(Transfer::Takes(report))
 }
 
 /// SET_IDLE (HID 1.11 section 7.2.4).
 fn set_idle(value: u16) -> Result<Transfer, Why>
-    ensures { result ≡ named Why.UnknownReport (idle_effects (value / 256)) (value % 256) }
+    ensures { begun_view result ≡ named Why.UnknownReport (idle_effects (value / 256)) (value % 256) }
 {
     let [id, duration] = value.to_le_bytes();
     let id = match id {
@@ -233,7 +249,7 @@ fn set_idle(value: u16) -> Result<Transfer, Why>
 
 /// SET_PROTOCOL (HID 1.11 section 7.2.6).
 fn set_protocol(value: u16) -> Result<Transfer, Why>
-    ensures { result ≡ named Why.BadProtocol protocol_effects value }
+    ensures { begun_view result ≡ named Why.BadProtocol protocol_effects value }
 {
     let protocol = match value {
         0x0000 => Protocol::Boot,

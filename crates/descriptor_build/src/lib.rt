@@ -1,7 +1,8 @@
 //! Report descriptors from lists of items, and the descriptors that the keyboard serves.
 //!
-//! `build` turns items into the bytes of a report descriptor. `served_report` is the keyboard's own,
-//! built from its list of items; the device, configuration and HID descriptors are constants.
+//! `build` turns items into the bytes of a report descriptor. The keyboard's own descriptors are
+//! constants (`DEVICE`, `CONFIGURATION`, `HID`, `SERVED_REPORT`), so that they can be lent to whoever
+//! sends them; `served_report` builds the last one from its list of items.
 #![tactic(auto)]
 
 ghost use Rattle.std.specs.Prelude.{◌≡◌, ◌+◌, ◌≤◌, ◌++◌, ◌↔◌, length, IsOk, IfOk, OnOk};
@@ -14,7 +15,7 @@ pub mod served;
 #[cfg(test)]
 mod tests;
 
-pub use served::{CONFIGURATION, DEVICE, HID, SERVED_REPORT_LEN, served_report};
+pub use served::{CONFIGURATION, DEVICE, HID, SERVED_REPORT, SERVED_REPORT_LEN, served_report};
 
 /// A short item of a report descriptor (HID 1.11 section 6.2.2.2): Main items (6.2.2.4), Global items
 /// (6.2.2.7) and Local items (6.2.2.8).

@@ -1,13 +1,13 @@
 //! The descriptors that the keyboard serves.
 
-ghost use Rattle.std.specs.Prelude.{◌≡◌};
-ghost use Rattle.descriptor_build.specs.Served.{device_bytes, configuration_bytes, hid_bytes, report_bytes};
+ghost use Rattle.std.specs.Prelude.{◌≡◌, length, take, drop, slice_index};
+ghost use Rattle.descriptor_build.specs.Served.{device_bytes, configuration_bytes, hid_bytes, report_bytes, word_at};
 
 use crate::{ReportSpec, build};
 use arrayvec::ArrayVec;
 
 /// How many bytes the served report descriptor has.
-pub const SERVED_REPORT_LEN: u8 = 128;
+pub const SERVED_REPORT_LEN: u8 = 99;
 
 /// The device descriptor (USB 2.0 table 9-8), 18 bytes.
 pub const DEVICE: [u8; 18] = [
@@ -71,6 +71,8 @@ pub const HID: [u8; 9] = [
 ];
 
 /// A main item's data: array or variable, data or constant (HID 1.11 section 6.2.2.5).
+const DATA_ARRAY: u8 = 0x00;
+
 const DATA_VARIABLE: u8 = 0x02;
 
 const CONSTANT_VARIABLE: u8 = 0x03;
@@ -79,7 +81,7 @@ const CONSTANT_VARIABLE: u8 = 0x03;
 const APPLICATION: u8 = 0x01;
 
 /// The served report descriptor's items.
-const SERVED_ITEMS: [ReportSpec; 63] = [
+const SERVED_ITEMS: [ReportSpec; 49] = [
     // Report 1: modifiers, keys and LEDs.
     ReportSpec::UsagePage(0x01),
     ReportSpec::Usage(0x06),
@@ -107,32 +109,18 @@ const SERVED_ITEMS: [ReportSpec; 63] = [
     ReportSpec::ReportCount(3),
     ReportSpec::Output(CONSTANT_VARIABLE),
     ReportSpec::EndCollection,
-    // Report 2: consumer usages.
+    // Report 2: four consumer usages.
     ReportSpec::UsagePage(0x0C),
     ReportSpec::Usage(0x01),
     ReportSpec::Collection(APPLICATION),
     ReportSpec::ReportId(2),
     ReportSpec::LogicalMin(0),
-    ReportSpec::LogicalMax(1),
-    ReportSpec::ReportSize(1),
-    ReportSpec::ReportCount(16),
-    ReportSpec::Usage(0xB0),
-    ReportSpec::Usage(0xB1),
-    ReportSpec::Usage(0xB2),
-    ReportSpec::Usage(0xB3),
-    ReportSpec::Usage(0xB4),
-    ReportSpec::Usage(0xB5),
-    ReportSpec::Usage(0xB6),
-    ReportSpec::Usage(0xB7),
-    ReportSpec::Usage(0xB8),
-    ReportSpec::Usage(0xCD),
-    ReportSpec::Usage(0xE2),
-    ReportSpec::Usage(0xE9),
-    ReportSpec::Usage(0xEA),
-    ReportSpec::Usage(0x192),
-    ReportSpec::Usage(0x223),
-    ReportSpec::Usage(0x224),
-    ReportSpec::Input(DATA_VARIABLE),
+    ReportSpec::LogicalMax(0x3FF),
+    ReportSpec::UsageMin(0x00),
+    ReportSpec::UsageMax(0x3FF),
+    ReportSpec::ReportSize(16),
+    ReportSpec::ReportCount(4),
+    ReportSpec::Input(DATA_ARRAY),
     ReportSpec::EndCollection,
     // Report 3: the feature data.
     ReportSpec::UsagePage(0xFF00),
@@ -148,7 +136,22 @@ const SERVED_ITEMS: [ReportSpec; 63] = [
     ReportSpec::EndCollection,
 ];
 
-/// The served report descriptor (HID 1.11 section 6.2.2), 128 bytes.
+/// The served report descriptor (HID 1.11 section 6.2.2), 99 bytes, as it is sent.
+pub const SERVED_REPORT: [u8; 99] = [
+    // Report 1: modifiers, keys and LEDs.
+    0x05, 0x01, 0x09, 0x06, 0xA1, 0x01, 0x85, 0x01, 0x05, 0x07, 0x19, 0xE0, 0x29, 0xE7, 0x15, 0x00,
+    0x25, 0x01, 0x75, 0x01, 0x95, 0x08, 0x81, 0x02, 0x19, 0x04, 0x29, 0xA4, 0x95, 0xA1, 0x81, 0x02,
+    0x95, 0x07, 0x81, 0x03, 0x05, 0x08, 0x19, 0x01, 0x29, 0x05, 0x95, 0x05, 0x91, 0x02, 0x95, 0x03,
+    0x91, 0x03, 0xC0,
+    // Report 2: four consumer usages.
+    0x05, 0x0C, 0x09, 0x01, 0xA1, 0x01, 0x85, 0x02, 0x15, 0x00, 0x26, 0xFF, 0x03, 0x19, 0x00, 0x2A,
+    0xFF, 0x03, 0x75, 0x10, 0x95, 0x04, 0x81, 0x00, 0xC0,
+    // Report 3: the feature data.
+    0x06, 0x00, 0xFF, 0x09, 0x01, 0xA1, 0x01, 0x85, 0x03, 0x09, 0x02, 0x15, 0x00, 0x26, 0xFF, 0x00,
+    0x75, 0x08, 0x95, 0x05, 0xB1, 0x02, 0xC0,
+];
+
+/// The served report descriptor, built from its items: the bytes of `SERVED_REPORT`.
 pub fn served_report() -> ArrayVec<u8, 256>
     ensures { result.items ≡ report_bytes }
 {
@@ -158,9 +161,16 @@ pub fn served_report() -> ArrayVec<u8, 256>
     }
 }
 
-/// The constants are the served descriptors.
+/// The constants are the served descriptors, and each length in them is that of what it counts.
 pub fn constants()
     ensures device { DEVICE ≡ device_bytes }
     ensures configuration { CONFIGURATION ≡ configuration_bytes }
     ensures hid { HID ≡ hid_bytes }
+    ensures report { SERVED_REPORT ≡ report_bytes }
+    ensures report_length { SERVED_REPORT_LEN ≡ length report_bytes }
+    ensures device_length { slice_index device_bytes 0 ≡ length device_bytes }
+    ensures configuration_length { word_at configuration_bytes 2 ≡ length configuration_bytes }
+    ensures hid_length { slice_index hid_bytes 0 ≡ length hid_bytes }
+    ensures served_length { word_at hid_bytes 7 ≡ length report_bytes }
+    ensures hid_inside { take 9 (drop 18 configuration_bytes) ≡ hid_bytes }
 {}
