@@ -1,5 +1,5 @@
 use Rattle.std.proofs.Common.{◌≡◌, ℕ, zero, suc, ◌+◌, ◌-◌, ◌<◌, ◌≤◌, List, [], ◌∷◌, length, drop, refl, arith, sym, ◌∙◌, ap, Bool, true, Some, None, Ok, Err, inl, inr, length-drop, ◌⊎◌}
-use Rattle.std.specs.Prelude.{Result, find, IsTrue, IfOk, IfErr, ◌&&◌, nat_le}
+use Rattle.std.specs.Prelude.{Result, find, IsTrue, ◌&&◌, nat_le}
 use Rattle.std.specs.List.{list_all}
 use Rattle.std.proofs.lemmas.Bool.{cases_Bool, cases_lt, and_parts, leb-true}
 use Rattle.descriptor_parse.specs.declared.fault.ParseError.{ParseError}
@@ -11,13 +11,13 @@ use Rattle.descriptor_parse.specs.Tags.{tag}
 use Rattle.descriptor_parse.specs.Faults.{shows, fault_at, item_faults, onto, all_items, IsFaultAmong, IsFaultAtEnd, HasFault, IsFaultless, IsFirst, wants_memory, WantsMemoryAt}
 use Rattle.descriptor_parse.specs.Fields.{open_collections}
 use Rattle.descriptor_parse.specs.declared.state.State.{State}
-use Rattle.descriptor_parse.specs.StateStands.{StateStands}
-use Rattle.descriptor_parse.specs.Parse.{HasReached, Refuses, EndsOpen}
+use Rattle.descriptor_parse.specs.StateStands.{StateStands, IsRefused}
+use Rattle.descriptor_parse.specs.Parse.{HasReached, Refuses}
 use Rattle.descriptor_parse.specs.declared.field.Kind.{Kind}
 use Rattle.descriptor_parse.specs.declared.field.Kind.TheVariants.{Input, Output, Feature}
 use Rattle.descriptor_parse.specs.declared.reports.Reports.{Reports}
 use Rattle.descriptor_parse.specs.Totals.{bits_in}
-use Rattle.descriptor_parse.specs.Descriptor.{DescriptorValue, Describes, bits_of}
+use Rattle.descriptor_parse.specs.Descriptor.{Describes, bits_of}
 use Rattle.descriptor_parse.specs.DescriptorView.{value_of}
 use Rattle.descriptor_parse.proofs.ItemLemmas.{size_pos, items_none, items_short, items_more, items_next}
 
@@ -124,6 +124,24 @@ pub shown_fault : (before : List ItemValue) (item : ItemValue) (fault : ParseFau
 unfolding fault_at
 shown_fault before item fault e =
     let on = found_on (shows before item) item_faults fault e in (on.1, small_on item_faults fault refl on.0)
+
+-- an item is refused for a fault that it shows
+pub refused_for : (before : List ItemValue) (item : ItemValue) (fault : ParseFault) → fault_at before item ≡ Some fault → IsRefused before item fault
+refused_for before item fault e =
+    let other : fault ≡ Memory → ⊥ = λ m. (let number : number_of fault ≡ 17 = ap number_of m in let small : number_of fault ≤ 14 = (shown_fault before item fault e).1 in omega arith) in
+    record {
+      first = λ n. e;
+      clean = λ m. absurd (other m);
+      memory = λ m. absurd (other m);
+    }
+
+-- an item without a fault is refused for want of memory
+pub refused_memory : (before : List ItemValue) (item : ItemValue) → fault_at before item ≡ None → IsTrue (wants_memory (tag item) before) → IsRefused before item Memory
+refused_memory before item none wants = record {
+  first = λ n. absurd (n refl);
+  clean = λ m. none;
+  memory = λ m. wants;
+}
 
 -- ---- offsets
 
@@ -264,17 +282,6 @@ refuse_growth text rest after offset item old r some l whole a i none wants =
       );
     }
 
--- a text that is too long, at whose greatest length an item without a fault begins
-pub refuse_at_limit : (text rest after : List ℕ) (offset : ℕ) (item : ItemValue) (old : State) (r : HasReached text rest offset old)
-    → 4096 < length text → 0 < length rest → offset ≡ 4096 → item_size rest ≤ length rest → after ≡ drop (item_size rest) rest → item ≡ front_item offset rest
-    → fault_at r.before item ≡ None → Refuses text (record { fault = TooLong; offset = 4096 })
-refuse_at_limit text rest after offset item old r long some l whole a i none =
-    refuse_fault text TooLong 4096 (inr (long, refl))
-    (rw l at (first_by text rest after offset item old r TooLong some whole a i
-    (λ other at end. ends_later text rest offset old other at r some (omega arith) end)
-    (λ other t. absurd (clean r.before item none other t))))
-    (omega arith)
-
 -- a text that ends within an item
 pub refuse_short : (text rest : List ℕ) (offset : ℕ) (old : State) (r : HasReached text rest offset old)
     → 0 < length rest → offset ≤ 4096 → length rest < item_size rest → Refuses text (record { fault = Truncated; offset = offset })
@@ -304,14 +311,21 @@ no_end text CollectionOpen at short none f = let l : 0 < open_collections (all_i
 no_end text TooLong at short none f = let l : 4096 < length text = f.0 in omega arith
 no_end text _ at short none f = f
 
--- a text that is too long, none of whose items begins at the greatest length
-pub refuse_past : (text rest : List ℕ) (offset : ℕ) (state : State) (r : HasReached text rest offset state)
-    → 4096 < length text → 4096 < offset → Refuses text (record { fault = TooLong; offset = 4096 })
-refuse_past text rest offset state r long past =
+-- a text that is too long, an item of which has no fault and reaches past the greatest length
+pub refuse_past : (text rest after : List ℕ) (offset : ℕ) (item : ItemValue) (old : State) (r : HasReached text rest offset old)
+    → 4096 < length text → 4096 < offset + item_size rest → 0 < length rest → item_size rest ≤ length rest → after ≡ drop (item_size rest) rest
+    → item ≡ front_item offset rest → fault_at r.before item ≡ None → Refuses text (record { fault = TooLong; offset = 4096 })
+refuse_past text rest after offset item old r long past some whole a i none =
+    let next : items_at offset rest ≡ Ok item ∷ items_at (offset + (length rest - length after)) after = items_next offset rest after item some whole a i in
+    let len : length after ≡ length rest - item_size rest = ap length a ∙ length-drop (item_size rest) rest in
     refuse_fault text TooLong 4096 (inr (long, refl))
     (λ other at has.
     (elim has [
-      | inl among ↦ (let f = r.faults_left other at among in let above : offset ≤ at = among_from (length rest) offset rest r.before other at (omega arith) f in inl (omega arith))
+      | inl among ↦ (let f : IsFaultAmong r.before (Ok item ∷ items_at (offset + (length rest - length after)) after) other at = (rw next at (r.faults_left other at among)) in
+          elim f [
+            | inl here ↦ absurd (clean r.before item none other here.0)
+            | inr later ↦ (let above : offset + (length rest - length after) ≤ at = among_from (length after) _ after _ other at (omega arith) later in inl (omega arith))
+          ])
       | inr end ↦ at_end_long text other at long end
     ]))
     (omega arith)
@@ -356,17 +370,3 @@ accept_end text rest offset state r none short closed =
         bits = λ kind id. (rw same (bits_same state.reports kind id ∙ reports.bits kind id));
       },
     )
-
--- what the answer at the end says
-pub ok_end : (text rest : List ℕ) (offset : ℕ) (state : State) (r : HasReached text rest offset state) → length rest ≡ 0 → length text ≤ 4096
-    → (result : Result DescriptorValue ParseError) → IfOk result (λ d. (state.collections ≡ 0) × (d ≡ value_of state.reports))
-    → {P : DescriptorValue → Type 0} → ((d : DescriptorValue) → IsFaultless text × Describes (all_items text) d → P d) → IfOk result P
-ok_end text rest offset state r none short (Ok d) ok more =
-    more d (let both = accept_end text rest offset state r none short ok.0 in (both.0, rw ok.1 both.1))
-ok_end text rest offset state r none short (Err e) ok more = tt
-
-pub err_end : (text rest : List ℕ) (offset : ℕ) (state : State) (r : HasReached text rest offset state) → length rest ≡ 0 → length text ≤ 4096
-    → (result : Result DescriptorValue ParseError) → IfErr result (EndsOpen (length text) state)
-    → {P : ParseError → Type 0} → ((e : ParseError) → Refuses text e → P e) → IfErr result P
-err_end text rest offset state r none short (Ok d) err more = tt
-err_end text rest offset state r none short (Err e) err more = more e (rw err.1 (refuse_open text rest offset state r none short err.0))

@@ -1,6 +1,7 @@
-use Rattle.std.proofs.Common.{◌≡◌, ℕ, zero, suc, ◌<◌, ◌%◌, ◌^◌, List, [], ◌∷◌, ◌++◌, length, refl, arith, sym, ◌∙◌, ap, Bool, true, false, cond, length-append, inl, inr}
+use Rattle.std.proofs.Common.{◌≡◌, ◌<◌, ◌%◌, ◌^◌, List, [], ◌∷◌, ◌++◌, length, refl, arith, sym, ◌∙◌, ap, Bool, true, false, cond, length-append, inl, inr}
 use Rattle.std.proofs.lemmas.Bool.{cases_Bool}
 use Rattle.std.specs.Prelude.{filter}
+use Rattle.std.specs.List.{list_any}
 use Rattle.descriptor_parse.specs.declared.globals.GlobalStack.{GlobalStack}
 use Rattle.descriptor_parse.specs.declared.tag.Tag.{Tag}
 use Rattle.descriptor_parse.specs.declared.tag.Tag.TheVariants.{Main, Global, Local, Skipped}
@@ -8,46 +9,31 @@ use Rattle.descriptor_parse.specs.declared.tag.GlobalTag.{GlobalTag}
 use Rattle.descriptor_parse.specs.declared.tag.GlobalTag.TheVariants.{UsagePage, LogicalMinimum, LogicalMaximum, ReportSize, ReportId, ReportCount, Push, Pop}
 use Rattle.descriptor_parse.specs.Items.{ItemValue}
 use Rattle.descriptor_parse.specs.Tags.{tag, is_push, is_pop}
-use Rattle.descriptor_parse.specs.Globals.{unsigned, kept, without_popped, in_force, pushes}
+use Rattle.descriptor_parse.specs.Globals.{unsigned, before_push, in_force, pushes}
 use Rattle.descriptor_parse.specs.GlobalsStand.{globals_with, globals_of, saved_of, GlobalsStand}
 
 abbrev pub is_global : Tag → Bool
 is_global (Global g) = true
 is_global _ = false
 
--- what stands before the latest Push
-pub before_push : List ItemValue → List ItemValue
-before_push [] = []
-before_push (item ∷ before) = cond (is_push (tag item)) before (before_push before)
-
--- one Pop more takes out one Push more
-kept_more : (t : Tag) (pops : ℕ) (item : ItemValue) (earlier : ℕ → List ItemValue) → tag item ≡ t
-    → ((n : ℕ) → earlier (suc n) ≡ before_push (earlier n)) → kept t (suc pops) item earlier ≡ before_push (kept t pops item earlier)
-unfolding before_push
-kept_more (Global Pop) pops item earlier e more = more (suc pops)
-kept_more (Global Push) zero item earlier e more = rw e refl
-kept_more (Global Push) (suc pops) item earlier e more = more pops
-kept_more _ zero item earlier e more = rw e (more zero)
-kept_more _ (suc pops) item earlier e more = more (suc pops)
-
-pub without_one_more : (before : List ItemValue) (pops : ℕ) → without_popped before (suc pops) ≡ before_push (without_popped before pops)
-unfolding without_popped before_push
-without_one_more [] pops = refl
-without_one_more (item ∷ before) pops = kept_more (tag item) pops item (without_popped before) refl (λ n. without_one_more before n)
+-- one Push at least is left
+any_push : (items : List ItemValue) → 0 < length (filter (λ item. is_push (tag item)) items) → list_any (λ item. is_push (tag item)) items ≡ true
+any_push [] some = absurd (omega arith)
+any_push (item ∷ before) some =
+    elim (cases_Bool (is_push (tag item))) [
+      | inl e ↦ rw e refl
+      | inr e ↦ (let some' : 0 < length (filter (λ i. is_push (tag i)) before) = (rw e at some) in rw e (any_push before some'))
+    ]
 
 -- a Pop takes out the latest Push and what follows it
-pub in_force_pop : (before : List ItemValue) (item : ItemValue) → tag item ≡ Global Pop → in_force (item ∷ before) ≡ before_push (in_force before)
-unfolding without_popped
-in_force_pop before item e = rw e (without_one_more before zero)
-
-stays : (t : Tag) (item : ItemValue) (earlier : ℕ → List ItemValue) → is_pop t ≡ false → kept t zero item earlier ≡ item ∷ earlier zero
-stays (Global Pop) item earlier e = cc
-stays _ item earlier e = refl
+pub in_force_pop : (before : List ItemValue) (item : ItemValue) → tag item ≡ Global Pop → 0 < pushes before → in_force (item ∷ before) ≡ before_push (in_force before)
+unfolding in_force
+in_force_pop before item e some = rw (e, any_push (in_force before) some) refl
 
 -- any other item stays
 pub in_force_more : (before : List ItemValue) (item : ItemValue) → is_pop (tag item) ≡ false → in_force (item ∷ before) ≡ item ∷ in_force before
-unfolding without_popped
-in_force_more before item e = stays (tag item) item (without_popped before) e
+unfolding in_force
+in_force_more before item e = rw e refl
 
 -- the Globals saved are as many as the Pushes
 pub length_saved : (items : List ItemValue) → length (saved_of items) ≡ length (filter (λ item. is_push (tag item)) items)
@@ -119,7 +105,7 @@ unfolding saved_of
 saved_more item items n = rw n refl
 
 pub stand_new : (globals : GlobalStack) → globals.now ≡ globals_of [] → globals.saved.items ≡ [] → GlobalsStand [] globals
-unfolding without_popped saved_of
+unfolding in_force saved_of
 stand_new globals e f = record { now = e; saved = f }
 
 -- what is no Global item leaves them
@@ -168,7 +154,7 @@ stand_pop before item old new e some split s =
     let parts : saved_of us ≡ saved_of (before_push us) ++ globals_of (before_push us) ∷ [] = saved_split us (omega arith) in
     let same : (new.saved.items ≡ saved_of (before_push us)) × (new.now ≡ globals_of (before_push us)) =
     same_last _ _ _ _ (sym split ∙ s.saved ∙ parts) in
-    let popped : in_force (item ∷ before) ≡ before_push us = in_force_pop before item e in
+    let popped : in_force (item ∷ before) ≡ before_push us = in_force_pop before item e some in
     record { now = same.1 ∙ sym (ap globals_of popped); saved = same.0 ∙ sym (ap saved_of popped) }
 
 -- a Pop without a Push left has nothing saved

@@ -1,6 +1,6 @@
-use Rattle.std.proofs.Common.{◌≡◌, ℕ, zero, suc, ◌+◌, ◌-◌, ◌<◌, ◌≤◌, List, [], ◌∷◌, length, drop, refl, ap, ◌∙◌, arith, length-drop, cond}
-use Rattle.std.specs.Prelude.{nat_lt, Result, Ok, Err, ◌==◌, slice_index}
-use Rattle.std.proofs.lemmas.Bool.{lt-ltb, le-ltb, cond_both}
+use Rattle.std.proofs.Common.{◌≡◌, ℕ, zero, suc, ◌+◌, ◌-◌, ◌*◌, ◌/◌, ◌%◌, ◌^◌, ◌<◌, ◌≤◌, List, [], ◌∷◌, length, take, drop, refl, ap, ◌∙◌, arith, length-drop, cond, false}
+use Rattle.std.specs.Prelude.{nat_lt, Result, Ok, Err, ◌==◌, slice_index, if◌then◌else◌}
+use Rattle.std.proofs.lemmas.Bool.{lt-ltb, le-ltb, cond_both, ne_eqb}
 use Rattle.descriptor_parse.specs.declared.fault.ParseError.{ParseError}
 use Rattle.descriptor_parse.specs.declared.fault.ParseFault.TheVariants.{Truncated}
 use Rattle.descriptor_parse.specs.Items.{ItemValue, data_size, item_size, front_item, first_items, items_at}
@@ -8,6 +8,21 @@ use Rattle.descriptor_parse.specs.Items.{ItemValue, data_size, item_size, front_
 -- an item takes a byte at least
 pub size_pos : (text : List ℕ) → 0 < item_size text
 size_pos text = cond_both (slice_index text 0 == 254) (3 + slice_index text 1) (1 + data_size (slice_index text 0)) (λ n. 0 < n) (λ e. omega arith) (λ e. omega arith)
+
+-- a shift gives the sizes 0, 1, 2 and 4
+pub shifted : (n : ℕ) → n < 4 → 1 * 2 ^ n % 18446744073709551616 / 2 ≡ (if n == 3 then 4 else n)
+shifted zero l = refl
+shifted (suc zero) l = refl
+shifted (suc (suc zero)) l = refl
+shifted (suc (suc (suc zero))) l = refl
+shifted (suc (suc (suc (suc n)))) l = absurd (omega arith)
+
+pub shifted_few : (n : ℕ) → n < 4 → 1 * 2 ^ n % 18446744073709551616 / 2 ≤ 4
+shifted_few zero l = omega arith
+shifted_few (suc zero) l = omega arith
+shifted_few (suc (suc zero)) l = omega arith
+shifted_few (suc (suc (suc zero))) l = omega arith
+shifted_few (suc (suc (suc (suc n)))) l = absurd (omega arith)
 
 -- room for more items than there are bytes changes nothing
 pub first_items_enough : (n m offset : ℕ) (text : List ℕ) → length text ≤ n → length text ≤ m → first_items n offset text ≡ first_items m offset text
@@ -63,3 +78,19 @@ items_fewer all more first e = let len : length all ≡ suc (length more) = ap l
 pub items_none : (offset : ℕ) (text : List ℕ) → length text ≡ 0 → items_at offset text ≡ []
 items_none offset [] e = items_end offset
 items_none offset (x ∷ xs) e = absurd (omega arith)
+
+-- a short item at the front
+pub record IsShort (offset : ℕ) (text more : List ℕ) (prefix : ℕ) : Type 0 where
+  pub size : item_size text ≡ suc (data_size prefix)
+  pub item : record { offset = offset; prefix = prefix; bytes = take (data_size prefix) more } ≡ front_item offset text
+  pub rest : drop (data_size prefix) more ≡ drop (item_size text) text
+
+pub short_front : (offset : ℕ) (text more : List ℕ) (prefix : ℕ) → text ≡ prefix ∷ more → (prefix ≡ 254 → ⊥) → IsShort offset text more prefix
+short_front offset text more prefix e short =
+    let no : (prefix == 254) ≡ false = ne_eqb prefix 254 short in
+    let one : 1 + data_size prefix ≡ suc (data_size prefix) = omega arith in
+    record {
+      size = rw (e, no) one;
+      item = rw (e, no, one) refl;
+      rest = rw (e, no, one) refl;
+    }

@@ -10,3 +10,8 @@ unsigned_bytes (a ∷ b ∷ []) l = omega arith
 unsigned_bytes (a ∷ b ∷ c ∷ []) l = omega arith
 unsigned_bytes (a ∷ b ∷ c ∷ d ∷ []) l = omega arith
 unsigned_bytes (a ∷ b ∷ c ∷ d ∷ e ∷ more) l = absurd (omega arith)
+
+pub unsigned_one : (bytes : List ℕ) → length bytes ≡ 1 → unsigned bytes ≡ get_or bytes 0 0
+unsigned_one [] l = absurd (omega arith)
+unsigned_one (a ∷ []) l = omega arith
+unsigned_one (a ∷ b ∷ more) l = absurd (omega arith)

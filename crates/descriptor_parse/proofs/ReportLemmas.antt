@@ -1,5 +1,6 @@
-use Rattle.std.proofs.Common.{◌≡◌, ℕ, zero, suc, ◌+◌, ◌-◌, ◌*◌, ◌%◌, ◌<◌, ◌≤◌, ◌^◌, min, List, [], ◌∷◌, length, refl, arith, sym, ◌∙◌, ap, Bool, true, false, cond, map}
+use Rattle.std.proofs.Common.{◌≡◌, ℕ, zero, suc, ◌+◌, ◌-◌, ◌*◌, ◌%◌, ◌<◌, ◌≤◌, ◌^◌, min, List, [], ◌∷◌, ◌++◌, length, length-append, refl, arith, sym, ◌∙◌, ap, Bool, true, false, cond, map}
 use Rattle.std.specs.Prelude.{◌==◌, ◌&&◌, ◌||◌, not}
+use Rattle.std.proofs.lemmas.List.{length-map}
 use Rattle.std.proofs.lemmas.Nat.{mul-le}
 use Rattle.std.proofs.lemmas.Bool.{and_parts, not-true}
 use Rattle.descriptor_parse.specs.declared.field.Kind.{Kind}
@@ -17,18 +18,25 @@ use Rattle.descriptor_parse.specs.Globals.{unsigned, in_force, usage_page, repor
 use Rattle.descriptor_parse.specs.Locals.{usages_since_main}
 use Rattle.descriptor_parse.specs.Fields.{is_constant, is_field, declared_field, fields, field_usages, report_bits, has_bare_data}
 use Rattle.descriptor_parse.specs.Totals.{bits_in}
+use Rattle.descriptor_parse.specs.Parts.{parts_from, parts, AreEnds}
+use Rattle.descriptor_parse.specs.CountsStand.{wrapped_counts, AreWrapped}
+use Rattle.descriptor_parse.proofs.PartLemmas.{ends_more, parts_more}
+use Rattle.descriptor_parse.proofs.CountLemmas.{wrapped_len, counts_more}
 use Rattle.descriptor_parse.specs.GlobalsStand.{globals_of}
 use Rattle.descriptor_parse.specs.LocalsStand.{LocalsStand, range_on}
 use Rattle.descriptor_parse.specs.ReportsStand.{declares, field_by, Declares, FitsData, ReportsStand}
 
 pub stand_new : (reports : Reports) → ((kind : Kind) (id : ℕ) → bits_in reports.totals kind id ≡ 0) → reports.fields.items ≡ []
-    → reports.ranges.items ≡ [] → reports.has_ids ≡ false → reports.has_bare ≡ false → ReportsStand [] reports
-unfolding report_bits fields field_usages has_bare_data
-stand_new reports b f r i h = record {
+    → reports.ends.items ≡ [] → reports.ranges.items ≡ [] → reports.counts.items ≡ [] → reports.has_ids ≡ false → reports.has_bare ≡ false → ReportsStand [] reports
+unfolding report_bits fields field_usages has_bare_data parts_from
+stand_new reports b f n r c i h = record {
   bits = b;
   small = λ kind id. omega arith;
   fields = f;
-  ranges = ap (map (λ v. v.items)) r;
+  ends = rw (n, r) refl;
+  ranges = rw n refl;
+  as_many_counts = rw (r, c) refl;
+  counts = rw n tt;
   has_ids = i;
   has_bare = h;
 }
@@ -53,15 +61,18 @@ no_id _ n = refl
 
 -- what is no data item leaves all but the use of IDs
 pub stand_no_data : (before : List ItemValue) (item : ItemValue) (old new : Reports) → is_data (tag item) ≡ false
-    → new.totals ≡ old.totals → new.fields.items ≡ old.fields.items → new.ranges.items ≡ old.ranges.items
-    → new.has_ids ≡ (is_report_id (tag item) || old.has_ids) → new.has_bare ≡ old.has_bare
+    → new.totals ≡ old.totals → new.fields.items ≡ old.fields.items → new.ends.items ≡ old.ends.items → new.ranges.items ≡ old.ranges.items
+    → new.counts.items ≡ old.counts.items → new.has_ids ≡ (is_report_id (tag item) || old.has_ids) → new.has_bare ≡ old.has_bare
     → ReportsStand before old → ReportsStand (item ∷ before) new
 unfolding report_bits fields field_usages has_bare_data
-stand_no_data before item old new d t f r i h s = record {
+stand_no_data before item old new d t f n r c i h s = record {
   bits = λ kind id. ap (λ x. bits_in x kind id) t ∙ s.bits kind id ∙ (rw (no_data_of kind (tag item) d) refl);
   small = λ kind id. rw (no_data_of kind (tag item) d) (let l = s.small kind id in omega arith);
   fields = f ∙ s.fields ∙ (rw d refl);
-  ranges = ap (map (λ v. v.items)) r ∙ s.ranges ∙ (rw d refl);
+  ends = rw (n, r) s.ends;
+  ranges = rw (n, r) (s.ranges ∙ (rw d refl));
+  as_many_counts = rw (r, c) s.as_many_counts;
+  counts = rw (n, r, c) s.counts;
   has_ids = i ∙ ap (λ b. is_report_id (tag item) || b) s.has_ids;
   has_bare = h ∙ s.has_bare ∙ (rw d refl);
 }
@@ -69,7 +80,7 @@ stand_no_data before item old new d t f r i h s = record {
 pub stand_neutral : (before : List ItemValue) (item : ItemValue) (reports : Reports) → is_neutral (tag item) ≡ true
     → ReportsStand before reports → ReportsStand (item ∷ before) reports
 stand_neutral before item reports n s =
-    stand_no_data before item reports reports (no_data (tag item) n) refl refl refl (rw (no_id (tag item) n) refl) refl s
+    stand_no_data before item reports reports (no_data (tag item) n) refl refl refl refl refl (rw (no_id (tag item) n) refl) refl s
 
 -- a product of at most 1,024 times 1,024
 product_small : (a b : ℕ) → a ≤ 1024 → b ≤ 1024 → a * b ≤ 1048576
@@ -131,42 +142,81 @@ within before item g f fits d =
     let few : report_count before ≤ 1024 = fits.count in
     (omega arith, omega arith)
 
+-- the usages of all fields, with those of one more if it is one
+record PartsStand (b : Bool) (usages : List (List (ℕ × ℕ))) (more : List (ℕ × ℕ)) (reports : Reports) : Type 0 where
+  ends : AreEnds 0 reports.ends.items (length reports.ranges.items)
+  ranges : parts reports.ends.items reports.ranges.items ≡ cond b (usages ++ more ∷ []) usages
+  as_many : length reports.counts.items ≡ length reports.ranges.items
+  counts : AreWrapped 0 reports.ends.items reports.ranges.items reports.counts.items
+
+parts_with : (b : Bool) (usages : List (List (ℕ × ℕ))) (page : ℕ) (locals : Locals) (old new : Reports)
+    → new.ranges.items ≡ cond b (old.ranges.items ++ map (range_on page) locals.usages.items) old.ranges.items
+    → new.ends.items ≡ cond b (old.ends.items ++ (length old.ranges.items + length locals.usages.items) ∷ []) old.ends.items
+    → new.counts.items ≡ cond b (old.counts.items ++ wrapped_counts 0 (map (range_on page) locals.usages.items)) old.counts.items
+    → length old.counts.items ≡ length old.ranges.items → AreWrapped 0 old.ends.items old.ranges.items old.counts.items
+    → AreEnds 0 old.ends.items (length old.ranges.items) → parts old.ends.items old.ranges.items ≡ usages
+    → PartsStand b usages (map (range_on page) locals.usages.items) new
+parts_with true usages page locals old new r n c many counts ends same =
+    let more = map (range_on page) locals.usages.items in
+    let len : length more ≡ length locals.usages.items = length-map locals.usages.items (range_on page) in
+    let n' : new.ends.items ≡ old.ends.items ++ (length old.ranges.items + length more) ∷ [] = n ∙ (rw len refl) in
+    let all : length new.ranges.items ≡ length old.ranges.items + length more = ap length r ∙ length-append old.ranges.items more in
+    record {
+      ends = rw (n', all) (ends_more 0 old.ends.items (length old.ranges.items) (length more) ends);
+      ranges = rw (n', r) (parts_more 0 old.ends.items old.ranges.items more ends ∙ ap (λ (u : List (List (ℕ × ℕ))). u ++ more ∷ []) same);
+      as_many = rw (c, r) (omega (arith, many, length-append old.counts.items (wrapped_counts 0 more), wrapped_len 0 more, length-append old.ranges.items more));
+      counts = rw (n', r, c) (counts_more 0 old.ends.items old.ranges.items more old.counts.items ends many counts);
+    }
+parts_with false usages page locals old new r n c many counts ends same = record {
+  ends = rw (n, r) ends;
+  ranges = rw (n, r) same;
+  as_many = rw (c, r) many;
+  counts = rw (n, r, c) counts;
+}
+
 -- a data item within the limits
 pub stand_data : (before : List ItemValue) (item : ItemValue) (kind : Kind) (g : Globals) (locals : Locals) (old mid new : Reports) (product : ℕ)
     → tag item ≡ Main (Data kind) → g ≡ globals_of (in_force before) → LocalsStand before locals → FitsData before item → length before ≤ 4096
     → Declares kind (unsigned item.bytes) g locals old mid
     → product ≡ min (g.size * g.count) (2 ^ 64 - 1)
-    → ((k : Kind) (i : ℕ) → bits_in new.totals k i
+    → ((k : Kind) (i : ℕ) → bits_in mid.totals k i < 2 ^ 64 → bits_in new.totals k i
     ≡ cond (same_kind k kind && g.id == i) (min (2 ^ 64 - 1) (bits_in mid.totals k i + product)) (bits_in mid.totals k i))
-    → new.fields.items ≡ mid.fields.items → new.ranges.items ≡ mid.ranges.items → new.has_ids ≡ mid.has_ids
-    → new.has_bare ≡ (mid.has_bare || g.id == 0)
+    → new.fields.items ≡ mid.fields.items → new.ends.items ≡ mid.ends.items → new.ranges.items ≡ mid.ranges.items → new.counts.items ≡ mid.counts.items
+    → new.has_ids ≡ mid.has_ids → new.has_bare ≡ (mid.has_bare || g.id == 0)
     → ReportsStand before old → ReportsStand (item ∷ before) new
 unfolding fields field_usages has_bare_data
-stand_data before item kind g locals old mid new product e f ls fits few d p add fs rs ids bare s =
+stand_data before item kind g locals old mid new product e f ls fits few d p add fs ns rs cs ids bare s =
     let field : declares (unsigned item.bytes) g ≡ is_field before item = declares_field before item kind g e f in
     let more : (k : Kind) (i : ℕ) → (bits_in new.totals k i ≡ report_bits k i (item ∷ before)) × (report_bits k i (item ∷ before) ≤ 2 ^ 20 * length (item ∷ before)) =
-    λ k i. total_more before item kind g k i (bits_in mid.totals k i) (bits_in new.totals k i) e f fits few (s.small k i) (ap (λ t. bits_in t k i) d.totals ∙ s.bits k i) (add k i ∙ (rw p refl)) in
+    λ k i. (let same : bits_in mid.totals k i ≡ report_bits k i before = ap (λ t. bits_in t k i) d.totals ∙ s.bits k i in
+    let small : report_bits k i before ≤ 2 ^ 20 * length before = s.small k i in
+    total_more before item kind g k i (bits_in mid.totals k i) (bits_in new.totals k i) e f fits few small same (add k i (omega arith) ∙ (rw p refl))) in
     let id : g.id ≡ report_id before = ap (λ x. x.id) f in
     let page : g.page ≡ usage_page before = ap (λ x. x.page) f in
     let bit : bits_in old.totals kind g.id ≡ report_bits kind (report_id before) before = s.bits kind g.id ∙ ap (λ i. report_bits kind i before) id in
     let declared : field_by kind (bits_in old.totals kind g.id) (unsigned item.bytes) g ≡ declared_field before item = same_field before item kind _ g e f bit in
+    let usages_stand : PartsStand (declares (unsigned item.bytes) g) (field_usages before) (map (range_on g.page) locals.usages.items) mid =
+    parts_with (declares (unsigned item.bytes) g) (field_usages before) g.page locals old mid d.ranges d.ends d.counts s.as_many_counts s.counts s.ends s.ranges in
     let usages : map (range_on g.page) locals.usages.items ≡ usages_since_main (usage_page before) before = ls.usages g.page ∙ ap (λ p. usages_since_main p before) page in
     record {
       bits = λ k i. (more k i).0;
       small = λ k i. (more k i).1;
       fields = fs ∙ d.fields (within before item g f fits) ∙ (rw (field, s.fields, declared) refl);
-      ranges = ap (map (λ v. v.items)) rs ∙ d.ranges ∙ (rw (field, s.ranges, usages) refl);
+      ends = rw (ns, rs) usages_stand.ends;
+      ranges = rw (ns, rs) (usages_stand.ranges ∙ (rw (field, usages) refl));
+      as_many_counts = rw (cs, rs) usages_stand.as_many;
+      counts = rw (ns, rs, cs) usages_stand.counts;
       has_ids = ids ∙ d.has_ids ∙ s.has_ids ∙ (rw e refl);
       has_bare = bare ∙ ap (λ b. b || g.id == 0) (d.has_bare ∙ s.has_bare) ∙ or_bare (has_bare_data before) (g.id == 0) ∙ (rw (e, f) refl);
     }
 
 -- a Report ID
 pub stand_noted_id : (before : List ItemValue) (item : ItemValue) (t : GlobalTag) (old new : Reports) → tag item ≡ Global t → t ≡ ReportId
-    → new.totals ≡ old.totals → new.fields.items ≡ old.fields.items → new.ranges.items ≡ old.ranges.items
-    → new.has_ids ≡ true → new.has_bare ≡ old.has_bare → ReportsStand before old → ReportsStand (item ∷ before) new
-stand_noted_id before item t old new e id a b c d f s =
+    → new.totals ≡ old.totals → new.fields.items ≡ old.fields.items → new.ends.items ≡ old.ends.items → new.ranges.items ≡ old.ranges.items
+    → new.counts.items ≡ old.counts.items → new.has_ids ≡ true → new.has_bare ≡ old.has_bare → ReportsStand before old → ReportsStand (item ∷ before) new
+stand_noted_id before item t old new e id a b n c k d f s =
     let is : tag item ≡ Global ReportId = e ∙ ap Global id in
-    stand_no_data before item old new (ap is_data is) a b c (d ∙ (rw is refl)) f s
+    stand_no_data before item old new (ap is_data is) a b n c k (d ∙ (rw is refl)) f s
 
 neutral_global : (t : GlobalTag) → (t ≡ ReportId → ⊥) → is_neutral (Global t) ≡ true
 neutral_global ReportId n = absurd (n refl)

@@ -1,11 +1,12 @@
 use Rattle.std.proofs.Common.{◌≡◌, ℕ, ◌+◌, ◌-◌, ◌/◌, ◌<◌, ◌≤◌, ◌^◌, List, ◌∷◌, length, refl, arith, sym, ◌∙◌, ap, Bool, true, false, cond, Some, None, inl, inr}
-use Rattle.std.specs.Prelude.{◌==◌, ◌&&◌, ◌||◌, not, nat_lt, Option, option_map, is_some}
+use Rattle.std.specs.Prelude.{◌==◌, ◌&&◌, ◌||◌, not, nat_lt, IsTrue, Option, option_map, is_some}
 use Rattle.std.proofs.lemmas.Bool.{cases_Bool, or_parts, ltb-false, leb-false, eqb-false}
 use Rattle.descriptor_parse.specs.declared.fault.ParseFault.{ParseFault}
 use Rattle.descriptor_parse.specs.declared.field.Kind.{Kind}
 use Rattle.descriptor_parse.specs.declared.locals.Locals.{Locals}
 use Rattle.descriptor_parse.specs.declared.locals.Usage.TheVariants.{Short, Whole}
 use Rattle.descriptor_parse.specs.declared.state.State.{State}
+use Rattle.descriptor_parse.specs.declared.tag.Tag.{Tag}
 use Rattle.descriptor_parse.specs.declared.tag.Tag.TheVariants.{Main, Global, Local, Skipped}
 use Rattle.descriptor_parse.specs.declared.tag.MainTag.{MainTag}
 use Rattle.descriptor_parse.specs.declared.tag.MainTag.TheVariants.{Data, Collection, EndCollection}
@@ -18,11 +19,11 @@ use Rattle.descriptor_parse.specs.Tags.{tag, tag_of, is_collection, is_end_colle
 use Rattle.descriptor_parse.specs.Globals.{unsigned, pushes, report_size, report_count}
 use Rattle.descriptor_parse.specs.Locals.{has_page, unpaired, is_match, is_minimum}
 use Rattle.descriptor_parse.specs.Fields.{is_constant, is_field, open_collections}
-use Rattle.descriptor_parse.specs.Faults.{shows, fault_at}
+use Rattle.descriptor_parse.specs.Faults.{shows, fault_at, wants_memory}
 use Rattle.descriptor_parse.specs.GlobalsStand.{GlobalsStand}
-use Rattle.descriptor_parse.specs.LocalsStand.{LocalsStand, usage_of, raw_of, half_of, are_alike, fault_of_local}
-use Rattle.descriptor_parse.specs.ReportsStand.{ReportsStand, FitsData, declares}
-use Rattle.descriptor_parse.specs.StateStands.{StateStands, fault_of_main, fault_of_global}
+use Rattle.descriptor_parse.specs.LocalsStand.{LocalsStand, usage_of, raw_of, half_of, are_alike, fault_of_local, adds_range}
+use Rattle.descriptor_parse.specs.ReportsStand.{ReportsStand, FitsData, declares, fills}
+use Rattle.descriptor_parse.specs.StateStands.{StateStands, IsData, fault_of_main, fault_of_global}
 use Rattle.descriptor_parse.proofs.GlobalLemmas.{none_saved, stand_other, is_global}
 use Rattle.descriptor_parse.proofs.LocalLemmas.{stand_silent, is_silent}
 use Rattle.descriptor_parse.proofs.ReportLemmas.{stand_neutral, is_neutral, declares_field}
@@ -208,3 +209,24 @@ small_id t value s none e =
 pub long_skipped : (prefix : ℕ) → prefix ≡ 254 → tag_of prefix ≡ Skipped
 unfolding tag_of
 long_skipped prefix e = rw e refl
+
+-- ---- what may want memory
+
+pub wants_main : (t : MainTag) (before : List ItemValue) (item : ItemValue) (s : State) → tag item ≡ Main t → StateStands before s
+    → IsData t → IsTrue (fills s.globals.now) → IsTrue (wants_memory (tag item) before)
+wants_main (Data kind) before item s e st d f = rw e (rw st.globals.now at f)
+wants_main _ before item s e st d f = absurd d
+
+pub wants_local : (t : LocalTag) (before : List ItemValue) (item : ItemValue) (locals : Locals) → tag item ≡ Local t → LocalsStand before locals
+    → IsTrue (adds_range t locals.half) → IsTrue (wants_memory (tag item) before)
+wants_local local.Usage before item locals e st f = rw e refl
+wants_local local.Delimiter before item locals e st f = cc
+wants_local local.UsageMinimum before item locals e st f = rw e (sym (some_map (unpaired before)) ∙ ap is_some (sym st.half) ∙ f)
+wants_local local.UsageMaximum before item locals e st f = rw e (sym (some_map (unpaired before)) ∙ ap is_some (sym st.half) ∙ f)
+
+pub wants_global : (t : GlobalTag) (before : List ItemValue) (item : ItemValue) → tag item ≡ Global t → t ≡ Push → IsTrue (wants_memory (tag item) before)
+wants_global t before item e p = rw (e ∙ ap Global p) refl
+
+-- an item that is not skipped is no long one
+pub not_long : (prefix : ℕ) (t : Tag) → t ≡ tag_of prefix → (t ≡ Skipped → ⊥) → prefix ≡ 254 → ⊥
+not_long prefix t e some long = some (e ∙ long_skipped prefix long)

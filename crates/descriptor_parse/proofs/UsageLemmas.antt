@@ -6,7 +6,7 @@ use Rattle.std.proofs.lemmas.List.{append-nil, drop_all, take_more}
 use Rattle.descriptor_parse.specs.declared.field.Field.{Field}
 use Rattle.descriptor_parse.specs.Descriptor.{count_up, usage_list, usage_of_place, last_of}
 
-length_up : (first n : ℕ) → length (count_up first n) ≡ n
+pub length_up : (first n : ℕ) → length (count_up first n) ≡ n
 unfolding count_up
 length_up first zero = refl
 length_up first (suc n) = ap suc (length_up (first + 1) n)
@@ -23,7 +23,7 @@ in_front [] ys k l = absurd (omega arith)
 in_front (x ∷ xs) ys zero l = refl
 in_front (x ∷ xs) ys (suc k) l = in_front xs ys k (omega arith)
 
-behind : (xs ys : List ℕ) (k : ℕ) → slice_get (xs ++ ys) (length xs + k) ≡ slice_get ys k
+pub behind : (xs ys : List ℕ) (k : ℕ) → slice_get (xs ++ ys) (length xs + k) ≡ slice_get ys k
 behind [] ys k = let e : 0 + k ≡ k = omega arith in ap (slice_get ys) e
 behind (x ∷ xs) ys k = let e : suc (length xs) + k ≡ suc (length xs + k) = omega arith in rw e (behind xs ys k)
 
@@ -32,7 +32,7 @@ pub list_cons : (range : ℕ × ℕ) (more : List (ℕ × ℕ)) → usage_list (
 unfolding usage_list
 list_cons range more = refl
 
-list_append : (xs ys : List (ℕ × ℕ)) → usage_list (xs ++ ys) ≡ usage_list xs ++ usage_list ys
+pub list_append : (xs ys : List (ℕ × ℕ)) → usage_list (xs ++ ys) ≡ usage_list xs ++ usage_list ys
 unfolding usage_list
 list_append [] ys = refl
 list_append (x ∷ xs) ys = ap (λ more. count_up x.0 (x.1 + 1 - x.0) ++ more) (list_append xs ys) ∙ sym (append_assoc (count_up x.0 (x.1 + 1 - x.0)) (usage_list xs) (usage_list ys))
@@ -61,7 +61,7 @@ skip_first first last more place l =
     let e : last + 1 - first ≡ 0 = omega arith in
     ap (λ xs. slice_get xs place) (list_cons (first, last) more ∙ ap (λ n. count_up first n ++ usage_list more) e)
 
-no_usages : length (usage_list []) ≡ 0
+pub no_usages : length (usage_list []) ≡ 0
 unfolding usage_list
 no_usages = refl
 

@@ -1,25 +1,31 @@
-use Rattle.std.specs.Prelude.{◌≡◌, ℕ, zero, suc, ◌+◌, ◌-◌, ◌/◌, ◌==◌, nat_lt, min, Bool, if◌then◌else◌, List, [], ◌∷◌, length, flat_map, slice_get, slice_index, Option, Some, None, option_and_then, unwrap_or}
+use Rattle.std.specs.Prelude.{◌≡◌, ℕ, zero, suc, ◌+◌, ◌-◌, ◌/◌, ◌==◌, nat_lt, min, Bool, if◌then◌else◌, List, [], ◌∷◌, length, flat_map, slice_get, slice_index_or, Option, Some, None, option_and_then, unwrap_or}
 use Rattle.descriptor_parse.specs.declared.field.Kind.{Kind}
 use Rattle.descriptor_parse.specs.declared.field.Kind.TheVariants.{Input, Output, Feature}
 use Rattle.descriptor_parse.specs.declared.field.Field.{Field}
+use Rattle.descriptor_parse.specs.declared.totals.ReportBits.{ReportBits}
 use Rattle.descriptor_parse.specs.Items.{ItemValue}
 use Rattle.descriptor_parse.specs.Fields.{fields, field_usages, report_bits, has_report_id}
 
+-- the bits of one ID's report of this kind
+abbrev pub bits_on : Kind → ReportBits → ℕ
+bits_on Input bits = bits.input
+bits_on Output bits = bits.output
+bits_on Feature bits = bits.feature
+
+abbrev pub no_bits : ReportBits
+no_bits = record { input = 0; output = 0; feature = 0 }
+
 -- A descriptor: its fields, the usages of each as first and last of ranges, whether report IDs are used, and the
--- bits of the reports of each kind by their IDs.
+-- bits of the reports by their IDs.
 pub record DescriptorValue : Type 0 where
   pub fields : List Field
   pub ranges : List (List (ℕ × ℕ))
   pub uses_ids : Bool
-  pub input : List ℕ
-  pub output : List ℕ
-  pub feature : List ℕ
+  pub totals : List ReportBits
 
 -- the bits of a report, 0 if there is none
 abbrev pub bits_of : DescriptorValue → Kind → ℕ → ℕ
-bits_of d Input id = slice_index d.input id
-bits_of d Output id = slice_index d.output id
-bits_of d Feature id = slice_index d.feature id
+bits_of d kind id = bits_on kind (slice_index_or d.totals id no_bits)
 
 -- a descriptor is that of these items, newest first
 pub record Describes (items : List ItemValue) (d : DescriptorValue) : Type 0 where

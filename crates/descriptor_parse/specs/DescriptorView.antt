@@ -1,13 +1,11 @@
-use Rattle.std.specs.Prelude.{map}
 use Rattle.descriptor_parse.specs.declared.reports.Reports.{Reports}
 use Rattle.descriptor_parse.specs.Descriptor.{DescriptorValue}
+use Rattle.descriptor_parse.specs.Parts.{parts}
 
 abbrev pub value_of : Reports → DescriptorValue
 value_of reports = record {
   fields = reports.fields.items;
-  ranges = map (λ v. v.items) reports.ranges.items;
+  ranges = parts reports.ends.items reports.ranges.items;
   uses_ids = reports.has_ids;
-  input = reports.totals.input.items;
-  output = reports.totals.output.items;
-  feature = reports.totals.feature.items;
+  totals = reports.totals.by_id.items;
 }

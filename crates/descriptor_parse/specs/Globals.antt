@@ -1,9 +1,8 @@
-use Rattle.std.specs.Prelude.{ℕ, zero, suc, ◌+◌, ◌*◌, ◌^◌, ◌%◌, if◌then◌else◌, nat_lt, Bool, List, [], ◌∷◌, length, filter, ℤ, pos, ◌-ℤ◌, int_lt}
+use Rattle.std.specs.Prelude.{ℕ, ◌+◌, ◌*◌, ◌^◌, ◌%◌, if◌then◌else◌, nat_lt, Bool, List, [], ◌∷◌, length, filter, ℤ, pos, ◌-ℤ◌, int_lt}
+use Rattle.std.specs.List.{list_any}
 use Rattle.descriptor_parse.specs.declared.tag.Tag.{Tag}
-use Rattle.descriptor_parse.specs.declared.tag.Tag.TheVariants.{Global}
-use Rattle.descriptor_parse.specs.declared.tag.GlobalTag.TheVariants.{Push, Pop}
 use Rattle.descriptor_parse.specs.Items.{ItemValue}
-use Rattle.descriptor_parse.specs.Tags.{tag, is_usage_page, is_logical_minimum, is_logical_maximum, is_report_size, is_report_id, is_report_count, is_push}
+use Rattle.descriptor_parse.specs.Tags.{tag, is_usage_page, is_logical_minimum, is_logical_maximum, is_report_size, is_report_id, is_report_count, is_push, is_pop}
 
 -- Lists of items in this file and the next ones hold the items before one, newest first.
 
@@ -16,21 +15,19 @@ unsigned (b ∷ bs) = b + 256 * unsigned bs
 unfoldable pub signed : List ℕ → ℤ
 signed bytes = if nat_lt (2 * unsigned bytes) (256 ^ length bytes) then pos (unsigned bytes) else pos (unsigned bytes) -ℤ pos (256 ^ length bytes)
 
--- The items without each Push that was popped, its Pop and all between them, where so many Pops after them are
--- still to meet their Push (6.2.2.7).
-abbrev pub kept : Tag → ℕ → ItemValue → (ℕ → List ItemValue) → List ItemValue
-kept (Global Pop) pops item earlier = earlier (suc pops)
-kept (Global Push) (suc pops) item earlier = earlier pops
-kept _ zero item earlier = item ∷ earlier zero
-kept _ (suc pops) item earlier = earlier (suc pops)
+-- what stands before the latest Push, newest first
+unfoldable pub before_push : List ItemValue → List ItemValue
+before_push [] = []
+before_push (item ∷ before) = if is_push (tag item) then before else before_push before
 
-unfoldable pub without_popped : List ItemValue → ℕ → List ItemValue
-without_popped [] pops = []
-without_popped (item ∷ before) pops = kept (tag item) pops item (without_popped before)
+-- A Pop takes out the latest Push that is left and all after it (6.2.2.7); without one it takes nothing out.
+abbrev pub taken_back : List ItemValue → List ItemValue
+taken_back items = if list_any (λ item. is_push (tag item)) items then before_push items else items
 
 -- the items whose Globals are in force after them all
-abbrev pub in_force : List ItemValue → List ItemValue
-in_force before = without_popped before 0
+unfoldable pub in_force : List ItemValue → List ItemValue
+in_force [] = []
+in_force (item ∷ before) = if is_pop (tag item) then taken_back (in_force before) else item ∷ in_force before
 
 -- the data of the latest item with such a tag; none if there is no such item
 abbrev pub latest : (Tag → Bool) → List ItemValue → List ℕ

@@ -1,4 +1,4 @@
-use Rattle.std.specs.Prelude.{◌≡◌, ℕ, ◌≤◌, ◌*◌, ◌/◌, ◌%◌, ◌^◌, ◌==◌, nat_lt, Bool, true, false, ◌&&◌, if◌then◌else◌, List, [], ◌∷◌, ◌++◌, length, map}
+use Rattle.std.specs.Prelude.{◌≡◌, ℕ, ◌+◌, ◌≤◌, ◌*◌, ◌/◌, ◌%◌, ◌^◌, ◌==◌, nat_lt, Bool, true, false, ◌&&◌, if◌then◌else◌, List, [], ◌∷◌, ◌++◌, length, map}
 use Rattle.descriptor_parse.specs.declared.field.Kind.{Kind}
 use Rattle.descriptor_parse.specs.declared.field.Field.{Field}
 use Rattle.descriptor_parse.specs.declared.globals.Globals.{Globals}
@@ -10,6 +10,8 @@ use Rattle.descriptor_parse.specs.declared.locals.Locals.{Locals}
 use Rattle.descriptor_parse.specs.GlobalsStand.{max_of}
 use Rattle.descriptor_parse.specs.LocalsStand.{range_on}
 use Rattle.descriptor_parse.specs.Totals.{bits_in}
+use Rattle.descriptor_parse.specs.Parts.{parts, AreEnds}
+use Rattle.descriptor_parse.specs.CountsStand.{wrapped_counts, AreWrapped}
 
 -- a data item under these Globals takes a bit
 abbrev pub fills : Globals → Bool
@@ -34,8 +36,9 @@ field_by kind bit flags g = record {
 pub record Declares (kind : Kind) (flags : ℕ) (g : Globals) (locals : Locals) (old new : Reports) : Type 0 where
   pub fields : (declares flags g ≡ true → (g.size ≤ 32) × (g.count ≤ 1024)) → new.fields.items
       ≡ (if declares flags g then old.fields.items ++ field_by kind (bits_in old.totals kind g.id) flags g ∷ [] else old.fields.items)
-  pub ranges : map (λ v. v.items) new.ranges.items
-      ≡ (if declares flags g then map (λ v. v.items) old.ranges.items ++ map (range_on g.page) locals.usages.items ∷ [] else map (λ v. v.items) old.ranges.items)
+  pub ranges : new.ranges.items ≡ (if declares flags g then old.ranges.items ++ map (range_on g.page) locals.usages.items else old.ranges.items)
+  pub ends : new.ends.items ≡ (if declares flags g then old.ends.items ++ (length old.ranges.items + length locals.usages.items) ∷ [] else old.ends.items)
+  pub counts : new.counts.items ≡ (if declares flags g then old.counts.items ++ wrapped_counts 0 (map (range_on g.page) locals.usages.items) else old.counts.items)
   pub totals : new.totals ≡ old.totals
   pub has_ids : new.has_ids ≡ old.has_ids
   pub has_bare : new.has_bare ≡ old.has_bare
@@ -50,6 +53,9 @@ pub record ReportsStand (before : List ItemValue) (reports : Reports) : Type 0 w
   pub bits : (kind : Kind) (id : ℕ) → bits_in reports.totals kind id ≡ report_bits kind id before
   pub small : (kind : Kind) (id : ℕ) → report_bits kind id before ≤ 2 ^ 20 * length before
   pub fields : reports.fields.items ≡ fields before
-  pub ranges : map (λ v. v.items) reports.ranges.items ≡ field_usages before
+  pub ends : AreEnds 0 reports.ends.items (length reports.ranges.items)
+  pub ranges : parts reports.ends.items reports.ranges.items ≡ field_usages before
+  pub as_many_counts : length reports.counts.items ≡ length reports.ranges.items
+  pub counts : AreWrapped 0 reports.ends.items reports.ranges.items reports.counts.items
   pub has_ids : reports.has_ids ≡ has_report_id before
   pub has_bare : reports.has_bare ≡ has_bare_data before

@@ -1,6 +1,6 @@
-use Rattle.std.specs.Prelude.{◌≡◌, ℕ, ◌≤◌, ◌/◌, ◌%◌, ◌==◌, nat_lt, nat_le, not, ◌&&◌, ◌||◌, if◌then◌else◌, List, length, filter, int_lt, Option, Some, None, is_some}
+use Rattle.std.specs.Prelude.{◌≡◌, ◌≢◌, ℕ, ◌∷◌, IsTrue, ◌≤◌, ◌/◌, ◌%◌, ◌==◌, nat_lt, nat_le, not, ◌&&◌, ◌||◌, if◌then◌else◌, List, length, filter, int_lt, Option, Some, None, is_some}
 use Rattle.descriptor_parse.specs.declared.fault.ParseFault.{ParseFault}
-use Rattle.descriptor_parse.specs.declared.fault.ParseFault.TheVariants.{PopEmpty, PushDeep, BadReportId, SizeTooLarge, CountTooLarge, EndWithoutCollection, CollectionDeep, UnpairedUsage, LogicalInverted, TooManyFields, MixedIds}
+use Rattle.descriptor_parse.specs.declared.fault.ParseFault.TheVariants.{PopEmpty, PushDeep, BadReportId, SizeTooLarge, CountTooLarge, EndWithoutCollection, CollectionDeep, UnpairedUsage, LogicalInverted, TooManyFields, MixedIds, Memory}
 use Rattle.descriptor_parse.specs.declared.tag.MainTag.{MainTag}
 use Rattle.descriptor_parse.specs.declared.tag.MainTag.TheVariants.{Data, Collection, EndCollection}
 use Rattle.descriptor_parse.specs.declared.tag.GlobalTag.{GlobalTag}
@@ -12,6 +12,7 @@ use Rattle.descriptor_parse.specs.Fields.{open_collections}
 use Rattle.descriptor_parse.specs.GlobalsStand.{GlobalsStand, max_of}
 use Rattle.descriptor_parse.specs.LocalsStand.{LocalsStand}
 use Rattle.descriptor_parse.specs.ReportsStand.{ReportsStand, declares}
+use Rattle.descriptor_parse.specs.Faults.{fault_at, wants_memory}
 
 -- The state stands for the items before, none of which shows a fault.
 pub record StateStands (before : List ItemValue) (state : State) : Type 0 where
@@ -46,3 +47,14 @@ fault_of_global Pop value s = if length s.globals.saved.items == 0 then Some Pop
 fault_of_global Push value s = if nat_le 8 (length s.globals.saved.items) then Some PushDeep else None
 fault_of_global ReportId value s = if value == 0 || nat_lt 255 value then Some BadReportId else (if s.reports.has_bare then Some MixedIds else None)
 fault_of_global _ value s = None
+
+-- An item shows no fault after those before, and the state stands for them all.
+pub record Takes (before : List ItemValue) (item : ItemValue) (state : State) : Type 0 where
+  pub clean : fault_at before item ≡ None
+  pub stands : StateStands (item ∷ before) state
+
+-- an item is refused for its first fault, or, where it shows none, for want of memory
+pub record IsRefused (before : List ItemValue) (item : ItemValue) (fault : ParseFault) : Type 0 where
+  pub first : fault ≢ Memory → fault_at before item ≡ Some fault
+  pub clean : fault ≡ Memory → fault_at before item ≡ None
+  pub memory : fault ≡ Memory → IsTrue (wants_memory (tag item) before)

@@ -1,10 +1,16 @@
 //! A report descriptor that was parsed.
 
-ghost use Rattle.std.specs.Prelude.{◌≡◌, ◌-◌, ℕ, List, slice_get, if◌then◌else◌, nat_le};
-ghost use Rattle.descriptor_parse.specs.Descriptor.{report_len, ranges_at, usage_list, usage_of_place, usage_at, last_of};
+ghost use Rattle.std.specs.Prelude.{◌≡◌, ◌-◌, ◌==◌, List, slice_index, take, drop, if◌then◌else◌};
+ghost use Rattle.descriptor_parse.specs.Descriptor.{report_len, ranges_at, usage_list, usage_at};
+ghost use Rattle.descriptor_parse.specs.Counts.{AreCounts};
+ghost use Rattle.descriptor_parse.specs.CountsStand.{StandTogether};
 ghost use Rattle.descriptor_parse.specs.DescriptorView.{value_of};
+ghost use Rattle.descriptor_parse.specs.WellFormed.{IsWellFormed, IsKnown};
+ghost use Rattle.descriptor_parse.specs.Readers.{fields_of};
 
+use crate::counts::place_usage;
 use crate::field::{Field, Kind};
+use crate::readers::{ReportFields, Usages};
 use crate::reports::Reports;
 use std::marker::Model;
 
@@ -17,14 +23,21 @@ pub struct Descriptor {
 impl Model for Descriptor {
     ghost use Rattle.descriptor_parse.specs.Descriptor.{DescriptorValue};
     ghost use Rattle.descriptor_parse.specs.DescriptorView.{value_of};
+    ghost use Rattle.descriptor_parse.specs.WellFormed.{IsKnown};
+    ghost use Rattle.descriptor_parse.specs.CountsStand.{StandTogether};
 
     ghost Value = { DescriptorValue };
 
     ghost view = { λ d. value_of d.reports };
+
+    ghost invariant = { λ d. IsKnown (value_of d.reports)
+        × ∥ StandTogether 0 d.reports.ends.items d.reports.ranges.items d.reports.counts.items ∥₁ };
 }
 
 impl Descriptor {
     pub(crate) fn new(reports: Reports) -> Descriptor
+        requires known { IsKnown (value_of reports) }
+        requires counted { ∥ StandTogether 0 reports.ends.items reports.ranges.items reports.counts.items ∥₁ }
         ensures { result ≡ value_of reports }
     {
         Descriptor { reports }
@@ -32,7 +45,8 @@ impl Descriptor {
 
     /// The fields, in order of declaration.
     pub fn fields(&self) -> &[Field]
-        ensures { result.now ≡ self.now.fields }
+        ensures all { result.now ≡ self.now.fields }
+        ensures well_formed { IsWellFormed self.now }
     {
         &self.reports.fields
     }
@@ -72,67 +86,79 @@ impl Descriptor {
     pub fn ranges(&self, field: usize) -> &[(u32, u32)]
         ensures { result.now ≡ ranges_at self.now field }
     {
-        match self.reports.ranges.get(field) {
-            Some(ranges) => ranges,
-            None => &[],
-        }
+        let Some(end) = self.reports.ends.get(field) else {
+            return &[];
+        };
+        part(
+            &self.reports.ranges,
+            start_of(&self.reports.ends, field),
+            *end,
+        )
+    }
+
+    /// How many usages a field has up to each of its ranges, the range itself among them; empty if there is no such field.
+    pub fn counts(&self, field: usize) -> &[u32]
+        ensures { AreCounts (ranges_at self.now field) result.now }
+    {
+        let Some(end) = self.reports.ends.get(field) else {
+            return &[];
+        };
+        part(
+            &self.reports.counts,
+            start_of(&self.reports.ends, field),
+            *end,
+        )
+    }
+
+    /// The fields of one report with their usages, in order. The ID is 0 where none is used.
+    pub fn report(&self, kind: Kind, id: u8) -> ReportFields<'_>
+        ensures { result ≡ fields_of self.now kind id }
+    {
+        let reports = &self.reports;
+        ReportFields::new(
+            kind,
+            id,
+            &reports.fields,
+            &reports.ends,
+            &reports.ranges,
+            &reports.counts,
+        )
+    }
+
+    /// The usages of a field one by one; none if there is no such field.
+    pub fn usages(&self, field: usize) -> Usages<'_>
+        ensures { result ≡ usage_list (ranges_at self.now field) }
+    {
+        Usages::new(self.ranges(field))
     }
 
     /// The usage of a place of a variable field, or usage `place` of an array's list; `None` for what does not exist.
     ///
-    /// In a variable field the last usage serves the places that are left (HID 1.11, 6.2.2.8).
+    /// In a variable field the last usage serves the places that are left (HID 1.11, 6.2.2.8). The time grows with the
+    /// logarithm of the number of the field's ranges.
     pub fn usage(&self, field: usize, place: usize) -> Option<u32>
         ensures { result ≡ usage_at self.now field place }
     {
         let declared = self.reports.fields.get(field)?;
-        place_usage(declared, self.ranges(field), place)
+        place_usage(declared, self.ranges(field), self.counts(field), place)
     }
 }
 
-/// The usage of a place of a field with these usages.
-fn place_usage(field: &Field, ranges: &[(u32, u32)], place: usize) -> Option<u32>
-    ensures { result ≡ usage_of_place field.now (usage_list ranges.now) place }
+/// Where the usages of a field start.
+fn start_of(ends: &[usize], field: usize) -> usize
+    ensures { result ≡ (if field == 0 then 0 else slice_index ends.now (field - 1)) }
 {
-    if !field.array && place >= field.count as usize {
-        return None;
+    if field == 0 {
+        return 0;
     }
-    match nth_usage(ranges, place) {
-        None if !field.array => last_usage(ranges),
-        usage => usage,
-    }
+    ends.get(field - 1).copied().unwrap_or(0)
 }
 
-/// The usage with this number in the list that the ranges make.
-fn nth_usage(ranges: &[(u32, u32)], place: usize) -> Option<u32>
-    ensures { result ≡ slice_get (usage_list ranges.now) place }
+/// The elements from `start` to `end`, as far as there are any.
+fn part<T>(all: &[T], start: usize, end: usize) -> &[T]
+    ensures { result.now ≡ drop start (take end all.now) }
 {
-    let mut left = place;
-    for (first, last) in ranges {
-        if first <= last {
-            let count = (last - first) as usize + 1;
-            if left < count {
-                return Some(first + left as u32);
-            }
-            left -= count;
-        }
-    }
-    None
-}
-
-/// The last usage of the list that the ranges make.
-fn last_usage(ranges: &[(u32, u32)]) -> Option<u32>
-    ensures { result ≡ last_of (usage_list ranges.now) }
-{
-    let mut found = None;
-    for (first, last) in ranges {
-        found = last_with(found, *first, *last);
-    }
-    found
-}
-
-/// The last usage, once a range follows those that have this one.
-fn last_with(found: Option<u32>, first: u32, last: u32) -> Option<u32>
-    ensures { result ≡ (if nat_le first last then Some last else found) }
-{
-    if first <= last { Some(last) } else { found }
+    let (front, _) = all.split_at(end.min(all.len()));
+    let (_, wanted) = front.split_at(start.min(front.len()));
+    wanted
 }

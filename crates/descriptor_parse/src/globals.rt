@@ -42,6 +42,7 @@ impl Globals {
 
 impl Globals {
     /// Sets the value that an item other than Push and Pop gives.
+    #[inline(always)]
     fn set(&mut self, tag: GlobalTag, bytes: &[u8])
         requires { length bytes.now ≤ 4 }
         ensures { self.new ≡ globals_with tag bytes.now self.old }
@@ -87,6 +88,7 @@ impl GlobalStack {
     }
 
     /// Takes a Global item.
+    #[inline(always)]
     pub(crate) fn take(&mut self, tag: GlobalTag, bytes: &[u8]) -> Result<(), AllocError>
         requires { length bytes.now ≤ 4 }
         ensures taken { OnOk result ((before : List ItemValue) (item : ItemValue) → tag_of item.prefix ≡ Tag.Global tag

@@ -1,12 +1,13 @@
 //! A text as the list of its items.
 
-ghost use Rattle.std.specs.Prelude.{◌≡◌, ◌+◌, ◌^◌, ◌<◌, ◌≤◌, ℕ, List, length, drop, slice_index, MatchResult, IfOk, IfErr};
+ghost use Rattle.std.specs.Prelude.{◌≡◌, ◌+◌, ◌^◌, ◌<◌, ◌≤◌, ℕ, List, length, drop, slice_index, MatchOption, IfSome, IfNone};
 ghost use Rattle.std.specs.Iterator.{YieldsFirstBy, item_count};
 ghost use Rattle.descriptor_parse.specs.Items.{data_size, head_size, item_size, front_item, items_at};
-ghost use Rattle.descriptor_parse.specs.declared.fault.ParseFault.{ParseFault};
+ghost use Rattle.descriptor_parse.specs.Tags.{tag_of};
 ghost use Rattle.descriptor_parse.specs.ItemViews.{item_view, result_view};
 
 use crate::fault::{ParseError, ParseFault};
+use crate::tag::Tag;
 use std::marker::Model;
 
 /// The prefix of a long item.
@@ -18,6 +19,15 @@ pub struct Item<'a> {
     pub offset: usize,
     pub prefix: u8,
     pub bytes: &'a [u8],
+}
+
+impl Item<'_> {
+    /// What the item is, by its prefix.
+    pub fn tag(&self) -> Tag
+        ensures { result ≡ tag_of self.now.prefix }
+    {
+        Tag::of(self.prefix)
+    }
 }
 
 /// The items of a text, one after the other, ended by the first that is not whole.
@@ -64,53 +74,78 @@ impl<'a> Iterator for Items<'a> {
             return None;
         }
         match cut(self.offset, self.rest) {
-            Ok((item, rest)) => {
+            Some((item, rest)) => {
                 self.offset += self.rest.len() - rest.len();
                 self.rest = rest;
                 Some(Ok(item))
             }
-            Err(error) => {
+            None => {
                 self.rest = &[];
-                Some(Err(error))
+                Some(Err(ParseError {
+                    fault: ParseFault::Truncated,
+                    offset: self.offset,
+                }))
             }
         }
     }
 }
 
-/// The item at the front of a text that stands at `offset`, and the text after it.
-pub(crate) fn cut(offset: usize, text: &[u8]) -> Result<(Item<'_>, &[u8]), ParseError>
-    requires { 0 < length text.now }
-    ensures size { MatchResult result
-        (λ _. item_size text.now ≤ length text.now)
-        (λ _. length text.now < item_size text.now) }
-    ensures item { IfOk result (λ r. item_view r.0 ≡ front_item offset text.now) }
-    ensures rest { IfOk result (λ r. r.1.now ≡ drop (item_size text.now) text.now) }
-    ensures cut_off { IfErr result (λ e. e ≡ record { fault = ParseFault.Truncated; offset = offset }) }
+/// The item at the front of a text that stands at `offset`, and the text after it; `None` where the text ends before it.
+#[inline(always)]
+pub(crate) fn cut(offset: usize, text: &[u8]) -> Option<(Item<'_>, &[u8])>
+    ensures size { MatchOption result (length text.now < item_size text.now) (λ _. item_size text.now ≤ length text.now) }
+    ensures few { IfNone result (length text.now ≤ 258) }
+    ensures most { IfSome result (λ _. item_size text.now ≤ 258) }
+    ensures item { IfSome result (λ r. item_view r.0 ≡ front_item offset text.now) }
+    ensures rest { IfSome result (λ r. r.1.now ≡ drop (item_size text.now) text.now) }
+{
+    let Some((prefix, more)) = text.split_first() else {
+        return None;
+    };
+    if *prefix == LONG {
+        return cut_long(offset, text);
+    }
+    let size = data_len(*prefix);
+    if more.len() < size {
+        return None;
+    }
+    let (bytes, rest) = more.split_at(size);
+    let item = Item {
+        offset,
+        prefix: *prefix,
+        bytes,
+    };
+    Some((item, rest))
+}
+
+/// The same of a text that may begin with a long item.
+#[inline(never)]
+fn cut_long(offset: usize, text: &[u8]) -> Option<(Item<'_>, &[u8])>
+    ensures size { MatchOption result (length text.now < item_size text.now) (λ _. item_size text.now ≤ length text.now) }
+    ensures few { IfNone result (length text.now ≤ 258) }
+    ensures most { IfSome result (λ _. item_size text.now ≤ 258) }
+    ensures item { IfSome result (λ r. item_view r.0 ≡ front_item offset text.now) }
+    ensures rest { IfSome result (λ r. r.1.now ≡ drop (item_size text.now) text.now) }
 {
     let size = size_of_front(text);
     if text.len() < size {
-        return Err(ParseError {
-            fault: ParseFault::Truncated,
-            offset,
-        });
+        return None;
     }
     let prefix = text[0];
     let (whole, rest) = text.split_at(size);
     let bytes = &whole[head(prefix)..];
-    Ok((
-        Item {
-            offset,
-            prefix,
-            bytes,
-        },
-        rest,
-    ))
+    let item = Item {
+        offset,
+        prefix,
+        bytes,
+    };
+    Some((item, rest))
 }
 
 /// How many bytes the item at the front of a text takes.
-fn size_of_front(text: &[u8]) -> usize
-    requires { 0 < length text.now }
-    ensures { result ≡ item_size text.now }
+pub(crate) fn size_of_front(text: &[u8]) -> usize
+    ensures size { result ≡ item_size text.now }
+    ensures most { result ≤ 258 }
 {
     match text {
         [LONG, size, ..] => 3 + *size as usize,
@@ -129,10 +164,9 @@ fn head(prefix: u8) -> usize
 
 /// How many bytes of data follow the prefix of a short item.
 fn data_len(prefix: u8) -> usize
-    ensures { result ≡ data_size prefix }
+    ensures size { result ≡ data_size prefix }
+    ensures most { result ≤ 4 }
 {
-    match prefix % 4 {
-        3 => 4,
-        size => size as usize,
-    }
+    // 0, 1, 2 and 4, by a shift.
+    (1 << (prefix % 4)) / 2
 }

@@ -1,8 +1,11 @@
 //! Laws on the definitions.
 
-ghost use Rattle.std.specs.Prelude.{◌≡◌, ◌++◌, ℕ, List, map, Ok};
+ghost use Rattle.std.specs.Prelude.{◌≡◌, ◌++◌, ℕ, List, map, Result, Ok};
 ghost use Rattle.descriptor_parse.specs.Items.{ItemValue, items_at};
 ghost use Rattle.descriptor_parse.specs.Cut.{IsCut, HasNoItem, cut_off_at};
+ghost use Rattle.descriptor_parse.specs.declared.fault.ParseError.{ParseError};
+ghost use Rattle.descriptor_parse.specs.Descriptor.{DescriptorValue};
+ghost use Rattle.descriptor_parse.specs.Parse.{Answers, IsOfTheText, AreSame};
 
 /// Each text can be cut into items, as far as it holds whole ones.
 pub fn has_cut()
@@ -14,4 +17,10 @@ pub fn has_cut()
 pub fn one_cut()
     ensures { (offset end : ℕ) (text rest : List ℕ) (items : List ItemValue) → IsCut offset text items end rest → HasNoItem rest
         → items_at offset text ≡ map (λ item. Ok item) items ++ cut_off_at end rest }
+{}
+
+/// Two answers to one text are the same, want of memory aside. So in whatever pieces a text comes, the first refusal of
+/// the parser, or else the answer of its end, is that of `parse` of the whole.
+pub fn one_answer()
+    ensures { (text : List ℕ) (a b : Result DescriptorValue ParseError) → Answers text a → Answers text b → IsOfTheText a → IsOfTheText b → AreSame a b }
 {}

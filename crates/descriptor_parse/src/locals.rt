@@ -1,10 +1,11 @@
 //! The Local items since the latest Main item (HID 1.11, 6.2.2.8).
 
-ghost use Rattle.std.specs.Prelude.{◌≡◌, ◌≢◌, ◌≤◌, ◌<◌, ◌/◌, ℕ, List, [], ◌∷◌, OnOk, IfOk, OnErr, IsSome, IsTrue, length, map};
+ghost use Rattle.std.specs.Prelude.{◌≡◌, ◌≢◌, ◌≤◌, ◌<◌, ◌/◌, ℕ, List, [], ◌∷◌, ◌++◌, OnOk, OnErr, IsSome, IsTrue, length, map};
 ghost use Rattle.descriptor_parse.specs.Items.{ItemValue};
 ghost use Rattle.descriptor_parse.specs.Tags.{tag_of};
 ghost use Rattle.descriptor_parse.specs.Locals.{usage_number};
 ghost use Rattle.descriptor_parse.specs.LocalsStand.{LocalsStand, usage_of, usage_on, range_on, raw_of, are_alike, fault_of_pair, fault_of_local, adds_range, TakesHalf};
+ghost use Rattle.descriptor_parse.specs.CountsStand.{count_with, wrapped_counts};
 ghost use Rattle.descriptor_parse.specs.declared.tag.Tag.{Tag};
 ghost use Rattle.descriptor_parse.specs.declared.tag.LocalTag.{LocalTag};
 
@@ -12,6 +13,9 @@ use crate::fault::ParseFault;
 use crate::number::unsigned;
 use crate::tag::LocalTag;
 use std::alloc::{AllocError, Global};
+
+/// How many ranges there is room for at first.
+const FIRST_RANGES: usize = 16;
 
 /// A usage as it is written: with its page, or without.
 #[derive(Clone, Copy)]
@@ -78,32 +82,50 @@ impl Locals {
     }
 
     /// The fault of a Local item.
+    #[inline(always)]
     pub(crate) fn judge(&self, tag: LocalTag, usage: Usage) -> Option<ParseFault>
         ensures { result ≡ fault_of_local tag usage self.now.half }
     {
-        match (tag, self.half) {
-            (LocalTag::Delimiter, _) => Some(ParseFault::Delimiter),
-            (LocalTag::UsageMinimum, Some(half)) => pair_fault(!half.minimum, usage, half.usage),
-            (LocalTag::UsageMaximum, Some(half)) => pair_fault(half.minimum, half.usage, usage),
-            _ => None,
+        match tag {
+            LocalTag::Usage => None,
+            LocalTag::UsageMinimum => match self.half {
+                Some(half) => pair_fault(!half.minimum, usage, half.usage),
+                None => None,
+            },
+            LocalTag::UsageMaximum => match self.half {
+                Some(half) => pair_fault(half.minimum, half.usage, usage),
+                None => None,
+            },
+            LocalTag::Delimiter => Some(ParseFault::Delimiter),
         }
     }
 
     /// Takes a Local item.
+    #[inline(always)]
     pub(crate) fn take(&mut self, tag: LocalTag, usage: Usage) -> Result<(), AllocError>
         ensures taken { OnOk result ((before : List ItemValue) (item : ItemValue) → tag_of item.prefix ≡ Tag.Local tag
             → usage_of item.bytes ≡ usage → LocalsStand before self.old → LocalsStand (item ∷ before) self.new) }
         ensures refused { OnErr result (IsTrue (adds_range tag self.old.half)) }
     {
         match tag {
-            LocalTag::Usage => self.usages.push(UsageRange {
-                first: usage,
-                last: usage,
-            })?,
+            LocalTag::Usage => self.add(usage, usage)?,
             LocalTag::UsageMinimum => self.take_half(true, usage)?,
             LocalTag::UsageMaximum => self.take_half(false, usage)?,
             LocalTag::Delimiter => {}
         }
+        Ok(())
+    }
+
+    /// Adds a range.
+    #[inline(always)]
+    fn add(&mut self, first: Usage, last: Usage) -> Result<(), AllocError>
+        ensures added { OnOk result (self.new.usages.items ≡ self.old.usages.items ++ record { first = first; last = last } ∷ []) }
+        ensures same { self.new.half ≡ self.old.half }
+    {
+        if self.usages.capacity() == 0 {
+            self.usages.reserve(FIRST_RANGES)?;
+        }
+        self.usages.push(UsageRange { first, last })?;
         Ok(())
     }
 
@@ -120,7 +142,7 @@ impl Locals {
                 } else {
                     (half.usage, usage)
                 };
-                self.usages.push(UsageRange { first, last })?;
+                self.add(first, last)?;
                 self.half = None;
             }
         }
@@ -136,17 +158,34 @@ impl Locals {
         self.half = None;
     }
 
-    /// The ranges, where short usages are of this page.
-    pub(crate) fn ranges(&self, alloc: Global, page: u16) -> Result<Vec<(u32, u32)>, AllocError>
-        ensures { IfOk result (λ v. v.items ≡ map (range_on page) self.now.usages.items) }
+    /// Appends the ranges, where short usages are of this page, and how many usages those up to each have.
+    #[inline(always)]
+    pub(crate) fn append_to(
+        &self,
+        ranges: &mut Vec<(u32, u32)>,
+        counts: &mut Vec<u32>,
+        page: u16,
+    ) -> Result<(), AllocError>
+        ensures ranges { OnOk result (ranges.new.items ≡ ranges.old.items ++ map (range_on page) self.now.usages.items) }
+        ensures counts { OnOk result (counts.new.items ≡ counts.old.items ++ wrapped_counts 0 (map (range_on page) self.now.usages.items)) }
     {
-        // No `collect`: where a growth is refused it asks again for less.
-        let mut ranges = Vec::with_capacity(alloc, self.usages.len())?;
+        let mut count = 0;
         for range in &self.usages {
-            ranges.push((range.first.on(page), range.last.on(page)))?;
+            let (first, last) = (range.first.on(page), range.last.on(page));
+            count = count_with(count, first, last);
+            ranges.push((first, last))?;
+            counts.push(count)?;
         }
-        Ok(ranges)
+        Ok(())
     }
+}
+
+/// The number of usages with those of a range more. The ranges of a text without a fault have less than 2^32 usages.
+#[inline(always)]
+fn count_with(count: u32, first: u32, last: u32) -> u32
+    ensures { result ≡ count_with count (first, last) }
+{
+    count.wrapping_add(last.wrapping_sub(first)).wrapping_add(1)
 }
 
 /// What is wrong with a pair.

@@ -4,11 +4,16 @@ ghost use Rattle.std.specs.Prelude.{◌≡◌, ◌≤◌, ◌^◌, pos, length, 
 ghost use Rattle.descriptor_parse.specs.Globals.{unsigned, signed};
 
 /// The number of up to four bytes, the least significant first.
-#[tactic(auto, using(crate::proofs::Numbers::unsigned_bytes))]
+#[inline(always)]
+#[tactic(auto, using(crate::proofs::Numbers::unsigned_bytes, crate::proofs::Numbers::unsigned_one))]
 pub(crate) fn unsigned(bytes: &[u8]) -> u32
     requires { length bytes.now ≤ 4 }
     ensures { result ≡ unsigned bytes.now }
 {
+    // Most data have one byte.
+    if bytes.len() == 1 {
+        return bytes[0] as u32;
+    }
     u32::from_le_bytes([
         byte(bytes, 0),
         byte(bytes, 1),

@@ -25,12 +25,23 @@ pub(crate) const MAX_SIZE: u32 = 32;
 /// The most places of a field.
 pub(crate) const MAX_COUNT: u32 = 1024;
 
+/// How many fields there is room for at first.
+const FIRST_FIELDS: usize = 16;
+
+/// How many ranges of usages there is room for at first.
+const FIRST_RANGES: usize = 64;
+
 /// The fields so far with their usages, the bits of each report, and whether report IDs are used.
 #[derive(Drop)]
 pub(crate) struct Reports {
     pub(crate) totals: Totals,
     pub(crate) fields: Vec<Field>,
-    pub(crate) ranges: Vec<Vec<(u32, u32)>>,
+    /// Where the usages of each field end in `ranges`.
+    pub(crate) ends: Vec<usize>,
+    /// The usages of all fields.
+    pub(crate) ranges: Vec<(u32, u32)>,
+    /// Beside each range, how many usages its field has up to it.
+    pub(crate) counts: Vec<u32>,
     /// A Report ID item came.
     pub(crate) has_ids: bool,
     /// A data item came without a Report ID in force.
@@ -44,7 +55,9 @@ impl Reports {
         Reports {
             totals: Totals::new(alloc),
             fields: Vec::new(alloc),
+            ends: Vec::new(alloc),
             ranges: Vec::new(alloc),
+            counts: Vec::new(alloc),
             has_ids: false,
             has_bare: false,
         }
@@ -62,9 +75,9 @@ impl Reports {
     }
 
     /// Takes a data item that shows no fault.
+    #[inline(always)]
     pub(crate) fn take(
         &mut self,
-        alloc: Global,
         kind: Kind,
         flags: u32,
         globals: &Globals,
@@ -75,7 +88,7 @@ impl Reports {
             → FitsData before item → length before ≤ 4096 → ReportsStand before self.old → ReportsStand (item ∷ before) self.new) }
         ensures refused { OnErr result (IsTrue (fills globals.now)) }
     {
-        self.declare(alloc, kind, flags, globals, locals)?;
+        self.declare(kind, flags, globals, locals)?;
         let more = (globals.size as u64).saturating_mul(globals.count as u64);
         self.totals.add(kind, globals.id, more)?;
         self.has_bare |= globals.id == 0;
@@ -83,9 +96,9 @@ impl Reports {
     }
 
     /// Adds the field of a data item, if it declares one.
+    #[inline(always)]
     fn declare(
         &mut self,
-        alloc: Global,
         kind: Kind,
         flags: u32,
         globals: &Globals,
@@ -97,10 +110,31 @@ impl Reports {
         if !declares(flags, globals) {
             return Ok(());
         }
-        let ranges = locals.ranges(alloc, globals.page)?;
+        self.make_room()?;
         let bit = self.totals.bits(kind, globals.id);
-        self.ranges.push(ranges)?;
+        locals.append_to(&mut self.ranges, &mut self.counts, globals.page)?;
+        self.ends.push(self.ranges.len())?;
         self.fields.push(field(kind, bit, flags, globals))?;
+        Ok(())
+    }
+
+    /// Takes memory for some fields before the first.
+    #[inline(always)]
+    fn make_room(&mut self) -> Result<(), AllocError>
+        ensures fields { self.new.fields.items ≡ self.old.fields.items }
+        ensures ends { self.new.ends.items ≡ self.old.ends.items }
+        ensures ranges { self.new.ranges.items ≡ self.old.ranges.items }
+        ensures counts { self.new.counts.items ≡ self.old.counts.items }
+        ensures totals { self.new.totals ≡ self.old.totals }
+        ensures has_ids { self.new.has_ids ≡ self.old.has_ids }
+        ensures has_bare { self.new.has_bare ≡ self.old.has_bare }
+    {
+        if self.fields.is_empty() {
+            self.fields.reserve(FIRST_FIELDS)?;
+            self.ends.reserve(FIRST_FIELDS)?;
+            self.ranges.reserve(FIRST_RANGES)?;
+            self.counts.reserve(FIRST_RANGES)?;
+        }
         Ok(())
     }
 }
@@ -113,6 +147,7 @@ pub(crate) fn declares(flags: u32, globals: &Globals) -> bool
 }
 
 /// The field of a data item, whose size and count were found to fit.
+#[inline(always)]
 fn field(kind: Kind, bit: u64, flags: u32, globals: &Globals) -> Field
     ensures { globals.now.size ≤ 32 → globals.now.count ≤ 1024 → result ≡ field_by kind bit flags globals.now }
 {

@@ -1,17 +1,19 @@
 //! What the parser keeps between two items.
 
-ghost use Rattle.std.specs.Prelude.{◌≡◌, ◌≢◌, ◌≤◌, ◌<◌, ℕ, List, [], ◌∷◌, OnOk, OnErr, IsTrue, length, if◌then◌else◌};
+ghost use Rattle.std.specs.Prelude.{◌≡◌, ◌≢◌, ◌≤◌, ◌<◌, ◌==◌, ◌||◌, ℕ, List, [], ◌∷◌, OnOk, OnErr, IfErr, IsTrue, length, if◌then◌else◌, nat_lt, not};
 ghost use Rattle.descriptor_parse.specs.Items.{ItemValue};
 ghost use Rattle.descriptor_parse.specs.ItemViews.{item_view};
 ghost use Rattle.descriptor_parse.specs.Tags.{tag_of};
 ghost use Rattle.descriptor_parse.specs.Globals.{unsigned};
 ghost use Rattle.descriptor_parse.specs.Fields.{open_collections};
-ghost use Rattle.descriptor_parse.specs.Faults.{fault_at, wants_memory};
+ghost use Rattle.descriptor_parse.specs.Faults.{fault_at};
 ghost use Rattle.descriptor_parse.specs.ReportsStand.{FitsData, fills};
-ghost use Rattle.descriptor_parse.specs.StateStands.{StateStands, IsData, fault_of_data, fault_of_main, fault_of_global};
+ghost use Rattle.descriptor_parse.specs.LocalsStand.{usage_of};
+ghost use Rattle.descriptor_parse.specs.StateStands.{StateStands, Takes, IsRefused, IsData, fault_of_data, fault_of_main, fault_of_global};
 ghost use Rattle.descriptor_parse.specs.declared.tag.Tag.{Tag};
 ghost use Rattle.descriptor_parse.specs.declared.tag.MainTag.{MainTag};
 ghost use Rattle.descriptor_parse.specs.declared.tag.GlobalTag.{GlobalTag};
+ghost use Rattle.descriptor_parse.specs.declared.tag.LocalTag.{LocalTag};
 
 use crate::fault::ParseFault;
 use crate::field::Kind;
@@ -20,7 +22,7 @@ use crate::items::{Item, LONG};
 use crate::locals::{Locals, Usage};
 use crate::number::unsigned;
 use crate::reports::{MAX_COUNT, MAX_SIZE, Reports, declares};
-use crate::tag::{GlobalTag, MainTag, Tag};
+use crate::tag::{GlobalTag, LocalTag, MainTag, Tag};
 use std::alloc::{AllocError, Global};
 
 /// The most bits of a Constant item's place.
@@ -54,6 +56,18 @@ impl State {
         }
     }
 
+    pub(crate) fn into_reports(self) -> Reports
+        ensures { result ≡ self.reports }
+    {
+        let State {
+            reports,
+            globals: _,
+            locals: _,
+            collections: _,
+        } = self;
+        reports
+    }
+
     /// The first fault of a whole item.
     pub(crate) fn judge(&self, item: &Item<'_>) -> Option<ParseFault>
         requires few { item.now.prefix ≢ 254 → length item.now.bytes.now ≤ 4 }
@@ -65,26 +79,29 @@ impl State {
         }
         match Tag::of(item.prefix) {
             Tag::Main(tag) => self.judge_main(tag, unsigned(item.bytes)),
-            Tag::Global(tag) => self.judge_global(tag, unsigned(item.bytes)),
+            Tag::Global(tag) => self.judge_global(tag, item.bytes),
             Tag::Local(tag) => self.locals.judge(tag, Usage::read(item.bytes)),
             Tag::Skipped => None,
         }
     }
 
     /// The fault of a Global item.
-    fn judge_global(&self, tag: GlobalTag, value: u32) -> Option<ParseFault>
-        ensures { result ≡ fault_of_global tag value self.now }
+    #[inline(always)]
+    fn judge_global(&self, tag: GlobalTag, bytes: &[u8]) -> Option<ParseFault>
+        requires { length bytes.now ≤ 4 }
+        ensures { result ≡ fault_of_global tag (unsigned bytes.now) self.now }
     {
         match tag {
             GlobalTag::Pop if self.globals.saved.is_empty() => Some(ParseFault::PopEmpty),
             GlobalTag::Push if self.globals.saved.len() >= MAX_PUSHES => Some(ParseFault::PushDeep),
-            GlobalTag::ReportId if value == 0 || value > 255 => Some(ParseFault::BadReportId),
+            GlobalTag::ReportId if !is_report_id(unsigned(bytes)) => Some(ParseFault::BadReportId),
             GlobalTag::ReportId if self.reports.has_bare => Some(ParseFault::MixedIds),
             _ => None,
         }
     }
 
     /// The fault of a Main item.
+    #[inline(always)]
     fn judge_main(&self, tag: MainTag, flags: u32) -> Option<ParseFault>
         ensures { result ≡ fault_of_main tag flags self.now }
     {
@@ -102,6 +119,7 @@ impl State {
     }
 
     /// The fault of a data item.
+    #[inline(always)]
     fn judge_data(&self, flags: u32) -> Option<ParseFault>
         ensures { result ≡ fault_of_data flags self.now }
     {
@@ -128,26 +146,80 @@ impl State {
         None
     }
 
-    /// Takes a whole item that shows no fault.
-    pub(crate) fn take(&mut self, alloc: Global, item: &Item<'_>) -> Result<(), AllocError>
+    /// Judges a whole item and takes it. The error is its first fault, or `Memory` where it shows none and a growth
+    /// was refused.
+    #[inline(always)]
+    pub(crate) fn step(&mut self, item: &Item<'_>) -> Result<(), ParseFault>
         requires few { item.now.prefix ≢ 254 → length item.now.bytes.now ≤ 4 }
         requires not_three { item.now.prefix ≢ 254 → length item.now.bytes.now ≢ 3 }
         ensures taken { OnOk result ((before : List ItemValue) → StateStands before self.old → length before ≤ 4096
-            → fault_at before (item_view item.now) ≡ None → StateStands (item_view item.now ∷ before) self.new) }
-        ensures refused { (before : List ItemValue) → StateStands before self.old
-            → OnErr result (IsTrue (wants_memory (tag_of item.now.prefix) before)) }
+            → Takes before (item_view item.now) self.new) }
+        ensures refused { (before : List ItemValue) → StateStands before self.old → IfErr result (IsRefused before (item_view item.now)) }
     {
-        if item.prefix == LONG {
-            return Ok(());
-        }
+        // A long item is one of those that are skipped.
         match Tag::of(item.prefix) {
-            Tag::Main(tag) => self.take_main(alloc, tag, unsigned(item.bytes)),
-            Tag::Global(tag) => self.take_global(tag, item.bytes),
-            Tag::Local(tag) => self.locals.take(tag, Usage::read(item.bytes)),
+            Tag::Main(tag) => self.step_main(tag, unsigned(item.bytes)),
+            Tag::Global(tag) => self.step_global(tag, item.bytes),
+            // Most Local items are single usages: the compiler makes a shorter way for them.
+            Tag::Local(LocalTag::Usage) => self.step_local(
+                LocalTag::Usage,
+                Usage::read(item.bytes),
+            ),
+            Tag::Local(tag) => self.step_local(tag, Usage::read(item.bytes)),
             Tag::Skipped => Ok(()),
         }
     }
 
+    #[inline(always)]
+    fn step_main(&mut self, tag: MainTag, flags: u32) -> Result<(), ParseFault>
+        ensures taken { OnOk result ((before : List ItemValue) (item : ItemValue) → tag_of item.prefix ≡ Tag.Main tag → unsigned item.bytes ≡ flags
+            → StateStands before self.old → length before ≤ 4096 → Takes before item self.new) }
+        ensures refused { (before : List ItemValue) (item : ItemValue) → tag_of item.prefix ≡ Tag.Main tag → unsigned item.bytes ≡ flags
+            → StateStands before self.old → IfErr result (IsRefused before item) }
+    {
+        if let Some(fault) = self.judge_main(tag, flags) {
+            return Err(fault);
+        }
+        match self.take_main(tag, flags) {
+            Ok(()) => Ok(()),
+            Err(_) => Err(ParseFault::Memory),
+        }
+    }
+
+    #[inline(always)]
+    fn step_global(&mut self, tag: GlobalTag, bytes: &[u8]) -> Result<(), ParseFault>
+        requires { length bytes.now ≤ 4 }
+        ensures taken { OnOk result ((before : List ItemValue) (item : ItemValue) → tag_of item.prefix ≡ Tag.Global tag → item.bytes ≡ bytes.now
+            → StateStands before self.old → Takes before item self.new) }
+        ensures refused { (before : List ItemValue) (item : ItemValue) → tag_of item.prefix ≡ Tag.Global tag → item.bytes ≡ bytes.now
+            → StateStands before self.old → IfErr result (IsRefused before item) }
+    {
+        if let Some(fault) = self.judge_global(tag, bytes) {
+            return Err(fault);
+        }
+        match self.take_global(tag, bytes) {
+            Ok(()) => Ok(()),
+            Err(_) => Err(ParseFault::Memory),
+        }
+    }
+
+    #[inline(always)]
+    fn step_local(&mut self, tag: LocalTag, usage: Usage) -> Result<(), ParseFault>
+        ensures taken { OnOk result ((before : List ItemValue) (item : ItemValue) → tag_of item.prefix ≡ Tag.Local tag → usage_of item.bytes ≡ usage
+            → StateStands before self.old → Takes before item self.new) }
+        ensures refused { (before : List ItemValue) (item : ItemValue) → tag_of item.prefix ≡ Tag.Local tag → usage_of item.bytes ≡ usage
+            → StateStands before self.old → IfErr result (IsRefused before item) }
+    {
+        if let Some(fault) = self.locals.judge(tag, usage) {
+            return Err(fault);
+        }
+        match self.locals.take(tag, usage) {
+            Ok(()) => Ok(()),
+            Err(_) => Err(ParseFault::Memory),
+        }
+    }
+
+    #[inline(always)]
     fn take_global(&mut self, tag: GlobalTag, bytes: &[u8]) -> Result<(), AllocError>
         requires { length bytes.now ≤ 4 }
         ensures taken { OnOk result ((before : List ItemValue) (item : ItemValue) → tag_of item.prefix ≡ Tag.Global tag → item.bytes ≡ bytes.now
@@ -159,13 +231,14 @@ impl State {
         Ok(())
     }
 
-    fn take_main(&mut self, alloc: Global, tag: MainTag, flags: u32) -> Result<(), AllocError>
+    #[inline(always)]
+    fn take_main(&mut self, tag: MainTag, flags: u32) -> Result<(), AllocError>
         ensures taken { OnOk result ((before : List ItemValue) (item : ItemValue) → tag_of item.prefix ≡ Tag.Main tag → unsigned item.bytes ≡ flags
             → StateStands before self.old → length before ≤ 4096 → fault_at before item ≡ None → StateStands (item ∷ before) self.new) }
         ensures refused { OnErr result (IsData tag × IsTrue (fills self.old.globals.now)) }
     {
         match tag {
-            MainTag::Data(kind) => self.take_data(alloc, kind, flags),
+            MainTag::Data(kind) => self.take_data(kind, flags),
             MainTag::Collection => {
                 self.open_collection();
                 Ok(())
@@ -178,18 +251,20 @@ impl State {
     }
 
     /// Takes a data item that shows no fault.
-    fn take_data(&mut self, alloc: Global, kind: Kind, flags: u32) -> Result<(), AllocError>
+    #[inline(always)]
+    fn take_data(&mut self, kind: Kind, flags: u32) -> Result<(), AllocError>
         ensures taken { OnOk result ((before : List ItemValue) (item : ItemValue) → tag_of item.prefix ≡ Tag.Main (MainTag.Data kind)
             → unsigned item.bytes ≡ flags → FitsData before item → length before ≤ 4096
             → StateStands before self.old → StateStands (item ∷ before) self.new) }
         ensures refused { OnErr result (IsTrue (fills self.old.globals.now)) }
     {
         self.reports
-            .take(alloc, kind, flags, &self.globals.now, &self.locals)?;
+            .take(kind, flags, &self.globals.now, &self.locals)?;
         self.locals.clear();
         Ok(())
     }
 
+    #[inline(always)]
     fn open_collection(&mut self)
         ensures { (before : List ItemValue) (item : ItemValue) → tag_of item.prefix ≡ Tag.Main MainTag.Collection → open_collections before < 16
             → StateStands before self.old → StateStands (item ∷ before) self.new }
@@ -198,6 +273,7 @@ impl State {
         self.locals.clear();
     }
 
+    #[inline(always)]
     fn close_collection(&mut self)
         ensures { (before : List ItemValue) (item : ItemValue) → tag_of item.prefix ≡ Tag.Main MainTag.EndCollection → 0 < open_collections before
             → StateStands before self.old → StateStands (item ∷ before) self.new }
@@ -205,6 +281,14 @@ impl State {
         self.collections = self.collections.saturating_sub(1);
         self.locals.clear();
     }
+}
+
+/// Whether a number can be a Report ID.
+#[inline(always)]
+fn is_report_id(number: u32) -> bool
+    ensures { result ≡ not (number == 0 || nat_lt 255 number) }
+{
+    number > 0 && number <= 255
 }
 
 /// The most bits of a place.

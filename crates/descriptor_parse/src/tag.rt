@@ -2,6 +2,7 @@
 
 ghost use Rattle.std.specs.Prelude.{◌≡◌};
 ghost use Rattle.descriptor_parse.specs.Tags.{tag_of};
+ghost use Rattle.descriptor_parse.specs.TagTable.{tag_by};
 
 use crate::field::Kind;
 
@@ -47,29 +48,37 @@ pub enum LocalTag {
 
 impl Tag {
     /// What the item with this prefix is.
-    #[tactic(auto, unfolding(crate::specs::Tags::tag_of))]
+    #[inline(always)]
     pub(crate) fn of(prefix: u8) -> Tag
         ensures { result ≡ tag_of prefix }
     {
-        match prefix - prefix % 4 {
-            0x80 => Tag::Main(MainTag::Data(Kind::Input)),
-            0x90 => Tag::Main(MainTag::Data(Kind::Output)),
-            0xB0 => Tag::Main(MainTag::Data(Kind::Feature)),
-            0xA0 => Tag::Main(MainTag::Collection),
-            0xC0 => Tag::Main(MainTag::EndCollection),
-            0x04 => Tag::Global(GlobalTag::UsagePage),
-            0x14 => Tag::Global(GlobalTag::LogicalMinimum),
-            0x24 => Tag::Global(GlobalTag::LogicalMaximum),
-            0x74 => Tag::Global(GlobalTag::ReportSize),
-            0x84 => Tag::Global(GlobalTag::ReportId),
-            0x94 => Tag::Global(GlobalTag::ReportCount),
-            0xA4 => Tag::Global(GlobalTag::Push),
-            0xB4 => Tag::Global(GlobalTag::Pop),
-            0x08 => Tag::Local(LocalTag::Usage),
-            0x18 => Tag::Local(LocalTag::UsageMinimum),
-            0x28 => Tag::Local(LocalTag::UsageMaximum),
-            0xA8 => Tag::Local(LocalTag::Delimiter),
-            _ => Tag::Skipped,
-        }
+        of_quarter(prefix / 4)
+    }
+}
+
+/// What an item is, by its prefix without the two bits of the size: the compiler makes one table of so dense a range.
+#[inline(always)]
+fn of_quarter(quarter: u8) -> Tag
+    ensures { result ≡ tag_by quarter }
+{
+    match quarter {
+        0x20 => Tag::Main(MainTag::Data(Kind::Input)),
+        0x24 => Tag::Main(MainTag::Data(Kind::Output)),
+        0x2C => Tag::Main(MainTag::Data(Kind::Feature)),
+        0x28 => Tag::Main(MainTag::Collection),
+        0x30 => Tag::Main(MainTag::EndCollection),
+        0x01 => Tag::Global(GlobalTag::UsagePage),
+        0x05 => Tag::Global(GlobalTag::LogicalMinimum),
+        0x09 => Tag::Global(GlobalTag::LogicalMaximum),
+        0x1D => Tag::Global(GlobalTag::ReportSize),
+        0x21 => Tag::Global(GlobalTag::ReportId),
+        0x25 => Tag::Global(GlobalTag::ReportCount),
+        0x29 => Tag::Global(GlobalTag::Push),
+        0x2D => Tag::Global(GlobalTag::Pop),
+        0x02 => Tag::Local(LocalTag::Usage),
+        0x06 => Tag::Local(LocalTag::UsageMinimum),
+        0x0A => Tag::Local(LocalTag::UsageMaximum),
+        0x2A => Tag::Local(LocalTag::Delimiter),
+        _ => Tag::Skipped,
     }
 }

@@ -3,4 +3,3 @@ pub mod Numbers
 pub mod Popped
 pub mod CutLemmas
 pub mod LeastLemmas
-pub mod OneFault

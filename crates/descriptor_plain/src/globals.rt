@@ -1,22 +1,22 @@
 //! The Globals in force, by looking back (HID 1.11, 6.2.2.7).
 
-ghost use Rattle.std.specs.Prelude.{◌≡◌, ◌+◌, ◌≤◌, ◌<◌, ◌^◌, length, filter};
-ghost use Rattle.descriptor_parse.specs.Tags.{tag, is_push};
-ghost use Rattle.descriptor_parse.specs.Globals.{latest, without_popped, usage_page, report_size, report_count, report_id, logical_minimum, logical_maximum, pushes};
-ghost use Rattle.descriptor_plain.specs.Waiting.{is_global};
+ghost use Rattle.std.specs.Prelude.{◌≡◌, ◌+◌, ◌≤◌, ◌<◌, ◌^◌, length};
+ghost use Rattle.descriptor_parse.specs.declared.tag.Tag.{Tag};
+ghost use Rattle.descriptor_parse.specs.declared.tag.GlobalTag.{GlobalTag};
+ghost use Rattle.descriptor_parse.specs.Globals.{latest, in_force, usage_page, report_size, report_count, report_id, logical_minimum, logical_maximum, pushes};
+ghost use Rattle.descriptor_plain.specs.Waiting.{is_global, popped, any_push};
 ghost use Rattle.descriptor_plain.specs.Views.{items_of};
 
 use crate::item::Plain;
 use crate::number::{data, signed, unsigned};
-use crate::tag::{is_global, is_kept, tag_of, waiting};
-use descriptor_parse::GlobalTag;
+use crate::tag::{is_global, is_kept, left_after, tag_of, waiting};
+use descriptor_parse::{GlobalTag, Tag};
 
 /// The data of the latest such Global item in force, where so many Pops after these items wait for their Push; none
 /// if there is no such item.
-#[tactic(auto, using(crate::proofs::Popped::without_none, crate::proofs::Popped::without_kept, crate::proofs::Popped::without_other))]
 pub(crate) fn latest<'a>(wanted: GlobalTag, past: &[Plain<'a>], pops: usize) -> &'a [u8]
     requires { pops + length past.now < 2 ^ 64 }
-    ensures bytes { result.now ≡ latest (is_global wanted) (without_popped (items_of past.now) pops) }
+    ensures bytes { result.now ≡ latest (is_global wanted) (popped pops (in_force (items_of past.now))) }
     ensures few { length result.now ≤ 4 }
 {
     let [item, before @ ..] = past else {
@@ -28,27 +28,18 @@ pub(crate) fn latest<'a>(wanted: GlobalTag, past: &[Plain<'a>], pops: usize) -> 
             return data(item);
         }
     }
-    latest(wanted, before, waiting(tag, pops))
+    let meets = meets_push(tag, before);
+    latest(wanted, before, waiting(tag, meets, pops))
 }
 
-/// The Pushes that are still to be popped, where so many Pops after these items wait for theirs.
-#[tactic(auto, using(crate::proofs::Popped::without_none, crate::proofs::Popped::without_kept, crate::proofs::Popped::without_other))]
-pub(crate) fn pushes_left(past: &[Plain<'_>], pops: usize) -> usize
-    requires { pops + length past.now < 2 ^ 64 }
-    ensures count { result ≡ length (filter (λ item. is_push (tag item)) (without_popped (items_of past.now) pops)) }
-    ensures within { result ≤ length past.now }
+/// Whether a Push is left for an item with this tag, if it is a Pop.
+fn meets_push(tag: Tag, before: &[Plain<'_>]) -> bool
+    ensures { tag ≡ Tag.Global GlobalTag.Pop → result ≡ any_push (items_of before.now) }
 {
-    let [item, before @ ..] = past else {
-        return 0;
-    };
-    let tag = tag_of(item.prefix);
-    let earlier = pushes_left(before, waiting(tag, pops));
-    if is_kept(tag, pops) {
-        if is_global(GlobalTag::Push, tag) {
-            return earlier + 1;
-        }
+    match tag {
+        Tag::Global(GlobalTag::Pop) => pushes(before) > 0,
+        _ => false,
     }
-    earlier
 }
 
 /// The usage page in force.
@@ -98,8 +89,12 @@ pub(crate) fn logical_maximum(before: &[Plain<'_>]) -> i64
 }
 
 /// The Pushes that are still to be popped.
-pub(crate) fn pushes(before: &[Plain<'_>]) -> usize
-    ensures { result ≡ pushes (items_of before.now) }
+pub(crate) fn pushes(past: &[Plain<'_>]) -> usize
+    ensures count { result ≡ pushes (items_of past.now) }
+    ensures within { result ≤ length past.now }
 {
-    pushes_left(before, 0)
+    let [item, before @ ..] = past else {
+        return 0;
+    };
+    left_after(tag_of(item.prefix), pushes(before))
 }

@@ -4,7 +4,7 @@ ghost use Rattle.std.specs.Prelude.{◌≡◌, ◌+◌, ◌<◌, ◌^◌, ◌||�
 ghost use Rattle.descriptor_parse.specs.Tags.{tag_of, is_data, is_data_of, same_kind, is_main, is_collection, is_end_collection, is_delimiter};
 ghost use Rattle.descriptor_parse.specs.Fields.{kind_of};
 ghost use Rattle.descriptor_parse.specs.Locals.{is_half, is_minimum};
-ghost use Rattle.descriptor_plain.specs.Waiting.{is_global, waiting, is_kept};
+ghost use Rattle.descriptor_plain.specs.Waiting.{is_global, waiting, is_kept, left_after};
 
 use descriptor_parse::{GlobalTag, Kind, LocalTag, MainTag, Tag};
 
@@ -159,14 +159,27 @@ pub(crate) fn is_global(wanted: GlobalTag, tag: Tag) -> bool
 }
 
 /// The Pops that wait for their Push before an item with this tag, where so many wait after it.
-pub(crate) fn waiting(tag: Tag, pops: usize) -> usize
+pub(crate) fn waiting(tag: Tag, meets: bool, pops: usize) -> usize
     requires { pops + 1 < 2 ^ 64 }
-    ensures { result ≡ waiting tag pops }
+    ensures { result ≡ waiting tag meets pops }
 {
     match tag {
-        Tag::Global(GlobalTag::Pop) => pops + 1,
+        Tag::Global(GlobalTag::Pop) if meets => pops + 1,
+        Tag::Global(GlobalTag::Pop) => pops,
         Tag::Global(GlobalTag::Push) => pops.saturating_sub(1),
         _ => pops,
+    }
+}
+
+/// The Pushes that are left after an item with this tag.
+pub(crate) fn left_after(tag: Tag, pushes: usize) -> usize
+    requires { pushes + 1 < 2 ^ 64 }
+    ensures { result ≡ left_after tag pushes }
+{
+    match tag {
+        Tag::Global(GlobalTag::Pop) => pushes.saturating_sub(1),
+        Tag::Global(GlobalTag::Push) => pushes + 1,
+        _ => pushes,
     }
 }
 

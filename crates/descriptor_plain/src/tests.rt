@@ -1,26 +1,24 @@
-//! The parser's answers beside those that are computed by the definitions: whole answers, over rows, texts that are
-//! made up, and the served text, as it is and with a byte changed.
+//! The parser's answers beside those that are computed by the definitions: whole answers, over texts that are made up,
+//! and the served text, as it is and with a byte changed; each text whole and in pieces.
 
 mod made_up;
-mod rows;
 mod single;
 
 use crate::{PlainField, cut, field_usages, fields, first_fault, has_report_id, report_bits};
-use descriptor_parse::{Descriptor, Field, Kind, parse};
+use descriptor_parse::{Descriptor, Field, Kind, ParseError, Parser, parse};
 use std::alloc::Global;
 use std::process::Abort;
 use std::test::Fail;
 
-/// The report descriptor that the keyboard serves, 128 bytes.
-const SERVED: [u8; 128] = [
+/// The report descriptor that the keyboard serves, 99 bytes.
+const SERVED: [u8; 99] = [
     0x05, 0x01, 0x09, 0x06, 0xA1, 0x01, 0x85, 0x01, 0x05, 0x07, 0x19, 0xE0, 0x29, 0xE7, 0x15, 0x00,
     0x25, 0x01, 0x75, 0x01, 0x95, 0x08, 0x81, 0x02, 0x19, 0x04, 0x29, 0xA4, 0x95, 0xA1, 0x81, 0x02,
     0x95, 0x07, 0x81, 0x03, 0x05, 0x08, 0x19, 0x01, 0x29, 0x05, 0x95, 0x05, 0x91, 0x02, 0x95, 0x03,
-    0x91, 0x03, 0xC0, 0x05, 0x0C, 0x09, 0x01, 0xA1, 0x01, 0x85, 0x02, 0x15, 0x00, 0x25, 0x01, 0x75,
-    0x01, 0x95, 0x10, 0x09, 0xB0, 0x09, 0xB1, 0x09, 0xB2, 0x09, 0xB3, 0x09, 0xB4, 0x09, 0xB5, 0x09,
-    0xB6, 0x09, 0xB7, 0x09, 0xB8, 0x09, 0xCD, 0x09, 0xE2, 0x09, 0xE9, 0x09, 0xEA, 0x0A, 0x92, 0x01,
-    0x0A, 0x23, 0x02, 0x0A, 0x24, 0x02, 0x81, 0x02, 0xC0, 0x06, 0x00, 0xFF, 0x09, 0x01, 0xA1, 0x01,
-    0x85, 0x03, 0x09, 0x02, 0x15, 0x00, 0x26, 0xFF, 0x00, 0x75, 0x08, 0x95, 0x05, 0xB1, 0x02, 0xC0,
+    0x91, 0x03, 0xC0, 0x05, 0x0C, 0x09, 0x01, 0xA1, 0x01, 0x85, 0x02, 0x15, 0x00, 0x26, 0xFF, 0x03,
+    0x19, 0x00, 0x2A, 0xFF, 0x03, 0x75, 0x10, 0x95, 0x04, 0x81, 0x00, 0xC0, 0x06, 0x00, 0xFF, 0x09,
+    0x01, 0xA1, 0x01, 0x85, 0x03, 0x09, 0x02, 0x15, 0x00, 0x26, 0xFF, 0x00, 0x75, 0x08, 0x95, 0x05,
+    0xB1, 0x02, 0xC0,
 ];
 
 /// The bytes that words of hex digits write; `3*A100` writes three times `A1 00`.
@@ -60,13 +58,66 @@ fn digit(rt: &impl Abort, letter: u8) -> u8 {
 
 /// Compares the whole answer to a text: the fault and its offset, or the fields and all that is said of them.
 fn check(rt: &impl Abort, alloc: Global, text: &[u8]) -> Result<(), Fail> {
-    match (parse(alloc, text), first_fault(alloc, text)?) {
+    let whole = parse(alloc, text);
+    check_same(rt, &parse_in_pieces(alloc, text), &whole);
+    match (whole, first_fault(alloc, text)?) {
         (Ok(descriptor), None) => check_descriptor(rt, alloc, &descriptor, text),
         (Err(error), Some(fault)) => {
             assert_eq!(rt; error, fault, "{text:?}");
             Ok(())
         }
         _ => panic!(rt; "one refuses {text:?}, and one does not"),
+    }
+}
+
+/// Parses a text in pieces of none to nine bytes, whose lengths follow from the text.
+fn parse_in_pieces(alloc: Global, text: &[u8]) -> Result<Descriptor, ParseError> {
+    let mut seed = 1u32;
+    for byte in text {
+        seed = seed.wrapping_mul(31).wrapping_add(*byte as u32);
+    }
+    let mut numbers = Numbers(seed);
+    let mut parser = Parser::new(alloc);
+    let mut rest = text;
+    for _ in 0..text.len() {
+        let (piece, more) = rest.split_at((numbers.next() as usize % 9 + 1).min(rest.len()));
+        parser.feed(piece)?;
+        if numbers.next() % 4 == 0 {
+            parser.feed(&[])?;
+        }
+        rest = more;
+    }
+    parser.finish()
+}
+
+fn check_same(
+    rt: &impl Abort,
+    told: &Result<Descriptor, ParseError>,
+    want: &Result<Descriptor, ParseError>,
+) {
+    match (told, want) {
+        (Ok(a), Ok(b)) => {
+            assert_eq!(rt; a.fields(), b.fields());
+            assert_eq!(rt; a.uses_ids(), b.uses_ids());
+            for field in 0..=b.fields().len() {
+                assert_eq!(rt; a.ranges(field), b.ranges(field));
+            }
+        }
+        (Err(a), Err(b)) => {
+            assert_eq!(rt; a, b);
+        }
+        _ => panic!(rt; "one refuses what the other does not"),
+    }
+}
+
+/// Numbers that look random, the same in each run.
+#[derive(Drop)]
+struct Numbers(u32);
+
+impl Numbers {
+    fn next(&mut self) -> u32 {
+        self.0 = self.0.wrapping_mul(1_664_525).wrapping_add(1_013_904_223);
+        self.0 / 65536
     }
 }
 

@@ -44,7 +44,7 @@ fn the_served_reports(rt: HostRuntime) -> Result<(), Fail> {
     assert_eq!(rt; served.fields().len(), 5);
     assert_eq!(rt;
         lengths(alloc, &served, Kind::Input, 4)?.as_str(),
-        " - 23 3 -"
+        " - 23 9 -"
     );
     assert_eq!(rt;
         lengths(alloc, &served, Kind::Output, 4)?.as_str(),
@@ -67,7 +67,8 @@ fn the_served_usages(rt: HostRuntime) -> Result<(), Fail> {
         " 700e0 700e1 700e2 700e3 700e4 700e5 700e6 700e7 -"
     );
     assert_eq!(rt; served.usage(1, 160), Some(0x0007_00A4));
-    assert_eq!(rt; served.usage(3, 13), Some(0x000C_0192));
+    assert_eq!(rt; served.usage(3, 0x192), Some(0x000C_0192));
+    assert_eq!(rt; served.usage(3, 0x400), None);
     assert_eq!(rt;
         places(alloc, &served, 4, 6)?.as_str(),
         " ff000002 ff000002 ff000002 ff000002 ff000002 -"
@@ -100,6 +101,43 @@ fn arrays_and_the_last_usage(rt: HostRuntime) -> Result<(), Fail> {
         " 70001 70005 70006 70007 - -"
     );
     assert_eq!(rt; places(alloc, &descriptor, 2, 1)?.as_str(), " -");
+    Ok(())
+}
+
+/// An array and a variable field of two hundred ranges each, a single usage and three in turn.
+const MANY_RANGES: &str =
+    "05 07 75 01 96 00 04 25 01 100*090119052907 81 00 100*090119052907 81 02";
+
+#[test]
+fn places_of_many_ranges(rt: HostRuntime) -> Result<(), Fail> {
+    let alloc = rt.alloc();
+    let text = bytes(&rt, alloc, MANY_RANGES)?;
+    let descriptor = parse(alloc, &text)?;
+    let counts = descriptor.counts(0);
+    assert_eq!(rt; counts.len(), 200);
+    assert_eq!(rt; counts.get(..4), Some([1, 4, 5, 8].as_slice()));
+    assert_eq!(rt; counts.last(), Some(&400));
+    assert!(rt; descriptor.counts(2).is_empty());
+    for place in 0..400 {
+        let wanted = match place % 4 {
+            0 => 0x0007_0001,
+            1 => 0x0007_0005,
+            2 => 0x0007_0006,
+            _ => 0x0007_0007,
+        };
+        assert_eq!(rt; descriptor.usage(0, place), Some(wanted));
+        assert_eq!(rt; descriptor.usage(1, place), Some(wanted));
+    }
+    assert_eq!(rt; descriptor.usage(0, 400), None);
+    assert_eq!(rt; descriptor.usage(0, usize::MAX), None);
+    assert_eq!(rt; descriptor.usage(1, 400), Some(0x0007_0007));
+    assert_eq!(rt; descriptor.usage(1, 1023), Some(0x0007_0007));
+    assert_eq!(rt; descriptor.usage(1, 1024), None);
+    for field in descriptor.report(Kind::Input, 0) {
+        assert_eq!(rt; field.nth(399), Some(0x0007_0007));
+        assert_eq!(rt; field.nth(400), None);
+        assert_eq!(rt; field.usage(398), Some(0x0007_0006));
+    }
     Ok(())
 }
 

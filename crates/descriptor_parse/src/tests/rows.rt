@@ -1,21 +1,23 @@
 //! Whole texts with their fields.
 
-use super::{SERVED, answer, check_table};
+use super::{SERVED, answer, check_cuttings, check_table};
+use crate::parse;
 use std::test::Fail;
 
 #[test]
 fn the_served_descriptor(rt: HostRuntime) -> Result<(), Fail> {
-    let told = answer(rt.alloc(), &SERVED)?;
-    assert_eq!(rt; told.as_str(), SERVED_LINES);
-    assert_eq!(rt; answer(rt.alloc(), &[])?.as_str(), "no fields");
+    let alloc = rt.alloc();
+    let served = parse(alloc, &SERVED);
+    assert_eq!(rt; answer(alloc, &served)?.as_str(), SERVED_LINES);
+    check_cuttings(&rt, alloc, &SERVED, &served);
+    assert_eq!(rt; answer(alloc, &parse(alloc, &[]))?.as_str(), "no fields");
     Ok(())
 }
 
 const SERVED_LINES: &str = "input 1 0 1 8 0 1 variable 000700e0-000700e7; \
     input 1 8 1 161 0 1 variable 00070004-000700a4; \
     output 1 0 1 5 0 1 variable 00080001-00080005; \
-    input 2 0 1 16 0 1 variable 000c00b0,000c00b1,000c00b2,000c00b3,000c00b4,000c00b5,000c00b6,000c00b7,\
-    000c00b8,000c00cd,000c00e2,000c00e9,000c00ea,000c0192,000c0223,000c0224; \
+    input 2 0 16 4 0 1023 array 000c0000-000c03ff; \
     feature 3 0 8 5 0 255 variable ff000002";
 
 #[test]

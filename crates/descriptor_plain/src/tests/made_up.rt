@@ -1,19 +1,10 @@
 //! `parse` beside the definitions, over texts that are made up, and over the served text.
 
-use super::{SERVED, check};
+use super::{Numbers, SERVED, check};
 use descriptor_parse::parse;
 use std::test::Fail;
 
-/// Numbers that look random, the same in each run.
-#[derive(Drop)]
-struct Numbers(u32);
-
 impl Numbers {
-    fn next(&mut self) -> u32 {
-        self.0 = self.0.wrapping_mul(1_664_525).wrapping_add(1_013_904_223);
-        self.0 / 65536
-    }
-
     fn byte(&mut self) -> u8 {
         (self.next() % 256) as u8
     }
@@ -32,7 +23,7 @@ impl Numbers {
 fn random_bytes(rt: HostRuntime) -> Result<(), Fail> {
     let mut numbers = Numbers(1);
     for len in 0..60 {
-        for _ in 0..50 {
+        for _ in 0..150 {
             let mut text = Vec::new(rt.alloc());
             for _ in 0..len {
                 text.push(numbers.byte())?;
@@ -94,7 +85,7 @@ fn push_item(numbers: &mut Numbers, text: &mut Vec<u8>) -> Result<(), Fail> {
 fn random_items(rt: HostRuntime) -> Result<(), Fail> {
     let mut numbers = Numbers(2);
     for count in 0..24 {
-        for _ in 0..40 {
+        for _ in 0..300 {
             let mut text = Vec::new(rt.alloc());
             for _ in 0..count {
                 push_item(&mut numbers, &mut text)?;
@@ -108,7 +99,7 @@ fn random_items(rt: HostRuntime) -> Result<(), Fail> {
 #[test]
 fn random_items_without_ids(rt: HostRuntime) -> Result<(), Fail> {
     let mut numbers = Numbers(3);
-    for _ in 0..400 {
+    for _ in 0..2500 {
         let mut text = Vec::new(rt.alloc());
         text.extend_from_slice(&[0x75, 4, 0x95, 2, 0x25, 9])?;
         for _ in 0..12 {

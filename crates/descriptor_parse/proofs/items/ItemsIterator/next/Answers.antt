@@ -12,16 +12,16 @@ returns-then-is_empty-clause-steps c =
     (left, left)
 
 -- the item at the front comes, and the others are left
-came : (c : goal.After-rest-in-Ok-1) → c.args.self.now ≡ Ok (item_view c.in-Ok.item)
-    ∷ items_at (c.self.inside.offset + (length c.self.inside.rest.now - length c.in-Ok.rest.now)) c.in-Ok.rest.now
+came : (c : goal.After-rest-in-Some-1) → c.args.self.now ≡ Ok (item_view c.in-Some.item)
+    ∷ items_at (c.self.inside.offset + (length c.self.inside.rest.now - length c.in-Some.rest.now)) c.in-Some.rest.now
 came c =
     let some : length c.self.inside.rest.now ≡ 0 → ⊥ = eqb-false _ _ (sym c.is_empty.ensures ∙ c.if-is_empty.false) in
-    sym c.self.view_is ∙ items_next c.self.inside.offset c.self.inside.rest.now c.in-Ok.rest.now (item_view c.in-Ok.item)
-    (omega arith) c.in-Ok.ensures.size c.in-Ok.ensures.rest c.in-Ok.ensures.item
+    sym c.self.view_is ∙ items_next c.self.inside.offset c.self.inside.rest.now c.in-Some.rest.now (item_view c.in-Some.item)
+    (omega arith) c.in-Some.ensures.size c.in-Some.ensures.rest c.in-Some.ensures.item
 
-pub returns-in-Ok-clause-steps : goal.returns-in-Ok-clause-steps
-returns-in-Ok-clause-steps c = came c
+pub returns-in-Some-clause-steps : goal.returns-in-Some-clause-steps
+returns-in-Some-clause-steps c = came c
 
-pub returns-in-Ok-clause-goes : goal.returns-in-Ok-clause-goes
-returns-in-Ok-clause-goes c = let less = items_fewer _ _ _ (came c) in
+pub returns-in-Some-clause-goes : goal.returns-in-Some-clause-goes
+returns-in-Some-clause-goes c = let less = items_fewer _ _ _ (came c) in
     record { on = λ f. (tt, f, less); keeps = tt; rests = λ f. tt }

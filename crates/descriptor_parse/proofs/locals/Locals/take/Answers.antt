@@ -4,9 +4,9 @@ use Rattle.descriptor_parse.specs.Locals.{unpaired}
 use Rattle.descriptor_parse.proofs.LocalLemmas.{stand_usage, stand_half, stand_silent, is_silent}
 use Rattle.descriptor_parse.proofs.locals.Locals.take.Goals as goal
 
-pub returns-in_ok-push-in-Usage-clause-taken : goal.returns-in_ok-push-in-Usage-clause-taken
-returns-in_ok-push-in-Usage-clause-taken c = λ before item e u s.
-    stand_usage before item _ _ (e ∙ ap Local c.in-Usage.is) refl (rw u c.in_ok-push-in-Usage.ensures.items) s
+pub returns-in_ok-add-in-Usage-clause-taken : goal.returns-in_ok-add-in-Usage-clause-taken
+returns-in_ok-add-in-Usage-clause-taken c = λ before item e u s.
+    stand_usage before item c.args.self.now _ (e ∙ ap Local c.in-Usage.is) c.add.ensures.same (rw u c.in_ok-add-in-Usage.ensures.added) s
 
 pub returns-in_ok-take_half-in-UsageMinimum-clause-taken : goal.returns-in_ok-take_half-in-UsageMinimum-clause-taken
 returns-in_ok-take_half-in-UsageMinimum-clause-taken c = λ before item e u s.

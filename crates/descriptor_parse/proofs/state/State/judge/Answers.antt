@@ -1,5 +1,5 @@
 use Rattle.std.proofs.Common.{ap, ◌∙◌, sym}
-use Rattle.descriptor_parse.specs.StateStands.{fault_of_main, fault_of_global}
+use Rattle.descriptor_parse.specs.StateStands.{fault_of_main}
 use Rattle.descriptor_parse.specs.LocalsStand.{fault_of_local}
 use Rattle.descriptor_parse.proofs.StateLemmas.{judged_main, judged_global, judged_local, judged_skipped, long_skipped}
 use Rattle.descriptor_parse.proofs.state.State.judge.Goals as goal
@@ -13,8 +13,7 @@ returns-in-Main c = λ before s.
 
 pub returns-in-Global : goal.returns-in-Global
 returns-in-Global c = λ before s.
-    c.judge_global.ensures ∙ ap (λ v. fault_of_global c.in-Global.tag v c.args.self.now) c.unsigned-in-Global.ensures
-    ∙ sym (judged_global before _ c.in-Global.tag _ (sym c.in-Global.ensures) s)
+    c.judge_global.ensures ∙ sym (judged_global before _ c.in-Global.tag _ (sym c.in-Global.ensures) s)
 
 pub returns-in-Local : goal.returns-in-Local
 returns-in-Local c = λ before s.

@@ -1,0 +1,570 @@
+-- What holds of the descriptor of each text that shows no fault.
+use Rattle.std.proofs.Common.{◌≡◌, ℕ, zero, suc, ◌+◌, ◌-◌, ◌*◌, ◌/◌, ◌%◌, ◌^◌, ◌<◌, ◌≤◌, List, [], ◌∷◌, length, take, drop, get_or, refl, arith, sym, ◌∙◌, ap, Bool, true, false, cond, None, Some, Ok, inl, inr, length-append, length-take, length-drop, ◌⊎◌}
+use Rattle.std.specs.Prelude.{Option, slice_index, ◌==◌, ◌&&◌, ◌||◌, ◌≢◌, not, nat_lt, nat_le, int_lt, ℤ, All, pos, ◌-ℤ◌, neg_ℤ, ◌≤ℤ◌, ◌<ℤ◌}
+use Rattle.std.specs.List.{list_any}
+use Rattle.std.proofs.lemmas.Bool.{cases_Bool, cases_lt, cases_eq, and_parts, or_parts, ltb-true, ltb-false, leb-false, lt-ltb, le-ltb, eq-eqb, eqb-true, ne_eqb}
+use Rattle.std.proofs.lemmas.Int.{ints}
+use Rattle.std.proofs.lemmas.Nat.{mul-le}
+use Rattle.std.proofs.lemmas.List.Elements.{All-nil, All-cons, All-append, All-push, All-same, All-weaker}
+use Rattle.descriptor_parse.specs.declared.fault.ParseFault.{ParseFault}
+use Rattle.descriptor_parse.specs.declared.fault.ParseFault.TheVariants.{Truncated, SizeTooLarge, CountTooLarge, UnpairedUsage, UsageInverted, TooManyFields, MixedIds}
+use Rattle.descriptor_parse.specs.declared.field.Kind.{Kind}
+use Rattle.descriptor_parse.specs.declared.field.Kind.TheVariants.{Input, Output, Feature}
+use Rattle.descriptor_parse.specs.declared.field.Field.{Field}
+use Rattle.descriptor_parse.specs.declared.tag.Tag.{Tag}
+use Rattle.descriptor_parse.specs.declared.tag.Tag.TheVariants.{Main, Global, Local, Skipped}
+use Rattle.descriptor_parse.specs.declared.tag.MainTag.TheVariants.{Data}
+use Rattle.descriptor_parse.specs.declared.tag.GlobalTag.TheVariants.{ReportId}
+use Rattle.descriptor_parse.specs.declared.tag.LocalTag.TheVariants as local
+use Rattle.descriptor_parse.specs.Items.{ItemValue, items_at, item_size, front_item, data_size, head_size}
+use Rattle.descriptor_parse.specs.Tags.{tag, same_kind, is_data, is_data_of, is_report_id, is_push, is_pop, is_logical_minimum, is_logical_maximum}
+use Rattle.descriptor_parse.specs.Globals.{unsigned, signed, before_push, taken_back, in_force, latest, usage_page, report_size, report_count, report_id, logical_minimum, logical_maximum}
+use Rattle.descriptor_parse.specs.Locals.{has_page, usage_number, unpaired, range_made, usages_since_main, is_match, breaks_pair, is_inverted}
+use Rattle.descriptor_parse.specs.Fields.{is_constant, is_field, kind_of, declared_field, fields, field_usages, report_bits, has_report_id, has_bare_data}
+use Rattle.descriptor_parse.specs.Faults.{shows, fault_at, onto, all_items, IsFaultAmong, IsFaultless, mixes_ids}
+use Rattle.descriptor_parse.specs.Descriptor.{DescriptorValue, Describes, bits_of}
+use Rattle.descriptor_parse.specs.WellFormed.{FitsField, IsRange, IsWellFormed}
+use Rattle.descriptor_parse.proofs.ItemLemmas.{size_pos, items_none, items_short, items_more}
+use Rattle.descriptor_parse.proofs.FaultLemmas.{clean, shown_fault}
+use Rattle.descriptor_parse.proofs.LocalLemmas.{unsigned_two, unpaired_step, usages_step, still_unpaired, with_usages}
+use Rattle.descriptor_parse.proofs.StateLemmas.{long_skipped}
+use Rattle.descriptor_parse.proofs.FewLemmas.{few_usages}
+
+-- ---- numbers
+
+-- bytes that write a number
+pub record AreData (bytes : List ℕ) : Type 0 where
+  few : length bytes ≤ 4
+  not_three : length bytes ≡ 3 → ⊥
+  small : (i : ℕ) → get_or bytes i 0 < 256
+
+no_data : AreData []
+no_data = record { few = omega arith; not_three = λ e. omega arith; small = λ i. omega arith }
+
+unsigned_fits : (bytes : List ℕ) → AreData bytes → unsigned bytes < 2 ^ 32
+unsigned_fits [] d = omega arith
+unsigned_fits (a ∷ []) d = omega (arith, d.small 0)
+unsigned_fits (a ∷ b ∷ []) d = omega (arith, d.small 0, d.small 1)
+unsigned_fits (a ∷ b ∷ c ∷ []) d = omega (arith, d.small 0, d.small 1, d.small 2)
+unsigned_fits (a ∷ b ∷ c ∷ e ∷ []) d = omega (arith, d.small 0, d.small 1, d.small 2, d.small 3)
+unsigned_fits (a ∷ b ∷ c ∷ e ∷ f ∷ more) d = absurd (let few : length (a ∷ b ∷ c ∷ e ∷ f ∷ more) ≤ 4 = d.few in omega arith)
+
+-- a number in two's complement of at most 32 bits
+abbrev FitsSigned32 : ℤ → Type 0
+FitsSigned32 z = (neg_ℤ (pos (2 ^ 31)) ≤ℤ z) × (z <ℤ pos (2 ^ 31))
+
+signed_by : (u range : ℕ) → u < range → range ≤ 2 ^ 32 → FitsSigned32 (cond (nat_lt (2 * u) range) (pos u) (pos u -ℤ pos range))
+signed_by u range l m =
+    elim (cases_lt (2 * u) range) [
+      | inl below ↦ rw (lt-ltb _ _ below) (omega (arith, ints), omega (arith, ints))
+      | inr above ↦ rw (le-ltb _ _ above) (omega (arith, ints), omega (arith, ints))
+    ]
+
+unsigned_below : (bytes : List ℕ) → AreData bytes → (unsigned bytes < 256 ^ length bytes) × (256 ^ length bytes ≤ 2 ^ 32)
+unsigned_below [] d = (omega arith, omega arith)
+unsigned_below (a ∷ []) d = (omega (arith, d.small 0), omega arith)
+unsigned_below (a ∷ b ∷ []) d = (omega (arith, d.small 0, d.small 1), omega arith)
+unsigned_below (a ∷ b ∷ c ∷ []) d = (omega (arith, d.small 0, d.small 1, d.small 2), omega arith)
+unsigned_below (a ∷ b ∷ c ∷ e ∷ []) d = (omega (arith, d.small 0, d.small 1, d.small 2, d.small 3), omega arith)
+unsigned_below (a ∷ b ∷ c ∷ e ∷ f ∷ more) d = absurd (let few : length (a ∷ b ∷ c ∷ e ∷ f ∷ more) ≤ 4 = d.few in omega arith)
+
+signed_fits : (bytes : List ℕ) → AreData bytes → FitsSigned32 (signed bytes)
+unfolding signed
+signed_fits bytes d = let b = unsigned_below bytes d in signed_by (unsigned bytes) (256 ^ length bytes) b.0 b.1
+
+-- ---- items of a text without a fault
+
+pub record IsSound (before : List ItemValue) (item : ItemValue) : Type 0 where
+  clean : fault_at before item ≡ None
+  written : item.prefix ≢ 254 → AreData item.bytes
+
+abbrev pub AreSound : List ItemValue → Type 0
+AreSound [] = Unit
+AreSound (item ∷ before) = IsSound before item × AreSound before
+
+none_of : (found : Option ParseFault) → ((fault : ParseFault) → found ≡ Some fault → ⊥) → found ≡ None
+none_of None n = refl
+none_of (Some fault) n = absurd (n fault refl)
+
+short_size : (p : ℕ) → (data_size p ≤ 4) × (data_size p ≡ 3 → ⊥)
+short_size p =
+    elim (cases_eq (p % 4) 3) [
+      | inl e ↦ rw (eq-eqb _ _ e) (omega arith, λ f. omega arith)
+      | inr n ↦ rw (ne_eqb _ _ n) (omega arith, λ f. n f)
+    ]
+
+small_take : (n : ℕ) (xs : List ℕ) → ((i : ℕ) → get_or xs i 0 < 256) → (i : ℕ) → get_or (take n xs) i 0 < 256
+small_take zero xs s i = omega arith
+small_take (suc n) [] s i = s i
+small_take (suc n) (x ∷ xs) s zero = s zero
+small_take (suc n) (x ∷ xs) s (suc i) = small_take n xs (λ j. s (suc j)) i
+
+small_drop : (n : ℕ) (xs : List ℕ) → ((i : ℕ) → get_or xs i 0 < 256) → (i : ℕ) → get_or (drop n xs) i 0 < 256
+small_drop zero xs s i = s i
+small_drop (suc n) [] s i = s i
+small_drop (suc n) (x ∷ xs) s i = small_drop n xs (λ j. s (suc j)) i
+
+-- the data of a short item at the front
+front_data : (offset : ℕ) (text : List ℕ) → ((i : ℕ) → get_or text i 0 < 256) → item_size text ≤ length text → (front_item offset text).prefix ≢ 254
+    → AreData (front_item offset text).bytes
+front_data offset text bytes whole short =
+    let size : item_size text ≡ 1 + data_size (slice_index text 0) = (rw (ne_eqb _ _ short) refl) in
+    let head : head_size (slice_index text 0) ≡ 1 = (rw (ne_eqb _ _ short) refl) in
+    let four = short_size (slice_index text 0) in
+    let len : length (drop (head_size (slice_index text 0)) (take (item_size text) text)) ≡ data_size (slice_index text 0) =
+    omega (arith, length-drop (head_size (slice_index text 0)) (take (item_size text) text), length-take (item_size text) text) in
+    record {
+      few = omega (arith, four.0);
+      not_three = λ e. four.1 (omega arith);
+      small = small_drop (head_size (slice_index text 0)) (take (item_size text) text) (small_take (item_size text) text bytes);
+    }
+
+pub sound_on : (n offset : ℕ) (text : List ℕ) (before : List ItemValue) → length text ≤ n → ((i : ℕ) → get_or text i 0 < 256) → AreSound before
+    → ((fault : ParseFault) (at : ℕ) → IsFaultAmong before (items_at offset text) fault at → ⊥) → AreSound (onto before (items_at offset text))
+sound_on zero offset text before l bytes sound none =
+    let nothing : items_at offset text ≡ [] = items_none offset text (omega arith) in rw nothing sound
+sound_on (suc n) offset text before l bytes sound none =
+    elim (cases_lt 0 (length text)) [
+      | inr empty ↦ (let nothing : items_at offset text ≡ [] = items_none offset text (omega arith) in rw nothing sound)
+      | inl some ↦ (elim (cases_lt (length text) (item_size text)) [
+        | inl short ↦ absurd (none Truncated offset (rw (items_short offset text some short) (refl, refl)))
+        | inr whole ↦ (let size = item_size text in
+            let pos : 0 < size = size_pos text in
+            let len : length (drop size text) ≡ length text - size = length-drop size text in
+            let more : items_at offset text ≡ Ok (front_item offset text) ∷ items_at (offset + size) (drop size text) = items_more offset text some whole in
+            let here : IsSound before (front_item offset text) = record {
+              clean = none_of (fault_at before (front_item offset text)) (λ fault e. none fault offset (rw more (inl ((shown_fault before (front_item offset text) fault e).0, refl))));
+              written = front_data offset text bytes whole;
+            } in
+            rw more (sound_on n (offset + size) (drop size text) (front_item offset text ∷ before) (omega arith) (small_drop size text bytes) (here, sound)
+            (λ fault at later. none fault at (rw more (inr later)))))
+      ])
+    ]
+
+pub all_sound : (text : List ℕ) → ((i : ℕ) → get_or text i 0 < 256) → IsFaultless text → AreSound (all_items text)
+unfolding all_items
+all_sound text bytes f = sound_on (length text) 0 text [] (omega arith) bytes tt (λ fault at among. f fault at (inl among))
+
+pub few_on : (n offset : ℕ) (text : List ℕ) (before : List ItemValue) → length text ≤ n → length (onto before (items_at offset text)) ≤ length before + length text
+few_on zero offset text before l = let nothing : items_at offset text ≡ [] = items_none offset text (omega arith) in rw nothing (omega arith)
+few_on (suc n) offset text before l =
+    elim (cases_lt 0 (length text)) [
+      | inr empty ↦ (let nothing : items_at offset text ≡ [] = items_none offset text (omega arith) in rw nothing (omega arith))
+      | inl some ↦ (elim (cases_lt (length text) (item_size text)) [
+        | inl short ↦ rw (items_short offset text some short) (omega arith)
+        | inr whole ↦ (let size = item_size text in
+            let pos : 0 < size = size_pos text in
+            let len : length (drop size text) ≡ length text - size = length-drop size text in
+            let rest : length (onto (front_item offset text ∷ before) (items_at (offset + size) (drop size text))) ≤ suc (length before) + length (drop size text) =
+            few_on n (offset + size) (drop size text) (front_item offset text ∷ before) (omega arith) in
+            rw (items_more offset text some whole) (omega arith))
+      ])
+    ]
+
+pub few_items : (text : List ℕ) → length (all_items text) ≤ length text
+unfolding all_items
+few_items text =
+    let few : length (onto [] (items_at 0 text)) ≤ 0 + length text = few_on (length text) 0 text [] (omega arith) in omega arith
+
+-- ---- the items in force
+
+-- each item passes
+abbrev pub Each : (ItemValue → Type 0) → List ItemValue → Type 0
+Each P [] = Unit
+Each P (item ∷ before) = P item × Each P before
+
+each_before_push : (P : ItemValue → Type 0) (items : List ItemValue) → Each P items → Each P (before_push items)
+unfolding before_push
+each_before_push P [] g = tt
+each_before_push P (item ∷ before) g =
+    elim (cases_Bool (is_push (tag item))) [ inl e ↦ rw e g.1 | inr e ↦ rw e (each_before_push P before g.1) ]
+
+each_taken_back : (P : ItemValue → Type 0) (items : List ItemValue) → Each P items → Each P (taken_back items)
+each_taken_back P items g =
+    elim (cases_Bool (list_any (λ item. is_push (tag item)) items)) [ inl e ↦ rw e (each_before_push P items g) | inr e ↦ rw e g ]
+
+each_in_force : (P : ItemValue → Type 0) (items : List ItemValue) → Each P items → Each P (in_force items)
+unfolding in_force
+each_in_force P [] g = tt
+each_in_force P (item ∷ before) g =
+    elim (cases_Bool (is_pop (tag item))) [
+      | inl e ↦ rw e (each_taken_back P (in_force before) (each_in_force P before g.1))
+      | inr e ↦ rw e (g.0, each_in_force P before g.1)
+    ]
+
+latest_data : (wanted : Tag → Bool) (items : List ItemValue) → Each (λ item. wanted (tag item) ≡ true → AreData item.bytes) items → AreData (latest wanted items)
+latest_data wanted [] g = no_data
+latest_data wanted (item ∷ before) g =
+    elim (cases_Bool (wanted (tag item))) [ inl e ↦ rw e (g.0 e) | inr e ↦ rw e (latest_data wanted before g.1) ]
+
+each_sound : (wanted : Tag → Bool) (items : List ItemValue) → wanted Skipped ≡ false → AreSound items → Each (λ item. wanted (tag item) ≡ true → AreData item.bytes) items
+each_sound wanted [] n s = tt
+each_sound wanted (item ∷ before) n s = (
+  λ w. s.0.written (λ long. (let skipped : wanted (tag item) ≡ false = ap wanted (long_skipped item.prefix long) ∙ n in cc)),
+  each_sound wanted before n s.1,
+)
+
+in_force_data : (wanted : Tag → Bool) (items : List ItemValue) → wanted Skipped ≡ false → AreSound items → AreData (latest wanted (in_force items))
+in_force_data wanted items n s = latest_data wanted (in_force items) (each_in_force (λ item. wanted (tag item) ≡ true → AreData item.bytes) items (each_sound wanted items n s))
+
+latest_nothing : (wanted : Tag → Bool) (items : List ItemValue) → Each (λ item. wanted (tag item) ≡ false) items → latest wanted items ≡ []
+latest_nothing wanted [] g = refl
+latest_nothing wanted (item ∷ before) g = rw g.0 (latest_nothing wanted before g.1)
+
+each_none : (wanted : Tag → Bool) (items : List ItemValue) → list_any (λ item. wanted (tag item)) items ≡ false → Each (λ item. wanted (tag item) ≡ false) items
+each_none wanted [] e = tt
+each_none wanted (item ∷ before) e = let both = or_parts (wanted (tag item)) (list_any (λ i. wanted (tag i)) before) e in (both.0, each_none wanted before both.1)
+
+-- without a Report ID none is in force
+no_id : (items : List ItemValue) → has_report_id items ≡ false → report_id items ≡ 0
+no_id items e = ap unsigned (latest_nothing is_report_id (in_force items) (each_in_force (λ item. is_report_id (tag item) ≡ false) items (each_none is_report_id items e)))
+
+-- the extents
+extents : (items : List ItemValue) → AreSound items → FitsSigned32 (logical_minimum items) × ((neg_ℤ (pos (2 ^ 31)) ≤ℤ logical_maximum items) × (logical_maximum items <ℤ pos (2 ^ 32)))
+extents items s =
+    let least = signed_fits (latest is_logical_minimum (in_force items)) (in_force_data is_logical_minimum items refl s) in
+    let max = in_force_data is_logical_maximum items refl s in
+    let most = signed_fits (latest is_logical_maximum (in_force items)) max in
+    let below : unsigned (latest is_logical_maximum (in_force items)) < 2 ^ 32 = unsigned_fits (latest is_logical_maximum (in_force items)) max in (
+      least,
+      elim (cases_Bool (int_lt (logical_minimum items) (pos 0))) [
+        | inl e ↦ rw e (most.0, omega (arith, ints, most.1))
+        | inr e ↦ rw e (omega (arith, ints), omega (arith, ints))
+      ],
+    )
+
+-- ---- the fields
+
+-- what holds of a field after these items
+record Fits (items : List ItemValue) (field : Field) : Type 0 where
+  size_some : 0 < field.size
+  size : field.size ≤ 32
+  count_some : 0 < field.count
+  count : field.count ≤ 1024
+  bits : field.bit + field.size * field.count ≤ report_bits field.kind field.id items
+  min : FitsSigned32 field.min
+  max_from : neg_ℤ (pos (2 ^ 31)) ≤ℤ field.max
+  max_to : field.max <ℤ pos (2 ^ 32)
+  bare : field.id ≡ 0 → has_bare_data items ≡ true
+  used : (field.id ≡ 0 → ⊥) → has_report_id items ≡ true
+
+bits_grow : (kind : Kind) (id : ℕ) (item : ItemValue) (before : List ItemValue) → report_bits kind id before ≤ report_bits kind id (item ∷ before)
+unfolding report_bits
+bits_grow kind id item before =
+    elim (cases_Bool (is_data_of kind (tag item) && report_id before == id)) [ inl e ↦ rw e (omega arith) | inr e ↦ rw e (omega arith) ]
+
+bare_stays : (item : ItemValue) (before : List ItemValue) → has_bare_data before ≡ true → has_bare_data (item ∷ before) ≡ true
+unfolding has_bare_data
+bare_stays item before b =
+    elim (cases_Bool (is_data (tag item) && report_id before == 0)) [ inl e ↦ rw e refl | inr e ↦ rw e b ]
+
+or_true : (a : Bool) → (a || true) ≡ true
+or_true true = refl
+or_true false = refl
+
+fits_on : (item : ItemValue) (before : List ItemValue) (field : Field) → Fits before field → Fits (item ∷ before) field
+fits_on item before field f =
+    let grow : report_bits field.kind field.id before ≤ report_bits field.kind field.id (item ∷ before) = bits_grow field.kind field.id item before in
+    let bits : field.bit + field.size * field.count ≤ report_bits field.kind field.id before = f.bits in
+    record {
+      size_some = f.size_some;
+      size = f.size;
+      count_some = f.count_some;
+      count = f.count;
+      bits = omega arith;
+      min = f.min;
+      max_from = f.max_from;
+      max_to = f.max_to;
+      bare = λ e. bare_stays item before (f.bare e);
+      used = λ n. (let u : has_report_id before ≡ true = f.used n in rw u (or_true (is_report_id (tag item))));
+    }
+
+data_kind : (t : Tag) → is_data t ≡ true → t ≡ Main (Data (kind_of t))
+data_kind (Main (Data kind)) e = refl
+data_kind _ e = cc
+
+same_self : (kind : Kind) → same_kind kind kind ≡ true
+same_self Input = refl
+same_self Output = refl
+same_self Feature = refl
+
+-- a fault does not show
+not_shown : (before : List ItemValue) (item : ItemValue) → IsSound before item → (fault : ParseFault) → shows before item fault ≡ false
+not_shown before item s fault =
+    elim (cases_Bool (shows before item fault)) [ inl e ↦ absurd (clean before item s.clean fault e) | inr e ↦ e ]
+
+true_and : (a b : Bool) → a ≡ true → (a && b) ≡ false → b ≡ false
+true_and true b e f = f
+true_and false b e f = cc
+
+-- the parts of a data item that declares a field
+record IsNew (before : List ItemValue) (item : ItemValue) : Type 0 where
+  is_it : is_data (tag item) ≡ true
+  plain : is_constant item ≡ false
+  size_some : 0 < report_size before
+  count_some : 0 < report_count before
+  size : report_size before ≤ 32
+  count : report_count before ≤ 1024
+  few : length (fields before) < 256
+  alone : report_id before ≡ 0 → has_report_id before ≡ false
+
+not_false : (b : Bool) → not b ≡ true → b ≡ false
+not_false true e = cc
+not_false false e = refl
+
+new_field : (before : List ItemValue) (item : ItemValue) → IsSound before item → is_field before item ≡ true → IsNew before item
+unfolding shows
+new_field before item s e =
+    let first = and_parts (is_data (tag item)) _ e in
+    let second = and_parts (not (is_constant item)) _ first.1 in
+    let third = and_parts (nat_lt 0 (report_size before)) _ second.1 in
+    let plain : is_constant item ≡ false = not_false _ second.0 in
+    let size : nat_lt (cond (is_constant item) 1024 32) (report_size before) ≡ false = true_and _ _ first.0 (not_shown before item s SizeTooLarge) in
+    let size' : nat_lt 32 (report_size before) ≡ false = (rw plain at size) in
+    let count : nat_lt 1024 (report_count before) ≡ false = true_and _ _ first.0 (not_shown before item s CountTooLarge) in
+    let few : nat_le 256 (length (fields before)) ≡ false = true_and _ _ e (not_shown before item s TooManyFields) in
+    let t : tag item ≡ Main (Data (kind_of (tag item))) = data_kind (tag item) first.0 in
+    let mixed : mixes_ids (tag item) before ≡ false = not_shown before item s MixedIds in
+    let mixed' : (report_id before == 0 && has_report_id before) ≡ false = (rw t at mixed) in
+    record {
+      is_it = first.0;
+      plain = plain;
+      size_some = ltb-true _ _ third.0;
+      count_some = ltb-true _ _ third.1;
+      size = ltb-false _ _ size';
+      count = ltb-false _ _ count;
+      few = leb-false _ _ few;
+      alone = λ z. true_and (report_id before == 0) _ (eq-eqb _ _ z) mixed';
+    }
+
+-- the field that is new
+fits_new : (before : List ItemValue) (item : ItemValue) → AreSound before → IsNew before item → Fits (item ∷ before) (declared_field before item)
+unfolding report_bits has_bare_data
+fits_new before item sound n =
+    let ends = extents before sound in
+    let t : tag item ≡ Main (Data (kind_of (tag item))) = data_kind (tag item) n.is_it in
+    let of_it : is_data_of (kind_of (tag item)) (tag item) ≡ true = ap (is_data_of (kind_of (tag item))) t ∙ same_self (kind_of (tag item)) in
+    record {
+      size_some = n.size_some;
+      size = n.size;
+      count_some = n.count_some;
+      count = n.count;
+      bits = rw (of_it, eq-eqb (report_id before) (report_id before) refl) (omega arith);
+      min = ends.0;
+      max_from = ends.1.0;
+      max_to = ends.1.1;
+      bare = λ z. rw (n.is_it, eq-eqb _ _ z) refl;
+      used = λ some. (elim (cases_Bool (has_report_id before)) [
+        | inl e ↦ rw e (or_true (is_report_id (tag item)))
+        | inr e ↦ absurd (some (no_id before e))
+      ]);
+    }
+
+-- ---- the usages
+
+none_yet : (half : ItemValue) → unpaired [] ≡ Some half → ⊥
+unfolding unpaired
+none_yet half e = cc
+
+no_usages : (page : ℕ) → usages_since_main page [] ≡ []
+unfolding usages_since_main
+no_usages page = refl
+
+not_true : (b : Bool) → not b ≡ false → b ≡ true
+not_true true e = refl
+not_true false e = cc
+
+-- a half of a pair that waits is the latest item, or waited before
+waits : (t : Tag) (item : ItemValue) (half : Option ItemValue) (found : ItemValue) → still_unpaired t item half ≡ Some found
+    → ((found ≡ item) × (t ≡ Skipped → ⊥)) ⊎ (half ≡ Some found)
+waits (Main m) item half found e = cc
+waits (Local local.UsageMinimum) item None found e = inl (cc, λ s. cc)
+waits (Local local.UsageMinimum) item (Some other) found e = cc
+waits (Local local.UsageMaximum) item None found e = inl (cc, λ s. cc)
+waits (Local local.UsageMaximum) item (Some other) found e = cc
+waits _ item half found e = inr e
+
+half_data : (items : List ItemValue) (half : ItemValue) → AreSound items → unpaired items ≡ Some half → AreData half.bytes
+half_data [] half s e = absurd (none_yet half e)
+half_data (item ∷ before) half s e =
+    elim (waits (tag item) item (unpaired before) half (sym (unpaired_step item before) ∙ e)) [
+      | inl here ↦ rw here.0 (s.0.written (λ long. here.1 (long_skipped item.prefix long)))
+      | inr older ↦ half_data before half s.1 older
+    ]
+
+short_length : (bytes : List ℕ) → AreData bytes → has_page bytes ≡ false → length bytes ≤ 2
+short_length bytes d e =
+    let few : length bytes ≤ 4 = d.few in
+    let four : length bytes ≡ 4 → ⊥ = λ f. (let t : has_page bytes ≡ true = eq-eqb _ _ f in cc) in
+    omega (arith, d.not_three, four)
+
+short_below : (bytes : List ℕ) → AreData bytes → has_page bytes ≡ false → unsigned bytes < 65536
+short_below bytes d e = unsigned_two bytes d.small (short_length bytes d e)
+
+-- a range of two usages that make a pair
+pair_range : (page : ℕ) (min max : List ℕ) (a b : Bool) → has_page min ≡ a → has_page max ≡ b → page < 2 ^ 16 → AreData min → AreData max
+    → is_match min max ≡ true → unsigned min ≤ unsigned max → IsRange (usage_number page min, usage_number page max)
+pair_range page min max true true e f l d g m o =
+    let below : unsigned max < 2 ^ 32 = unsigned_fits max g in
+    let same : unsigned min / 2 ^ 16 ≡ unsigned max / 2 ^ 16 = eqb-true _ _ (rw (e, f) at m) in
+    rw (e, f) (record { order = o; last = below; page = same })
+pair_range page min max false false e f l d g m o =
+    let below : unsigned max < 65536 = short_below max g f in
+    rw (e, f) (record { order = omega arith; last = omega arith; page = omega arith })
+pair_range page min max true false e f l d g m o = absurd (let no : false ≡ true = (rw (e, f) at m) in cc)
+pair_range page min max false true e f l d g m o = absurd (let no : false ≡ true = (rw (e, f) at m) in cc)
+
+same_match : (bytes : List ℕ) → is_match bytes bytes ≡ true
+same_match bytes =
+    elim (cases_Bool (has_page bytes)) [ inl e ↦ rw e (eq-eqb _ _ refl) | inr e ↦ rw e refl ]
+
+one_range : (page : ℕ) (bytes : List ℕ) → page < 2 ^ 16 → AreData bytes → IsRange (usage_number page bytes, usage_number page bytes)
+one_range page bytes l d = pair_range page bytes bytes (has_page bytes) (has_page bytes) refl refl l d d (same_match bytes) (omega arith)
+
+-- the range that an item makes
+range_sound : (page : ℕ) (t : Tag) (item : ItemValue) (half : Option ItemValue) → page < 2 ^ 16 → AreData item.bytes
+    → ((other : ItemValue) → half ≡ Some other → AreData other.bytes) → breaks_pair t item half ≡ false → is_inverted t item half ≡ false
+    → All IsRange (range_made page t item half)
+range_sound page (Local local.Usage) item half l d h m o = All-cons IsRange _ [] (one_range page item.bytes l d) (All-nil IsRange)
+range_sound page (Local local.UsageMinimum) item (Some max) l d h m o =
+    All-cons IsRange _ [] (pair_range page item.bytes max.bytes _ _ refl refl l d (h max refl) (not_true _ (or_parts _ _ m).1) (ltb-false _ _ o)) (All-nil IsRange)
+range_sound page (Local local.UsageMaximum) item (Some min) l d h m o =
+    All-cons IsRange _ [] (pair_range page min.bytes item.bytes _ _ refl refl l (h min refl) d (not_true _ (or_parts _ _ m).1) (ltb-false _ _ o)) (All-nil IsRange)
+range_sound page _ item half l d h m o = All-nil IsRange
+
+made_sound : (page : ℕ) (t : Tag) (item : ItemValue) (half : Option ItemValue) (earlier : List (ℕ × ℕ)) → All IsRange earlier
+    → All IsRange (range_made page t item half) → All IsRange (with_usages page t item half earlier)
+made_sound page (Main m) item half earlier a b = All-nil IsRange
+made_sound page _ item half earlier a b = All-append IsRange earlier _ a b
+
+skips_nothing : (page : ℕ) (item : ItemValue) (half : Option ItemValue) → tag item ≡ Skipped → range_made page (tag item) item half ≡ []
+skips_nothing page item half e = rw e refl
+
+item_range : (page : ℕ) (item : ItemValue) (before : List ItemValue) → page < 2 ^ 16 → AreSound (item ∷ before) → All IsRange (range_made page (tag item) item (unpaired before))
+unfolding shows
+item_range page item before l s =
+    elim (cases_eq item.prefix 254) [
+      | inl long ↦ rw (skips_nothing page item (unpaired before) (long_skipped item.prefix long)) (All-nil IsRange)
+      | inr short ↦ range_sound page (tag item) item (unpaired before) l (s.0.written short) (λ other e. half_data before other s.1 e)
+          (not_shown before item s.0 UnpairedUsage) (not_shown before item s.0 UsageInverted)
+    ]
+
+usages_sound : (page : ℕ) (items : List ItemValue) → page < 2 ^ 16 → AreSound items → All IsRange (usages_since_main page items)
+usages_sound page [] l s = rw (no_usages page) (All-nil IsRange)
+usages_sound page (item ∷ before) l s =
+    rw (usages_step page item before) (made_sound page (tag item) item (unpaired before) (usages_since_main page before) (usages_sound page before l s.1)
+    (item_range page item before l s))
+
+-- ---- all of them
+
+field_limits : (before : List ItemValue) (item : ItemValue) → IsSound before item → is_data (tag item) ≡ true → (report_size before ≤ 1024) × (report_count before ≤ 1024)
+unfolding shows
+field_limits before item s e =
+    let size : nat_lt (cond (is_constant item) 1024 32) (report_size before) ≡ false = true_and _ _ e (not_shown before item s SizeTooLarge) in
+    let count : nat_lt 1024 (report_count before) ≡ false = true_and _ _ e (not_shown before item s CountTooLarge) in (
+      elim (cases_Bool (is_constant item)) [
+        | inl c ↦ ltb-false _ _ (rw c at size)
+        | inr c ↦ (let l : report_size before ≤ 32 = ltb-false _ _ (rw c at size) in omega arith)
+      ],
+      ltb-false _ _ count,
+    )
+
+of_data : (kind : Kind) (t : Tag) → is_data_of kind t ≡ true → is_data t ≡ true
+of_data kind (Main (Data other)) e = refl
+of_data kind _ e = cc
+
+bits_small : (kind : Kind) (id : ℕ) (items : List ItemValue) → AreSound items → report_bits kind id items ≤ 2 ^ 20 * length items
+unfolding report_bits
+bits_small kind id [] s = omega arith
+bits_small kind id (item ∷ before) s =
+    let older : report_bits kind id before ≤ 2 ^ 20 * length before = bits_small kind id before s.1 in
+    elim (cases_Bool (is_data_of kind (tag item) && report_id before == id)) [
+      | inl e ↦ (let limits = field_limits before item s.0 (of_data kind (tag item) (and_parts _ _ e).0) in
+          let product : report_size before * report_count before ≤ 1024 * 1024 = mul-le (report_size before) (report_count before) 1024 1024 limits.0 limits.1 in
+          rw e (omega arith))
+      | inr e ↦ rw e (omega arith)
+    ]
+
+apart_by : (t : Tag) (before : List ItemValue) (item : ItemValue) → tag item ≡ t → mixes_ids t before ≡ false
+    → (has_bare_data before ≡ true → has_report_id before ≡ false) → has_bare_data (item ∷ before) ≡ true → has_report_id (item ∷ before) ≡ false
+unfolding has_bare_data
+apart_by (Main (Data kind)) before item e m older b =
+    elim (cases_Bool (report_id before == 0)) [
+      | inl z ↦ rw e (true_and _ _ z m)
+      | inr z ↦ rw e (older (rw (e, z) at b))
+    ]
+apart_by (Global ReportId) before item e m older b = absurd (let b' : has_bare_data before ≡ true = (rw e at b) in cc)
+apart_by _ before item e m older b = rw e (older (rw e at b))
+
+-- what holds after the items of a text without a fault
+record Holds (items : List ItemValue) : Type 0 where
+  all : All (Fits items) (fields items)
+  few : length (fields items) ≤ 256
+  as_many : length (field_usages items) ≡ length (fields items)
+  ranges : All (All IsRange) (field_usages items)
+  apart : has_bare_data items ≡ true → has_report_id items ≡ false
+
+holds_more : (item : ItemValue) (before : List ItemValue) (b : Bool) → is_field before item ≡ b → AreSound (item ∷ before) → Holds before → Holds (item ∷ before)
+unfolding fields field_usages shows
+holds_more item before true e s h =
+    let n = new_field before item s.0 e in
+    let few : length (fields before) < 256 = n.few in
+    let page : usage_page before < 2 ^ 16 = omega arith in
+    let usages = usages_since_main (usage_page before) before in
+    record {
+      all = rw e (All-push (Fits (item ∷ before)) (fields before) (declared_field before item) (All-weaker (Fits before) (Fits (item ∷ before)) (fits_on item before) (fields before) h.all) (fits_new before item s.1 n));
+      few = rw e (omega (arith, length-append (fields before) (declared_field before item ∷ [])));
+      as_many = rw e (omega (arith, h.as_many, length-append (fields before) (declared_field before item ∷ []), length-append (field_usages before) (usages ∷ [])));
+      ranges = rw e (All-push (All IsRange) (field_usages before) usages h.ranges (usages_sound (usage_page before) before page s.1));
+      apart = apart_by (tag item) before item refl (not_shown before item s.0 MixedIds) h.apart;
+    }
+holds_more item before false e s h = record {
+  all = rw e (All-weaker (Fits before) (Fits (item ∷ before)) (fits_on item before) (fields before) h.all);
+  few = rw e h.few;
+  as_many = rw e h.as_many;
+  ranges = rw e h.ranges;
+  apart = apart_by (tag item) before item refl (not_shown before item s.0 MixedIds) h.apart;
+}
+
+holds : (items : List ItemValue) → AreSound items → Holds items
+unfolding fields field_usages has_bare_data
+holds [] s = record { all = All-nil (Fits []); few = omega arith; as_many = refl; ranges = All-nil (All IsRange); apart = λ b. cc }
+holds (item ∷ before) s = holds_more item before (is_field before item) refl s (holds before s.1)
+
+fits_descriptor : (text : List ℕ) (d : DescriptorValue) → Describes (all_items text) d → Holds (all_items text) → (field : Field) → Fits (all_items text) field → FitsField d field
+fits_descriptor text d is h field f =
+    let bits : field.bit + field.size * field.count ≤ report_bits field.kind field.id (all_items text) = f.bits in
+    let same : bits_of d field.kind field.id ≡ report_bits field.kind field.id (all_items text) = is.bits field.kind field.id in
+    record {
+      size_some = f.size_some;
+      size = f.size;
+      count_some = f.count_some;
+      count = f.count;
+      bits = omega arith;
+      min_from = f.min.0;
+      min_to = f.min.1;
+      max_from = f.max_from;
+      max_to = f.max_to;
+      id = (
+        λ z. is.uses_ids ∙ h.apart (f.bare z),
+        λ n. (elim (cases_eq field.id 0) [
+          | inl z ↦ z
+          | inr some ↦ absurd (let used : has_report_id (all_items text) ≡ true = f.used some in let is_used : d.uses_ids ≡ has_report_id (all_items text) = is.uses_ids in cc)
+        ]),
+      );
+    }
+
+pub well_formed : (text : List ℕ) (d : DescriptorValue) → ((i : ℕ) → get_or text i 0 < 256) → length text ≤ 4096 → IsFaultless text → Describes (all_items text) d → IsWellFormed d
+well_formed text d bytes short clean_text is =
+    let sound = all_sound text bytes clean_text in
+    let h = holds (all_items text) sound in
+    let few : length (all_items text) ≤ length text = few_items text in
+    record {
+      few = rw is.fields h.few;
+      as_many = rw (is.ranges, is.fields) h.as_many;
+      fields = All-same (FitsField d) d.fields (fields (all_items text)) is.fields (All-weaker (Fits (all_items text)) (FitsField d) (fits_descriptor text d is h) (fields (all_items text)) h.all);
+      ranges = rw is.ranges h.ranges;
+      few_ranges = rw is.ranges (few_usages 4096 (all_items text) (omega arith));
+      bits_few = λ kind id. (let most : report_bits kind id (all_items text) ≤ 2 ^ 20 * length (all_items text) = bits_small kind id (all_items text) sound in
+          let same : bits_of d kind id ≡ report_bits kind id (all_items text) = is.bits kind id in omega arith);
+    }

@@ -1,0 +1,75 @@
+//! The parser of a text that comes in pieces.
+
+ghost use Rattle.std.specs.Prelude.{◌≡◌, ℕ, List, [], ◌++◌, Err, IfErr, OnOk};
+ghost use Rattle.descriptor_parse.specs.Fed.{WasFed, RefusesAll};
+
+use crate::descriptor::Descriptor;
+use crate::fault::ParseError;
+use crate::reading::Reading;
+use std::alloc::Global;
+
+/// A parser of a report descriptor that comes in pieces, as it is read off the bus (HID 1.11, section 6.2.2).
+///
+/// An item is judged once all its bytes are there, and at most 258 bytes of an item that is not whole yet are kept. A
+/// refusal ends the parser for good: each later call answers it again.
+#[derive(Drop)]
+pub struct Parser {
+    reading: Reading,
+    refused: Option<ParseError>,
+    ghost stands: { ∥ ((text : List ℕ) × WasFed text reading refused) ∥₁ },
+}
+
+impl Parser {
+    ghost use Rattle.descriptor_parse.specs.Parse.{Answers, MayGoOn};
+    ghost use Rattle.descriptor_parse.specs.StandsFor.{StandsFor, HasRefused};
+
+    /// A parser that was fed nothing; it takes no memory yet.
+    pub fn new(alloc: Global) -> Parser
+        ensures { StandsFor [] result }
+    {
+        Parser {
+            reading: Reading::new(alloc),
+            refused: None,
+        }
+    }
+
+    /// Takes the next bytes of the text.
+    ///
+    /// The error is the first fault of each text that begins with what was fed: that of the least offset, and there of
+    /// the least number. `Memory` comes where a growth was refused, with the offset of the item that wanted it.
+    /// `TooLong` comes once every item that begins at 4,096 or before is whole.
+    pub fn feed(&mut self, piece: &[u8]) -> Result<(), ParseError>
+        // The parser stands for all that it was fed.
+        ensures fed { (text : List ℕ) → StandsFor text self.old → StandsFor (text ++ piece.now) self.new }
+        // A refusal is that of every text that begins so.
+        ensures refused { (text : List ℕ) → StandsFor text self.old → IfErr result (RefusesAll (text ++ piece.now)) }
+        // While it goes on, the bytes so far show no fault but that they end within an item or a collection.
+        ensures goes_on { (text : List ℕ) → StandsFor text self.old → OnOk result (MayGoOn (text ++ piece.now)) }
+        // A refusal is for good.
+        ensures for_good { IfErr result (λ e. HasRefused e self.new) }
+        ensures again { (e : ParseError) → HasRefused e self.old → result ≡ Err e }
+    {
+        if let Some(error) = self.refused {
+            return Err(error);
+        }
+        match self.reading.read(piece) {
+            Ok(()) => Ok(()),
+            Err(error) => {
+                self.refused = Some(error);
+                Err(error)
+            }
+        }
+    }
+
+    /// Ends the text: its descriptor, or its first fault.
+    pub fn finish(self) -> Result<Descriptor, ParseError>
+        ensures answers { (text : List ℕ) → StandsFor text self → Answers text result }
+        ensures again { (e : ParseError) → HasRefused e self → result ≡ Err e }
+    {
+        let Parser { reading, refused } = self;
+        match refused {
+            Some(error) => Err(error),
+            None => reading.finish(),
+        }
+    }
+}

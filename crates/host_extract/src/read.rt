@@ -1,0 +1,97 @@
+//! A report as the usages that it names.
+
+ghost use Rattle.std.specs.Prelude.{◌≡◌, ◌≢◌, [], IfOk, IfErr, Some, None};
+ghost use Rattle.descriptor_parse.specs.Readers.{fields_of};
+ghost use Rattle.descriptor_parse.specs.declared.field.Kind.{Kind};
+ghost use Rattle.host_extract.specs.Found.{found, found_in, id_of, bytes_of};
+ghost use Rattle.host_extract.specs.Refusals.{refusal};
+ghost use Rattle.host_extract.specs.declared.error.ExtractError.{ExtractError};
+
+use crate::error::ExtractError;
+use crate::places::read_field;
+use crate::reading::Found;
+use descriptor_parse::{Descriptor, Field, Kind};
+use std::alloc::{AllocError, Global};
+
+/// Reads an input report: the usages that it names, with their values, in the order of the fields and their places.
+///
+/// A place of a variable field gives its usage with its value, 0 too; a place of an array the usage that its value
+/// names, with the value 1. A usage whose low half is 0 is none. Bytes after the report are ignored.
+///
+/// The errors, in this order: `Empty` where there is no byte; `UnknownId` where report IDs are used and no input report
+/// has the first byte as its ID; `Short` where the report is shorter than its descriptor says; `Memory` where a growth
+/// was refused.
+pub fn extract(
+    alloc: Global,
+    descriptor: &Descriptor,
+    report: &[u8],
+) -> Result<Vec<Found>, ExtractError>
+    ensures read { IfOk result (λ v. v.items ≡ found descriptor.now report.now) }
+    ensures taken { IfOk result (λ v. refusal descriptor.now report.now ≡ None) }
+    ensures refused { IfErr result (λ e. e ≢ ExtractError.Memory → refusal descriptor.now report.now ≡ Some e) }
+    ensures memory { IfErr result (λ e. e ≡ ExtractError.Memory → refusal descriptor.now report.now ≡ None) }
+{
+    if let Some(error) = refuse(descriptor, report) {
+        return Err(error);
+    }
+    let (id, bytes) = split_id(descriptor, report);
+    Ok(read_fields(alloc, descriptor, id, bytes)?)
+}
+
+/// Why a report is not read, if it is not.
+fn refuse(descriptor: &Descriptor, report: &[u8]) -> Option<ExtractError>
+    ensures refusal { result ≡ refusal descriptor.now report.now }
+    ensures of_the_report { result ≢ Some ExtractError.Memory }
+{
+    if report.is_empty() {
+        return Some(ExtractError::Empty);
+    }
+    let (id, _) = split_id(descriptor, report);
+    match descriptor.report_len(Kind::Input, id) {
+        Some(len) if report.len() < len => Some(ExtractError::Short),
+        None if descriptor.uses_ids() => Some(ExtractError::UnknownId),
+        _ => None,
+    }
+}
+
+/// The ID of a report, 0 where none is used, and the bytes after it.
+fn split_id<'a>(descriptor: &Descriptor, report: &'a [u8]) -> (u8, &'a [u8])
+    ensures id { result.0 ≡ id_of descriptor.now report.now }
+    ensures bytes { result.1.now ≡ bytes_of descriptor.now report.now }
+{
+    if !descriptor.uses_ids() {
+        return (0, report);
+    }
+    match report {
+        [id, bytes @ ..] => (*id, bytes),
+        [] => (0, report),
+    }
+}
+
+/// Reads the fields of an input report, whose bytes after its ID are these.
+fn read_fields(
+    alloc: Global,
+    descriptor: &Descriptor,
+    id: u8,
+    bytes: &[u8],
+) -> Result<Vec<Found>, AllocError>
+    ensures { IfOk result (λ v. v.items ≡ found_in (fields_of descriptor.now Kind.Input id) bytes.now) }
+{
+    let declared = descriptor.fields();
+    let mut out = Vec::with_capacity(alloc, places(declared, id))?;
+    for place in descriptor.report(Kind::Input, id) {
+        read_field(&mut out, &place, bytes)?;
+    }
+    Ok(out)
+}
+
+/// How many places the fields of an input report have together.
+fn places(declared: &[Field], id: u8) -> usize {
+    let mut places = 0usize;
+    for field in declared {
+        if field.id == id && field.kind == Kind::Input {
+            places = places.saturating_add(field.count as usize);
+        }
+    }
+    places
+}

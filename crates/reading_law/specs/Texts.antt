@@ -1,0 +1,11 @@
+use Rattle.std.specs.Prelude.{ℕ, List}
+use Rattle.descriptor_build.specs.Served.{report_bytes}
+use Rattle.host_extract.specs.Boot.{boot_descriptor_bytes}
+use Rattle.reports.specs.declared.Input.{Input}
+use Rattle.reports.specs.declared.Input.TheVariants.{Boot, One, Two}
+
+-- the descriptor that an input report is read by
+abbrev pub text_of : Input → List ℕ
+text_of Boot = boot_descriptor_bytes
+text_of One = report_bytes
+text_of Two = report_bytes
