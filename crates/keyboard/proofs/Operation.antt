@@ -1,0 +1,195 @@
+-- Which operation a step of the flash work makes, by what the store has under way.
+use Rattle.std.proofs.Common.{◌≡◌, ◌∙◌, ℕ, zero, suc, ◌+◌, ◌-◌, ◌/◌, ◌%◌, ◌<◌, ◌≤◌, arith, Bool, true, false, Option, Some, None, List, [], ◌∷◌, ◌++◌, length, length-append, get_or, refl, sym, subst, inl, inr}
+use Rattle.std.proofs.lemmas.Bool.{cases_eq, cases_lt, lt-ltb, le-ltb}
+use Rattle.std.proofs.lemmas.List.{get_or_append_left}
+use Rattle.std.proofs.Math.Seq.{get_or-append_seam}
+use Rattle.layers.specs.Codes.{keys, is_code, default_at}
+use Rattle.layers.specs.Commands.{word_of}
+use Rattle.layers.specs.Copies.{places, entry_at, set_key_at, copies_below, AreCopies}
+use Rattle.layers.specs.declared.command.Command.{Command}
+use Rattle.layers.proofs.Copying.{copies_below-same, copies_below-other}
+use Rattle.page_turnover.specs.declared.log.ActivePage.{ActivePage}
+use Rattle.page_turnover.specs.declared.operation.Operation.{Operation}
+use Rattle.page_turnover.specs.declared.operation.Operation.TheVariants.{Program, Erase}
+use Rattle.page_turnover.specs.Header.{header_word}
+use Rattle.page_turnover.specs.Log.{Describes}
+use Rattle.page_turnover.specs.Made.{CanMake}
+use Rattle.page_turnover.specs.Next.{next_operation, append_operation, turn_operation, is_ready}
+use Rattle.page_turnover.specs.Turn.{UnderWay, Copying, copied, copies as copies_in, target_page, next_seq}
+use Rattle.page_turnover.specs.Value.{LogValue, Task, Rest, Append, Wait, Copy, Seal}
+use Rattle.page_turnover.proofs.Describing.{held_active}
+use Rattle.page_turnover.proofs.Endings.{apart, waiting_count}
+use Rattle.page_turnover.proofs.Planning.{can_make}
+use Rattle.keymap_store.specs.declared.store.Job.{Job}
+use Rattle.keymap_store.specs.declared.store.Job.TheVariants.{Resting, Appending, Turning}
+use Rattle.keymap_store.specs.Left.{left_for}
+use Rattle.keymap_store.specs.Next.{all_copies, next_task, with_task, next_operation_of}
+use Rattle.keymap_store.specs.Store.{Mirrors, IsAppending, IsTurning, OffersBelow, working as working_in}
+use Rattle.keymap_store.specs.Value.{StoreValue}
+use Rattle.keymap_store.proofs.Keymaps.{entries_of-is_code}
+use Rattle.keymap_store.proofs.NextTasks.{copies_small}
+use Rattle.keymap_store.proofs.Offering.{few_copies}
+use Rattle.keyboard.specs.Calls.{keymap}
+use Rattle.keyboard.specs.Operated.{LosesNothing, IsRecord, IsOfTurn, erases, copies, heads}
+
+-- the copies below a place stand first among those below a later one
+record StandsIn (xs ys : List ℕ) (k : ℕ) : Type 0 where
+  more : k < length ys
+  same : get_or ys k 0 ≡ get_or xs k 0
+
+stands_below : (entries : ℕ → ℕ → ℕ) (from n k : ℕ) → k < length (copies_below entries from) → StandsIn (copies_below entries from) (copies_below entries (from + n)) k
+stands_below entries from zero k l = let e : from + 0 ≡ from = omega arith in record { more = rw e l; same = rw e refl }
+stands_below entries from (suc n) k l =
+    let e : from + suc n ≡ suc (from + n) = omega arith in
+    let h = stands_below entries from n k l in
+    elim (cases_eq (entry_at entries (from + n)) (default_at (from + n))) [
+      | inl s ↦ record {
+        more = rw (e, copies_below-same entries (from + n) s) h.more;
+        same = rw (e, copies_below-same entries (from + n) s) h.same;
+      }
+      | inr d ↦ record {
+        more = rw (e, copies_below-other entries (from + n) d) (simp length-append (omega (arith, h.more)));
+        same = rw (e, copies_below-other entries (from + n) d, get_or_append_left (copies_below entries (from + n)) (word_of (set_key_at entries (from + n)) ∷ []) 0 k h.more) h.same;
+      }
+    ]
+
+stands_in_all : (entries : ℕ → ℕ → ℕ) (from k : ℕ) → from ≤ places → k < length (copies_below entries from) → StandsIn (copies_below entries from) (all_copies entries) k
+stands_in_all entries from k l b =
+    let e : from + (places - from) ≡ places = omega arith in
+    rw e at (stands_below entries from (places - from) k b)
+
+-- the last of them
+last_of : (entries : ℕ → ℕ → ℕ) (from n word : ℕ) (made : List ℕ) → from ≤ places → AreCopies entries from (made ++ word ∷ []) → length made ≡ n
+    → (n < length (all_copies entries)) × (word ≡ get_or (all_copies entries) n 0)
+last_of entries from n word made l a c =
+    let b : n < length (made ++ word ∷ []) = simp length-append (omega (arith, c)) in
+    let s : StandsIn (copies_below entries from) (all_copies entries) n = stands_in_all entries from n l (rw (← a.listed) b) in
+    let w : get_or (made ++ word ∷ []) n 0 ≡ word = rw (← c) (get_or-append_seam made word [] 0) in
+    (s.more, sym w ∙ rw a.listed refl ∙ sym s.same)
+
+-- a turn that was offered the copy after those that it has made, or its seal
+abbrev CopiesNext : (ℕ → ℕ → ℕ) → Task → Type 0
+CopiesNext entries Rest = ⊥
+CopiesNext entries (Append word) = ⊥
+CopiesNext entries (Wait target) = ⊥
+CopiesNext entries (Copy target word) = (copied target < length (all_copies entries)) × (word ≡ get_or (all_copies entries) (copied target) 0)
+CopiesNext entries (Seal target) = Unit {0}
+
+record IsGiven (entries : ℕ → ℕ → ℕ) (image : List ℕ) (task : Task) : Type 0 where
+  under_way : UnderWay image task
+  next : CopiesNext entries task
+
+given : (entries : ℕ → ℕ → ℕ) (from : ℕ) (image : List ℕ) (task : Task) → from ≤ places → ((other : ℕ) → other < places → is_code (entry_at entries other) ≡ true) → UnderWay image task → OffersBelow entries from image task
+    → IsGiven entries image (next_task entries task)
+given entries from image Rest l c u o = absurd o
+given entries from image (Append word) l c u o = absurd o
+given entries from image (Copy target word) l c u o = record {
+  under_way = u;
+  next = last_of entries from (copied target) word (copies_in image (Copy target word)) l o (waiting_count image target u.turning.target_is);
+}
+given entries from image (Seal target) l c u o = record { under_way = u; next = tt }
+given entries from image (Wait target) l c u o =
+    let P : Task → Type 0 = λ t. IsGiven entries image t in
+    let few : copied target < 511 = few_copies entries from image (Wait target) l u o in
+    elim (cases_lt (copied target) (length (all_copies entries))) [
+      | inl more ↦ (let e : next_task entries (Wait target) ≡ Copy target (get_or (all_copies entries) (copied target) 0) = rw (lt-ltb (copied target) (length (all_copies entries)) more) refl in
+          let whole : places ≤ places = omega arith in
+          let next : Copying image target (get_or (all_copies entries) (copied target) 0) = record { turning = u; few = few; fits = copies_small entries places (copied target) whole c } in
+          subst P (sym e) (record { under_way = next; next = (more, refl) }))
+      | inr all ↦ (let e : next_task entries (Wait target) ≡ Seal target = rw (le-ltb (copied target) (length (all_copies entries)) all) refl in
+          subst P (sym e) (record { under_way = u; next = tt }))
+    ]
+
+some_operation : (a b : Operation) → Some a ≡ Some b → b ≡ a
+some_operation a b e = cc
+
+-- the operations of a turn
+copy_is : (ready : Bool) (old : List ℕ) (n word : ℕ) (operation : Operation) → n < length (all_copies (keymap old)) → word ≡ get_or (all_copies (keymap old)) n 0 → Some (turn_operation ready old (n + 1) word) ≡ Some operation → IsOfTurn old operation
+copy_is true old n word operation l w e = copies n l (some_operation _ operation e ∙ rw w refl)
+copy_is false old n word operation l w e = erases (some_operation _ operation e)
+
+seal_is : (ready : Bool) (old : List ℕ) (operation : Operation) → Some (turn_operation ready old 0 (header_word 2 (next_seq old))) ≡ Some operation → IsOfTurn old operation
+seal_is true old operation e = heads (some_operation _ operation e)
+seal_is false old operation e = erases (some_operation _ operation e)
+
+of_turn : (old : List ℕ) (log : LogValue) (operation : Operation) (task : Task) → log.task ≡ task → CopiesNext (keymap old) task → next_operation old log ≡ Some operation → IsOfTurn old operation
+of_turn old log operation Rest t c n = absurd c
+of_turn old log operation (Append word) t c n = absurd c
+of_turn old log operation (Wait target) t c n = absurd c
+of_turn old log operation (Copy target word) t c n = copy_is (is_ready old target) old (copied target) word operation c.0 c.1 (rw t at n)
+of_turn old log operation (Seal target) t c n = seal_is (is_ready old target) old operation (rw t at n)
+
+-- a turn is made on the page after the active one, which is another
+erase_same : (p q : ℕ) → Erase p ≡ Erase q → p ≡ q
+erase_same p q e = cc
+
+loses_nothing : (old : List ℕ) (log : LogValue) (operation : Operation) → Describes old log → CanMake old operation → ((page : ℕ) → operation ≡ Erase page → page ≡ target_page old) → LosesNothing old operation
+loses_nothing old log (Program page slot word) d c e = c
+loses_nothing old log (Erase page) d c e = (c, λ seq a. let same : page ≡ target_page old = e page refl in apart old log d seq (rw same at a))
+
+erases_target : (old : List ℕ) (operation : Operation) → IsOfTurn old operation → (page : ℕ) → operation ≡ Erase page → page ≡ target_page old
+erases_target old operation (erases f) page e = erase_same page (target_page old) (sym e ∙ f)
+erases_target old operation (copies n l f) page e = cc
+erases_target old operation (heads f) page e = cc
+
+-- a turn that is next
+pub record IsNextOfTurn (old : List ℕ) (operation : Operation) : Type 0 where
+  pub is : IsOfTurn old operation
+  pub loses : LosesNothing old operation
+
+pub next_of_turn : (old : List ℕ) (store : StoreValue) (command : Command) (from : ℕ) (operation : Operation) → Mirrors old store → store.job ≡ Turning command from → next_operation_of old store ≡ Some operation → IsNextOfTurn old operation
+next_of_turn old store command from operation m e n =
+    let j : IsTurning old store.log from = rw e at m.job_is in
+    let entries : ℕ → ℕ → ℕ = keymap old in
+    let task : Task = next_task entries store.log.task in
+    let log : LogValue = with_task store.log task in
+    let g : IsGiven entries old task = given entries from old store.log.task j.within (λ other l. entries_of-is_code old (other / keys) (other % keys) (omega arith)) m.log_is.task_is j.offers in
+    let d : Describes old log = record { whole = m.log_is.whole; active_is = m.log_is.active_is; unsound_is = m.log_is.unsound_is; task_is = g.under_way } in
+    let is : IsOfTurn old operation = of_turn old log operation task refl g.next n in
+    record { is = is; loses = loses_nothing old log operation d (can_make old log operation d n) (erases_target old operation is) }
+
+-- a record that is next
+pub record IsNextRecord (command : Command) (old : List ℕ) (operation : Operation) : Type 0 where
+  pub is : IsRecord command old operation
+  pub loses : LosesNothing old operation
+
+record_in : (held : Option ActivePage) (command : Command) (old : List ℕ) (log : LogValue) (operation : Operation) → Describes old log → log.active ≡ held → append_operation held (word_of command) ≡ Some operation → IsRecord command old operation
+record_in None command old log operation d e n = cc
+record_in (Some place) command old log operation d e n =
+    let h = held_active old log place d e in
+    record { page = place.page; seq = place.seq; tail = place.tail; is_active = h.is_active; is_tail = h.is_tail; operation_is = some_operation _ operation n }
+
+no_erase : (command : Command) (old : List ℕ) (operation : Operation) → IsRecord command old operation → (page : ℕ) → operation ≡ Erase page → page ≡ target_page old
+no_erase command old operation r page e = (let f = r.operation_is in cc)
+
+pub next_record : (old : List ℕ) (store : StoreValue) (command : Command) (operation : Operation) → Mirrors old store → store.job ≡ Appending command → next_operation_of old store ≡ Some operation → IsNextRecord command old operation
+next_record old store command operation m e n =
+    let j : IsAppending store.log command = rw e at m.job_is in
+    let U : Task → Type 0 = λ x. UnderWay old x in
+    let under = subst U j.task_is m.log_is.task_is in
+    let log : LogValue = with_task store.log (Append (word_of command)) in
+    let d : Describes old log = record { whole = m.log_is.whole; active_is = m.log_is.active_is; unsound_is = m.log_is.unsound_is; task_is = under } in
+    let next : append_operation store.log.active (word_of command) ≡ Some operation = rw j.task_is at n in
+    let is : IsRecord command old operation = record_in store.log.active command old store.log operation m.log_is refl next in
+    record { is = is; loses = loses_nothing old log operation d (can_make old log operation d next) (no_erase command old operation is) }
+
+-- by what is left to do: the record alone, or a turn before it
+pub due_last : (job : Job) (image : List ℕ) (store : StoreValue) (command : Command) (operation : Operation) → store.job ≡ job → Mirrors image store → next_operation_of image store ≡ Some operation → working_in job ≡ Some command
+    → left_for image store.log job ≡ 1 → IsRecord command image operation
+due_last Resting image store command operation e m n w l = cc
+due_last (Appending other) image store command operation e m n w l =
+    let same : other ≡ command = cc in
+    subst (λ (c : Command). IsRecord c image operation) same (next_record image store other operation m e n).is
+due_last (Turning other from) image store command operation e m n w l = absurd (omega (arith, l))
+
+pub due_before : (job : Job) (image : List ℕ) (store : StoreValue) (command : Command) (operation : Operation) → store.job ≡ job → Mirrors image store → next_operation_of image store ≡ Some operation → working_in job ≡ Some command
+    → 1 < left_for image store.log job → IsOfTurn image operation
+due_before Resting image store command operation e m n w l = cc
+due_before (Appending other) image store command operation e m n w l = absurd (omega (arith, l))
+due_before (Turning other from) image store command operation e m n w l = (next_of_turn image store other from operation m e n).is
+
+pub loses_by : (job : Job) (image : List ℕ) (store : StoreValue) (command : Command) (operation : Operation) → store.job ≡ job → Mirrors image store → next_operation_of image store ≡ Some operation → working_in job ≡ Some command
+    → LosesNothing image operation
+loses_by Resting image store command operation e m n w = cc
+loses_by (Appending other) image store command operation e m n w = (next_record image store other operation m e n).loses
+loses_by (Turning other from) image store command operation e m n w = (next_of_turn image store other from operation m e n).loses

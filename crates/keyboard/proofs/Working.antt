@@ -1,0 +1,351 @@
+-- A step of the flash work, whole or torn.
+use Rattle.std.proofs.Common.{◌≡◌, ◌≢◌, ◌⊎◌, inl, inr, ℕ, suc, ◌+◌, ◌≤◌, arith, Option, Some, None, IsSome, List, [], ◌∷◌, refl, ap, sym, ◌∙◌, subst}
+use Rattle.flash_model.specs.Image.{IsImage}
+use Rattle.flash_model.proofs.ByMask.{whole_program, whole_erase}
+use Rattle.layers.specs.Entries.{changed}
+use Rattle.layers.specs.Keymaps.{HasEntries}
+use Rattle.layers.specs.declared.command.Command.{Command}
+use Rattle.page_turnover.specs.declared.operation.Operation.{Operation}
+use Rattle.page_turnover.specs.declared.operation.Operation.TheVariants.{Program, Erase}
+use Rattle.page_turnover.specs.Next.{Makes, MayMake}
+use Rattle.page_turnover.specs.Operates.{Operates, programs, erases, MayOperate, may_program, may_erase}
+use Rattle.page_turnover.specs.Usable.{IsUsable}
+use Rattle.keymap_store.specs.declared.store.Job.{Job}
+use Rattle.keymap_store.specs.declared.store.Job.TheVariants.{Resting, Appending, Turning}
+use Rattle.keymap_store.specs.declared.store.Work.{Work as WorkAnswer}
+use Rattle.keymap_store.specs.declared.store.Work.TheVariants.{Idle, Working, Settled, Failed}
+use Rattle.keymap_store.specs.Cut.{KeymapAfter, recorded, as_before, CutLeaves}
+use Rattle.keymap_store.specs.Keymap.{SameEntries}
+use Rattle.keymap_store.specs.Left.{left, Needs}
+use Rattle.keymap_store.specs.Next.{Attempts, AttemptsNext, next_operation_of}
+use Rattle.keymap_store.specs.Store.{Mirrors, working as working_in}
+use Rattle.keymap_store.specs.Value.{StoreValue}
+use Rattle.keymap_store.specs.Works.{WorksAs, IsAppendedFor}
+use Rattle.keymap_store.proofs.Cutting.{cut_leaves}
+use Rattle.control_ep.specs.Calls.{Settle, Fail}
+use Rattle.control_ep.specs.Transfers.{Stage}
+use Rattle.control_ep.specs.Stands as control_ep
+use Rattle.keyboard.specs.Calls.{Call, Worked, image_after, keymap, EachCall}
+use Rattle.keyboard.specs.Effects.{leds_after, selected, protocol_after}
+use Rattle.keyboard.specs.Keys.{key_calls}
+use Rattle.keyboard.specs.Commands.{accepts, working}
+use Rattle.keyboard.specs.Endpoint.{ep_calls}
+use Rattle.keyboard.specs.Bounded.{most_steps, steps_since, accepted_image}
+use Rattle.keyboard.specs.Operated.{Works, WorksOn, Advances, IsCutShort}
+use Rattle.keyboard.specs.Lawful.{WorkedOn, IsAnswered}
+use Rattle.keyboard.specs.Private.{Operating}
+use Rattle.keyboard.specs.Restart.{RestartsLegally, CutsLegally}
+use Rattle.keyboard.proofs.Restarting.{restarts_with, restarts_without}
+use Rattle.keyboard.specs.Value.{KeyboardValue, at_work}
+use Rattle.keyboard.specs.Stands.{StandsFor}
+use Rattle.keyboard.proofs.Accepting.{ended_by-idle, ended_by-working}
+use Rattle.keyboard.proofs.Bounding.{needs_more, steps_since-more, nothing_left, accepted_image-same, nothing_needed}
+use Rattle.keyboard.proofs.Effects.{accepts-work}
+use Rattle.keyboard.proofs.Operation.{due_last, due_before, loses_by}
+use Rattle.keyboard.proofs.Sessions.{After, orderly, working_after, after_stays, after_settles, after_fails}
+
+-- two keymaps that have the same codes
+same_entries : (a b : ℕ → ℕ → ℕ) (codes : List ℕ) → HasEntries a codes → HasEntries b codes → SameEntries a b
+same_entries a b codes h g layer key l k = sym (h.each layer key l k) ∙ g.each layer key l k
+
+same_command : (w : Option Command) (a b : Command) → w ≡ Some a → w ≡ Some b → a ≡ b
+same_command w a b e f = cc
+
+not_some : (w : Option Command) (command : Command) → w ≡ None → w ≡ Some command → ⊥
+not_some w command n s = cc
+
+not_both : (w : Option Command) → IsSome w → w ≡ None → ⊥
+not_both w s n = (let none : IsSome {T = Command} None = rw n at s in cc)
+
+appended_for : (old : List ℕ) (o : Option Command) (command : Command) (new : List ℕ) → o ≡ Some command → IsAppendedFor old o new → IsAppendedFor old (Some command) new
+appended_for old o command new e p = let P : Option Command → Type 0 = λ x. IsAppendedFor old x new in subst P e p
+
+-- what the operation is, by the store's clauses
+outcome : (command : Command) (image : List ℕ) (store : StoreValue) (work : WorkAnswer) (after : List ℕ) (new : StoreValue) → Mirrors image store → Operating image store work after new → working_in store.job ≡ Some command
+    → WorksAs image store work after new → WorksOn command image work after
+outcome command image store Idle after new m o w a = not_some (working_in store.job) command a.none w
+outcome command image store Working after new m o w a =
+    same_entries (keymap after) (keymap image) store.keymap (subst (λ (codes : List ℕ). HasEntries (keymap after) codes) a.same_keymap o.mirrors.keymap_is) m.keymap_is
+outcome command image store Settled after new m o w a =
+    let same : a.command ≡ command = same_command (working_in store.job) a.command command a.was w in
+    let entries : SameEntries (keymap after) (changed (keymap image) (a.command ∷ [])) =
+    same_entries (keymap after) (changed (keymap image) (a.command ∷ [])) new.keymap o.mirrors.keymap_is (a.changes (keymap image) m.keymap_is) in
+    record {
+      record_is = appended_for image (working_in store.job) command after w (o.writes.appended refl);
+      entries = subst (λ (c : Command). SameEntries (keymap after) (changed (keymap image) (c ∷ []))) same entries;
+    }
+outcome command image store Failed after new m o w a =
+    same_entries (keymap after) (keymap image) store.keymap (subst (λ (codes : List ℕ). HasEntries (keymap after) codes) a.same_keymap o.mirrors.keymap_is) m.keymap_is
+
+not_idle : (command : Command) (image : List ℕ) (store : StoreValue) (work : WorkAnswer) (after : List ℕ) (new : StoreValue) → working_in store.job ≡ Some command → WorksAs image store work after new → work ≢ Idle
+not_idle command image store Idle after new w a e = not_some (working_in store.job) command a.none w
+not_idle command image store Working after new w a e = cc
+not_idle command image store Settled after new w a e = cc
+not_idle command image store Failed after new w a e = cc
+
+-- which step of its command it is
+advances : (start : List ℕ) (before : List Call) (command : Command) (old : KeyboardValue) (operation : Operation) (work : WorkAnswer) (after : List ℕ) (new : StoreValue) → StandsFor start before old
+    → Operating (image_after start before) old.store work after new → at_work old ≡ Some command → next_operation_of (image_after start before) old.store ≡ Some operation → (work ≡ Working → IsSome (working_in new.job))
+    → Advances (accepted_image start before) (steps_since before) command (image_after start before) operation work after
+advances start before command old operation work after new s o v n on =
+    let there : IsSome (at_work old) = rw v refl in
+    let more : 1 ≤ left (image_after start before) old.store = needs_more (image_after start before) old.store there in
+    record {
+      needed = left (image_after start before) old.store + steps_since before;
+      needs = s.now.needs there;
+      within = omega (arith, more);
+      record_last = λ e. due_last old.store.job (image_after start before) old.store command operation refl s.now.store n v (omega (arith, e));
+      turn_before = λ e. due_before old.store.job (image_after start before) old.store command operation refl s.now.store n v (omega (arith, e));
+      last = λ e. (let one : left (image_after start before) old.store ≡ 1 = o.down.last e in omega (arith, one));
+      before_last = λ e. (
+        (let some : 1 ≤ left after new = needs_more after new (on e) in omega (arith, o.down.fewer e, some)),
+        o.writes.turns e,
+      );
+      fails = o.writes.kept;
+    }
+
+works_for : (command : Command) (image : List ℕ) (store : StoreValue) (work : WorkAnswer) (after : List ℕ) (new : StoreValue) → WorksAs image store work after new → working_in store.job ≡ Some command
+    → work ≡ Working → working_in new.job ≡ Some command
+works_for command image store Working after new a w e = a.same_command ∙ w
+works_for command image store Idle after new a w e = cc
+works_for command image store Settled after new a w e = cc
+works_for command image store Failed after new a w e = cc
+
+-- a whole operation is one that may be left
+may_make : (old : List ℕ) (operation : Operation) (new : List ℕ) → IsImage old → Makes old operation new → MayMake old operation new
+may_make old (Program page slot word) new i m = whole_program old page slot _ new m
+may_make old (Erase page) new i m = whole_erase old page new i m
+
+made : (old : List ℕ) (operation : Operation) (work : WorkAnswer) (new : List ℕ) → IsImage old → Attempts old operation work new → MayMake old operation new
+made old operation Idle new i a = absurd (a.not_idle refl)
+made old operation Working new i a = may_make old operation new i (a.done (λ e. cc)).0
+made old operation Settled new i a = may_make old operation new i (a.done (λ e. cc)).0
+made old operation Failed new i a = (a.failed refl).0
+
+-- the command of a record that is being appended
+appending : (job : Job) (a b : Command) → job ≡ Appending a → working_in job ≡ Some b → a ≡ b
+appending Resting a b e w = cc
+appending (Appending other) a b e w = cc
+appending (Turning other from) a b e w = cc
+
+-- the keymap where the operation is cut short
+cut_keymap : (old : List ℕ) (job : Job) (operation : Operation) (cut : List ℕ) (command : Command) → working_in job ≡ Some command → KeymapAfter old job operation cut
+    → SameEntries (keymap cut) (keymap old) ⊎ SameEntries (keymap cut) (changed (keymap old) (command ∷ []))
+cut_keymap old job operation cut command w (recorded other r e) = inr (subst (λ (c : Command). SameEntries (keymap cut) (changed (keymap old) (c ∷ []))) (appending job other command r.0 w) e)
+cut_keymap old job operation cut command w (as_before n e) = inl e
+
+cut_short : (old : List ℕ) (store : StoreValue) (operation : Operation) (command : Command) (cut : List ℕ) → Mirrors old store → next_operation_of old store ≡ Some operation → working_in store.job ≡ Some command
+    → IsImage cut → MayMake old operation cut → IsCutShort command old cut
+cut_short old store operation command cut m e w i t =
+    let leaves : CutLeaves old store operation cut = cut_leaves old cut store operation m e i t in
+    (leaves.usable, cut_keymap old store.job operation cut command w leaves.keymap)
+
+was_usable : (old new : List ℕ) → Operates old new → IsUsable old
+was_usable old new (programs u page slot word p l f s g) = u
+was_usable old new (erases u page p n e) = u
+
+was_usable_torn : (old new : List ℕ) → MayOperate old new → IsUsable old
+was_usable_torn old new (may_program u page slot word p l f s g) = u
+was_usable_torn old new (may_erase u page p n e) = u
+
+usable_by : (image : List ℕ) (store : StoreValue) (work : WorkAnswer) (after : List ℕ) (new : StoreValue) → Operating image store work after new → work ≢ Idle → IsUsable image
+usable_by image store Idle after new o n = absurd (n refl)
+usable_by image store Working after new o n = was_usable image after (o.operates (λ e. cc) (λ e. cc))
+usable_by image store Settled after new o n = was_usable image after (o.operates (λ e. cc) (λ e. cc))
+usable_by image store Failed after new o n = was_usable_torn image after (o.torn refl)
+
+-- a step while a command works, by the operation that is next
+works_by : (next : Option Operation) (start : List ℕ) (before : List Call) (command : Command) (old : KeyboardValue) (work : WorkAnswer) (after : List ℕ) (new : StoreValue) → next_operation_of (image_after start before) old.store ≡ next → StandsFor start before old
+    → Operating (image_after start before) old.store work after new → at_work old ≡ Some command → work ≢ Idle → AttemptsNext next (image_after start before) work after → Works start before command (image_after start before) work after
+works_by None start before command old work after new n s o v some (idle, same) = absurd (some idle)
+works_by (Some operation) start before command old work after new n s o v some a =
+    let image : List ℕ = image_after start before in
+    let held : Mirrors image old.store = s.now.store in
+    let usable : IsUsable image = usable_by image old.store work after new o some in
+    record {
+      operation = operation;
+      usable = usable;
+      loses_nothing = loses_by old.store.job image old.store command operation refl held n v;
+      attempts = a;
+      advances = advances start before command old operation work after new s o v n (λ e. rw (works_for command image old.store work after new o.works v e) refl);
+      outcome = outcome command image old.store work after new held o v o.works;
+      sound = o.sound usable;
+      wears = (cut_leaves image after old.store operation held n o.mirrors.log_is.whole (made image operation work after held.log_is.whole a)).wears;
+      cut = λ cut i t. cut_short image old.store operation command cut held n v i t;
+    }
+
+works : (start : List ℕ) (before : List Call) (command : Command) (old : KeyboardValue) (work : WorkAnswer) (after : List ℕ) (new : StoreValue) → StandsFor start before old
+    → Operating (image_after start before) old.store work after new → at_work old ≡ Some command → Works start before command (image_after start before) work after
+works start before command old work after new s o v =
+    works_by (next_operation_of (image_after start before) old.store) start before command old work after new refl s o v (not_idle command (image_after start before) old.store work after new v o.works) o.attempts
+
+idle_same : (image : List ℕ) (store : StoreValue) (work : WorkAnswer) (after : List ℕ) (new : StoreValue) → working_in store.job ≡ None → WorksAs image store work after new → (work ≡ Idle) × (after ≡ image)
+idle_same image store Idle after new n a = (refl, a.same_image)
+idle_same image store Working after new n a = absurd (not_both (working_in store.job) a.some n)
+idle_same image store Settled after new n a = absurd (not_some (working_in store.job) a.command n a.was)
+idle_same image store Failed after new n a = absurd (not_both (working_in store.job) a.some n)
+
+worked_by : (start : List ℕ) (before : List Call) (w : Option Command) (old : KeyboardValue) (work : WorkAnswer) (after : List ℕ) (new : StoreValue) → StandsFor start before old
+    → Operating (image_after start before) old.store work after new → at_work old ≡ w → WorkedOn start before w work after
+worked_by start before None old work after new s o v = idle_same (image_after start before) old.store work after new v o.works
+worked_by start before (Some command) old work after new s o v = works start before command old work after new s o v
+
+-- what a step of the flash work makes of the flash is lawful
+pub worked_on : (start : List ℕ) (before : List Call) (old : KeyboardValue) (work : WorkAnswer) (after : List ℕ) (new : StoreValue) → StandsFor start before old
+    → Operating (image_after start before) old.store work after new → IsAnswered start before (Worked work after)
+worked_on start before old work after new s o = worked_by start before (working start before) old work after new s o s.now.works
+
+-- the keyboard after it, once it is known which command works
+stands_after : (start : List ℕ) (before : List Call) (work : WorkAnswer) (after : List ℕ) (ep : Stage) (new : StoreValue) (old : KeyboardValue) → StandsFor start before old
+    → Operating (image_after start before) old.store work after new → control_ep.StandsFor (ep_calls start (Worked work after ∷ before)) ep
+    → working_in new.job ≡ working start (Worked work after ∷ before)
+    → (IsSome (working_in new.job) → left after new + steps_since (Worked work after ∷ before) ≤ most_steps)
+    → (IsSome (working_in new.job) → Needs (accepted_image start (Worked work after ∷ before)) (left after new + steps_since (Worked work after ∷ before)))
+    → StandsFor start (Worked work after ∷ before) (record old { ep = ep; store = new })
+unfolding key_calls leds_after selected protocol_after accepts
+stands_after start before work after ep new old s o e works few needs = record {
+  now = record {
+    ep = e;
+    keys = s.now.keys;
+    store = o.mirrors;
+    works = works;
+    protocol = s.now.protocol;
+    leds = s.now.leds;
+    layer = s.now.layer;
+    key = s.now.key;
+    few = few;
+    needs = needs;
+  };
+  answered = (worked_on start before old work after new s o, s.answered);
+}
+
+-- where none works later
+rests_after : (start : List ℕ) (before : List Call) (work : WorkAnswer) (after : List ℕ) (ep : Stage) (new : StoreValue) (old : KeyboardValue) → StandsFor start before old
+    → Operating (image_after start before) old.store work after new → control_ep.StandsFor (ep_calls start (Worked work after ∷ before)) ep
+    → working_in new.job ≡ None → After start before (Worked work after) None → StandsFor start (Worked work after ∷ before) (record old { ep = ep; store = new })
+rests_after start before work after ep new old s o e rests later =
+    stands_after start before work after ep new old s o e (rests ∙ sym (working_after start before (Worked work after) None later))
+    (λ x. nothing_left (working_in new.job) (left after new + steps_since (Worked work after ∷ before)) rests x)
+    (λ x. nothing_needed (working_in new.job) (Needs (accepted_image start (Worked work after ∷ before)) (left after new + steps_since (Worked work after ∷ before))) rests x)
+
+-- where the command works on
+works_on : (start : List ℕ) (before : List Call) (command : Command) (after : List ℕ) (ep : Stage) (new : StoreValue) (old : KeyboardValue) → StandsFor start before old
+    → Operating (image_after start before) old.store Working after new → control_ep.StandsFor (ep_calls start (Worked Working after ∷ before)) ep
+    → at_work old ≡ Some command → working_in new.job ≡ Some command → After start before (Worked Working after) (Some command)
+    → StandsFor start (Worked Working after ∷ before) (record old { ep = ep; store = new })
+works_on start before command after ep new old s o e v w later =
+    let call : Call = Worked Working after in
+    let none : accepts before call ≡ None = accepts-work before Working after in
+    let there : IsSome (at_work old) = rw v refl in
+    let count : steps_since (call ∷ before) ≡ suc (steps_since before) = steps_since-more call before (λ n. refl) none in
+    let sums : left (image_after start before) old.store + steps_since before ≡ left after new + steps_since (call ∷ before) = omega (arith, o.down.fewer refl, count) in
+    stands_after start before Working after ep new old s o e (w ∙ sym (working_after start before call (Some command) later))
+    (λ x. subst (λ (n : ℕ). n ≤ most_steps) sums (s.now.few there))
+    (λ x. subst (λ (image : List ℕ). Needs image (left after new + steps_since (call ∷ before))) (sym (accepted_image-same start call before none))
+    (subst (λ (n : ℕ). Needs (accepted_image start before) n) sums (s.now.needs there)))
+
+ended : (start : List ℕ) (before : List Call) (command : Command) (work : WorkAnswer) (after : List ℕ) (ep : Stage) (new : StoreValue) (old : KeyboardValue) → StandsFor start before old
+    → Operating (image_after start before) old.store work after new → control_ep.StandsFor (ep_calls start (Worked work after ∷ before)) ep
+    → at_work old ≡ Some command → WorksOn command (image_after start before) work after → WorksAs (image_after start before) old.store work after new
+    → StandsFor start (Worked work after ∷ before) (record old { ep = ep; store = new })
+ended start before command Idle after ep new old s o e v c a = absurd c
+ended start before command Settled after ep new old s o e v c a =
+    rests_after start before Settled after ep new old s o e a.done
+    (after_settles start before (Worked Settled after) command (orderly start before s.answered) refl (accepts-work before Settled after) (sym s.now.works ∙ v) c.entries)
+ended start before command Failed after ep new old s o e v c a =
+    rests_after start before Failed after ep new old s o e a.gone
+    (after_fails start before (Worked Failed after) command (orderly start before s.answered) refl (accepts-work before Failed after) (sym s.now.works ∙ v) c)
+ended start before command Working after ep new old s o e v c a =
+    let was : working start before ≡ Some command = sym s.now.works ∙ v in
+    let later : After start before (Worked Working after) (working start before) =
+    after_stays start before (Worked Working after) (orderly start before s.answered) (record { keeps = ended_by-working after }) (accepts-work before Working after) c in
+    works_on start before command after ep new old s o e v (a.same_command ∙ v)
+    (subst (λ (w : Option Command). After start before (Worked Working after) w) was later)
+
+idled : (start : List ℕ) (before : List Call) (work : WorkAnswer) (after : List ℕ) (ep : Stage) (new : StoreValue) (old : KeyboardValue) → StandsFor start before old
+    → Operating (image_after start before) old.store work after new → control_ep.StandsFor (ep_calls start (Worked work after ∷ before)) ep
+    → at_work old ≡ None → work ≡ Idle → after ≡ image_after start before → WorksAs (image_after start before) old.store work after new
+    → StandsFor start (Worked work after ∷ before) (record old { ep = ep; store = new })
+idled start before Working after ep new old s o e v i f a = cc
+idled start before Settled after ep new old s o e v i f a = cc
+idled start before Failed after ep new old s o e v i f a = cc
+idled start before Idle after ep new old s o e v i f a =
+    let was : working start before ≡ None = sym s.now.works ∙ v in
+    let later : After start before (Worked Idle after) (working start before) =
+    after_stays start before (Worked Idle after) (orderly start before s.answered) (record { keeps = ended_by-idle after }) (accepts-work before Idle after)
+    (λ layer key l k. ap (λ (image : List ℕ). keymap image layer key) f) in
+    rests_after start before Idle after ep new old s o e (ap (λ (x : StoreValue). working_in x.job) a.same_store ∙ v)
+    (subst (λ (w : Option Command). After start before (Worked Idle after) w) was later)
+
+worked_stands : (start : List ℕ) (before : List Call) (work : WorkAnswer) (w : Option Command) (after : List ℕ) (ep : Stage) (new : StoreValue) (old : KeyboardValue) → StandsFor start before old
+    → Operating (image_after start before) old.store work after new → control_ep.StandsFor (ep_calls start (Worked work after ∷ before)) ep
+    → at_work old ≡ w → WorkedOn start before w work after → StandsFor start (Worked work after ∷ before) (record old { ep = ep; store = new })
+worked_stands start before work None after ep new old s o e v (idle, same) = idled start before work after ep new old s o e v idle same o.works
+worked_stands start before work (Some command) after ep new old s o e v on = ended start before command work after ep new old s o e v on.outcome o.works
+
+stands_worked : (start : List ℕ) (before : List Call) (work : WorkAnswer) (after : List ℕ) (ep : Stage) (new : StoreValue) (old : KeyboardValue) → StandsFor start before old
+    → Operating (image_after start before) old.store work after new → control_ep.StandsFor (ep_calls start (Worked work after ∷ before)) ep
+    → StandsFor start (Worked work after ∷ before) (record old { ep = ep; store = new })
+stands_worked start before work after ep new old s o e =
+    worked_stands start before work (at_work old) after ep new old s o e refl (worked_by start before (at_work old) old work after new s o refl)
+
+-- a step that settles the command, one that fails it, and others
+pub stands_settled : (start : List ℕ) (before : List Call) (after : List ℕ) (ep : Stage) (new : StoreValue) (old : KeyboardValue) → StandsFor start before old
+    → Operating (image_after start before) old.store Settled after new → control_ep.StandsFor (Settle ∷ ep_calls start before) ep
+    → StandsFor start (Worked Settled after ∷ before) (record old { ep = ep; store = new })
+unfolding ep_calls
+stands_settled start before after ep new old s o e = stands_worked start before Settled after ep new old s o e
+
+pub stands_failed : (start : List ℕ) (before : List Call) (after : List ℕ) (ep : Stage) (new : StoreValue) (old : KeyboardValue) → StandsFor start before old
+    → Operating (image_after start before) old.store Failed after new → control_ep.StandsFor (Fail ∷ ep_calls start before) ep
+    → StandsFor start (Worked Failed after ∷ before) (record old { ep = ep; store = new })
+unfolding ep_calls
+stands_failed start before after ep new old s o e = stands_worked start before Failed after ep new old s o e
+
+pub stands_working : (start : List ℕ) (before : List Call) (after : List ℕ) (new : StoreValue) (old : KeyboardValue) → StandsFor start before old
+    → Operating (image_after start before) old.store Working after new → StandsFor start (Worked Working after ∷ before) (record old { store = new })
+unfolding ep_calls
+stands_working start before after new old s o = stands_worked start before Working after old.ep new old s o s.now.ep
+
+pub stands_idle : (start : List ℕ) (before : List Call) (after : List ℕ) (new : StoreValue) (old : KeyboardValue) → StandsFor start before old
+    → Operating (image_after start before) old.store Idle after new → StandsFor start (Worked Idle after ∷ before) (record old { store = new })
+unfolding ep_calls
+stands_idle start before after new old s o = stands_worked start before Idle after old.ep new old s o s.now.ep
+
+pub stands_other : (start : List ℕ) (before : List Call) (work : WorkAnswer) (after : List ℕ) (new : StoreValue) (old : KeyboardValue) → StandsFor start before old
+    → Operating (image_after start before) old.store work after new → (work ≡ Idle) ⊎ (work ≡ Working) → StandsFor start (Worked work after ∷ before) (record old { store = new })
+stands_other start before work after new old s o (inl i) = rw i (stands_idle start before after new old s (rw i at o))
+stands_other start before work after new old s o (inr w) = rw w (stands_working start before after new old s (rw w at o))
+
+-- the store works on the image that these calls left
+pub operating_on : (here image : List ℕ) (store : StoreValue) (work : WorkAnswer) (after : List ℕ) (new : StoreValue) → here ≡ image → Operating image store work after new → Operating here store work after new
+operating_on here image store work after new e o = subst (λ (x : List ℕ). Operating x store work after new) (sym e) o
+
+-- a cut of the power inside the operation
+pub cut_legal : (start : List ℕ) (past : List Call) (command : Command) (cut : List ℕ) → EachCall IsAnswered start past → working start past ≡ Some command
+    → SameEntries (keymap cut) (keymap (image_after start past)) ⊎ SameEntries (keymap cut) (changed (keymap (image_after start past)) (command ∷ []))
+    → RestartsLegally start past cut
+cut_legal start past command cut h w (inl e) = restarts_without start past cut h e
+cut_legal start past command cut h w (inr e) = restarts_with start past command cut h w e
+
+left_by : (start : List ℕ) (past : List Call) (command : Command) (work : WorkAnswer) (new : List ℕ) → EachCall IsAnswered start past → working start past ≡ Some command
+    → WorksOn command (image_after start past) work new → RestartsLegally start past new
+left_by start past command Settled new h w c = restarts_with start past command new h w c.entries
+left_by start past command Working new h w c = restarts_without start past new h c
+left_by start past command Failed new h w c = restarts_without start past new h c
+left_by start past command Idle new h w c = absurd c
+
+cuts_by : (start : List ℕ) (past : List Call) (w : Option Command) (work : WorkAnswer) (new : List ℕ) → EachCall IsAnswered start past → working start past ≡ w → WorkedOn start past w work new → work ≢ Idle
+    → CutsLegally start past work new
+cuts_by start past None work new h w (idle, same) n = absurd (n idle)
+cuts_by start past (Some command) work new h w on n = record {
+  command = command;
+  is_working = w;
+  works = on;
+  legal = λ cut i m. cut_legal start past command cut h w (on.cut cut i m).1;
+  left = left_by start past command work new h w on.outcome;
+}
+
+pub cuts_legally : (start : List ℕ) (past : List Call) (work : WorkAnswer) (new : List ℕ) → EachCall IsAnswered start past → IsAnswered start past (Worked work new) → work ≢ Idle
+    → CutsLegally start past work new
+cuts_legally start past work new h a n = cuts_by start past (working start past) work new h refl a n

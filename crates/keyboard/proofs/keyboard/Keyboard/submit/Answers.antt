@@ -1,0 +1,20 @@
+use Rattle.std.proofs.Common.{ap, sym, subst, ◌∙◌}
+use Rattle.keymap_store.specs.Store.{Mirrors}
+use Rattle.keymap_store.specs.Submits.{Submits}
+use Rattle.keyboard.specs.Value.{KeyboardValue}
+use Rattle.keyboard.proofs.Offering.{judged_submitted}
+use Rattle.keyboard.proofs.keyboard.Keyboard.submit.Goals as goal
+
+pub returns : goal.returns
+returns c image bytes h n r =
+    let held : Mirrors image c.self.inside.store = subst (λ (k : KeyboardValue). Mirrors image k.store) (sym c.self.view_is) h in
+    rw c.verdict_of.ensures
+    (judged_submitted image bytes c.args.command.now c.submit.result c.args.self.now _ n r (record {
+      submits = subst (λ (k : KeyboardValue). Submits image k.store.job c.args.command.now c.submit.result) c.self.view_is (c.submit.ensures.submits image held);
+      runs_on = c.submit.ensures.mirrors image held;
+      only = ap (λ (k : KeyboardValue). record k { store = c.submit.new.self }) c.self.view_is;
+      taken_is = λ e. (c.submit.ensures.taken e).0;
+      unchanged = λ k. c.submit.ensures.unchanged k ∙ ap (λ (x : KeyboardValue). x.store) c.self.view_is;
+      needs = λ e. c.submit.ensures.needs image held e;
+      few = c.submit.ensures.few image;
+    }))

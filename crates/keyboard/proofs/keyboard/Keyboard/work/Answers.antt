@@ -1,0 +1,52 @@
+use Rattle.keyboard.specs.Calls.{image_after}
+use Rattle.keyboard.specs.Endpoint.{ep_calls}
+use Rattle.keyboard.proofs.Working.{cuts_legally, stands_settled, stands_failed, stands_other, operating_on}
+use Rattle.keyboard.proofs.keyboard.Keyboard.work.Goals as goal
+
+pub returns-in-Settled-clause-stands : goal.returns-in-Settled-clause-stands
+returns-in-Settled-clause-stands g c start past s e =
+    let t = rw (← c.self.view_is) at s in
+    let of = c.work-work.ensures in
+    let o = operating_on (image_after start past) _ _ c.work-work.result _ c.work-work.new.self e
+    (record { mirrors = of.mirrors; works = of.works; attempts = of.attempts; writes = of.writes; down = of.down; operates = of.operates; torn = of.torn; sound = of.sound }) in
+    rw c.in-Settled.is (stands_settled start past _ c.settle.new.self c.work-work.new.self _ t (rw c.in-Settled.is at o) (c.settle.ensures.stands (ep_calls start past) t.now.ep))
+
+pub returns-in-Settled-clause-answer : goal.returns-in-Settled-clause-answer
+returns-in-Settled-clause-answer g c start past s e = (returns-in-Settled-clause-stands g c start past s e).answered.0
+
+pub returns-in-Failed-clause-stands : goal.returns-in-Failed-clause-stands
+returns-in-Failed-clause-stands g c start past s e =
+    let t = rw (← c.self.view_is) at s in
+    let of = c.work-work.ensures in
+    let o = operating_on (image_after start past) _ _ c.work-work.result _ c.work-work.new.self e
+    (record { mirrors = of.mirrors; works = of.works; attempts = of.attempts; writes = of.writes; down = of.down; operates = of.operates; torn = of.torn; sound = of.sound }) in
+    rw c.in-Failed.is (stands_failed start past _ c.fail.new.self c.work-work.new.self _ t (rw c.in-Failed.is at o) (c.fail.ensures.stands (ep_calls start past) t.now.ep))
+
+pub returns-in-Failed-clause-answer : goal.returns-in-Failed-clause-answer
+returns-in-Failed-clause-answer g c start past s e = (returns-in-Failed-clause-stands g c start past s e).answered.0
+
+pub returns-in-Idle-clause-stands : goal.returns-in-Idle-clause-stands
+returns-in-Idle-clause-stands g c start past s e =
+    let t = rw (← c.self.view_is) at s in
+    let of = c.work-work.ensures in
+    let o = operating_on (image_after start past) _ _ c.work-work.result _ c.work-work.new.self e
+    (record { mirrors = of.mirrors; works = of.works; attempts = of.attempts; writes = of.writes; down = of.down; operates = of.operates; torn = of.torn; sound = of.sound }) in
+    stands_other start past c.work-work.result _ c.work-work.new.self _ t o c.in-Idle.is
+
+pub returns-in-Idle-clause-answer : goal.returns-in-Idle-clause-answer
+returns-in-Idle-clause-answer g c start past s e = (returns-in-Idle-clause-stands g c start past s e).answered.0
+
+pub returns-in-Settled-clause-cut : goal.returns-in-Settled-clause-cut
+returns-in-Settled-clause-cut g c start past s e n =
+    let after = returns-in-Settled-clause-stands g c start past s e in
+    cuts_legally start past c.work-work.result _ s.answered after.answered.0 n
+
+pub returns-in-Failed-clause-cut : goal.returns-in-Failed-clause-cut
+returns-in-Failed-clause-cut g c start past s e n =
+    let after = returns-in-Failed-clause-stands g c start past s e in
+    cuts_legally start past c.work-work.result _ s.answered after.answered.0 n
+
+pub returns-in-Idle-clause-cut : goal.returns-in-Idle-clause-cut
+returns-in-Idle-clause-cut g c start past s e n =
+    let after = returns-in-Idle-clause-stands g c start past s e in
+    cuts_legally start past c.work-work.result _ s.answered after.answered.0 n

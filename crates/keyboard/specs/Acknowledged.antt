@@ -1,0 +1,47 @@
+-- What the host was told is stored.
+use Rattle.std.specs.Prelude.{◌≡◌, ℕ, ◌<◌, Option, None, Some, List, [], ◌∷◌, ◌++◌}
+use Rattle.layers.specs.Codes.{layers, keys}
+use Rattle.layers.specs.Entries.{written}
+use Rattle.layers.specs.declared.command.Command.{Command}
+use Rattle.control_ep.specs.declared.answer.EpAnswer.TheVariants.{Packet}
+use Rattle.keyboard.specs.Calls.{Call, SetUp, In, BusReset, image_after, keymap}
+use Rattle.keyboard.specs.Commands.{accepts}
+
+-- the calls, newest first, begin no other transfer
+abbrev pub SameTransfer : List Call → Type 0
+SameTransfer [] = Unit {0}
+SameTransfer (SetUp bytes ∷ before) = ⊥
+SameTransfer (BusReset ∷ before) = ⊥
+SameTransfer (_ ∷ before) = SameTransfer before
+
+-- a command does not write the entry, where there is one
+abbrev pub Leaves : ℕ → ℕ → Option Command → Type 0
+Leaves layer key None = Unit {0}
+Leaves layer key (Some command) = written command layer key ≡ None
+
+-- none of the commands that these calls, newest first, accepted on top of a past writes the entry
+abbrev pub NoneAcceptedWrites : List Call → List Call → ℕ → ℕ → Type 0
+NoneAcceptedWrites [] past layer key = Unit {0}
+NoneAcceptedWrites (call ∷ before) past layer key =
+    Leaves layer key (accepts (before ++ past) call) × NoneAcceptedWrites before past layer key
+
+-- a command that gives the entry this code was accepted, an IN packet of its transfer was answered by the empty packet,
+-- and no command since wrote the entry, whatever else came
+pub record IsAcknowledged (past : List Call) (layer key code : ℕ) : Type 0 where
+  pub in_layers : layer < layers
+  pub in_keys : key < keys
+  pub before : List Call
+  pub packet : Call
+  pub between : List Call
+  pub after : List Call
+  pub past_is : past ≡ after ++ In (Packet (record { items = [] })) ∷ between ++ packet ∷ before
+  pub command : Command
+  pub accepted : accepts before packet ≡ Some command
+  pub writes : written command layer key ≡ Some code
+  pub same_transfer : SameTransfer between
+  pub not_since : NoneAcceptedWrites (after ++ In (Packet (record { items = [] })) ∷ between) (packet ∷ before) layer key
+
+-- what the host was told is stored is what the flash says
+abbrev pub KeepsAcknowledged : List ℕ → List Call → Type 0
+KeepsAcknowledged start past =
+    (layer key code : ℕ) → IsAcknowledged past layer key code → keymap (image_after start past) layer key ≡ code

@@ -1,0 +1,44 @@
+-- What a keyboard was asked since its start, and what it answered.
+use Rattle.std.specs.Prelude.{ℕ, Option, None, Some, List, [], ◌∷◌}
+use Rattle.debounce.specs.declared.Scan.{Scan}
+use Rattle.control_ep.specs.declared.answer.EpAnswer.{EpAnswer}
+use Rattle.keymap_store.specs.declared.store.Work.{Work}
+use Rattle.keymap_store.specs.Keymap.{entries_of}
+
+pub data Call : Type 0 where
+  -- a scan of the matrix
+  Scanned : (scan : Scan) → Call
+  -- a SETUP packet on endpoint 0
+  SetUp : (bytes : List ℕ) → Call
+  -- an OUT packet on endpoint 0, and its answer
+  Out : (packet : List ℕ) → (answer : EpAnswer) → Call
+  -- the answer to an IN packet on endpoint 0
+  In : (answer : EpAnswer) → Call
+  -- the bytes that a poll of endpoint 1 was answered, if any
+  Polled : (answer : Option (List ℕ)) → Call
+  -- a step of the flash work: its answer, and the flash's image after it
+  Worked : (work : Work) → (image : List ℕ) → Call
+  BusReset : Call
+
+-- the flash's image after these calls, newest first: no call but a step of the flash work changes it
+abbrev pub image_after : List ℕ → List Call → List ℕ
+image_after start [] = start
+image_after start (Worked work image ∷ before) = image
+image_after start (_ ∷ before) = image_after start before
+
+-- the keymap of an image: the commands among the words of the active page, read by its format; the last writer of an
+-- entry decides
+abbrev pub keymap : List ℕ → ℕ → ℕ → ℕ
+keymap image = entries_of image
+
+-- the SETUP packet of the transfer under way; none before the first one, and after a bus reset
+abbrev pub setup_of : List Call → Option (List ℕ)
+setup_of [] = None
+setup_of (SetUp bytes ∷ before) = Some bytes
+setup_of (BusReset ∷ before) = None
+setup_of (_ ∷ before) = setup_of before
+
+-- something holds of each call and of what came before it
+abbrev pub EachCall : (List ℕ → List Call → Call → Type 0) → List ℕ → List Call → Type 0
+EachCall P start [] = Unit {0}
+EachCall P start (call ∷ before) = P start before call × EachCall P start before

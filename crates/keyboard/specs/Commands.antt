@@ -1,0 +1,80 @@
+-- The commands of a session: which were accepted, in order, and what has become of each.
+use Rattle.std.specs.Prelude.{ℕ, Option, None, Some, List, [], ◌∷◌, ◌++◌, drop}
+use Rattle.std.specs.Result.{result_ok}
+use Rattle.layers.specs.declared.command.Command.{Command}
+use Rattle.control_ep.specs.Transfers.{HostReport, FeatureData}
+use Rattle.keyboard.specs.Calls.{Call, image_after, keymap}
+use Rattle.keyboard.specs.Effects.{Sent, taken}
+use Rattle.keyboard.specs.Feature.{command_in}
+use Rattle.keyboard.specs.Fate.{Fate, works, settled, failed, fate}
+
+-- a command that was accepted, and what has become of it
+pub record Accepted : Type 0 where
+  pub command : Command
+  pub fate : Fate
+
+-- the command in a report: in its bytes after the ID, if it is the feature report
+abbrev pub command_of : HostReport → List ℕ → Option Command
+command_of FeatureData bytes = result_ok (command_in (drop 1 bytes))
+command_of _ bytes = None
+
+abbrev pub command_in_report : Option Sent → Option Command
+command_in_report None = None
+command_in_report (Some sent) = command_of sent.report sent.bytes
+
+-- a command is accepted where a feature report with it is acknowledged
+unfoldable pub accepts : List Call → Call → Option Command
+accepts before call = command_in_report (taken before call)
+
+-- a command that a call accepts, with what became of it by the calls after
+abbrev pub accepted_with : (ℕ → ℕ → ℕ) → List Call → Option Command → List Accepted
+accepted_with entries after (Some command) = record { command = command; fate = fate entries command after } ∷ []
+accepted_with entries after None = []
+
+-- the commands accepted in these calls, in order, each with what became of it by the calls `after` them, newest first
+abbrev pub accepted_before : List ℕ → List Call → List Call → List Accepted
+accepted_before start after [] = []
+accepted_before start after (call ∷ before) =
+    accepted_before start (after ++ call ∷ []) before
+    ++ accepted_with (keymap (image_after start before)) after (accepts before call)
+
+-- the commands accepted in a session, in order
+unfoldable pub accepted : List ℕ → List Call → List Accepted
+accepted start past = accepted_before start [] past
+
+abbrev pub if_works : Fate → Command → Option Command
+if_works works command = Some command
+if_works _ command = None
+
+abbrev pub if_settled : Fate → Command → List Command → List Command
+if_settled settled command later = command ∷ later
+if_settled _ command later = later
+
+abbrev pub unless_failed : Fate → Accepted → List Accepted → List Accepted
+unless_failed failed one later = later
+unless_failed _ one later = one ∷ later
+
+-- the last of them that works: the keyboard is busy then
+abbrev pub working_one : Accepted → Option Command → Option Command
+working_one one (Some later) = Some later
+working_one one None = if_works one.fate one.command
+
+abbrev pub working_of : List Accepted → Option Command
+working_of [] = None
+working_of (one ∷ later) = working_one one (working_of later)
+
+unfoldable pub working : List ℕ → List Call → Option Command
+working start past = working_of (accepted start past)
+
+-- those that are settled, and those that did not fail
+abbrev pub settled_of : List Accepted → List Command
+settled_of [] = []
+settled_of (one ∷ later) = if_settled one.fate one.command (settled_of later)
+
+abbrev pub standing_of : List Accepted → List Accepted
+standing_of [] = []
+standing_of (one ∷ later) = unless_failed one.fate one (standing_of later)
+
+abbrev pub commands_of : List Accepted → List Command
+commands_of [] = []
+commands_of (one ∷ later) = one.command ∷ commands_of later

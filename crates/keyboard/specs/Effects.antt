@@ -1,0 +1,115 @@
+-- What the host has set: LEDs, the selected entry, the protocol and the idle values, read off the answers that were given
+-- and the SETUP packets that they belong to.
+use Rattle.std.specs.Prelude.{ℕ, ◌%◌, ◌/◌, ◌^◌, ◌==◌, ◌&&◌, if◌then◌else◌, Option, None, Some, unwrap_or, Result, Ok, List, [], ◌∷◌, slice_index}
+use Rattle.reports.specs.declared.Protocol.{Protocol}
+use Rattle.reports.specs.declared.Protocol.TheVariants.{Report}
+use Rattle.control_ep.specs.declared.why.Why.{Why}
+use Rattle.control_ep.specs.declared.why.Why.TheVariants.{UnknownReport, BadProtocol}
+use Rattle.control_ep.specs.declared.answer.EpAnswer.{EpAnswer}
+use Rattle.control_ep.specs.declared.answer.EpAnswer.TheVariants.{Ack}
+use Rattle.control_ep.specs.declared.answer.Effect.{Effect}
+use Rattle.control_ep.specs.declared.answer.Effect.TheVariants.{Nothing, SetProtocol}
+use Rattle.control_ep.specs.Transfers.{SetupFields, HostReport, LedsWithId, LedsAlone, FeatureData, Transfer, Sets}
+use Rattle.control_ep.specs.Requests.{request_of, named, idle_effects, protocol_effects}
+use Rattle.control_ep.specs.Stage.{is_empty_packet}
+use Rattle.keyboard.specs.Calls.{Call, Out, In, BusReset, setup_of}
+
+-- the report that a wValue names (HID 1.11 section 7.2.2): its type, 2 output or 3 feature, in the high byte, its
+-- Report ID, or 0, in the low one
+abbrev pub report_of_value : ℕ → Option HostReport
+report_of_value value =
+    if value == 0x0201 then Some LedsWithId
+    else (if value == 0x0200 then Some LedsAlone
+    else (if value == 0x0303 then Some FeatureData
+    else None))
+
+-- the report that SET_REPORT names
+abbrev pub report_of_request : SetupFields → Option HostReport
+report_of_request request =
+    if (request.kind == 0x21) && (request.code == 0x09) then report_of_value request.value else None
+
+unfoldable pub report_named : Option (List ℕ) → Option HostReport
+report_named None = None
+report_named (Some setup) = report_of_request (request_of setup)
+
+-- a report that the host has sent: which one its SETUP packet named, and its bytes
+pub record Sent : Type 0 where
+  pub report : HostReport
+  pub bytes : List ℕ
+
+abbrev pub sent_as : List ℕ → Option HostReport → Option Sent
+sent_as packet None = None
+sent_as packet (Some report) = Some (record { report = report; bytes = packet })
+
+-- the report that a call took: an OUT packet that was acknowledged, of a transfer that names a report
+abbrev pub taken : List Call → Call → Option Sent
+taken before (Out packet Ack) = sent_as packet (report_named (setup_of before))
+taken before _ = None
+
+-- the LEDs of a report, bits 0 to 4 (HUT page 08h), and none of a feature report
+abbrev pub leds_of : HostReport → List ℕ → Option ℕ
+leds_of LedsWithId bytes = Some (slice_index bytes 1 % 2 ^ 5)
+leds_of LedsAlone bytes = Some (slice_index bytes 0 % 2 ^ 5)
+leds_of FeatureData bytes = None
+
+abbrev pub leds_in : Option Sent → Option ℕ
+leds_in None = None
+leds_in (Some sent) = leds_of sent.report sent.bytes
+
+-- the LEDs: those of the latest output report since the start or the latest bus reset, else none
+unfoldable pub leds_after : List Call → ℕ
+leds_after [] = 0
+leds_after (BusReset ∷ before) = 0
+leds_after (call ∷ before) = unwrap_or (leds_in (taken before call)) (leds_after before)
+
+-- an entry of the keymap, by layer and key
+pub record Entry : Type 0 where
+  pub layer : ℕ
+  pub key : ℕ
+
+-- the entry that a feature report of operation 0 selects
+abbrev pub entry_of : HostReport → List ℕ → Option Entry
+entry_of FeatureData bytes =
+    if slice_index bytes 1 == 0 then Some (record { layer = slice_index bytes 2; key = slice_index bytes 3 }) else None
+entry_of _ bytes = None
+
+abbrev pub entry_in_report : Option Sent → Option Entry
+entry_in_report None = None
+entry_in_report (Some sent) = entry_of sent.report sent.bytes
+
+-- the selected entry: that of the latest such report since the start, else key 0 of layer 0
+unfoldable pub selected : List Call → Entry
+selected [] = record { layer = 0; key = 0 }
+selected (call ∷ before) = unwrap_or (entry_in_report (taken before call)) (selected before)
+
+-- the effect of a request without data
+abbrev pub effect_set : Result Transfer Why → Effect
+effect_set (Ok (Sets effect)) = effect
+effect_set _ = Nothing
+
+-- what SET_IDLE and SET_PROTOCOL ask for (HID 1.11 sections 7.2.4 and 7.2.6), by wValue
+abbrev pub effect_of_request : SetupFields → Effect
+effect_of_request request =
+    if (request.kind == 0x21) && (request.code == 0x0A)
+    then effect_set (named UnknownReport (idle_effects (request.value / 256)) (request.value % 256))
+    else (if (request.kind == 0x21) && (request.code == 0x0B) then effect_set (named BadProtocol protocol_effects request.value)
+    else Nothing)
+
+unfoldable pub effect_asked : Option (List ℕ) → Effect
+effect_asked None = Nothing
+effect_asked (Some setup) = effect_of_request (request_of setup)
+
+-- what an answer to an IN packet brings about: the empty packet of its status stage ends a request without data
+abbrev pub effect_told : List Call → EpAnswer → Effect
+effect_told before answer = if is_empty_packet answer then effect_asked (setup_of before) else Nothing
+
+abbrev pub protocol_then : Effect → Protocol → Protocol
+protocol_then (SetProtocol chosen) protocol = chosen
+protocol_then _ protocol = protocol
+
+-- the protocol: the one chosen last since the start or the latest bus reset, else report protocol
+unfoldable pub protocol_after : List Call → Protocol
+protocol_after [] = Report
+protocol_after (BusReset ∷ before) = Report
+protocol_after (In answer ∷ before) = protocol_then (effect_told before answer) (protocol_after before)
+protocol_after (_ ∷ before) = protocol_after before

@@ -1,0 +1,24 @@
+-- The calls of the keys: scans with the keymap and the protocol of their moment, polls, and what the host sets of them.
+use Rattle.std.specs.Prelude.{ℕ, List, [], ◌∷◌}
+use Rattle.control_ep.specs.declared.answer.Effect.{Effect}
+use Rattle.control_ep.specs.declared.answer.Effect.TheVariants.{Nothing, Idle, SetProtocol}
+use Rattle.reports.specs.Calls.{polled, idle_set, forgot, was_reset}
+use Rattle.key_reports.specs.Calls.{KeyCall, Scanned as KeysScanned, Asked}
+use Rattle.key_reports.specs.Tables.{table}
+use Rattle.keyboard.specs.Calls.{Call, Scanned, In, Polled, BusReset, image_after, keymap}
+use Rattle.keyboard.specs.Effects.{effect_told, protocol_after}
+
+-- an idle value is set; a choice of protocol, whichever it is, forgets what was sent
+abbrev pub with_effect : Effect → List KeyCall → List KeyCall
+with_effect Nothing calls = calls
+with_effect (Idle id duration) calls = Asked (idle_set id duration) ∷ calls
+with_effect (SetProtocol chosen) calls = Asked forgot ∷ calls
+
+unfoldable pub key_calls : List ℕ → List Call → List KeyCall
+key_calls start [] = []
+key_calls start (Scanned scan ∷ before) =
+    KeysScanned scan (table (keymap (image_after start before))) (protocol_after before) ∷ key_calls start before
+key_calls start (Polled answer ∷ before) = Asked (polled (protocol_after before) answer) ∷ key_calls start before
+key_calls start (In answer ∷ before) = with_effect (effect_told before answer) (key_calls start before)
+key_calls start (BusReset ∷ before) = Asked was_reset ∷ key_calls start before
+key_calls start (_ ∷ before) = key_calls start before

@@ -1,0 +1,17 @@
+pub mod Calls
+pub mod Effects
+pub mod Keys
+pub mod Feature
+pub mod Fate
+pub mod Commands
+pub mod Endpoint
+pub mod Bounded
+pub mod Operated
+pub mod Restart
+pub mod Lawful
+pub mod Acknowledged
+pub mod Sound
+pub mod Value
+pub mod Stands
+pub mod Turnovers
+pub mod Private

@@ -1,0 +1,95 @@
+-- What a step of the flash work makes of the flash while a command works: one operation, whole or torn.
+use Rattle.std.specs.Prelude.{◌≡◌, ◌⊎◌, ℕ, suc, ◌+◌, ◌^◌, ◌<◌, ◌≤◌, List, [], ◌∷◌, ◌++◌, length, slice_index, Some}
+use Rattle.records.specs.declared.Slot.TheVariants.{Free}
+use Rattle.records.specs.Slots.{slot_of}
+use Rattle.flash_model.specs.Image.{IsImage, slot_at, page_count}
+use Rattle.layers.specs.Commands.{word_of}
+use Rattle.layers.specs.Entries.{changed}
+use Rattle.layers.specs.declared.command.Command.{Command}
+use Rattle.page_turnover.specs.declared.operation.Operation.{Operation}
+use Rattle.page_turnover.specs.declared.operation.Operation.TheVariants.{Program, Erase}
+use Rattle.page_turnover.specs.Active.{active}
+use Rattle.page_turnover.specs.Header.{header_word}
+use Rattle.page_turnover.specs.Next.{MayMake}
+use Rattle.page_turnover.specs.Steps.{Keeps}
+use Rattle.page_turnover.specs.Turn.{target_page, next_seq}
+use Rattle.page_turnover.specs.Usable.{IsUsable}
+use Rattle.page_turnover.specs.Words.{words, IsTail}
+use Rattle.keymap_store.specs.declared.store.Work.{Work as WorkAnswer}
+use Rattle.keymap_store.specs.declared.store.Work.TheVariants.{Idle, Working, Settled, Failed}
+use Rattle.keymap_store.specs.Keymap.{SameEntries}
+use Rattle.keymap_store.specs.Left.{Needs}
+use Rattle.keymap_store.specs.Next.{Attempts, all_copies}
+use Rattle.keymap_store.specs.Turnovers.{Turns, Wears}
+use Rattle.keyboard.specs.Calls.{Call, keymap}
+use Rattle.keyboard.specs.Bounded.{steps_since, accepted_image}
+
+-- the operation loses nothing: a word of 32 bits goes into a Free slot, or a page that is not the active one is erased
+abbrev pub LosesNothing : List ℕ → Operation → Type 0
+LosesNothing old (Program page slot word) =
+    (page < page_count old) × (slot < 512) × (word < 2 ^ 32) × (slot_of (slot_at old page slot) ≡ Free)
+LosesNothing old (Erase page) = (page < page_count old) × ((seq : ℕ) → active old ≡ Some (page, seq) → ⊥)
+
+-- the operation programs the command's record into the tail slot of the active page
+pub record IsRecord (command : Command) (old : List ℕ) (operation : Operation) : Type 0 where
+  pub page : ℕ
+  pub seq : ℕ
+  pub tail : ℕ
+  pub is_active : active old ≡ Some (page, seq)
+  pub is_tail : IsTail old page tail
+  pub operation_is : operation ≡ Program page tail (word_of command)
+
+-- the operation is one of a turn, on the page after the active one: the page is erased; of the words that set the entries that
+-- differ from the default, the one at n is copied to slot n + 1; or the header with the next sequence number goes to slot 0
+pub data IsOfTurn (old : List ℕ) (operation : Operation) : Type 0 where
+  erases : operation ≡ Erase (target_page old) → IsOfTurn old operation
+  copies : (n : ℕ) → n < length (all_copies (keymap old))
+      → operation ≡ Program (target_page old) (n + 1) (slice_index (all_copies (keymap old)) n) → IsOfTurn old operation
+  heads : operation ≡ Program (target_page old) 0 (header_word 2 (next_seq old)) → IsOfTurn old operation
+
+-- the command's record is the last one of the log now, and the keymap is changed by the command
+pub record AddsRecord (command : Command) (old new : List ℕ) : Type 0 where
+  pub record_is : words new ≡ words old ++ word_of command ∷ []
+  pub entries : SameEntries (keymap new) (changed (keymap old) (command ∷ []))
+
+-- what a step may come to: the command's record is there, or the keymap is as before
+abbrev pub WorksOn : Command → List ℕ → WorkAnswer → List ℕ → Type 0
+WorksOn command old Settled new = AddsRecord command old new
+WorksOn command old Working new = SameEntries (keymap new) (keymap old)
+WorksOn command old Failed new = SameEntries (keymap new) (keymap old)
+WorksOn command old Idle new = ⊥
+
+-- the command needs as many steps as the flash said when it was accepted. The operation of the last one is its record, and
+-- each before is one of a turn; a step that fails leaves words and active page as they were
+pub record Advances (accepted_at : List ℕ) (made : ℕ) (command : Command) (old : List ℕ) (operation : Operation) (work : WorkAnswer) (new : List ℕ) : Type 0 where
+  pub needed : ℕ
+  pub needs : Needs accepted_at needed
+  pub within : suc made ≤ needed
+  pub record_last : suc made ≡ needed → IsRecord command old operation
+  pub turn_before : suc made < needed → IsOfTurn old operation
+  pub last : work ≡ Settled → suc made ≡ needed
+  pub before_last : work ≡ Working → (suc made < needed) × Turns old new
+  pub fails : work ≡ Failed → Keeps old new
+
+-- what the operation may have left where it was cut short: slots 0 are sound, and the keymap is as before, or changed by
+-- the command
+abbrev pub IsCutShort : Command → List ℕ → List ℕ → Type 0
+IsCutShort command old cut =
+    IsUsable cut × (SameEntries (keymap cut) (keymap old) ⊎ SameEntries (keymap cut) (changed (keymap old) (command ∷ [])))
+
+-- a step of the flash work while a command works: one operation, what it leaves, and how it is answered
+pub record Works (start : List ℕ) (before : List Call) (command : Command) (old : List ℕ) (work : WorkAnswer) (new : List ℕ) : Type 0 where
+  pub operation : Operation
+  -- before it, all slots 0 are sound
+  pub usable : IsUsable old
+  pub loses_nothing : LosesNothing old operation
+  -- it was made as a whole, and its slot or page reads as intended; or it was torn, reads otherwise, and the command fails
+  pub attempts : Attempts old operation work new
+  -- which one it is, by the steps that were made for the command
+  pub advances : Advances (accepted_image start before) (steps_since before) command old operation work new
+  pub outcome : WorksOn command old work new
+  -- slots 0 stay sound, and of the active page at most the tail slot is touched, unless a header makes another page active
+  pub sound : IsUsable new
+  pub wears : Wears old new
+  -- whatever the power had left of it, if it had been cut inside the operation
+  pub cut : (image : List ℕ) → IsImage image → MayMake old operation image → IsCutShort command old image

@@ -1,0 +1,63 @@
+-- What only ties the code to the definitions: contracts of the keyboard's private calls.
+use Rattle.std.specs.Prelude.{◌≡◌, ◌≢◌, ◌≤◌, ℕ, is_some, IsSome, None, Some, Result, Ok, Err, List, slice_index, if◌then◌else◌}
+use Rattle.layers.specs.declared.command.Command.{Command}
+use Rattle.page_turnover.specs.Operates.{Operates, MayOperate}
+use Rattle.page_turnover.specs.Usable.{IsUsable}
+use Rattle.control_ep.specs.declared.answer.EpAnswer.TheVariants.{Ack}
+use Rattle.control_ep.specs.declared.answer.Verdict.{Verdict}
+use Rattle.control_ep.specs.declared.answer.Verdict.TheVariants.{Done, Working, Busy, Refused}
+use Rattle.control_ep.specs.Answers.{judged_answer}
+use Rattle.keymap_store.specs.declared.store.Work.{Work as WorkAnswer}
+use Rattle.keymap_store.specs.declared.store.Work.TheVariants.{Idle, Failed}
+use Rattle.keymap_store.specs.declared.store.Taken.{Taken}
+use Rattle.keymap_store.specs.declared.store.Taken.TheVariants as Takens
+use Rattle.keymap_store.specs.declared.store.SubmitRefusal.{SubmitRefusal}
+use Rattle.keymap_store.specs.declared.store.SubmitRefusal.TheVariants as Refusals
+use Rattle.control_ep.specs.declared.why.Why.TheVariants.{Unsound, Worn}
+use Rattle.keymap_store.specs.Store.{Mirrors}
+use Rattle.keymap_store.specs.Left.{left, Needs}
+use Rattle.keymap_store.specs.Next.{AttemptsNext, next_operation_of}
+use Rattle.keymap_store.specs.Works.{WorksAs, WritesAs, CountsDown}
+use Rattle.keymap_store.specs.Value.{StoreValue}
+use Rattle.keyboard.specs.Calls.{keymap}
+use Rattle.keyboard.specs.Feature.{command_in, FeatureAnswer}
+use Rattle.keyboard.specs.Fate.{changes, changes_by}
+use Rattle.keyboard.specs.Endpoint.{verdict_told}
+use Rattle.keyboard.specs.Bounded.{most_steps}
+use Rattle.keyboard.specs.Value.{KeyboardValue, RunsOn, at_work}
+
+-- the verdict on a command, by what the store made of it
+abbrev pub verdict_of : Result Taken SubmitRefusal → Verdict
+verdict_of (Ok Takens.Settled) = Done
+verdict_of (Ok Takens.Working) = Working
+verdict_of (Err Refusals.Busy) = Busy
+verdict_of (Err Refusals.Unsound) = Refused Unsound
+verdict_of (Err Refusals.Worn) = Refused Worn
+
+-- what a verdict leaves: nothing is new where the report is not acknowledged; an entry is selected; or a command that
+-- changes something works, and one that changes nothing is done
+pub data Leaves (image bytes : List ℕ) (verdict : Verdict) (old new : KeyboardValue) : Type 0 where
+  refused : (judged_answer verdict ≡ Ack → ⊥) → new ≡ old → Leaves image bytes verdict old new
+  selects : slice_index bytes 0 ≡ 0 → judged_answer verdict ≡ Ack
+      → new ≡ record old { layer = slice_index bytes 1; key = slice_index bytes 2 } → Leaves image bytes verdict old new
+  commands : (command : Command) → command_in bytes ≡ Ok command → judged_answer verdict ≡ Ack → at_work old ≡ None → new ≡ record old { store = new.store }
+      → at_work new ≡ (if changes (keymap image) command then Some command else None) → left image new.store ≤ most_steps
+      → (IsSome (at_work new) → Needs image (left image new.store)) → Leaves image bytes verdict old new
+
+-- a verdict on a feature report's bytes
+pub record Judges (image bytes : List ℕ) (verdict : Verdict) (old new : KeyboardValue) : Type 0 where
+  pub answer_is : FeatureAnswer image (is_some (at_work old)) bytes (judged_answer verdict)
+  pub told : verdict ≡ verdict_told (changes_by (keymap image) (command_in bytes)) (judged_answer verdict)
+  pub runs_on : RunsOn image new
+  pub leaves : Leaves image bytes verdict old new
+
+-- the store makes a step of the flash work: what it promises of it
+pub record Operating (image : List ℕ) (old : StoreValue) (work : WorkAnswer) (after : List ℕ) (new : StoreValue) : Type 0 where
+  pub mirrors : Mirrors after new
+  pub works : WorksAs image old work after new
+  pub attempts : AttemptsNext (next_operation_of image old) image work after
+  pub writes : WritesAs image old.job work after
+  pub down : CountsDown work (left image old) (left after new)
+  pub operates : work ≢ Idle → work ≢ Failed → Operates image after
+  pub torn : work ≡ Failed → MayOperate image after
+  pub sound : IsUsable image → IsUsable after

@@ -1,0 +1,392 @@
+//! The keyboard and its calls.
+
+ghost use Rattle.std.specs.Prelude.{◌≡◌, ◌≢◌, ◌∷◌, [], ℕ, List, None, Ok, false, IfOk};
+ghost use Rattle.std.specs.Option.{option_map};
+ghost use Rattle.layers.specs.Entries.{changed};
+ghost use Rattle.layers.specs.Keymaps.{HasEntries};
+ghost use Rattle.layers.specs.Usages.{has_key, has_consumer};
+ghost use Rattle.control_ep.specs.Answers.{in_answer, judged_answer, IfNak, IfStall};
+ghost use Rattle.control_ep.specs.Requests.{SameBesideInputs};
+ghost use Rattle.control_ep.specs.Transfers.{Stalled};
+ghost use Rattle.control_ep.specs.declared.answer.EpAnswer.{EpAnswer};
+ghost use Rattle.key_reports.specs.Past.{keys_after, consumer_after, answer_after};
+ghost use Rattle.keymap_store.specs.declared.store.Work.{Work};
+ghost use Rattle.keymap_store.specs.Works.{CountsAs};
+ghost use Rattle.keyboard.specs.Calls.{Call, Scanned, SetUp, Out, In, Polled, Worked, BusReset, image_after, keymap};
+ghost use Rattle.keyboard.specs.Effects.{leds_after, selected, protocol_after};
+ghost use Rattle.keyboard.specs.Commands.{accepted, settled_of};
+ghost use Rattle.keyboard.specs.Keys.{key_calls};
+ghost use Rattle.keyboard.specs.Feature.{command_in, select_answer};
+ghost use Rattle.keyboard.specs.Endpoint.{feature_report, view_after, verdict_told, stage_after};
+ghost use Rattle.keyboard.specs.Private.{Judges};
+ghost use Rattle.keyboard.specs.Restart.{CutsLegally};
+ghost use Rattle.keyboard.specs.Lawful.{IsAnswered};
+
+use crate::feature::{command_in, verdict_of};
+use control_ep::{ControlEp, DeviceView, Effect, EpAnswer, OutStep, Verdict, Why, asks_for_input};
+use flash_model::NorFlash;
+use key_reports::{IdleId, KeyReports, Protocol, Report, Scan};
+use keymap_store::{Store, Work};
+use layers::{Command, KeyNo, Keymap, LayerNo, Usages};
+use std::alloc::{AllocError, Global};
+use std::marker::Model;
+
+/// A keyboard of 96 keys on a NOR flash that keeps its keymap.
+#[derive(Drop)]
+pub struct Keyboard {
+    ep: ControlEp,
+    keys: KeyReports,
+    store: Store,
+    protocol: Protocol,
+    leds: u8,
+    /// The entry that GET_REPORT of the feature report shows.
+    layer: LayerNo,
+    key: KeyNo,
+}
+
+impl Model for Keyboard {
+    ghost use Rattle.keyboard.specs.Value.{KeyboardValue};
+
+    ghost Value = { KeyboardValue };
+
+    ghost view = { λ k. record { ep = k.ep; keys = k.keys; store = k.store; protocol = k.protocol; leds = k.leds; layer = k.layer; key = k.key } };
+}
+
+impl Keyboard {
+    ghost use Rattle.keyboard.specs.Value.{RunsOn, at_work};
+    ghost use Rattle.keyboard.specs.Stands.{StandsFor};
+
+    /// A keyboard as it starts on a flash, whose keymap it reads: report protocol, no LED on, every key
+    /// up, nothing sent, entry (0, 0) selected, and no transfer. `AllocError` where there was no memory
+    /// for the reports that wait; no other call takes memory.
+    pub fn start<F: NorFlash>(alloc: Global, flash: &F) -> Result<Keyboard, AllocError>
+        // it stands for no call, on this image
+        ensures stands { IfOk result (λ keyboard. StandsFor (F.image flash.now) [] keyboard) }
+        // it runs on this flash
+        ensures runs_on { IfOk result (λ keyboard. RunsOn (F.image flash.now) keyboard) }
+    {
+        let keys = KeyReports::new(alloc)?;
+        Ok(Keyboard {
+            ep: ControlEp::new(),
+            keys,
+            store: Store::mount(flash),
+            protocol: Protocol::Report,
+            leds: 0,
+            layer: LayerNo::known(0),
+            key: KeyNo::known(0),
+        })
+    }
+
+    /// Leaves what `start` gives on this flash. Takes no memory.
+    pub fn restart<F: NorFlash>(&mut self, flash: &F)
+        // it stands for no call, on this image
+        ensures stands { StandsFor (F.image flash.now) [] self.new }
+        // it runs on this flash
+        ensures runs_on { RunsOn (F.image flash.now) self.new }
+    {
+        self.ep = ControlEp::new();
+        self.keys.restart();
+        self.store = Store::mount(flash);
+        self.protocol = Protocol::Report;
+        self.leds = 0;
+        self.layer = LayerNo::known(0);
+        self.key = KeyNo::known(0);
+    }
+
+    /// Takes a scan of the matrix, one millisecond after the last. The debounced releases come first,
+    /// then the presses, each by rising key and with the keymap of this moment; then the reports that
+    /// this changes wait for a poll.
+    pub fn scan(&mut self, scan: Scan)
+        // it stands for this call after those before it
+        ensures stands { (start : List ℕ) (past : List Call) → StandsFor start past self.old
+            → StandsFor start (Scanned scan ∷ past) self.new }
+        // it still runs on its flash
+        ensures runs_on { (image : List ℕ) → RunsOn image self.old → RunsOn image self.new }
+    {
+        self.keys.scan(scan, self.store.keymap(), self.protocol);
+    }
+
+    /// Takes a SETUP packet of endpoint 0, which is always acknowledged and ends the transfer under
+    /// way (USB 2.0 sections 8.5.3 and 9.3, HID 1.11 section 7). What is read is what the keyboard has
+    /// now; the flash work goes on.
+    pub fn setup(&mut self, packet: [u8; 8])
+        // it stands for this call after those before it
+        ensures stands { (start : List ℕ) (past : List Call) → StandsFor start past self.old
+            → StandsFor start (SetUp packet ∷ past) self.new }
+        // it still runs on its flash
+        ensures runs_on { (image : List ℕ) → RunsOn image self.old → RunsOn image self.new }
+    {
+        let view = if asks_for_input(packet) {
+            self.view()
+        } else {
+            self.view_beside_inputs()
+        };
+        self.ep.setup(packet, &view);
+    }
+
+    /// Takes an OUT packet of endpoint 0 (USB 2.0 section 8.5.3): the closing packet of a read, an
+    /// output report, whose LEDs are then on, or a feature report, which selects an entry for reading
+    /// or brings a command. A command that is acknowledged works until `work` answers Settled or
+    /// Failed, or is done where it changes nothing. `Nak` is for a feature report while a command
+    /// works. Each other packet is answered by a `Stall`, and so is each further one of the transfer.
+    pub fn out(&mut self, packet: &[u8]) -> EpAnswer
+        // it stands for this call after those before it
+        ensures stands { (start : List ℕ) (past : List Call) → StandsFor start past self.old
+            → StandsFor start (Out packet.now result ∷ past) self.new }
+        // the answer is that of the transfer's stage, and of the checks of a feature report
+        ensures answer { (start : List ℕ) (past : List Call) → StandsFor start past self.old
+            → IsAnswered start past (Out packet.now result) }
+        // a NAK changes nothing, and a STALL the transfer alone
+        ensures nak { (start : List ℕ) (past : List Call) → StandsFor start past self.old
+            → IfNak result (self.new ≡ self.old) }
+        ensures stall { (start : List ℕ) (past : List Call) → StandsFor start past self.old
+            → IfStall result (λ why. self.new ≡ record self.old { ep = Stalled why }) }
+        // it still runs on its flash
+        ensures runs_on { (image : List ℕ) → RunsOn image self.old → RunsOn image self.new }
+    {
+        self.answer_out(packet)
+    }
+
+    /// Takes an IN packet of endpoint 0 (USB 2.0 section 8.5.3): the next packet of a read, the empty
+    /// packet of the status stage, `Nak` while the transfer's command works, or a `Stall`. SET_IDLE
+    /// and SET_PROTOCOL act with the empty packet; SET_PROTOCOL, whatever it chooses, also forgets
+    /// what was sent and drops what waits.
+    pub fn in_packet(&mut self) -> EpAnswer
+        // it stands for this call after those before it
+        ensures stands { (start : List ℕ) (past : List Call) → StandsFor start past self.old
+            → StandsFor start (In result ∷ past) self.new }
+        // the answer is that of the transfer's stage
+        ensures answer { (start : List ℕ) (past : List Call) → StandsFor start past self.old
+            → result ≡ in_answer (stage_after start past) }
+        // a NAK changes nothing, and a STALL the transfer alone
+        ensures nak { IfNak result (self.new ≡ self.old) }
+        ensures stall { IfStall result (λ why. self.new ≡ record self.old { ep = Stalled why }) }
+        // it still runs on its flash
+        ensures runs_on { (image : List ℕ) → RunsOn image self.old → RunsOn image self.new }
+    {
+        let (answer, effect) = self.ep.in_packet();
+        match effect {
+            Effect::Nothing => {}
+            Effect::Idle(id, duration) => self.keys.set_idle(id, duration),
+            Effect::SetProtocol(protocol) => {
+                self.protocol = protocol;
+                self.keys.forget_sent();
+            }
+        }
+        answer
+    }
+
+    /// The answer to a poll of endpoint 1: the report that has waited longest. Where none waits, the
+    /// report of the protocol whose bytes are not those last sent, else one whose idle time has passed
+    /// since then, or `None`. It then counts as sent.
+    pub fn poll(&mut self) -> Option<Report>
+        // it stands for this call after those before it
+        ensures stands { (start : List ℕ) (past : List Call) → StandsFor start past self.old
+            → StandsFor start (Polled (option_map (λ r. r.items) result) ∷ past) self.new }
+        // the answer is the report that waits, else that of the poll rule
+        ensures answer { (start : List ℕ) (past : List Call) → StandsFor start past self.old
+            → option_map (λ r. r.items) result ≡ answer_after (protocol_after past) (key_calls start past) }
+        // it still runs on its flash
+        ensures runs_on { (image : List ℕ) → RunsOn image self.old → RunsOn image self.new }
+    {
+        self.keys.poll(self.protocol)
+    }
+
+    /// A step of the flash work: makes the one flash operation that the command at work needs next, or
+    /// none where no command works. A command is settled or fails by the 387th step. `Settled` lets
+    /// the status stage of its transfer follow, and `Failed` stalls it, if the transfer still waits.
+    /// The flash has to be the one that the keyboard started on.
+    pub fn work<F: NorFlash>(&mut self, flash: &mut F) -> Work
+        requires { RunsOn (F.image flash.old) self.old }
+        // it stands for this call after those before it
+        ensures stands { (start : List ℕ) (past : List Call) → StandsFor start past self.old → image_after start past ≡ F.image flash.old
+            → StandsFor start (Worked result (F.image flash.new) ∷ past) self.new }
+        // the answer says what the operation did to the command, the log and the keymap
+        ensures answer { (start : List ℕ) (past : List Call) → StandsFor start past self.old → image_after start past ≡ F.image flash.old
+            → IsAnswered start past (Worked result (F.image flash.new)) }
+        // where the power is cut inside the operation, a restart finds a legal keymap
+        ensures cut { (start : List ℕ) (past : List Call) → StandsFor start past self.old → image_after start past ≡ F.image flash.old
+            → result ≢ Work.Idle → CutsLegally start past result (F.image flash.new) }
+        // it still runs on its flash
+        ensures runs_on { RunsOn (F.image flash.new) self.new }
+        // at most one operation is made, and none where the answer is Idle
+        ensures counts { CountsAs result (F.operations flash.old) (F.operations flash.new) (F.faults flash.old) (F.faults flash.new) }
+        // what is made is an operation of the flash
+        ensures operated { result ≢ Work.Idle → F.operates flash.old flash.new }
+        // without an operation the flash stays as it is
+        ensures untouched { result ≡ Work.Idle → flash.new ≡ flash.old }
+        // a flash that answers no fault lets no command fail
+        ensures faultless { F.is_faultless flash.old → F.is_faultless flash.new × (result ≢ Work.Failed) }
+    {
+        let work = self.store.work(flash);
+        match work {
+            Work::Settled => self.ep.settle(),
+            Work::Failed => self.ep.fail(),
+            Work::Idle | Work::Working => {}
+        }
+        work
+    }
+
+    /// A bus reset (USB 2.0 section 7.1.7.5): the transfer ends, report protocol is in force, no LED is
+    /// on, nothing counts as sent, nothing waits, and the idle values are those of the start. The
+    /// keymap, the flash work, the keys and the selected entry stay.
+    pub fn bus_reset(&mut self)
+        // it stands for this call after those before it
+        ensures stands { (start : List ℕ) (past : List Call) → StandsFor start past self.old
+            → StandsFor start (BusReset ∷ past) self.new }
+        // it still runs on its flash
+        ensures runs_on { (image : List ℕ) → RunsOn image self.old → RunsOn image self.new }
+    {
+        self.ep.reset();
+        self.keys.bus_reset();
+        self.protocol = Protocol::Report;
+        self.leds = 0;
+    }
+
+    /// The keymap: that of the flash's image.
+    pub fn keymap(&self) -> &Keymap
+        ensures of_image { (start : List ℕ) (past : List Call) → StandsFor start past self.now
+            → HasEntries (keymap (image_after start past)) result.now }
+        // and that of the start, changed by the settled commands in order
+        ensures settled { (start : List ℕ) (past : List Call) → StandsFor start past self.now
+            → HasEntries (changed (keymap start) (settled_of (accepted start past))) result.now }
+    {
+        self.store.keymap()
+    }
+
+    /// The usages that the codes of the held keys name.
+    pub fn usages(&self) -> Usages
+        // the usages of page 07h
+        ensures keys { (start : List ℕ) (past : List Call) (usage : ℕ) → StandsFor start past self.now
+            → has_key result usage ≡ keys_after (key_calls start past) usage }
+        // the usages of page 0Ch
+        ensures consumer { (start : List ℕ) (past : List Call) (usage : ℕ) → StandsFor start past self.now
+            → has_consumer result usage ≡ consumer_after (key_calls start past) usage }
+    {
+        self.keys.usages()
+    }
+
+    /// The protocol in force (HID 1.11 section 7.2.5).
+    pub fn protocol(&self) -> Protocol
+        ensures { (start : List ℕ) (past : List Call) → StandsFor start past self.now
+            → result ≡ protocol_after past }
+    {
+        self.protocol
+    }
+
+    /// The LEDs: usages 01h to 05h of page 08h in bits 0 to 4.
+    pub fn leds(&self) -> u8
+        ensures { (start : List ℕ) (past : List Call) → StandsFor start past self.now
+            → result ≡ leds_after past }
+    {
+        self.leds
+    }
+
+    /// What a SETUP packet is answered from.
+    fn view(&self) -> DeviceView
+        ensures { (start : List ℕ) (past : List Call) → StandsFor start past self.now → result ≡ view_after start past }
+    {
+        DeviceView {
+            bitmap: self.keys.bitmap(),
+            consumer: self.keys.consumer(),
+            boot: self.keys.boot(),
+            ..self.view_beside_inputs()
+        }
+    }
+
+    /// What a SETUP packet is answered from that asks for no input report.
+    fn view_beside_inputs(&self) -> DeviceView
+        ensures { (start : List ℕ) (past : List Call) → StandsFor start past self.now → SameBesideInputs result (view_after start past) }
+    {
+        DeviceView {
+            protocol: self.protocol,
+            idle_one: self.keys.idle(IdleId::One),
+            idle_two: self.keys.idle(IdleId::Two),
+            leds: self.leds,
+            feature: self.feature(),
+            bitmap: [0; 23],
+            consumer: [0; 9],
+            boot: [0; 8],
+        }
+    }
+
+    /// The feature report with the selected entry.
+    fn feature(&self) -> [u8; 6]
+        ensures { (start : List ℕ) (past : List Call) → StandsFor start past self.now
+            → result ≡ feature_report (selected past) (keymap (image_after start past)) }
+    {
+        let code = self.store.keymap().get(self.layer, self.key);
+        let [low, high] = code.bits().to_le_bytes();
+        [3, 0, self.layer.number(), self.key.number(), low, high]
+    }
+
+    /// Takes an OUT packet and answers it.
+    fn answer_out(&mut self, packet: &[u8]) -> EpAnswer
+        ensures stands { (start : List ℕ) (past : List Call) → StandsFor start past self.old
+            → StandsFor start (Out packet.now result ∷ past) self.new }
+        ensures answer { (start : List ℕ) (past : List Call) → StandsFor start past self.old
+            → IsAnswered start past (Out packet.now result) }
+        ensures nak { (start : List ℕ) (past : List Call) → StandsFor start past self.old
+            → IfNak result (self.new ≡ self.old) }
+        ensures stall { (start : List ℕ) (past : List Call) → StandsFor start past self.old
+            → IfStall result (λ why. self.new ≡ record self.old { ep = Stalled why }) }
+        ensures runs_on { (image : List ℕ) → RunsOn image self.old → RunsOn image self.new }
+    {
+        match self.ep.out(packet) {
+            OutStep::Answered(answer) => answer,
+            OutStep::Leds(leds) => {
+                self.leds = leds;
+                EpAnswer::Ack
+            }
+            OutStep::Offer(bytes) => {
+                let verdict = self.judge(bytes);
+                self.ep.verdict(verdict)
+            }
+        }
+    }
+
+    /// The verdict on a feature report, by its bytes after the ID.
+    fn judge(&mut self, bytes: [u8; 5]) -> Verdict
+        ensures { (image : List ℕ) → RunsOn image self.old → Judges image bytes result self.old self.new }
+    {
+        if self.store.busy() {
+            return Verdict::Busy;
+        }
+        let [op, layer, key, _, _] = bytes;
+        if op == 0 {
+            return self.select(layer, key);
+        }
+        match command_in(bytes) {
+            Ok(command) => self.submit(&command),
+            Err(error) => Verdict::Refused(Why::from(error)),
+        }
+    }
+
+    /// Selects an entry for reading.
+    fn select(&mut self, layer: u8, key: u8) -> Verdict
+        ensures answer { judged_answer result ≡ select_answer layer key }
+        ensures told { result ≡ verdict_told false (judged_answer result) }
+        ensures done { judged_answer result ≡ EpAnswer.Ack → self.new ≡ record self.old { layer = layer; key = key } }
+        ensures kept { (judged_answer result ≡ EpAnswer.Ack → ⊥) → self.new ≡ self.old }
+    {
+        let layer = match LayerNo::read(layer) {
+            Ok(layer) => layer,
+            Err(error) => return Verdict::Refused(Why::from(error)),
+        };
+        let key = match KeyNo::read(key) {
+            Ok(key) => key,
+            Err(error) => return Verdict::Refused(Why::from(error)),
+        };
+        self.layer = layer;
+        self.key = key;
+        Verdict::Done
+    }
+
+    /// Hands a command to the store while none works.
+    fn submit(&mut self, command: &Command) -> Verdict
+        ensures { (image bytes : List ℕ) → RunsOn image self.old → at_work self.old ≡ None → command_in bytes ≡ Ok command.now
+            → Judges image bytes result self.old self.new }
+    {
+        verdict_of(self.store.submit(*command))
+    }
+}

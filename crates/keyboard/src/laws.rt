@@ -1,0 +1,92 @@
+//! What follows for every session in which each call is answered as it has to be.
+
+ghost use Rattle.std.specs.Prelude.{◌≡◌, ◌≢◌, ◌<◌, ◌≤◌, ◌∷◌, ◌++◌, ℕ, suc, List, Some};
+ghost use Rattle.flash_model.specs.Image.{IsImage};
+ghost use Rattle.flash_model.specs.Operations.{OnePage};
+ghost use Rattle.layers.specs.Entries.{changed};
+ghost use Rattle.layers.specs.declared.command.Command.{Command};
+ghost use Rattle.page_turnover.specs.declared.operation.Operation.{Operation};
+ghost use Rattle.page_turnover.specs.Next.{MayMake};
+ghost use Rattle.page_turnover.specs.Operates.{Operates, MayOperate};
+ghost use Rattle.page_turnover.specs.Turn.{target_page};
+ghost use Rattle.keymap_store.specs.Keymap.{SameEntries};
+ghost use Rattle.keymap_store.specs.Next.{next_operation_of};
+ghost use Rattle.keymap_store.specs.Turnovers.{TurnsOver};
+ghost use Rattle.keymap_store.specs.Works.{IsPlacedAt, IsTornAt};
+ghost use Rattle.keymap_store.specs.declared.store.Work.{Work};
+ghost use Rattle.keyboard.specs.Acknowledged.{KeepsAcknowledged};
+ghost use Rattle.keyboard.specs.Bounded.{IsInTime, steps_since};
+ghost use Rattle.keyboard.specs.Calls.{Call, Worked, EachCall, image_after, keymap};
+ghost use Rattle.keyboard.specs.Commands.{accepted, settled_of, working};
+ghost use Rattle.keyboard.specs.Lawful.{IsAnswered};
+ghost use Rattle.keyboard.specs.Operated.{Works};
+ghost use Rattle.keyboard.specs.Restart.{RestartsLegally};
+ghost use Rattle.keyboard.specs.Sound.{KeepsSound};
+ghost use Rattle.keyboard.specs.Stands.{StandsFor};
+ghost use Rattle.keyboard.specs.Turnovers.{operations, NoneTurnsOver};
+ghost use Rattle.keyboard.specs.Value.{KeyboardValue};
+
+/// The keymap is that of the start changed by the settled commands, in order.
+pub fn keymap_is_of_settled()
+    ensures { (start : List ℕ) (past : List Call) → EachCall IsAnswered start past
+        → SameEntries (keymap (image_after start past)) (changed (keymap start) (settled_of (accepted start past))) }
+{}
+
+/// A restart after any of these calls is legal: it finds the keymap of the start, changed by a prefix
+/// of the accepted commands that did not fail, with each settled one among them.
+pub fn restarts_are_legal()
+    ensures { (start : List ℕ) (past : List Call) → EachCall IsAnswered start past
+        → RestartsLegally start past (image_after start past) }
+{}
+
+/// So is a restart after a cut of the power inside the flash operation that the keyboard makes next,
+/// whatever part of it took effect.
+pub fn a_cut_inside()
+    ensures { (start : List ℕ) (past : List Call) (keyboard : KeyboardValue) (operation : Operation) (image : List ℕ)
+        → StandsFor start past keyboard → next_operation_of (image_after start past) keyboard.store ≡ Some operation
+        → IsImage image → MayMake (image_after start past) operation image → RestartsLegally start past image }
+{}
+
+/// What the one operation of a step of the flash work comes to. Where the answer is not Failed it was
+/// made as a whole: the command's record is programmed with Settled. Where it is Failed the record was
+/// torn at the last step, and at each before no page but the target of the turn was touched. And where
+/// the power is cut inside this operation, a restart is legal.
+pub fn a_step_is_one_operation()
+    ensures whole { (start : List ℕ) (past : List Call) (command : Command) (work : Work) (new : List ℕ)
+        → Works start past command (image_after start past) work new → work ≢ Work.Failed → Operates (image_after start past) new }
+    ensures torn { (start : List ℕ) (past : List Call) (command : Command) (work : Work) (new : List ℕ)
+        → Works start past command (image_after start past) work new → work ≡ Work.Failed → MayOperate (image_after start past) new }
+    ensures placed { (start : List ℕ) (past : List Call) (command : Command) (work : Work) (new : List ℕ)
+        → Works start past command (image_after start past) work new → work ≡ Work.Settled → IsPlacedAt (image_after start past) command new }
+    ensures record_torn { (start : List ℕ) (past : List Call) (command : Command) (work : Work) (new : List ℕ) (works : Works start past command (image_after start past) work new)
+        → work ≡ Work.Failed → suc (steps_since past) ≡ works.advances.needed → IsTornAt (image_after start past) command new }
+    ensures in_target { (start : List ℕ) (past : List Call) (command : Command) (work : Work) (new : List ℕ) (works : Works start past command (image_after start past) work new)
+        → suc (steps_since past) < works.advances.needed → OnePage (image_after start past) (target_page (image_after start past)) new }
+    ensures cut { (start : List ℕ) (past : List Call) (command : Command) (work : Work) (new image : List ℕ) (works : Works start past command (image_after start past) work new)
+        → EachCall IsAnswered start past → working start past ≡ Some command → IsImage image
+        → MayMake (image_after start past) works.operation image → RestartsLegally start past image }
+{}
+
+/// Slots 0 that are sound stay so, whatever is torn; where one is not, no operation is ever made.
+pub fn headers_stay_sound()
+    ensures { (start : List ℕ) (past : List Call) → EachCall IsAnswered start past → KeepsSound start past }
+{}
+
+/// What the host was told is stored is stored: after the empty packet of a command's status stage the
+/// flash holds what the command wrote, whatever else came, until a later command writes the entry.
+pub fn acknowledged_is_stored()
+    ensures { (start : List ℕ) (past : List Call) → EachCall IsAnswered start past → KeepsAcknowledged start past }
+{}
+
+/// While a command works, fewer than 387 steps of the flash work were made for it: so it is settled,
+/// or fails, by the 387th.
+pub fn in_time()
+    ensures { (start : List ℕ) (past : List Call) (keyboard : KeyboardValue) → StandsFor start past keyboard → IsInTime start past }
+{}
+
+/// Between two turnovers of a session, at least 127 flash operations are made.
+pub fn turnovers_are_apart()
+    ensures { (start : List ℕ) (before calls : List Call) (work : Work) (first last : List ℕ) → EachCall IsAnswered start (calls ++ Worked work first ∷ before)
+        → TurnsOver (image_after start before) first → NoneTurnsOver start calls (Worked work first ∷ before)
+        → TurnsOver (image_after start (calls ++ Worked work first ∷ before)) last → 127 ≤ operations calls }
+{}

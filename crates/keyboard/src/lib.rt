@@ -1,0 +1,24 @@
+//! A keyboard: one device on any NOR flash.
+//!
+//! `Keyboard` puts the control endpoint, the keys with their reports, and the stored keymap together.
+//! Each call is one event: a scan of the matrix, a packet of endpoint 0, a poll of endpoint 1, a step
+//! of the flash work, a bus reset. The contracts say of each call what it is answered by the calls
+//! since the start, newest first, and by the image of the flash that the keyboard started on. The
+//! laws say what follows for the keymap at each moment, also where the power is cut.
+//!
+//! `Keyboard::start` takes the memory of the reports that wait, and no other call takes memory.
+#![tactic(auto)]
+
+mod feature;
+#[cfg(test)]
+mod image_tests;
+mod keyboard;
+pub mod laws;
+#[cfg(test)]
+mod tests;
+
+pub use control_ep::{EpAnswer, Why};
+pub use flash_model::NorFlash;
+pub use key_reports::{Protocol, Report, Scan};
+pub use keyboard::Keyboard;
+pub use keymap_store::Work;

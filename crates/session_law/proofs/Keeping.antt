@@ -1,0 +1,44 @@
+-- What is kept was kept before, or came in a fetch.
+use Rattle.std.proofs.Common.{◌≡◌, ◌⊎◌, ◌↔◌, ℕ, true, List, [], Option, Some, None, is_some, refl, sym, ap, subst, inl, inr}
+use Rattle.descriptor_build.specs.Served.{report_bytes}
+use Rattle.host.specs.Calls.{HostCall}
+use Rattle.host.specs.Kept.{gathering, kept}
+use Rattle.keyboard.specs.Calls.{Call, EachCall}
+use Rattle.keyboard.specs.Endpoint.{ep_calls}
+use Rattle.keyboard.specs.Lawful.{IsAnswered}
+use Rattle.session_law.specs.Heard.{Hears, NoneOrServed}
+use Rattle.session_law.specs.Fetched.{IsFetched}
+use Rattle.session_law.proofs.Gathering.{NoneOr}
+use Rattle.session_law.proofs.Fetching.{Fetches, fetches, fetches_start, as_sum, served_size}
+use Rattle.session_law.proofs.Completing.{stays_kept, fetched_keeps}
+
+some_served : (o : Option (List ℕ)) → NoneOr report_bytes o → is_some o ≡ true → o ≡ Some report_bytes
+some_served o (inl none) e = (let f = ap is_some none in cc)
+some_served o (inr some) e = some
+
+from_served : (o : Option (List ℕ)) → o ≡ Some report_bytes → is_some o ≡ true
+from_served o e = rw e refl
+
+pub kept_is_fetched : (start : List ℕ) (past : List Call) (told host : List HostCall) → EachCall IsAnswered start past → Hears told past host → gathering told ≡ None → NoneOrServed (kept told)
+    → kept host ≡ Some report_bytes ↔ ((kept told ≡ Some report_bytes) ⊎ IsFetched told host)
+kept_is_fetched start past told host a h none k = (forth, back)
+  where
+    first : Fetches told [] told
+    first = fetches_start told none k
+
+    after : Fetches told (ep_calls start past) host
+    after = fetches start told past host served_size h a first
+
+    forth_by : (is_some (kept told) ≡ true) ⊎ IsFetched told host → (kept told ≡ Some report_bytes) ⊎ IsFetched told host
+    forth_by (inl e) = inl (some_served (kept told) (as_sum (kept told) k) e)
+    forth_by (inr f) = inr f
+
+    forth : kept host ≡ Some report_bytes → (kept told ≡ Some report_bytes) ⊎ IsFetched told host
+    forth e = forth_by (after.traces.fetched (from_served (kept host) e))
+
+    still : is_some (kept told) ≡ true → is_some (kept host) ≡ true
+    still e = subst (λ (x : List HostCall). is_some (kept x) ≡ true) (sym after.traces.follows) (stays_kept after.traces.more told e)
+
+    back : (kept told ≡ Some report_bytes) ⊎ IsFetched told host → kept host ≡ Some report_bytes
+    back (inl e) = some_served (kept host) after.keeps (still (from_served (kept told) e))
+    back (inr f) = some_served (kept host) after.keeps (fetched_keeps start told host past first h a f)

@@ -1,0 +1,13 @@
+pub mod Waiting
+pub mod Sending
+pub mod Requesting
+pub mod Giving
+pub mod Gathering
+pub mod Tracing
+pub mod Fetching
+pub mod Reading
+pub mod Hearing
+pub mod Completing
+pub mod Keeping
+pub mod Naming
+pub mod Example

@@ -1,0 +1,17 @@
+use Rattle.session_law.proofs.Example.{answered, hears, came_through, was_down, is_up}
+use Rattle.session_law.proofs.a_session.Goals as goal
+
+pub returns-clause-answered : goal.returns-clause-answered
+returns-clause-answered c = answered
+
+pub returns-clause-hears : goal.returns-clause-hears
+returns-clause-hears c = hears
+
+pub returns-clause-fetches : goal.returns-clause-fetches
+returns-clause-fetches c = came_through
+
+pub returns-clause-pressed : goal.returns-clause-pressed
+returns-clause-pressed c = was_down
+
+pub returns-clause-released : goal.returns-clause-released
+returns-clause-released c = is_up

@@ -1,0 +1,5 @@
+use Rattle.session_law.proofs.Fetching.{fetched_is_served}
+use Rattle.session_law.proofs.fetched_is_served.Goals as goal
+
+pub returns : goal.returns
+returns c start past told host answered hears none kept = fetched_is_served start past told host answered hears none kept

@@ -1,0 +1,24 @@
+use Rattle.key_reports.specs.Past.{keys_after, consumer_after}
+use Rattle.keyboard.specs.Keys.{key_calls}
+use Rattle.session_law.proofs.Naming.{bitmap_names, boot_names, overflow_names, consumer_is_named, consumer_names}
+use Rattle.session_law.proofs.keys_are_read.Goals as goal
+
+pub returns-clause-bitmap : goal.returns-clause-bitmap
+returns-clause-bitmap c start past bytes usages n i usage =
+    bitmap_names (key_calls start n.sent.moment) (consumer_after (key_calls start n.sent.moment)) n.sent.input usages n.usages_are i usage
+
+pub returns-clause-boot : goal.returns-clause-boot
+returns-clause-boot c start past bytes usages n i few usage =
+    boot_names (key_calls start n.sent.moment) (consumer_after (key_calls start n.sent.moment)) n.sent.input usages n.usages_are i few usage
+
+pub returns-clause-overflow : goal.returns-clause-overflow
+returns-clause-overflow c start past bytes usages n i many usage =
+    overflow_names (key_calls start n.sent.moment) (consumer_after (key_calls start n.sent.moment)) n.sent.input usages n.usages_are i many usage
+
+pub returns-clause-consumer : goal.returns-clause-consumer
+returns-clause-consumer c start past bytes usages n i usage named =
+    consumer_is_named (key_calls start n.sent.moment) (keys_after (key_calls start n.sent.moment)) n.sent.input usages n.usages_are i usage named
+
+pub returns-clause-all_consumer : goal.returns-clause-all_consumer
+returns-clause-all_consumer c start past bytes usages n i few usage named =
+    consumer_names (key_calls start n.sent.moment) (keys_after (key_calls start n.sent.moment)) n.sent.input usages n.usages_are i few usage named

@@ -1,0 +1,9 @@
+use Rattle.session_law.proofs.Sending.{sent_is_wanted}
+use Rattle.session_law.proofs.Fetching.{fetched_is_served}
+use Rattle.session_law.proofs.Reading.{read_is_wanted}
+use Rattle.session_law.proofs.read_is_wanted.Goals as goal
+
+pub returns : goal.returns
+returns c start past told host bytes reading answered hears none kept reads =
+    read_is_wanted start past host bytes reading (sent_is_wanted start past bytes answered.0)
+    (fetched_is_served start past told host answered.1 hears none kept) reads

@@ -1,0 +1,30 @@
+-- What a host hears of a session, and the descriptor that it then keeps.
+use Rattle.std.specs.Prelude.{◌≡◌, ℕ, Bool, Option, None, Some, List, [], ◌∷◌}
+use Rattle.descriptor_build.specs.Served.{report_bytes}
+use Rattle.control_ep.specs.declared.answer.EpAnswer.TheVariants.{Packet}
+use Rattle.host.specs.Calls.{HostCall, was_set_up, got_packet, lost}
+use Rattle.keyboard.specs.Calls.{Call, SetUp, In, BusReset}
+
+-- what a host hears of a call, by whether memory for a packet was there: its SETUP packets, the packets that the keyboard
+-- answers, and that the bus was reset
+abbrev pub heard : Call → Bool → Option HostCall
+heard (SetUp bytes) memory = Some (was_set_up bytes)
+heard (In (Packet packet)) memory = Some (got_packet packet.items memory)
+heard BusReset memory = Some lost
+heard _ memory = None
+
+abbrev pub with_heard : Option HostCall → List HostCall → List HostCall
+with_heard None calls = calls
+with_heard (Some call) calls = call ∷ calls
+
+-- the calls of a host, newest first, that was told so much before a session and hears the session: at each call memory may
+-- be there or not
+pub data Hears (told : List HostCall) : List Call → List HostCall → Type 0 where
+  at_start : Hears told [] told
+  one_more : (call : Call) (memory : Bool) (before : List Call) (earlier : List HostCall) → Hears told before earlier
+      → Hears told (call ∷ before) (with_heard (heard call memory) earlier)
+
+-- no text is kept, or the keyboard's report descriptor
+pub data NoneOrServed (text : Option (List ℕ)) : Type 0 where
+  none_kept : text ≡ None → NoneOrServed text
+  served_kept : text ≡ Some report_bytes → NoneOrServed text

@@ -1,0 +1,6 @@
+pub mod Sent
+pub mod Heard
+pub mod Read
+pub mod Fetched
+pub mod Named
+pub mod Example

@@ -1,0 +1,26 @@
+-- What a host reads in a report that a poll was answered.
+use Rattle.std.specs.Prelude.{◌≡◌, ℕ, None, IsSome, List}
+use Rattle.reports.specs.declared.Protocol.TheVariants.{Report}
+use Rattle.key_reports.specs.Past.{keys_after, consumer_after}
+use Rattle.host.specs.Calls.{HostCall}
+use Rattle.host.specs.Kept.{kept}
+use Rattle.host.specs.Reads.{text_by}
+use Rattle.host.specs.declared.reading.Reading.{Reading}
+use Rattle.host.specs.declared.reading.Reading.TheVariants.{Unread, NoMemory, Usages}
+use Rattle.keyboard.specs.Calls.{Call}
+use Rattle.keyboard.specs.Effects.{protocol_after}
+use Rattle.keyboard.specs.Keys.{key_calls}
+use Rattle.reading_law.specs.Usages.{wanted_usages}
+use Rattle.session_law.specs.Sent.{IsWantedAt}
+
+-- the usages are those that the codes of the debounced keys name, as far as the report has room for them, at the moment that
+-- the report is of
+pub record NamesWanted (start : List ℕ) (past : List Call) (bytes usages : List ℕ) : Type 0 where
+  pub sent : IsWantedAt start past bytes
+  pub usages_are : usages ≡ wanted_usages (keys_after (key_calls start sent.moment)) (consumer_after (key_calls start sent.moment)) sent.input
+
+-- A report is unread in report protocol without a descriptor alone. Otherwise memory was refused, or its usages are read.
+abbrev pub IsReadAs : List ℕ → List Call → List HostCall → List ℕ → Reading → Type 0
+IsReadAs start past host bytes Unread = (protocol_after past ≡ Report) × (kept host ≡ None)
+IsReadAs start past host bytes NoMemory = IsSome (text_by (protocol_after past) host)
+IsReadAs start past host bytes (Usages usages) = IsSome (text_by (protocol_after past) host) × NamesWanted start past bytes usages

@@ -1,0 +1,88 @@
+//! What a host reads in a session of the keyboard is what the keymap gives for the debounced keys: laws over the
+//! definitions of what the keyboard answers, of what a host hears of it, and of what a host reads.
+#![tactic(auto)]
+
+ghost use Rattle.std.specs.Prelude.{◌≡◌, ◌⊎◌, ◌↔◌, ◌∷◌, ◌≤◌, ◌<◌, ℕ, true, false, List, [], None, Some, Contains};
+ghost use Rattle.descriptor_build.specs.Served.{report_bytes};
+ghost use Rattle.host.specs.Calls.{HostCall};
+ghost use Rattle.host.specs.Kept.{gathering, kept};
+ghost use Rattle.host.specs.Reads.{text_by, Reads};
+ghost use Rattle.host.specs.declared.reading.Reading.{Reading};
+ghost use Rattle.keyboard.specs.Calls.{Call, Polled, EachCall};
+ghost use Rattle.keyboard.specs.Effects.{protocol_after};
+ghost use Rattle.keyboard.specs.Keys.{key_calls};
+ghost use Rattle.keyboard.specs.Lawful.{IsAnswered};
+ghost use Rattle.key_reports.specs.Past.{keys_after, consumer_after};
+ghost use Rattle.reports.specs.Layouts.{listed_count, consumer_count};
+ghost use Rattle.reports.specs.declared.Input.TheVariants.{Boot, One, Two};
+ghost use Rattle.session_law.specs.Example.{fetched, pressed, session, letter_a};
+ghost use Rattle.session_law.specs.Fetched.{IsFetched};
+ghost use Rattle.session_law.specs.Heard.{Hears, NoneOrServed};
+ghost use Rattle.session_law.specs.Named.{IsKeyNamed, IsConsumerNamed};
+ghost use Rattle.session_law.specs.Read.{IsReadAs, NamesWanted};
+ghost use Rattle.session_law.specs.Sent.{IsWantedAt};
+
+/// What a poll of endpoint 1 is answered is what a report of the protocol in force has to be, for the usages that the codes
+/// of the debounced keys name now, or at an earlier scan since which the protocol was not set and the bus not reset.
+pub fn sent_is_wanted()
+    ensures { (start : List ℕ) (past : List Call) (bytes : List ℕ) → IsAnswered start past (Polled (Some bytes))
+        → IsWantedAt start past bytes }
+{}
+
+/// What a host fetches in a session is the keyboard's report descriptor: a host that kept that or nothing before, and was
+/// gathering nothing, keeps that or nothing after, whatever was asked, refused and cut short.
+pub fn fetched_is_served()
+    ensures { (start : List ℕ) (past : List Call) (told host : List HostCall) → EachCall IsAnswered start past → Hears told past host
+        → gathering told ≡ None → NoneOrServed (kept told) → NoneOrServed (kept host) }
+{}
+
+/// A host keeps the report descriptor exactly where it kept it before the session, or a fetch of the session came through:
+/// a SETUP packet that asks for at least 99 bytes, and its 13 packets before another SETUP packet or a bus reset, with memory
+/// for each.
+pub fn kept_is_fetched()
+    ensures { (start : List ℕ) (past : List Call) (told host : List HostCall) → EachCall IsAnswered start past → Hears told past host
+        → gathering told ≡ None → NoneOrServed (kept told)
+        → kept host ≡ Some report_bytes ↔ ((kept told ≡ Some report_bytes) ⊎ IsFetched told host) }
+{}
+
+/// What a host reads in what a poll is answered is what the keymap gives for the debounced keys, at the moment that the
+/// report is of: in boot protocol by the descriptor of its own, in report protocol by the one that it fetched, and nothing
+/// where it fetched none. No report is refused.
+pub fn read_is_wanted()
+    ensures { (start : List ℕ) (past : List Call) (told host : List HostCall) (bytes : List ℕ) (reading : Reading)
+        → EachCall IsAnswered start (Polled (Some bytes) ∷ past) → Hears told past host → gathering told ≡ None → NoneOrServed (kept told)
+        → Reads (text_by (protocol_after past) host) bytes reading → IsReadAs start past host bytes reading }
+{}
+
+/// The usages that are read are those that the codes of the keys name which are down by the debounced scans, each code that of
+/// the keymap at the key's latest press. In the boot report ErrorRollOver (01h of page 07h) stands for more than six besides
+/// the modifiers; the report of ID 2 has room for four.
+pub fn keys_are_read()
+    // of page 07h, in the report of ID 1
+    ensures bitmap { (start : List ℕ) (past : List Call) (bytes usages : List ℕ) (n : NamesWanted start past bytes usages) → n.sent.input ≡ One
+        → (usage : ℕ) → Contains usages usage ↔ IsKeyNamed (key_calls start n.sent.moment) usage }
+    // in the boot report too, where they fit
+    ensures boot { (start : List ℕ) (past : List Call) (bytes usages : List ℕ) (n : NamesWanted start past bytes usages) → n.sent.input ≡ Boot
+        → listed_count (keys_after (key_calls start n.sent.moment)) ≤ 6
+        → (usage : ℕ) → Contains usages usage ↔ IsKeyNamed (key_calls start n.sent.moment) usage }
+    // and else the modifiers and ErrorRollOver
+    ensures overflow { (start : List ℕ) (past : List Call) (bytes usages : List ℕ) (n : NamesWanted start past bytes usages) → n.sent.input ≡ Boot
+        → 6 < listed_count (keys_after (key_calls start n.sent.moment))
+        → (usage : ℕ) → Contains usages usage ↔ ((usage ≡ 0x70001) ⊎ ((0x700E0 ≤ usage) × IsKeyNamed (key_calls start n.sent.moment) usage)) }
+    // of page 0Ch, in the report of ID 2; and all of them, where they fit
+    ensures consumer { (start : List ℕ) (past : List Call) (bytes usages : List ℕ) (n : NamesWanted start past bytes usages) → n.sent.input ≡ Two
+        → (usage : ℕ) → Contains usages usage → IsConsumerNamed (key_calls start n.sent.moment) usage }
+    ensures all_consumer { (start : List ℕ) (past : List Call) (bytes usages : List ℕ) (n : NamesWanted start past bytes usages) → n.sent.input ≡ Two
+        → consumer_count (consumer_after (key_calls start n.sent.moment)) ≤ 4
+        → (usage : ℕ) → IsConsumerNamed (key_calls start n.sent.moment) usage → Contains usages usage }
+{}
+
+/// A session of which the laws say something, computed from the definitions: on an empty flash a host fetches the report
+/// descriptor, key 0 is pressed and released, and a poll is answered the press, which waited.
+pub fn a_session()
+    ensures answered { EachCall IsAnswered [] (Polled (Some letter_a) ∷ session) }
+    ensures hears { Hears [] session fetched }
+    ensures fetches { IsFetched [] fetched }
+    ensures pressed { keys_after (key_calls [] pressed) 4 ≡ true }
+    ensures released { keys_after (key_calls [] session) 4 ≡ false }
+{}
