@@ -1,4 +1,6 @@
+pub mod FetchLemmas
 pub mod OutputLemmas
+pub mod PacketLemmas
 pub mod PrintLemmas
 pub mod ReaderLemmas
 pub mod WorkLemmas

@@ -1,51 +1,92 @@
 -- The flash work of a command ends in time: steps that each needed more are fewer than the most that a command takes.
-use Rattle.std.proofs.Common.{◌≡◌, ℕ, suc, ◌+◌, ◌<◌, ◌≤◌, IsSome, Option, Some, None, List, [], ◌∷◌, ◌++◌, length, refl, subst, arith}
+use Rattle.std.proofs.Common.{◌≡◌, ℕ, suc, ◌+◌, ◌<◌, ◌≤◌, IsSome, Bool, Option, Some, None, List, [], ◌∷◌, ◌++◌, length, refl, ap, subst, ◌∙◌, arith}
+use Rattle.flash_model.specs.Sim.{SimValue}
 use Rattle.layers.specs.declared.command.Command.{Command}
 use Rattle.keymap_store.specs.declared.store.Work.{Work as WorkAnswer}
 use Rattle.keymap_store.specs.declared.store.Work.TheVariants.{Working}
-use Rattle.world.specs.declared.event.Event.{Event}
-use Rattle.world.specs.declared.event.Event.TheVariants.{Work}
-use Rattle.world.specs.declared.event.Answer.TheVariants.{Worked}
-use Rattle.world.specs.History.{Step, EachStep, image_after, keymap}
-use Rattle.world.specs.Bounded.{most_steps, steps_since, StaysInTime}
-use Rattle.world.specs.Commands.{working}
-use Rattle.world.specs.Lawful.{IsAnswered, Answered, WorkAnswered, WorksOn}
-use Rattle.world.specs.Restart.{SameEntries}
-use Rattle.world.proofs.Accepting.{accepts-none, ended_by-working}
-use Rattle.world.proofs.Bounding.{steps_since-more}
-use Rattle.world.proofs.Sessions.{Orderly, orderly, working_after, after_stays}
+use Rattle.keymap_store.specs.Keymap.{SameEntries}
+use Rattle.keyboard.specs.Calls.{Call, Worked as CalledWork, EachCall, keymap, image_after}
+use Rattle.keyboard.specs.Commands.{working}
+use Rattle.keyboard.specs.Bounded.{most_steps, steps_since, IsInTime}
+use Rattle.keyboard.specs.Lawful as keyboard
+use Rattle.keyboard.proofs.Accepting.{ended_by-working}
+use Rattle.keyboard.proofs.Bounding.{steps_since-more}
+use Rattle.keyboard.proofs.Effects.{accepts-work}
+use Rattle.keyboard.proofs.Sessions.{orderly, working_after, after_stays}
+use Rattle.system.specs.declared.event.Event.{Event}
+use Rattle.system.specs.declared.event.Event.TheVariants.{Work}
+use Rattle.system.specs.declared.event.Answer.{Answer}
+use Rattle.system.specs.declared.event.Answer.TheVariants.{Worked}
+use Rattle.system.specs.Kinds.{Step, Kind, calls, kind_of}
+use Rattle.system.specs.History.{Session, session, session_with, host_calls, flash_after, EachStep}
+use Rattle.system.specs.Bounded.{StaysInTime}
+use Rattle.system.specs.Lawful.{IsAnswered, Answered}
+use Rattle.system.proofs.Here.{here}
 use Rattle.kbsim.specs.Outputs.{AllWorking}
 
+-- the calls of the keyboard that such steps are
+abbrev calls_in : List Step → List Call
+calls_in [] = []
+calls_in (step ∷ before) = CalledWork Working step.flash.image ∷ calls_in before
+
+kind_by : (e : Event) (a : Answer) (image : List ℕ) → e ≡ Work → a ≡ Worked Working → kind_of e a image ≡ calls (CalledWork Working image)
+kind_by e a image is needs = rw (is, needs) refl
+
+-- they begin no session
+session-working : (start : SimValue) (past steps : List Step) → AllWorking steps
+    → session start (steps ++ past) ≡ record { first = (session start past).first; past = calls_in steps ++ (session start past).past }
+session-working start past [] all = refl
+session-working start past (step ∷ before) (is_work, needs, all) =
+    ap (λ (k : Kind). session_with k step.flash.image (session start (before ++ past))) (kind_by step.event step.answer step.flash.image is_work needs)
+    ∙ ap (λ (s : Session). session_with (calls (CalledWork Working step.flash.image)) step.flash.image s) (session-working start past before all)
+
 -- they accept nothing, and each is counted
-steps_since-working : (start : List ℕ) (past steps : List Step) → AllWorking steps → steps_since start (steps ++ past) ≡ length steps + steps_since start past
-steps_since-working start past [] all = omega arith
-steps_since-working start past (step ∷ before) (is_work, needs, all) =
-    let more : steps_since start (step ∷ before ++ past) ≡ suc (steps_since start (before ++ past))
-    = steps_since-more start step (before ++ past) (λ count. rw is_work refl) (accepts-none start (before ++ past) step (rw is_work refl)) in
-    let earlier : steps_since start (before ++ past) ≡ length before + steps_since start past = steps_since-working start past before all in
+steps_since-working : (steps : List Step) (past : List Call) → steps_since (calls_in steps ++ past) ≡ length steps + steps_since past
+steps_since-working [] past = omega arith
+steps_since-working (step ∷ before) past =
+    let call : Call = CalledWork Working step.flash.image in
+    let more : steps_since (call ∷ calls_in before ++ past) ≡ suc (steps_since (calls_in before ++ past))
+    = steps_since-more call (calls_in before ++ past) (λ n. refl) (accepts-work (calls_in before ++ past) Working step.flash.image) in
+    let earlier : steps_since (calls_in before ++ past) ≡ length before + steps_since past = steps_since-working before past in
     omega (arith, more, earlier)
 
--- a step needs more only while a command works
-works_before : (w : Option Command) (old new : List ℕ) (work : WorkAnswer) → work ≡ Working → WorkAnswered w old work new → IsSome w × SameEntries (keymap new) (keymap old)
-works_before None old new work is (idle, same) = cc
-works_before (Some command) old new work is worked = (refl, (subst (λ (x : WorkAnswer). WorksOn command old x new) is worked).0)
+-- a step needs more only while a command works, and leaves the keymap
+works_before : (first : List ℕ) (past : List Call) (w : Option Command) (image : List ℕ) → keyboard.WorkedOn first past w Working image
+    → IsSome w × SameEntries (keymap image) (keymap (image_after first past))
+works_before first past None image (idle, same) = cc
+works_before first past (Some command) image on = (refl, on.outcome)
 
 -- and the command still works then
-works_after : (start : List ℕ) (before : List Step) (step : Step) → Orderly start before → IsAnswered start before step
-    → step.event ≡ Work → step.answer ≡ Worked Working → IsSome (working start (step ∷ before))
-works_after start before step orderly answered is_work needs =
-    let (work, is, worked) = subst (λ (e : Event). Answered start before e step.answer step.image) is_work answered in
-    let same : work ≡ Working = cc in
-    let (some, kept) = works_before (working start before) (image_after start before) step.image work same worked in
-    let after = working_after start before step (working start before)
-    (after_stays start before step orderly (rw is_work refl) (record { keeps = λ f. rw needs (ended_by-working f) }) (accepts-none start before step (rw is_work refl)) kept) in
+works_after : (first : List ℕ) (past : List Call) (image : List ℕ) → EachCall keyboard.IsAnswered first past
+    → keyboard.IsAnswered first past (CalledWork Working image) → IsSome (working first (CalledWork Working image ∷ past))
+works_after first past image lawful answered =
+    let call : Call = CalledWork Working image in
+    let (some, kept) = works_before first past (working first past) image answered in
+    let after : working first (call ∷ past) ≡ working first past = working_after first past call (working first past)
+    (after_stays first past call (orderly first past lawful) (record { keeps = ended_by-working image }) (accepts-work past Working image) kept) in
     rw after some
 
-pub working_few : (start : List ℕ) (past steps : List Step) → EachStep IsAnswered start (steps ++ past) → EachStep StaysInTime start (steps ++ past)
+-- the call of such a step is answered as it has to be
+lawful_call : (start : SimValue) (past : List Step) (step : Step) → IsAnswered start past step → step.event ≡ Work → step.answer ≡ Worked Working
+    → keyboard.IsAnswered (session start past).first (session start past).past (CalledWork Working step.flash.image)
+lawful_call start past step answered is_work needs =
+    let (work, is, worked, none) =
+    subst (λ (e : Event). Answered (session start past) (host_calls past) (flash_after start past) e step.answer step.refused step.flash) is_work answered in
+    let same : work ≡ Working = cc in
+    subst (λ (w : WorkAnswer). keyboard.IsAnswered (session start past).first (session start past).past (CalledWork w step.flash.image)) same worked.lawful
+
+pub working_few : (start : SimValue) (past steps : List Step) → EachStep IsAnswered start (steps ++ past) → EachStep StaysInTime start (steps ++ past)
     → AllWorking steps → length steps < most_steps
 working_few start past [] answered timely all = omega arith
 working_few start past (step ∷ before) (answered, earlier) (timely, others) (is_work, needs, all) =
-    let some = works_after start (before ++ past) step (orderly start (before ++ past) earlier) answered is_work needs in
-    let few : suc (steps_since start (step ∷ before ++ past)) ≤ 387 = timely some in
-    let count : steps_since start (step ∷ before ++ past) ≡ length (step ∷ before) + steps_since start past = steps_since-working start past (step ∷ before) (is_work, needs, all) in
+    let s : Session = session start (before ++ past) in
+    let p : Session = session start past in
+    let call : Call = CalledWork Working step.flash.image in
+    let some : IsSome (working s.first (call ∷ s.past))
+    = works_after s.first s.past step.flash.image (here start (before ++ past) earlier).lawful (lawful_call start (before ++ past) step answered is_work needs) in
+    let in_time : IsInTime s.first (call ∷ s.past)
+    = subst (λ (k : Kind). let now = session_with k step.flash.image s in IsInTime now.first now.past) (kind_by step.event step.answer step.flash.image is_work needs) timely in
+    let few : suc (steps_since (call ∷ s.past)) ≤ 387 = in_time some in
+    let count : steps_since (call ∷ s.past) ≡ length (step ∷ before) + steps_since p.past
+    = ap (λ (t : Session). steps_since (call ∷ t.past)) (session-working start past before all) ∙ steps_since-working (step ∷ before) p.past in
     omega (arith, few, count)

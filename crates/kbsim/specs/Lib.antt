@@ -1,4 +1,5 @@
 pub mod Actions
+pub mod Fetches
 pub mod Outputs
 pub mod Prints
 pub mod Readers

@@ -1,26 +1,34 @@
 -- What the lines of a script do to the device, and what they print.
-use Rattle.std.specs.Prelude.{◌≡◌, ◌≢◌, ℕ, ◌*◌, ◌<◌, ◌/◌, ◌%◌, ◌⊎◌, List, [], ◌∷◌, ◌++◌, length, replicate, take}
+use Rattle.std.specs.Prelude.{◌≡◌, ◌≢◌, ℕ, ◌*◌, ◌<◌, ◌/◌, ◌%◌, ◌⊎◌, List, [], ◌∷◌, ◌++◌, length, replicate, take, None, false}
 use Rattle.std.specs.Int.NonZero.{non_zero_u16_get}
 use Rattle.std.specs.List.{All}
 use Rattle.std.specs.Str.Lines.{lines}
-use Rattle.world.specs.declared.event.Event.{Event}
-use Rattle.world.specs.declared.event.Event.TheVariants as event
-use Rattle.world.specs.declared.event.Answer.{Answer}
-use Rattle.world.specs.declared.event.Answer.TheVariants.{Ack, Packet, Worked}
+use Rattle.flash_model.specs.Image.{page_count}
+use Rattle.flash_model.specs.Sim.{SimValue}
+use Rattle.system.specs.declared.event.Event.{Event}
+use Rattle.system.specs.declared.event.Event.TheVariants as event
+use Rattle.system.specs.declared.event.Answer.{Answer}
+use Rattle.system.specs.declared.event.Answer.TheVariants.{Ack, Packet, Worked}
 use Rattle.keymap_store.specs.declared.store.Work.TheVariants.{Working}
-use Rattle.world.specs.History.{Step, EachStep}
-use Rattle.world.specs.Transfer.{set_feature}
-use Rattle.world.specs.Lawful.{IsAnswered}
-use Rattle.world.specs.Bounded.{StaysInTime}
-use Rattle.world.specs.Writes.{Writes}
-use Rattle.world.specs.Stands.{StandsFor}
-use Rattle.world.specs.Value.{WorldValue}
+use Rattle.system.specs.Kinds.{Step}
+use Rattle.system.specs.History.{EachStep, flash_after}
+use Rattle.system.specs.Lawful.{IsAnswered}
+use Rattle.system.specs.Bounded.{StaysInTime}
+use Rattle.system.specs.Stands.{StandsFor, NoneRefused}
+use Rattle.system.specs.Value.{WorldValue}
 use Rattle.kbsim.specs.Actions.{IsEventOf}
+use Rattle.kbsim.specs.Fetches.{IsFetched, IsUnfetched}
 use Rattle.kbsim.specs.Prints.{printed_line}
+use Rattle.kbsim.specs.declared.outcome.Outcome.{Outcome}
+use Rattle.kbsim.specs.declared.outcome.Outcome.TheVariants.{Answered, Fetched}
 use Rattle.script.specs.Scripts.{Script}
 use Rattle.script.specs.declared.read.Line.{Line}
 use Rattle.script.specs.declared.statement.Statement.{Statement}
 use Rattle.script.specs.declared.statement.Statement.TheVariants as statement
+
+-- the SETUP packet of a feature report that carries a command
+abbrev pub set_feature : List ℕ
+set_feature = 0x21 ∷ 0x09 ∷ 0x03 ∷ 0x03 ∷ 0x00 ∷ 0x00 ∷ 0x06 ∷ 0x00 ∷ []
 
 -- the feature report that sets an entry: its ID, the operation, layer, key, and the code, low byte first
 abbrev pub set_report : ℕ → ℕ → ℕ → List ℕ
@@ -79,55 +87,70 @@ pub record IsRepeated (e : Event) (count : ℕ) (steps : List Step) (answer : An
   pub count_is : length steps ≡ count
   pub shows : answer ≡ last.answer
 
--- the steps of a line, newest first, and the answer that it prints
-abbrev pub LineRuns : Statement → List Step → Answer → Type 0
-LineRuns (statement.One action) steps answer =
+-- the steps of a `fetch`: so many bytes came, or another answer did
+abbrev pub FetchRuns : List Step → Outcome → Type 0
+FetchRuns steps (Answered answer) = IsUnfetched answer steps
+FetchRuns steps (Fetched count) = IsFetched count steps
+
+-- the steps of a line, newest first, and what it prints
+abbrev pub LineRuns : Statement → List Step → Outcome → Type 0
+LineRuns (statement.One action) steps (Answered answer) =
     (step : Step) × (steps ≡ step ∷ []) × IsEventOf action step.event × (answer ≡ step.answer)
-LineRuns (statement.Scans count scan) steps answer = IsRepeated (event.Scan scan) (non_zero_u16_get count) steps answer
-LineRuns (statement.Set layer key code) steps answer =
+LineRuns (statement.Scans count scan) steps (Answered answer) = IsRepeated (event.Scan scan) (non_zero_u16_get count) steps answer
+LineRuns (statement.Set layer key code) steps (Answered answer) =
     IsRefusedSet layer key code steps answer ⊎ IsTakenSet layer key code steps answer
+LineRuns statement.Fetch steps outcome = FetchRuns steps outcome
+LineRuns _ steps (Fetched count) = ⊥
 
 -- the steps of lines that are run in order, newest first, and the text that they print, a line for each
 abbrev pub Prints : List Line → List Step → List ℕ → Type 0
 Prints [] steps text = (steps ≡ []) × (text ≡ [])
 Prints (line ∷ more) steps text =
-    (first later : List Step) × (answer : Answer) × (rest : List ℕ) × (steps ≡ later ++ first) × LineRuns line.statement first answer
-    × (text ≡ printed_line line.number answer ++ rest) × Prints more later rest
+    (first later : List Step) × (outcome : Outcome) × (rest : List ℕ) × (steps ≡ later ++ first) × LineRuns line.statement first outcome
+    × (text ≡ printed_line line.number outcome ++ rest) × Prints more later rest
+
+-- a flash that holds these bytes: nothing was operated, and nothing is armed
+abbrev pub holding : List ℕ → SimValue
+holding image = record { image = image; armed = None; operations = 0; faults = 0 }
 
 -- a flash as it comes: all bits are set
-abbrev pub blank : ℕ → List ℕ
-blank pages = replicate (4096 * pages) 255
+abbrev pub blank : ℕ → SimValue
+blank pages = holding (replicate (4096 * pages) 255)
 
--- the lines print this text: run on a device whose flash was blank, each event was answered as it has to be, each
--- command took no more steps than the flash asked for, and each step wrote what it has to
-pub record IsRun (pages : ℕ) (lines : List Line) (text : List ℕ) : Type 0 where
+-- the lines print this text, and leave this flash: run on a device that started on the flash `start`, each event was
+-- answered as it has to be, its flash operation with it, the host was refused no memory, and each command took no more
+-- steps than are allowed
+pub record IsRun (start : SimValue) (lines : List Line) (text : List ℕ) (after : SimValue) : Type 0 where
   pub steps : List Step
-  pub answered : EachStep IsAnswered (blank pages) steps
-  pub in_time : EachStep StaysInTime (blank pages) steps
-  pub writes : EachStep Writes (blank pages) steps
+  pub answered : EachStep IsAnswered start steps
+  pub none_refused : NoneRefused steps
+  pub in_time : EachStep StaysInTime start steps
   pub prints : Prints lines steps text
+  pub leaves : after ≡ flash_after start steps
 
--- a script prints this text
-pub record IsOutput (pages : ℕ) (script text : List ℕ) : Type 0 where
+-- a script that is run on this flash prints this text, and leaves the flash `after`
+pub record IsOutput (start : SimValue) (script text : List ℕ) (after : SimValue) : Type 0 where
   pub said : List Line
-  pub sound : Script pages 1 (lines script) said
-  pub run : IsRun pages said text
+  pub sound : Script (page_count start.image) 1 (lines script) said
+  pub run : IsRun start said text after
 
 -- the first lines of a sound script, and not all, print this text
-pub record IsBegun (pages : ℕ) (script text : List ℕ) : Type 0 where
+pub record IsBegun (start : SimValue) (script text : List ℕ) : Type 0 where
   pub said : List Line
-  pub sound : Script pages 1 (lines script) said
+  pub sound : Script (page_count start.image) 1 (lines script) said
   pub count : ℕ
   pub some_left : count < length said
-  pub run : IsRun pages (take count said) text
+  pub after : SimValue
+  pub run : IsRun start (take count said) text after
 
--- from each history that the world stood for, it went on by steps, newest first, of which P holds
+-- from each history that the world stood for, it went on by steps, newest first, of which P holds, and in which the host
+-- was refused no memory
 abbrev pub GoesOn : (List Step → Type 0) → WorldValue → WorldValue → Type 0
 GoesOn P old new =
-    (start : List ℕ) (past : List Step) → StandsFor start past old → (steps : List Step) × P steps × StandsFor start (steps ++ past) new
+    (start : SimValue) (past : List Step) → StandsFor start past old → (steps : List Step) × P steps × NoneRefused steps × StandsFor start (steps ++ past) new
 
--- the world took one event
+-- the world took one event, and the host was refused no memory
 abbrev pub Takes : Event → Answer → WorldValue → WorldValue → Type 0
 Takes event answer old new =
-    (start : List ℕ) (past : List Step) → StandsFor start past old
-    → StandsFor start (record { event = event; answer = answer; image = new.flash.image } ∷ past) new
+    (start : SimValue) (past : List Step) → StandsFor start past old
+    → StandsFor start (record { event = event; answer = answer; flash = new.flash; refused = false } ∷ past) new

@@ -18,15 +18,17 @@ abbrev pub IsRunFault : ℕ → Option (List ℕ) → RunError → Type 0
 IsRunFault pages text (error.Line number fault) = IfSome text (λ t. (length t ≤ longest) × IsFirstFault pages (lines t) number fault)
 IsRunFault pages text error.TooLong = IfSome text (λ t. longest < length t)
 IsRunFault pages text error.PageCount = (pages < 2) ⊎ (8 < pages)
+IsRunFault pages text error.Image = ⊥
 IsRunFault pages text error.Input = ⊤
 IsRunFault pages text error.Output = ⊤
 IsRunFault pages text error.Memory = ⊤
 
--- these come before the first event
+-- these come before the first event, and one of them alone is printed
 abbrev pub IsEarly : RunError → Type 0
 IsEarly (error.Line number fault) = ⊤
 IsEarly error.TooLong = ⊤
 IsEarly error.Input = ⊤
+IsEarly error.Image = ⊤
 IsEarly error.PageCount = ⊥
 IsEarly error.Output = ⊥
 IsEarly error.Memory = ⊥

@@ -8,7 +8,7 @@ use arrayvec::ArrayVec;
 use script::Action;
 
 /// The event of a line of one event.
-pub(crate) fn event_of(action: &Action) -> Event
+pub(crate) fn event_of(action: &Action<'_>) -> Event
     ensures { IsEventOf action.now result }
 {
     match action {
@@ -18,12 +18,16 @@ pub(crate) fn event_of(action: &Action) -> Event
         Action::Out(packet) => Event::OutPacket(same(packet)),
         Action::In => Event::InPacket,
         Action::Work => Event::Work,
+        Action::WorkFault(mask) => Event::WorkFault(mask.mask()),
         Action::Cut => Event::Cut,
+        Action::CutWork(mask) => Event::CutInWork(mask.mask()),
+        Action::Reset => Event::BusReset,
         Action::Entry(layer, key) => Event::Entry(*layer, *key),
         Action::Slot { page, slot } => Event::SlotAt {
             page: *page,
             slot: *slot,
         },
+        Action::Leds => Event::Leds,
     }
 }
 

@@ -15,9 +15,12 @@ pub enum RunError {
     /// The script is longer than 1,048,576 bytes.
     #[error("the script is longer than 1048576 bytes")]
     TooLong,
-    /// The reader failed, or was interrupted.
-    #[error("the script can't be read")]
+    /// The reader of the script or of the image failed, or was interrupted.
+    #[error("the input can't be read")]
     Input,
+    /// The image is not 2 to 8 whole pages of 4,096 bytes. No event was run.
+    #[error("the image is not 2 to 8 pages of 4096 bytes")]
+    Image,
     /// The writer failed, or took no byte. Nothing was printed after that.
     #[error("the output can't be written")]
     Output,

@@ -1,6 +1,7 @@
-//! Reading a script from a reader.
+//! Reading a script or an image from a reader.
 
-ghost use Rattle.std.specs.Prelude.{◌≡◌, ◌≤◌, IfOk, IfErr, IfSome, vec_len};
+ghost use Rattle.std.specs.Prelude.{◌≡◌, ◌+◌, ◌≤◌, ℕ, List, length, IfOk, IfErr, IfSome, vec_len};
+ghost use Rattle.std.specs.Io.KnownBytes.{Consumes};
 ghost use Rattle.kbsim.specs.Readers.{longest, IsReadingFault};
 
 use crate::RunError;
@@ -10,26 +11,35 @@ use std::io::Read;
 /// The length of the longest script in bytes.
 pub(crate) const LONGEST: usize = 1_048_576;
 
-/// All that the reader gives, at most `LONGEST` bytes: `TooLong` where there are more, `Input` at
-/// the first fault of the reader, `Memory` where the text finds no room.
-pub(crate) fn read_text<R: Read>(alloc: Global, reader: &mut R) -> Result<Vec<u8>, RunError>
+/// All that the reader gives, at most `most` bytes: `TooLong` where there are more, `Input` at the
+/// first fault of the reader, `Memory` where the bytes find no room. At most one byte more than
+/// `most` is taken from the reader.
+pub(crate) fn read_whole<R: Read>(
+    alloc: Global,
+    reader: &mut R,
+    most: usize,
+) -> Result<Vec<u8>, RunError>
+    requires { most ≤ longest }
     ensures read { IfOk result (λ text. IfSome (R.remaining reader.old) (λ all. text.items ≡ all)) }
-    ensures short { IfOk result (λ text. vec_len text ≤ longest) }
-    ensures refused { IfErr result (λ e. IsReadingFault (R.remaining reader.old) e) }
+    ensures short { IfOk result (λ text. vec_len text ≤ most) }
+    ensures refused { IfErr result (λ e. IsReadingFault most (R.remaining reader.old) e) }
+    ensures few { (taken : List ℕ) × Consumes (R.remaining reader.old) (R.remaining reader.new) taken × (length taken ≤ most + 1) }
 {
     let mut text = Vec::new(alloc);
     let mut piece = [0u8; 4096];
     loop {
-        let Ok(count) = reader.read(&mut piece) else {
+        let left = most - text.len();
+        let place = &mut piece[..4096.min(left + 1)];
+        let Ok(count) = reader.read(place) else {
             return Err(RunError::Input);
         };
         if count == 0 {
             return Ok(text);
         }
-        if count > LONGEST - text.len() {
+        if count > left {
             return Err(RunError::TooLong);
         }
-        if text.extend_from_slice(&piece[..count]).is_err() {
+        if text.extend_from_slice(&place[..count]).is_err() {
             return Err(RunError::Memory);
         }
     }

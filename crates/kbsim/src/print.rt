@@ -2,8 +2,9 @@
 
 ghost use Rattle.std.specs.Prelude.{◌≡◌, [], Some, IsOk, OnOk};
 ghost use Rattle.std.specs.Io.KnownBytes.{Appends, Keeps, append_known};
-ghost use Rattle.kbsim.specs.Prints.{fault_line, fault_name, in_hex, outcome_name, printed_line, shown, shown_reading};
+ghost use Rattle.kbsim.specs.Prints.{fault_line, fault_name, in_hex, outcome_name, printed_line, shown, shown_outcome, shown_reading, shown_usages, usage_in_hex};
 
+use crate::outcome::Outcome;
 use crate::{Answer, LineFault, Reading, RunError, Work};
 use arrayvec::ArrayString;
 use std::fmt;
@@ -32,15 +33,15 @@ impl<'w, W: Write> Printer<'w, W> {
         }
     }
 
-    /// Prints the answer of a script's line.
-    pub(crate) fn answer(&mut self, line: usize, answer: &Answer) -> fmt::Result
+    /// Prints what a script's line came to.
+    pub(crate) fn show(&mut self, line: usize, outcome: &Outcome) -> fmt::Result
         ensures printed { OnOk result (Appends
             (append_known (W.contents self.old.writer.now) self.old.waiting.bytes)
             (append_known (W.contents self.new.writer.now) self.new.waiting.bytes)
-            (printed_line line answer.now)) }
+            (printed_line line outcome.now)) }
         ensures same_writer { OnOk result (self.new.writer.ghost_name ≡ self.old.writer.ghost_name) }
     {
-        let shown = Shown(answer);
+        let shown = ShownOutcome(outcome);
         writeln!(self, "{line} {shown}")
     }
 
@@ -60,6 +61,7 @@ impl<'w, W: Write> Printer<'w, W> {
             }
             RunError::TooLong => writeln!(self, "fault too long"),
             RunError::Input => writeln!(self, "fault input"),
+            RunError::Image => writeln!(self, "fault image"),
             RunError::Memory => writeln!(self, "fault memory"),
         }
     }
@@ -132,6 +134,27 @@ fn name_of(fault: LineFault) -> &'static str
     }
 }
 
+/// What a line came to, as scripts show it.
+#[derive(Drop)]
+struct ShownOutcome<'a>(&'a Outcome);
+
+impl fmt::Display for ShownOutcome<'_> {
+    ghost output = { λ s. Some (shown_outcome s.0.now) };
+
+    fn fmt<W: fmt::Write>(&self, f: &mut fmt::Formatter<W>) -> fmt::Result {
+        match self.0 {
+            Outcome::Answered(answer) => {
+                let shown = Shown(answer);
+                write!(f, "{shown}")
+            }
+            Outcome::Fetched(count) => {
+                let count = *count;
+                write!(f, "fetched {count}")
+            }
+        }
+    }
+}
+
 /// An answer as scripts show it.
 #[derive(Drop)]
 struct Shown<'a>(&'a Answer);
@@ -145,7 +168,7 @@ impl fmt::Display for Shown<'_> {
             Answer::Done => write!(f, "ok"),
             Answer::Sent { bytes, reading } => {
                 let digits = Digits(bytes.as_slice());
-                let read = reading_of(reading);
+                let read = Read(reading);
                 write!(f, "report {digits} {read}")
             }
             Answer::Ack => write!(f, "ack"),
@@ -156,7 +179,7 @@ impl fmt::Display for Shown<'_> {
                 write!(f, "data {digits}")
             }
             Answer::Stall(why) => {
-                let number = *why as u8;
+                let number = why.number();
                 write!(f, "stall {number}")
             }
             Answer::Worked(work) => write!(f, "{}", outcome_of(*work)),
@@ -171,15 +194,63 @@ impl fmt::Display for Shown<'_> {
                 write!(f, "{digits}")
             }
             Answer::NoSlot => write!(f, "no slot"),
+            Answer::LedsAre(leds) => {
+                let bytes = [*leds];
+                let digits = Digits(bytes.as_slice());
+                write!(f, "{digits}")
+            }
         }
     }
 }
 
-fn reading_of(reading: &Reading) -> &'static str
-    ensures { result.now ≡ shown_reading reading.now }
-{
-    match reading {
-        Reading::Unread => "unread",
+/// What the host makes of a report, as scripts show it.
+#[derive(Drop)]
+struct Read<'a>(&'a Reading);
+
+impl fmt::Display for Read<'_> {
+    ghost output = { λ r. Some (shown_reading r.0.now) };
+
+    #[tactic(auto, unfolding(crate::specs::Prints::shown_reading))]
+    fn fmt<W: fmt::Write>(&self, f: &mut fmt::Formatter<W>) -> fmt::Result {
+        match self.0 {
+            Reading::Unread => write!(f, "unread"),
+            Reading::NoMemory => write!(f, "no memory"),
+            Reading::Usages(usages) if usages.as_slice().is_empty() => write!(f, "read none"),
+            Reading::Usages(usages) => {
+                let usages = Usages(usages.as_slice());
+                write!(f, "read{usages}")
+            }
+        }
+    }
+}
+
+/// Usages as eight hex digits, each after a space.
+#[derive(Drop)]
+struct Usages<'a>(&'a [u32]);
+
+impl fmt::Display for Usages<'_> {
+    ghost output = { λ u. Some (shown_usages u.0.now) };
+
+    fn fmt<W: fmt::Write>(&self, f: &mut fmt::Formatter<W>) -> fmt::Result {
+        for usage in self.0 {
+            let usage = Usage(*usage);
+            write!(f, " {usage}")?;
+        }
+        Ok(())
+    }
+}
+
+/// A usage as eight hex digits: its page, and its number on that page.
+#[derive(Drop)]
+struct Usage(u32);
+
+impl fmt::Display for Usage {
+    ghost output = { λ u. Some (usage_in_hex u.0) };
+
+    fn fmt<W: fmt::Write>(&self, f: &mut fmt::Formatter<W>) -> fmt::Result {
+        let bytes = self.0.to_be_bytes();
+        let digits = Digits(bytes.as_slice());
+        write!(f, "{digits}")
     }
 }
 

@@ -1,10 +1,12 @@
 //! Running a script.
 
-ghost use Rattle.std.specs.Prelude.{◌≡◌, ◌≢◌, ◌<◌, ◌≤◌, ℕ, List, [], ◌++◌, slice_index, length, take, ◌↔◌, ◌⊎◌, IfOk, IfErr, IfSome, OnOk, IsTrue};
+ghost use Rattle.std.specs.Prelude.{◌≡◌, ◌≢◌, ◌<◌, ◌≤◌, ℕ, List, [], ◌++◌, slice_index, length, take, Some, ◌↔◌, ◌⊎◌, IfOk, IfErr, IfSome, OnOk, IsTrue};
 ghost use Rattle.std.specs.Int.NonZero.{non_zero_u16_get};
 ghost use Rattle.std.specs.Str.Lines.{lines};
-ghost use Rattle.std.specs.Io.KnownBytes.{Appends, Keeps, append_known};
-ghost use Rattle.world.specs.Stands.{StandsFor};
+ghost use Rattle.std.specs.Io.KnownBytes.{Appends, append_known};
+ghost use Rattle.flash_model.specs.Image.{page_count};
+ghost use Rattle.flash_model.specs.Sim.{SimValue};
+ghost use Rattle.system.specs.Stands.{StandsFor};
 ghost use Rattle.kbsim.specs.Outputs.{set_report, blank, IsFlashWork, LineRuns, IsRepeated, IsRefusedSet, IsTakenSet, IsRun, IsOutput, IsBegun, GoesOn, Takes};
 ghost use Rattle.kbsim.specs.Prints.{fault_line};
 ghost use Rattle.kbsim.specs.Readers.{longest};
@@ -12,11 +14,14 @@ ghost use Rattle.kbsim.specs.Scripts.{IsEarly, IsSound, IsRunFault};
 ghost use Rattle.script.specs.Scripts.{Script};
 
 use crate::action::event_of;
-use crate::input::read_text;
+use crate::fetch::fetch;
+use crate::flash::blank_flash;
+use crate::input::{LONGEST, read_whole};
+use crate::outcome::Outcome;
 use crate::print::Printer;
 use crate::{Answer, Event, RunError, Work, World};
 use arrayvec::ArrayVec;
-use flash_model::SimFlash;
+use flash_model::{NorFlash, SimFlash};
 use script::{Line, ScriptError, Statement, read_lines};
 use std::alloc::{AllocError, Global};
 use std::io::{Read, Write};
@@ -51,135 +56,195 @@ pub fn run_script<R: Read, W: Write>(
     ensures unread { result ≡ Err RunError.PageCount → R.remaining reader.new ≡ R.remaining reader.old }
     ensures unwritten { result ≡ Err RunError.PageCount → W.contents writer.new ≡ W.contents writer.old }
     ensures sound { OnOk result (IfSome (R.remaining reader.old) (IsSound pages)) }
-    ensures printed { OnOk result (IfSome (R.remaining reader.old) (λ script. (text : List ℕ)
-        × IsOutput pages script text × Appends (W.contents writer.old) (W.contents writer.new) text)) }
+    ensures printed { OnOk result (IfSome (R.remaining reader.old) (λ script. (text : List ℕ) × (after : SimValue)
+        × IsOutput (blank pages) script text after × Appends (W.contents writer.old) (W.contents writer.new) text)) }
     ensures refused { IfErr result (λ e. IsRunFault pages (R.remaining reader.old) e) }
     ensures fault_alone { IfErr result (λ e. IsEarly e → Appends (W.contents writer.old) (W.contents writer.new) (fault_line e)) }
     ensures stopped { result ≡ Err RunError.Memory → IfSome (R.remaining reader.old) (λ script. (text : List ℕ)
-        × ((text ≡ []) ⊎ IsBegun pages script text)
+        × ((text ≡ []) ⊎ IsBegun (blank pages) script text)
         × Appends (W.contents writer.old) (W.contents writer.new) (text ++ fault_line RunError.Memory)) }
 {
-    if !(2..=8).contains(&pages) {
-        return Err(RunError::PageCount);
-    }
-    let lines = match read_script(alloc, pages, reader) {
-        Ok(lines) => lines,
-        Err(error) => return report(&mut Printer::new(writer), Err(error)),
+    let flash = match blank_flash(alloc, pages) {
+        Ok(flash) => flash,
+        Err(RunError::PageCount) => return Err(RunError::PageCount),
+        Err(error) => return Err(print_fault(error, writer)),
     };
-    let mut printer = Printer::new(writer);
-    let outcome = perform(alloc, pages, lines.as_slice(), &mut printer);
-    report(&mut printer, outcome)
+    run_on(alloc, flash, reader, writer).map(|_| ())
 }
 
-/// Prints the line of a fault and gives the writer all that was printed.
-fn report<W: Write>(
-    printer: &mut Printer<'_, W>,
-    outcome: Result<(), RunError>,
-) -> Result<(), RunError>
-    ensures outcome { (result ≡ outcome) ⊎ (result ≡ Err RunError.Output) }
-    ensures printed { IfErr outcome (λ e. e ≢ RunError.Output → result ≡ Err e → Appends
+/// Runs the script that a reader gives, on this flash, armed or not, and prints a line for each of
+/// its lines. The answer is the device after the last line, with its flash.
+///
+/// What is read, checked and printed, and each fault but `PageCount`, is as `run_script` says; the
+/// script is checked against the flash's number of pages.
+pub fn run_on<R: Read, W: Write>(
+    alloc: Global,
+    flash: SimFlash,
+    reader: &mut R,
+    writer: &mut W,
+) -> Result<World, RunError>
+    ensures sound { OnOk result (IfSome (R.remaining reader.old) (IsSound (page_count flash.image))) }
+    ensures printed { IfOk result (λ world. IfSome (R.remaining reader.old) (λ script. (text : List ℕ)
+        × IsOutput flash script text world.flash × Appends (W.contents writer.old) (W.contents writer.new) text)) }
+    ensures refused { IfErr result (λ e. IsRunFault (page_count flash.image) (R.remaining reader.old) e) }
+    ensures counted { result ≢ Err RunError.PageCount }
+    ensures fault_alone { IfErr result (λ e. IsEarly e → Appends (W.contents writer.old) (W.contents writer.new) (fault_line e)) }
+    ensures stopped { result ≡ Err RunError.Memory → IfSome (R.remaining reader.old) (λ script. (text : List ℕ)
+        × ((text ≡ []) ⊎ IsBegun flash script text)
+        × Appends (W.contents writer.old) (W.contents writer.new) (text ++ fault_line RunError.Memory)) }
+{
+    let text = match read_whole(alloc, reader, LONGEST) {
+        Ok(text) => text,
+        Err(error) => return Err(print_fault(error, writer)),
+    };
+    let lines = match lines_of(alloc, flash.pages(), text.as_slice()) {
+        Ok(lines) => lines,
+        Err(error) => return Err(print_fault(error, writer)),
+    };
+    run_lines(alloc, flash, lines.as_slice(), writer)
+}
+
+/// Prints the line of a fault. The answer is the fault, or `Output` where the writer fails or takes
+/// no byte. `PageCount` and `Output` have no line.
+pub fn print_fault<W: Write>(error: RunError, writer: &mut W) -> RunError
+    ensures outcome { (result ≡ error) ⊎ (result ≡ RunError.Output) }
+    ensures printed { result ≢ RunError.Output → Appends (W.contents writer.old) (W.contents writer.new) (fault_line error) }
+{
+    tell(&mut Printer::new(writer), error)
+}
+
+/// Runs the lines of a script on a flash, and gives the writer what they print.
+fn run_lines<W: Write>(
+    alloc: Global,
+    flash: SimFlash,
+    lines: &[Line<'_>],
+    writer: &mut W,
+) -> Result<World, RunError>
+    ensures printed { IfOk result (λ world. (text : List ℕ) × IsRun flash lines.now text world.flash
+        × Appends (W.contents writer.old) (W.contents writer.new) text) }
+    ensures late { IfErr result (λ e. (e ≡ RunError.Memory) ⊎ (e ≡ RunError.Output)) }
+    ensures stopped { result ≡ Err RunError.Memory → (count : ℕ) × (text : List ℕ) × (after : SimValue)
+        × ((text ≡ []) ⊎ (count < length lines.now)) × IsRun flash (take count lines.now) text after
+        × Appends (W.contents writer.old) (W.contents writer.new) (text ++ fault_line RunError.Memory) }
+{
+    let mut printer = Printer::new(writer);
+    let world = match perform(alloc, flash, lines, &mut printer) {
+        Ok(world) => world,
+        Err(error) => return Err(tell(&mut printer, error)),
+    };
+    match printer.finish() {
+        Ok(()) => Ok(world),
+        Err(_) => Err(RunError::Output),
+    }
+}
+
+/// Prints the line of a fault, and gives the writer all that was printed. The answer is the fault,
+/// or `Output`.
+fn tell<W: Write>(printer: &mut Printer<'_, W>, error: RunError) -> RunError
+    ensures outcome { (result ≡ error) ⊎ (result ≡ RunError.Output) }
+    ensures printed { result ≢ RunError.Output → Appends
         (append_known (W.contents printer.old.writer.now) printer.old.waiting.bytes)
         (W.contents printer.new.writer.now)
-        (fault_line e)) }
-    ensures same_writer { IfErr outcome (λ e. e ≢ RunError.Output → result ≡ Err e →
-        printer.new.writer.ghost_name ≡ printer.old.writer.ghost_name) }
-    ensures given { OnOk result (Keeps
-        (append_known (W.contents printer.old.writer.now) printer.old.waiting.bytes)
-        (W.contents printer.new.writer.now)) }
-    ensures same_writer_given { OnOk result (printer.new.writer.ghost_name ≡ printer.old.writer.ghost_name) }
+        (fault_line error) }
+    ensures same_writer { result ≢ RunError.Output → printer.new.writer.ghost_name ≡ printer.old.writer.ghost_name }
 {
-    if let Err(error) = outcome {
-        if error == RunError::Output || printer.fault(error).is_err() {
-            return Err(RunError::Output);
-        }
+    if error == RunError::Output || printer.fault(error).is_err() {
+        return RunError::Output;
     }
     if printer.finish().is_err() {
-        return Err(RunError::Output);
+        return RunError::Output;
     }
-    outcome
+    error
 }
 
-/// What the lines of the script say that a reader gives.
-fn read_script<R: Read>(alloc: Global, pages: usize, reader: &mut R) -> Result<Vec<Line>, RunError>
-    requires { pages ≤ 256 }
-    ensures read { IfOk result (λ said. IfSome (R.remaining reader.old) (λ text.
-        (length text ≤ longest) × Script pages 1 (lines text) said.items)) }
-    ensures refused { IfErr result (λ e. IsRunFault pages (R.remaining reader.old) e) }
+/// What the lines of a script say.
+fn lines_of(alloc: Global, pages: usize, text: &[u8]) -> Result<Vec<Line<'_>>, RunError>
+    requires few_pages { pages ≤ 256 }
+    requires short { length text.now ≤ longest }
+    ensures read { IfOk result (λ said. Script pages 1 (lines text.now) said.items) }
+    ensures refused { IfErr result (λ e. IsRunFault pages (Some text.now) e) }
     ensures counted { result ≢ Err RunError.PageCount }
 {
-    let text = read_text(alloc, reader)?;
-    match read_lines(alloc, pages, text.as_slice()) {
+    match read_lines(alloc, pages, text) {
         Ok(lines) => Ok(lines),
         Err(ScriptError::Line { line, fault }) => Err(RunError::Line { line, fault }),
         Err(ScriptError::Memory) => Err(RunError::Memory),
     }
 }
 
-/// Runs the lines of a script on a blank flash.
+/// Runs the lines of a script on a flash. The answer is the device after them.
 fn perform<W: Write>(
     alloc: Global,
-    pages: usize,
-    lines: &[Line],
+    flash: SimFlash,
+    lines: &[Line<'_>],
     printer: &mut Printer<'_, W>,
-) -> Result<(), RunError>
-    requires two { 2 ≤ pages }
-    requires eight { pages ≤ 8 }
-    ensures printed { OnOk result ((text : List ℕ) × IsRun pages lines.now text × Appends
+) -> Result<World, RunError>
+    ensures printed { IfOk result (λ world. (text : List ℕ) × IsRun flash lines.now text world.flash × Appends
         (append_known (W.contents printer.old.writer.now) printer.old.waiting.bytes)
         (append_known (W.contents printer.new.writer.now) printer.new.waiting.bytes)
         text) }
     ensures same_writer { OnOk result (printer.new.writer.ghost_name ≡ printer.old.writer.ghost_name) }
     ensures late { IfErr result (λ e. (e ≡ RunError.Memory) ⊎ ((e ≡ RunError.Output) × (lines.now ≢ []))) }
-    ensures stopped { result ≡ Err RunError.Memory → (count : ℕ) × (text : List ℕ)
-        × ((text ≡ []) ⊎ (count < length lines.now)) × IsRun pages (take count lines.now) text
+    ensures stopped { result ≡ Err RunError.Memory → (count : ℕ) × (text : List ℕ) × (after : SimValue)
+        × ((text ≡ []) ⊎ (count < length lines.now)) × IsRun flash (take count lines.now) text after
         × Appends (append_known (W.contents printer.old.writer.now) printer.old.waiting.bytes)
         (append_known (W.contents printer.new.writer.now) printer.new.waiting.bytes)
         text }
     ensures same_writer_stopped { result ≡ Err RunError.Memory → printer.new.writer.ghost_name ≡ printer.old.writer.ghost_name }
 {
-    let mut world = blank_world(alloc, pages)?;
+    let mut world = world_on(alloc, flash)?;
     let mut answers = Vec::new(alloc);
     for line in lines {
-        let Ok(answer) = run_line(&mut world, &line.statement, &mut answers) else {
+        let Ok(outcome) = run_line(&mut world, &line.statement, &mut answers) else {
             return Err(RunError::Memory);
         };
-        let Ok(()) = printer.answer(line.number, &answer) else {
+        let Ok(()) = printer.show(line.number, &outcome) else {
             return Err(RunError::Output);
         };
     }
-    Ok(())
+    Ok(world)
 }
 
-/// A device on a blank flash; `Memory` where it finds no room.
-fn blank_world(alloc: Global, pages: usize) -> Result<World, RunError>
-    requires two { 2 ≤ pages }
-    requires eight { pages ≤ 8 }
-    ensures starts { IfOk result (λ world. StandsFor (blank pages) [] world) }
+/// A device that starts on a flash; `Memory` where it finds no room.
+fn world_on(alloc: Global, flash: SimFlash) -> Result<World, RunError>
+    ensures starts { IfOk result (λ world. StandsFor flash [] world) }
     ensures memory { IfErr result (λ e. e ≡ RunError.Memory) }
 {
-    let Ok(flash) = SimFlash::new(alloc, pages) else {
-        return Err(RunError::Memory);
-    };
-    World::new(flash).map_err(|_| RunError::Memory)
+    World::new(alloc, flash).map_err(|_| RunError::Memory)
 }
 
-/// Runs the events of a line. The answer is what the line prints.
+/// Runs the events of a line. The outcome is what the line prints.
 fn run_line(
     world: &mut World,
-    statement: &Statement,
+    statement: &Statement<'_>,
     answers: &mut Vec<Answer>,
-) -> Result<Answer, AllocError>
-    ensures { IfOk result (λ answer. GoesOn (λ steps. LineRuns statement.now steps answer) world.old world.new) }
+) -> Result<Outcome, AllocError>
+    ensures { IfOk result (λ outcome. GoesOn (λ steps. LineRuns statement.now steps outcome) world.old world.new) }
 {
     match statement {
-        Statement::One(action) => take(world, &event_of(action), answers),
-        Statement::Scans { count, scan } => repeat(world, &Event::Scan(*scan), *count, answers),
-        Statement::Set { layer, key, code } => set(world, [*layer, *key], *code, answers),
+        Statement::One(action) => {
+            let answer = take(world, &event_of(action), answers)?;
+            Ok(Outcome::Answered(answer))
+        }
+        Statement::Scans { count, scan } => {
+            let answer = repeat(world, &Event::Scan(*scan), *count, answers)?;
+            Ok(Outcome::Answered(answer))
+        }
+        Statement::Set { layer, key, code } => {
+            let answer = set(world, [*layer, *key], *code, answers)?;
+            Ok(Outcome::Answered(answer))
+        }
+        Statement::Fetch => fetch(world, answers),
     }
 }
 
-/// Takes one event.
-fn take(world: &mut World, event: &Event, answers: &mut Vec<Answer>) -> Result<Answer, AllocError>
+/// Takes one event. `AllocError` where there was no memory for its answer, or for the host, which
+/// then took the event all the same.
+pub(crate) fn take(
+    world: &mut World,
+    event: &Event,
+    answers: &mut Vec<Answer>,
+) -> Result<Answer, AllocError>
     ensures { IfOk result (λ answer. Takes event.now answer world.old world.new) }
 {
     answers.clear();
@@ -230,7 +295,7 @@ fn set(
     Ok(status)
 }
 
-fn is_ack(answer: &Answer) -> bool
+pub(crate) fn is_ack(answer: &Answer) -> bool
     ensures { IsTrue result ↔ (answer.now ≡ Answer.Ack) }
 {
     matches!(answer, Answer::Ack)

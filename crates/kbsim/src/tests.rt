@@ -5,9 +5,13 @@ use std::process::Abort;
 use std::test::Fail;
 
 mod faults;
+mod images;
 mod memory;
+mod queue;
 mod scans;
+mod sessions;
 mod streams;
+mod torn;
 mod transfers;
 mod turnover;
 

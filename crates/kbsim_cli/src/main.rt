@@ -1,7 +1,9 @@
-//! The program `kbsim`: runs a script from standard input on a simulated keyboard.
+//! The program `kbsim`: runs a script from standard input on a simulated keyboard, prints the keyboard's descriptors, and
+//! prints the fields or the items of a report descriptor.
 #![tactic(auto)]
 
 mod command_line;
+mod keep;
 mod program;
 
 use std::process::ExitCode;

@@ -1,26 +1,28 @@
 //! What the program does and the status that it ends with.
 
-ghost use Rattle.std.specs.Prelude.{◌≡◌, ◌≢◌, ◌<◌, ◌≤◌, ◌⊎◌, IfErr, OnOk, OnErr};
+ghost use Rattle.std.specs.Prelude.{◌≡◌, ◌≢◌, ◌<◌, ◌≤◌, ◌⊎◌, IfOk, IfErr, OnOk, OnErr};
 ghost use Rattle.clap.specs.Words.{kind_of};
 
-use crate::command_line::{Request, read};
+use crate::command_line::{Request, Start, read};
+use crate::keep::{Keep, Place};
 use clap::Error;
 use clap::error::ErrorKind;
-use kbsim::{RunError, run_script};
-use std::rt::Env;
-use std::{env, io};
+use kbsim::{RunError, SimFlash, World, blank_flash, image_flash, print_fault, run_on};
+use parse_lines::{LinesError, describe, items_text, parse_text};
+use std::rt::{Env, Files};
+use std::{env, fs, io};
 
-/// The status of a run that was done, and of help.
+/// The status of a subcommand that was done, and of help.
 const DONE: u8 = 0;
 
-/// The status of a run that met a fault.
+/// The status of a subcommand that met a fault.
 const FAULT: u8 = 1;
 
 /// The status of a refused command line.
 const REFUSED: u8 = 2;
 
 /// Does what the command line asks for. The answer is the program's exit status.
-pub fn status<R: Env + AllocGlobal + Input + Print + Eprint>(rt: &R) -> u8
+pub fn status<R: Env + AllocGlobal + Files + Input + Print + Eprint>(rt: &R) -> u8
     ensures { result ≤ 2 }
 {
     let words = match words(rt) {
@@ -28,23 +30,102 @@ pub fn status<R: Env + AllocGlobal + Input + Print + Eprint>(rt: &R) -> u8
         Err(status) => return status,
     };
     match read(rt.alloc(), words.as_slice()) {
-        Ok(Request::Run { pages }) => run(rt, pages),
+        Ok(Request::Run { start, save }) => run(rt, start, save),
+        Ok(Request::Describe) => print_descriptors(rt),
+        Ok(Request::Parse { items: false }) => print_fields(rt),
+        Ok(Request::Parse { items: true }) => print_items(rt),
         Err(error) => refuse(rt, &error),
     }
 }
 
-/// Runs the script on standard input.
-fn run<R: AllocGlobal + Input + Print>(rt: &R, pages: usize) -> u8
-    ensures ended { (result ≡ DONE) ⊎ (result ≡ FAULT) }
-    ensures page_count { (pages < 2) ⊎ (8 < pages) → result ≡ FAULT }
+/// Runs the script on standard input, and keeps the flash's bytes in the file `save`, if one is
+/// named.
+fn run<R: AllocGlobal + Files + Input + Print + Eprint>(
+    rt: &R,
+    start: Start<'_>,
+    save: Option<&str>,
+) -> u8
+    ensures { (result ≡ DONE) ⊎ (result ≡ FAULT) }
+{
+    let mut writer = io::writer(rt);
+    let ended = match flash_of(rt, start) {
+        Ok(flash) => run_on(rt.alloc(), flash, &mut rt.reader(), &mut writer),
+        Err(error) => Err(print_fault(error, &mut writer)),
+    };
+    if let Err(RunError::Output) = &ended {
+        tell_output(rt);
+    }
+    finish(rt, ended, &mut Place { rt, path: save })
+}
+
+/// The flash that a run starts on; `Input` where a file can't be opened.
+fn flash_of<R: AllocGlobal + Files>(rt: &R, start: Start<'_>) -> Result<SimFlash, RunError> {
+    match start {
+        Start::Blank { pages } => blank_flash(rt.alloc(), pages),
+        Start::Image(path) => match fs::open(rt, path) {
+            Ok(mut file) => image_flash(rt.alloc(), &mut file),
+            Err(_) => Err(RunError::Input),
+        },
+    }
+}
+
+/// Keeps the flash's bytes after a run without a fault. The answer is the status.
+fn finish<R: Eprint, K: Keep>(rt: &R, ended: Result<World, RunError>, kept: &mut K) -> u8
+    ensures done { IfOk ended (λ world. result ≡ DONE → K.keeps kept.old world.flash.image kept.new) }
+    ensures fault { OnErr ended (result ≡ FAULT) }
+    ensures untouched { OnErr ended (kept.new ≡ kept.old) }
+    ensures either { (result ≡ DONE) ⊎ (result ≡ FAULT) }
+{
+    let Ok(world) = ended else {
+        return FAULT;
+    };
+    let Err(error) = kept.keep(world.flash().image()) else {
+        return DONE;
+    };
+    let _ = eprintln!(rt; "error: the flash can't be saved: {error}");
+    FAULT
+}
+
+/// Prints the keyboard's descriptors.
+fn print_descriptors<R: Print + Eprint>(rt: &R) -> u8
+    ensures { (result ≡ DONE) ⊎ (result ≡ FAULT) }
+{
+    let mut writer = io::writer(rt);
+    let ended = describe(&mut writer);
+    if ended == Err(LinesError::Output) {
+        tell_output(rt);
+    }
+    status_of(ended)
+}
+
+/// Prints the fields of the report descriptor on standard input.
+fn print_fields<R: AllocGlobal + Input + Print + Eprint>(rt: &R) -> u8
+    ensures { (result ≡ DONE) ⊎ (result ≡ FAULT) }
 {
     let mut reader = rt.reader();
     let mut writer = io::writer(rt);
-    status_of(run_script(rt.alloc(), pages, &mut reader, &mut writer))
+    let ended = parse_text(rt.alloc(), &mut reader, &mut writer);
+    if ended == Err(LinesError::Output) {
+        tell_output(rt);
+    }
+    status_of(ended)
 }
 
-/// The status of a run that ended so.
-fn status_of(ended: Result<(), RunError>) -> u8
+/// Prints the items of the report descriptor on standard input.
+fn print_items<R: AllocGlobal + Input + Print + Eprint>(rt: &R) -> u8
+    ensures { (result ≡ DONE) ⊎ (result ≡ FAULT) }
+{
+    let mut reader = rt.reader();
+    let mut writer = io::writer(rt);
+    let ended = items_text(rt.alloc(), &mut reader, &mut writer);
+    if ended == Err(LinesError::Output) {
+        tell_output(rt);
+    }
+    status_of(ended)
+}
+
+/// The status of a subcommand that ended so.
+fn status_of<E: Drop>(ended: Result<(), E>) -> u8
     ensures done { OnOk ended (result ≡ DONE) }
     ensures fault { OnErr ended (result ≡ FAULT) }
 {
@@ -52,6 +133,11 @@ fn status_of(ended: Result<(), RunError>) -> u8
         Ok(()) => DONE,
         Err(_) => FAULT,
     }
+}
+
+/// Says that standard output can't be written, since no line of a fault can say it there.
+fn tell_output<R: Eprint>(rt: &R) {
+    let _ = eprintln!(rt; "error: the output can't be written");
 }
 
 /// The words of the command line, the program's name first. The error is the exit status.
@@ -69,7 +155,7 @@ fn words<R: Env + AllocGlobal + Print + Eprint>(rt: &R) -> Result<Vec<String>, u
     words.collect(rt.alloc()).map_err(|_| no_memory(rt))
 }
 
-/// Says why there is nothing to run, or shows the help that was asked for.
+/// Says why there is nothing to do, or shows the help or the version that was asked for.
 fn refuse<R: Print + Eprint>(rt: &R, error: &Error) -> u8
     ensures memory { kind_of error.now ≡ ErrorKind.OutOfMemory → result ≡ FAULT }
     ensures shown { (kind_of error.now ≡ ErrorKind.DisplayHelp) ⊎ (kind_of error.now ≡ ErrorKind.DisplayVersion)
@@ -86,6 +172,7 @@ fn refuse<R: Print + Eprint>(rt: &R, error: &Error) -> u8
     } else if printed.is_ok() {
         DONE
     } else {
+        tell_output(rt);
         FAULT
     }
 }

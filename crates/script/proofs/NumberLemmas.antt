@@ -8,8 +8,9 @@ use Rattle.std.specs.Prelude.{IsOk, IsUtf8, MatchResult}
 use Rattle.std.specs.Str.Parse.{AllDigits}
 use Rattle.hex.specs.Hex.{decode_sized, decode_of}
 use Rattle.hex.specs.declared.error.FromHexError.{FromHexError}
-use Rattle.hex.proofs.HexLemmas.{IsOk-decode_sized, IsOk-written, decode_sized-ok, decode_sized-twice}
+use Rattle.hex.proofs.HexLemmas.{decode_of-ok, IsOk-decode_sized, IsOk-written, decode_sized-ok, decode_sized-twice}
 use Rattle.script.specs.Numbers.{IsHexOf}
+use Rattle.std.proofs.Common.{◌<◌, ◌≤◌}
 
 -- digits are text
 pub IsUtf8-digits : (word : List ℕ) → AllDigits 10 word → IsUtf8 word
@@ -38,3 +39,15 @@ refused_slice count word out e r is value same least most h =
 -- what decodes into room for so many bytes decodes to them
 pub decoded : (count : ℕ) (word bytes : List ℕ) → decode_sized word count ≡ Ok bytes → decode_of word ≡ Ok bytes
 decoded count word bytes is = sym (decode_sized-twice word count (decode_sized-ok word count bytes is)) ∙ is
+
+-- what writes some bytes is hex
+pub hex_of : (word bytes : List ℕ) (most : ℕ) → decode_of word ≡ Ok bytes → 0 < length bytes → length bytes ≤ most → IsHexOf 1 most word
+hex_of word bytes most is some few =
+    let ok = decode_of-ok word bytes is in
+    record {
+      count = length bytes;
+      pairs = omega (arith, ok.0);
+      enough = some;
+      no_more = few;
+      digits = ok.1;
+    }

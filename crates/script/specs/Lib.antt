@@ -1,5 +1,6 @@
 pub mod Keys
 pub mod Numbers
+pub mod Masks
 pub mod Scripts
 pub mod Statements
 pub mod Words

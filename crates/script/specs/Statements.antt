@@ -2,6 +2,7 @@
 use Rattle.std.specs.Prelude.{◌≡◌, ◌≢◌, ℕ, ◌<◌, ◌≤◌, ◌⊎◌, List, [], ◌∷◌, length, map, codes, ◌+◌, ◌*◌, Result, MatchResult}
 use Rattle.std.specs.Int.NonZero.{non_zero_u16_get}
 use Rattle.script.specs.Keys.{WritesScan}
+use Rattle.script.specs.Masks.{IsMaskWord}
 use Rattle.script.specs.Numbers.{WritesNumber, IsNumberBelow, IsCount, WritesBytes, IsHexOf}
 use Rattle.script.specs.declared.fault.LineFault.{LineFault}
 use Rattle.script.specs.declared.fault.LineFault.TheVariants.{UnknownWord, WrongWords, BadNumber, BadHex}
@@ -20,10 +21,15 @@ spelling keyword.Setup = codes "setup"
 spelling keyword.Out = codes "out"
 spelling keyword.In = codes "in"
 spelling keyword.Work = codes "work"
+spelling keyword.WorkFault = codes "workfault"
 spelling keyword.Cut = codes "cut"
+spelling keyword.CutWork = codes "cutwork"
+spelling keyword.Reset = codes "reset"
 spelling keyword.Entry = codes "entry"
 spelling keyword.Slot = codes "slot"
+spelling keyword.Leds = codes "leds"
 spelling keyword.Set = codes "set"
+spelling keyword.Fetch = codes "fetch"
 
 -- what a word after the first one is to be
 pub data Kind : Type 0 where
@@ -33,16 +39,20 @@ pub data Kind : Type 0 where
   Count : Kind
   -- this many bytes in hex, at least and at most
   Bytes : ℕ → ℕ → Kind
+  -- a mask
+  MaskBytes : Kind
 
 abbrev pub IsOfKind : Kind → List ℕ → Type 0
 IsOfKind (Number bound) word = IsNumberBelow bound word
 IsOfKind Count word = IsCount word
 IsOfKind (Bytes least most) word = IsHexOf least most word
+IsOfKind MaskBytes word = IsMaskWord word
 
 abbrev pub fault_of : Kind → LineFault
 fault_of (Number bound) = BadNumber
 fault_of Count = BadNumber
 fault_of (Bytes least most) = BadHex
+fault_of MaskBytes = BadHex
 
 -- one number of a key for each of these words
 abbrev pub key_kinds : List (List ℕ) → List Kind
@@ -58,10 +68,15 @@ kinds pages keyword.Setup arguments = Bytes 8 8 ∷ []
 kinds pages keyword.Out arguments = Bytes 1 8 ∷ []
 kinds pages keyword.In arguments = []
 kinds pages keyword.Work arguments = []
+kinds pages keyword.WorkFault arguments = MaskBytes ∷ []
 kinds pages keyword.Cut arguments = []
+kinds pages keyword.CutWork arguments = MaskBytes ∷ []
+kinds pages keyword.Reset arguments = []
 kinds pages keyword.Entry arguments = Number 4 ∷ Number 96 ∷ []
 kinds pages keyword.Slot arguments = Number pages ∷ Number 512 ∷ []
+kinds pages keyword.Leds arguments = []
 kinds pages keyword.Set arguments = Number 256 ∷ Number 256 ∷ Bytes 2 2 ∷ []
+kinds pages keyword.Fetch arguments = []
 
 -- how many words may follow: one for each kind, but `out` may stand alone too, and a scan names up to 96 keys
 abbrev pub Takes : Keyword → List (List ℕ) → Type 0
@@ -104,13 +119,18 @@ Says pages (statement.One (action.Out packet)) words =
     ⊎ ((w : List ℕ) × (words ≡ codes "out" ∷ w ∷ []) × WritesBytes w packet.items × (0 < length packet.items))
 Says pages (statement.One action.In) words = words ≡ codes "in" ∷ []
 Says pages (statement.One action.Work) words = words ≡ codes "work" ∷ []
+Says pages (statement.One (action.WorkFault mask)) words = (words ≡ codes "workfault" ∷ mask ∷ []) × IsMaskWord mask
 Says pages (statement.One action.Cut) words = words ≡ codes "cut" ∷ []
+Says pages (statement.One (action.CutWork mask)) words = (words ≡ codes "cutwork" ∷ mask ∷ []) × IsMaskWord mask
+Says pages (statement.One action.Reset) words = words ≡ codes "reset" ∷ []
 Says pages (statement.One (action.Entry layer key)) words =
     (l k : List ℕ) × (words ≡ codes "entry" ∷ l ∷ k ∷ []) × WritesNumber l layer × WritesNumber k key
 Says pages (statement.One (action.Slot page slot)) words =
     (p s : List ℕ) × (words ≡ codes "slot" ∷ p ∷ s ∷ []) × WritesNumber p page × WritesNumber s slot × (page < pages) × (slot < 512)
+Says pages (statement.One action.Leds) words = words ≡ codes "leds" ∷ []
 Says pages (statement.Set layer key code) words =
     (l k c : List ℕ) × (words ≡ codes "set" ∷ l ∷ k ∷ c ∷ []) × WritesNumber l layer × WritesNumber k key × ((high low : ℕ) × WritesBytes c (high ∷ low ∷ []) × (code ≡ 256 * high + low))
+Says pages statement.Fetch words = words ≡ codes "fetch" ∷ []
 
 -- what comes of reading the words after a first word
 abbrev pub Reads : ℕ → Keyword → List (List ℕ) → Result Statement LineFault → Type 0

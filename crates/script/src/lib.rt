@@ -6,6 +6,7 @@
 mod fault;
 mod keys;
 mod lines;
+mod mask;
 mod number;
 mod read;
 mod statement;
@@ -14,5 +15,6 @@ mod tests;
 mod words;
 
 pub use fault::{LineFault, ScriptError};
+pub use mask::MaskWord;
 pub use read::{Line, read_lines};
 pub use statement::{Action, Statement};

@@ -58,14 +58,26 @@ pub(crate) fn packet(word: &[u8]) -> Result<ArrayVec<u8, 8>, LineFault>
         (λ f. (f ≡ LineFault.BadHex) × ¬ (IsHexOf 1 8 word.now)) }
     ensures some { IfOk result (λ packet. 0 < length packet.items) }
 {
+    bytes_up_to(word)
+}
+
+/// The 1 to `N` bytes that a word of hex digits writes; `BadHex` otherwise.
+#[tactic(auto, using(crate::proofs::NumberLemmas::hex_of))]
+pub(crate) fn bytes_up_to<const N: usize>(word: &[u8]) -> Result<ArrayVec<u8, N>, LineFault>
+    ensures read { MatchResult result
+        (λ bytes. WritesBytes word.now bytes.items)
+        (λ f. (f ≡ LineFault.BadHex) × ¬ (IsHexOf 1 N word.now)) }
+    ensures some { IfOk result (λ bytes. 0 < length bytes.items) }
+    ensures hex { IfOk result (λ _. IsHexOf 1 N word.now) }
+{
     let count = word.len() / 2;
-    if count == 0 || count > 8 {
+    if count == 0 || count > N {
         return Err(LineFault::BadHex);
     }
-    let mut packet = ArrayVec::from([0; 8]);
-    packet.truncate(count);
-    match hex::decode_to_slice(word, packet.as_mut_slice()) {
-        Ok(()) => Ok(packet),
+    let mut bytes = ArrayVec::from([0; N]);
+    bytes.truncate(count);
+    match hex::decode_to_slice(word, bytes.as_mut_slice()) {
+        Ok(()) => Ok(bytes),
         Err(_) => Err(LineFault::BadHex),
     }
 }

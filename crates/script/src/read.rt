@@ -12,18 +12,18 @@ use crate::{LineFault, ScriptError};
 use std::alloc::Global;
 
 /// A line of a script that says something.
-#[derive(Debug, PartialEq, Eq, Drop)]
-pub struct Line {
+#[derive(Debug, Drop)]
+pub struct Line<'t> {
     /// The place of the line in its script, counted from 1.
     pub number: usize,
     /// What the line says.
-    pub statement: Statement,
+    pub statement: Statement<'t>,
 }
 
 /// What the lines of a script say to a device with a flash of this many pages. The caller gives at
 /// most 256 pages and at most 1,048,576 bytes of text. `Line` names the first line with a fault.
 /// `Memory` comes where a line that says something finds no room, before any line with a fault.
-pub fn read_lines(alloc: Global, pages: usize, text: &[u8]) -> Result<Vec<Line>, ScriptError>
+pub fn read_lines(alloc: Global, pages: usize, text: &[u8]) -> Result<Vec<Line<'_>>, ScriptError>
     requires few_pages { pages ≤ 256 }
     requires short { length text.now ≤ 1048576 }
     ensures read { IfOk result (λ said. Script pages 1 (lines text.now) said.items) }
@@ -50,7 +50,7 @@ pub fn read_lines(alloc: Global, pages: usize, text: &[u8]) -> Result<Vec<Line>,
 }
 
 /// What a line says; `None` for a comment, which begins with `#`, and for a line without words.
-fn read_line(pages: usize, line: &[u8]) -> Result<Option<Statement>, LineFault>
+fn read_line(pages: usize, line: &[u8]) -> Result<Option<Statement<'_>>, LineFault>
     requires { pages ≤ 256 }
     ensures said { IfOk result (λ said. MatchOption said
         (words_in line.now ≡ [])

@@ -1,10 +1,12 @@
 //! Each line of the language, and the first fault of a text.
 
-use crate::{Action, Line, LineFault, ScriptError, Statement, read_lines};
+use crate::{Action, LineFault, ScriptError, Statement, read_lines};
 use arrayvec::ArrayVec;
 use debounce::Scan;
 use layers::{KeyNo, LayerNo};
+use std::alloc::Global;
 use std::num::NonZeroU16;
+use std::process::Abort;
 use std::test::Fail;
 
 const TEXT: &[u8] = b"# Each line of the language.\n\
@@ -17,10 +19,16 @@ const TEXT: &[u8] = b"# Each line of the language.\n\
     out 0301\n\
     \tin \n\
     work\n\
+    workfault 0fF0\n\
+    workfault -\n\
     cut\n\
+    cutwork 55\n\
     entry 3 95\n\
     slot 1 511\n\
-    set 0 255 a0B1";
+    set 0 255 a0B1\n\
+    reset\n\
+    leds\n\
+    fetch";
 
 /// A scan with these keys closed.
 fn closed(keys: &[u8]) -> Scan {
@@ -32,6 +40,51 @@ fn closed(keys: &[u8]) -> Scan {
         }
     }
     scan
+}
+
+/// Whether two statements without masks say the same.
+fn is_same(one: &Statement<'_>, other: &Statement<'_>) -> bool {
+    match (one, other) {
+        (Statement::One(Action::Scan(a)), Statement::One(Action::Scan(b))) => a == b,
+        (Statement::Scans { count: n, scan: a }, Statement::Scans { count: m, scan: b }) => {
+            n == m && a == b
+        }
+        (Statement::One(Action::Setup(a)), Statement::One(Action::Setup(b))) => a == b,
+        (Statement::One(Action::Out(a)), Statement::One(Action::Out(b))) => a == b,
+        (Statement::One(Action::Entry(l, k)), Statement::One(Action::Entry(m, n))) => {
+            l == m && k == n
+        }
+        (
+            Statement::One(Action::Slot { page: p, slot: s }),
+            Statement::One(Action::Slot { page: q, slot: t }),
+        ) => p == q && s == t,
+        (
+            Statement::Set {
+                layer: l,
+                key: k,
+                code: c,
+            },
+            Statement::Set {
+                layer: m,
+                key: n,
+                code: d,
+            },
+        ) => l == m && k == n && c == d,
+        (Statement::One(Action::Poll), Statement::One(Action::Poll))
+        | (Statement::One(Action::In), Statement::One(Action::In))
+        | (Statement::One(Action::Work), Statement::One(Action::Work))
+        | (Statement::One(Action::Cut), Statement::One(Action::Cut))
+        | (Statement::One(Action::Reset), Statement::One(Action::Reset))
+        | (Statement::One(Action::Leds), Statement::One(Action::Leds))
+        | (Statement::Fetch, Statement::Fetch) => true,
+        _ => false,
+    }
+}
+
+/// The fault of a script.
+fn fault_of(rt: &impl Abort, alloc: Global, text: &[u8]) -> Option<ScriptError> {
+    assert!(rt; text.len() <= 1_048_576);
+    read_lines(alloc, 2, text).err()
 }
 
 #[test]
@@ -61,37 +114,97 @@ fn each_line(rt: HostRuntime) -> Result<(), Fail> {
         (8, Statement::One(Action::Out(packet))),
         (9, Statement::One(Action::In)),
         (10, Statement::One(Action::Work)),
-        (11, Statement::One(Action::Cut)),
-        (12, Statement::One(Action::Entry(layer, key))),
-        (13, Statement::One(Action::Slot { page: 1, slot: 511 })),
+        (13, Statement::One(Action::Cut)),
+        (15, Statement::One(Action::Entry(layer, key))),
+        (16, Statement::One(Action::Slot { page: 1, slot: 511 })),
         (
-            14,
+            17,
             Statement::Set {
                 layer: 0,
                 key: 255,
                 code: 0xA0B1,
             },
         ),
+        (18, Statement::One(Action::Reset)),
+        (19, Statement::One(Action::Leds)),
+        (20, Statement::Fetch),
     ];
-    assert_eq!(rt; lines.len(), wanted.len());
-    for (line, (number, statement)) in lines.iter().zip(&wanted) {
-        assert_eq!(rt; line.number, *number);
-        assert_eq!(rt; line.statement, *statement);
+    let masks = [(11, [0x0f, 0xf0].as_slice()), (12, &[]), (14, &[0x55])];
+    assert_eq!(rt; lines.len(), wanted.len() + masks.len());
+    let mut wanted = wanted.iter();
+    let mut masks = masks.iter();
+    for line in &lines {
+        if let Statement::One(Action::WorkFault(mask) | Action::CutWork(mask)) = &line.statement {
+            let (number, bytes) = masks.next().expect(&rt, "a mask");
+            assert_eq!(rt; line.number, *number);
+            assert_eq!(rt; mask.mask().as_slice(), *bytes);
+        } else {
+            let (number, statement) = wanted.next().expect(&rt, "a line");
+            assert_eq!(rt; line.number, *number);
+            assert!(rt; is_same(&line.statement, statement), "{line:?}");
+        }
+    }
+    Ok(())
+}
+
+#[test]
+fn masks(rt: HostRuntime) -> Result<(), Fail> {
+    // The longest mask has 4,096 bytes; a mask of one byte more, of half a byte and of none is refused.
+    let mut line = Vec::new(rt.alloc());
+    line.extend_from_slice(b"cutwork ")?;
+    for _ in 0..4096 {
+        line.extend_from_slice(b"a5")?;
+    }
+    assert!(rt; line.len() <= 1_048_576);
+    let Ok(lines) = read_lines(rt.alloc(), 2, line.as_slice()) else {
+        panic!(rt; "the longest mask is refused");
+    };
+    let Some(Statement::One(Action::CutWork(mask))) = lines.first().map(|line| &line.statement)
+    else {
+        panic!(rt; "the longest mask is no mask");
+    };
+    assert_eq!(rt; mask.mask().len(), 4096);
+    drop(lines);
+    line.extend_from_slice(b"a5")?;
+    for text in [
+        line.as_slice(),
+        b"workfault 0",
+        b"workfault --",
+        b"cutwork 0g",
+    ] {
+        let fault = LineFault::BadHex;
+        assert_eq!(rt;
+            fault_of(&rt, rt.alloc(), text),
+            Some(ScriptError::Line { line: 1, fault })
+        );
+    }
+    for text in [b"workfault".as_slice(), b"cutwork 00 00"] {
+        let fault = LineFault::WrongWords;
+        assert_eq!(rt;
+            fault_of(&rt, rt.alloc(), text),
+            Some(ScriptError::Line { line: 1, fault })
+        );
     }
     Ok(())
 }
 
 #[test]
 fn the_first_fault(rt: HostRuntime) -> Result<(), Fail> {
-    let texts: [(&[u8], usize, LineFault); 4] = [
+    let texts: [(&[u8], usize, LineFault); 7] = [
         (b"in\n# x\nenter 0\nin in", 3, LineFault::UnknownWord),
         (b"work\nscan 96 1 x\nsetup 00", 2, LineFault::BadNumber),
         (b"slot 0\n", 1, LineFault::WrongWords),
         (b"\n\nout 030", 3, LineFault::BadHex),
+        (b"fetch\nreset 0", 2, LineFault::WrongWords),
+        (b"leds\nfetch 810600220000ff00", 2, LineFault::WrongWords),
+        (b"led", 1, LineFault::UnknownWord),
     ];
     for (text, line, fault) in texts {
-        let refused: Result<Vec<Line>, ScriptError> = Err(ScriptError::Line { line, fault });
-        assert!(rt; read_lines(rt.alloc(), 2, text) == refused, "{text:?}");
+        assert_eq!(rt;
+            fault_of(&rt, rt.alloc(), text),
+            Some(ScriptError::Line { line, fault }),
+            "{text:?}"
+        );
     }
     Ok(())
 }

@@ -1,13 +1,15 @@
--- The accepted commands after one step more.
+-- The accepted commands after one step more of a session.
 use Rattle.std.proofs.Common.{◌≡◌, ℕ, Bool, true, false, if◌then◌else◌, Option, Some, None, List, [], ◌∷◌, ◌++◌, map, refl, ap, sym, ◌∙◌}
 use Rattle.std.proofs.lemmas.List.{map-append, append-nil}
+use Rattle.flash_model.specs.Sim.{SimValue}
 use Rattle.layers.specs.declared.command.Command.{Command}
 use Rattle.world.specs.declared.event.Answer.{Answer}
 use Rattle.world.specs.declared.event.Answer.TheVariants.{Done, Ack, Nak, Packet, Stall, Sent, Worked, Restarted, EntryIs, SlotIs, NoSlot}
 use Rattle.keymap_store.specs.declared.store.Work.TheVariants.{Idle, Working, Settled, Failed}
 use Rattle.world.specs.declared.transfer.Stage.{Stage}
 use Rattle.world.specs.declared.transfer.Stage.TheVariants.{Rest, Taking, Waiting, Status, Stalled}
-use Rattle.world.specs.History.{Step, image_after, is_start, keymap}
+use Rattle.world.specs.Kinds.{kind}
+use Rattle.world.specs.History.{Step, image_after, keymap}
 use Rattle.world.specs.Fate.{Fate, works, settled, failed, fate, fate_after, ended_by, changes}
 use Rattle.world.specs.Transfer.{stage, bytes_taken}
 use Rattle.world.specs.Commands.{Accepted, accepted, accepted_before, accepted_with, accepts, in_data_stage}
@@ -62,35 +64,18 @@ with_more entries step after None = refl
 with_more entries step after (Some command) =
     ap (λ (f : Fate). let one : Accepted = record { command = command; fate = f } in one ∷ []) (fate-more entries command step after)
 
--- one step of the recursion, with what it adds
-abbrev step_of : Bool → List Accepted → List Accepted → List Accepted
-step_of b earlier here = if b then [] else earlier ++ here
+before_more : (first : SimValue) (step : Step) (after steps : List Step) → accepted_before first (step ∷ after) steps ≡ map (end_with step.answer) (accepted_before first after steps)
+before_more first step after [] = refl
+before_more first step after (s ∷ steps) =
+    rw (before_more first step (after ++ s ∷ []) steps, with_more (keymap (image_after first steps)) step after (accepts first steps s))
+    (sym (map-append (end_with step.answer) (accepted_before first (after ++ s ∷ []) steps) (accepted_with (keymap (image_after first steps)) after (accepts first steps s))))
 
-step_of-more : (b : Bool) (answer : Answer) (earlier earlier' here here' : List Accepted) → earlier' ≡ map (end_with answer) earlier → here' ≡ map (end_with answer) here
-    → step_of b earlier' here' ≡ map (end_with answer) (step_of b earlier here)
-step_of-more true answer earlier earlier' here here' e h = refl
-step_of-more false answer earlier earlier' here here' e h = rw (e, h) (sym (map-append (end_with answer) earlier here))
-
-before_more : (start : List ℕ) (step : Step) (after past : List Step) → accepted_before start (step ∷ after) past ≡ map (end_with step.answer) (accepted_before start after past)
-before_more start step after [] = refl
-before_more start step after (s ∷ past) =
-    step_of-more (is_start s.event) step.answer
-    (accepted_before start (after ++ s ∷ []) past) (accepted_before start ((step ∷ after) ++ s ∷ []) past)
-    (accepted_with (keymap (image_after start past)) after (accepts start past s)) (accepted_with (keymap (image_after start past)) (step ∷ after) (accepts start past s))
-    (before_more start step (after ++ s ∷ []) past)
-    (with_more (keymap (image_after start past)) step after (accepts start past s))
-
--- a step that is no start ends what it ends, and may add a command
-pub accepted-more : (start : List ℕ) (step : Step) (before : List Step) → is_start step.event ≡ false
-    → accepted start (step ∷ before) ≡ map (end_with step.answer) (accepted start before) ++ accepted_with (keymap (image_after start before)) [] (accepts start before step)
+-- a step ends what it ends, and may add a command
+pub accepted-more : (first : SimValue) (step : Step) (before : List Step)
+    → accepted first (step ∷ before) ≡ map (end_with step.answer) (accepted first before) ++ accepted_with (keymap (image_after first before)) [] (accepts first before step)
 unfolding accepted
-accepted-more start step before e =
-    rw e (ap (λ (xs : List Accepted). xs ++ accepted_with (keymap (image_after start before)) [] (accepts start before step)) (before_more start step [] before))
-
--- a start begins a session without commands
-pub accepted-start : (start : List ℕ) (step : Step) (before : List Step) → is_start step.event ≡ true → accepted start (step ∷ before) ≡ []
-unfolding accepted
-accepted-start start step before e = rw e refl
+accepted-more first step before =
+    ap (λ (xs : List Accepted). xs ++ accepted_with (keymap (image_after first before)) [] (accepts first before step)) (before_more first step [] before)
 
 -- an answer that ends no command
 pub record EndsNone (answer : Answer) : Type 0 where
@@ -103,10 +88,10 @@ map-end_none answer k (one ∷ xs) =
     ∙ ap (λ (ys : List Accepted). one ∷ ys) (map-end_none answer k xs)
 
 -- a step that ends and accepts no command leaves the commands
-pub accepted-same : (start : List ℕ) (step : Step) (before : List Step) → is_start step.event ≡ false → EndsNone step.answer → accepts start before step ≡ None
+pub accepted-same : (start : SimValue) (step : Step) (before : List Step) → EndsNone step.answer → accepts start before step ≡ None
     → accepted start (step ∷ before) ≡ accepted start before
-accepted-same start step before e k n =
-    accepted-more start step before e
+accepted-same start step before k n =
+    accepted-more start step before
     ∙ ap (λ (o : Option Command). map (end_with step.answer) (accepted start before) ++ accepted_with (keymap (image_after start before)) [] o) n
     ∙ append-nil (map (end_with step.answer) (accepted start before))
     ∙ map-end_none step.answer k (accepted start before)
@@ -119,7 +104,7 @@ in_data_stage-none Waiting = refl
 in_data_stage-none Status = refl
 in_data_stage-none (Stalled why) = refl
 
-pub accepts-none : (start : List ℕ) (before : List Step) (step : Step) → bytes_taken step.event step.answer ≡ None → accepts start before step ≡ None
+pub accepts-none : (start : SimValue) (before : List Step) (step : Step) → bytes_taken (kind step.event) step.answer ≡ None → accepts start before step ≡ None
 unfolding accepts
 accepts-none start before step e = rw e (in_data_stage-none (stage start before))
 

@@ -1,18 +1,21 @@
--- Restarts are legal, and looks show the settled commands.
-use Rattle.std.proofs.Common.{◌≡◌, ℕ, Option, List, [], ◌∷◌, ◌++◌, refl, ap, sym, ◌∙◌, subst}
+-- Restarts are legal, also inside an operation, and looks show the settled commands.
+use Rattle.std.proofs.Common.{◌≡◌, ◌<◌, ℕ, true, false, Option, Some, List, [], ◌∷◌, ◌++◌, refl, ap, sym, ◌∙◌, subst}
 use Rattle.std.proofs.lemmas.List.{append-nil}
+use Rattle.flash_model.specs.Sim.{SimValue}
+use Rattle.layers.specs.Codes.{layers, keys}
 use Rattle.layers.specs.Entries.{changed}
 use Rattle.layers.specs.declared.command.Command.{Command}
 use Rattle.world.specs.declared.event.Event.{Event}
-use Rattle.world.specs.declared.event.Event.TheVariants.{Cut}
-use Rattle.world.specs.declared.event.Answer.{Answer}
 use Rattle.world.specs.declared.event.Answer.TheVariants.{EntryIs}
-use Rattle.world.specs.History.{Step, image_after, session_image, keymap, EachStep}
+use Rattle.world.specs.Kinds.{kind, is_start}
+use Rattle.world.specs.History.{Step, image_after, session, keymap, EachStep}
 use Rattle.world.specs.Fate.{Fate, works, settled, failed}
 use Rattle.world.specs.Commands.{Accepted, accepted, working, settled_of, standing_of, commands_of, unless_failed, if_settled}
-use Rattle.world.specs.Restart.{SameEntries, AllButLastSettled, LegalRestart, RestartsLegally, ShowsSettled}
+use Rattle.keymap_store.specs.Keymap.{SameEntries}
+use Rattle.world.specs.Restart.{AllButLastSettled, LegalRestart, RestartsIn, RestartsLegally, ShowsSettled}
 use Rattle.world.specs.Lawful.{IsAnswered, Answered}
-use Rattle.world.proofs.Sessions.{AllEnded, Shape, at_rest, at_work, Orderly, orderly, settled_of-append}
+use Rattle.world.proofs.Effects.{Effect, stays, takes, settles, fails, starts, starts_with, effect}
+use Rattle.world.proofs.Sessions.{AllEnded, Shape, at_rest, at_work, Orderly, orderly, settled_of-append, AtWork, while_working, changed_by_working}
 
 -- each of these commands is settled
 abbrev AllSettled : List Accepted → Type 0
@@ -77,26 +80,53 @@ legal first next all w (at_work front command e ended) k =
       changed_by = subst (λ (cs : List Command). SameEntries next (changed first cs)) (settled_are ∙ sym (commands_of-standing front ended)) k;
     }
 
-restarts_step : (start : List ℕ) (before : List Step) (event : Event) (answer : Answer) (image : List ℕ) → Orderly start before → Answered start before event answer image
-    → event ≡ Cut → LegalRestart (keymap (session_image start before)) (accepted start before) (keymap image)
-restarts_step start before event answer image o a e =
-    let P : Event → Type 0 = λ x. Answered start before x answer image in
-    let same : image ≡ image_after start before = (subst P e a).1 in
-    subst (λ (i : List ℕ). LegalRestart (keymap (session_image start before)) (accepted start before) (keymap i)) (sym same)
-    (legal (keymap (session_image start before)) (keymap (image_after start before)) (accepted start before) (working start before) o.shape o.kept)
+commands_of-append : (xs ys : List Accepted) → commands_of (xs ++ ys) ≡ commands_of xs ++ commands_of ys
+commands_of-append [] ys = refl
+commands_of-append (one ∷ xs) ys = ap (λ (cs : List Command). one.command ∷ cs) (commands_of-append xs ys)
+
+-- the power was cut inside the operation that made the record of the working command whole
+legal_with : (first : SimValue) (before : List Step) (command : Command) (flash : SimValue) → AtWork first before command
+    → SameEntries (keymap flash.image) (changed (keymap (image_after first before)) (command ∷ [])) → LegalRestart (keymap first.image) (accepted first before) (keymap flash.image)
+legal_with first before command flash w e =
+    let one : Accepted = record { command = command; fate = works } in
+    let standing : standing_of (accepted first before) ≡ standing_of w.front ++ one ∷ [] = ap standing_of w.were ∙ standing_of-append w.front (one ∷ []) in
+    let commands : commands_of (standing_of w.front ++ one ∷ []) ≡ settled_of w.front ++ command ∷ [] =
+    commands_of-append (standing_of w.front) (one ∷ []) ∙ ap (λ (cs : List Command). cs ++ command ∷ []) (commands_of-standing w.front w.ended) in
+    record {
+      kept = standing_of w.front ++ one ∷ [];
+      lost = [];
+      prefix = append-nil (standing_of w.front ++ one ∷ []) ∙ sym standing;
+      holds_settled = refl;
+      at_most_last = subst (λ (xs : List Accepted). AllButLastSettled xs) (sym standing) (all_but_last-settled (standing_of w.front) (one ∷ []) (standing-ended w.front w.ended) tt);
+      changed_by = subst (λ (cs : List Command). SameEntries (keymap flash.image) (changed (keymap first.image) cs)) (sym commands) (changed_by_working first before command flash w e);
+    }
+
+no_start : (step : Step) → is_start (kind step.event) ≡ false → is_start (kind step.event) ≡ true → ⊥
+no_start step g h = cc
+
+restarts_by : (first : SimValue) (before : List Step) (step : Step) → Orderly first before → Effect first before step → RestartsIn first before step
+restarts_by first before step o (stays g k n e) s = absurd (no_start step g s)
+restarts_by first before step o (takes command g k a e n) s = absurd (no_start step g s)
+restarts_by first before step o (settles command g a n w e) s = absurd (no_start step g s)
+restarts_by first before step o (fails command g a n w e) s = absurd (no_start step g s)
+restarts_by first before step o (starts g e) s =
+    legal (keymap first.image) (keymap step.flash.image) (accepted first before) (working first before) o.shape (λ layer key l k. e layer key l k ∙ o.kept layer key l k)
+restarts_by first before step o (starts_with command g w e) s = legal_with first before command step.flash (while_working first before command o w) e
 
 -- each restart is legal
-pub restarts_legally : (start : List ℕ) (past : List Step) → EachStep IsAnswered start past → EachStep RestartsLegally start past
+pub restarts_legally : (start : SimValue) (past : List Step) → EachStep IsAnswered start past → EachStep RestartsLegally start past
 restarts_legally start [] h = tt
-restarts_legally start (step ∷ before) h =
-    (restarts_step start before step.event step.answer step.image (orderly start before h.1) h.0, restarts_legally start before h.1)
+restarts_legally start (step ∷ before) h = (
+  restarts_by (session start before).first (session start before).steps step (orderly start before h.1) (effect (session start before).first (session start before).steps step h.0),
+  restarts_legally start before h.1,
+)
 
 -- each look at an entry shows the settled commands
-pub shows_settled : (start : List ℕ) (past : List Step) → EachStep IsAnswered start past → EachStep ShowsSettled start past
+pub shows_settled : (start : SimValue) (past : List Step) → EachStep IsAnswered start past → EachStep ShowsSettled start past
 shows_settled start [] h = tt
 shows_settled start (step ∷ before) h = (
   λ layer key l k e.
-      let P : Event → Type 0 = λ x. Answered start before x step.answer step.image in
+      let P : Event → Type 0 = λ x. Answered (session start before).first (session start before).steps x step.answer step.flash in
       (subst P e h.0).0 ∙ ap EntryIs ((orderly start before h.1).kept layer key l k),
   shows_settled start before h.1,
 )

@@ -1,36 +1,39 @@
 -- The stage of the transfer after one step more.
 use Rattle.std.proofs.Common.{◌≡◌, ℕ, ◌||◌, Bool, true, false, is_some, Option, Some, None, Result, Ok, Err, List, [], ◌∷◌, refl, ap, sym, ◌∙◌, subst}
+use Rattle.flash_model.specs.Sim.{SimValue}
 use Rattle.layers.specs.declared.code.KeymapError.{KeymapError}
 use Rattle.layers.specs.declared.command.Command.{Command}
 use Rattle.world.specs.declared.event.Event.{Event}
-use Rattle.world.specs.declared.event.Event.TheVariants.{Scan, Setup, OutPacket, InPacket, Poll, Work, Cut, Entry, SlotAt}
+use Rattle.world.specs.declared.event.Event.TheVariants.{Scan, Setup, OutPacket, InPacket, Poll, Work, WorkFault, Cut, CutInWork, Entry, SlotAt}
 use Rattle.world.specs.declared.event.Answer.{Answer}
 use Rattle.world.specs.declared.event.Answer.TheVariants.{Stall, Worked}
-use Rattle.keymap_store.specs.declared.store.Work.TheVariants.{Settled}
-use Rattle.world.specs.declared.event.Why.{Why}
+use Rattle.keymap_store.specs.declared.store.Work.{Work as WorkAnswer}
+use Rattle.keymap_store.specs.declared.store.Work.TheVariants.{Idle, Working, Settled, Failed}
+use Rattle.control_ep.specs.declared.why.Why.{Why}
 use Rattle.world.specs.declared.transfer.Stage.{Stage}
 use Rattle.world.specs.declared.transfer.Stage.TheVariants.{Rest, Taking, Waiting, Status, Stalled}
+use Rattle.world.specs.Kinds.{kind, opening_of}
 use Rattle.world.specs.History.{Step, image_after, keymap, EachStep}
 use Rattle.world.specs.Fate.{Fate, works, settled, failed, fate, changes, ended_by}
 use Rattle.world.specs.Feature.{yes, no, FeatureAnswer, ReadAnswer, command_in}
-use Rattle.world.specs.Transfer.{stage, opening_of, setup_of, transfer, first_stall, first_of, stall_in, is_ended, is_empty_packet, bytes_taken, DataPacket, data_packet, data_here, data_from, data_fate, done_with, opens_boot, fate_in, refusal_of, stage_unless, stage_of_setup, stage_of_data, stage_after_data, stage_opened}
+use Rattle.world.specs.Transfer.{stage, setup_of, transfer, first_stall, first_of, stall_in, is_ended, is_empty_packet, bytes_taken, DataPacket, data_packet, data_here, data_from, data_fate, done_with, opens_boot, fate_in, refusal_of, stage_unless, stage_of_setup, stage_of_data, stage_after_data, stage_opened, stage_worked}
 use Rattle.world.specs.Keys.{protocol_of, calls_of, sent, poll_of}
-use Rattle.matrix.specs.Calls.{MatrixCall}
-use Rattle.matrix.specs.Past.{answer_after}
+use Rattle.key_reports.specs.Calls.{KeyCall}
+use Rattle.key_reports.specs.Past.{answer_after}
 use Rattle.reports.specs.declared.Protocol.{Protocol}
 use Rattle.reports.specs.declared.Protocol.TheVariants.{Boot, Report}
-use Rattle.world.specs.Lawful.{IsAnswered, Answered, OutAnswer, in_answer}
+use Rattle.world.specs.Lawful.{IsAnsweredIn, Answered, OutAnswer, in_answer}
 use Rattle.world.proofs.Accepting.{EndsNone, fate-more, ended_by-settled}
 
 -- the stage by the parts of the transfer: its first stall, its SETUP packet, its data packet, whether it was ended
 abbrev pub stage_by : Option Why → Option (List ℕ) → Option DataPacket → Bool → Stage
 stage_by stall setup packet ended = stage_unless stall (stage_of_setup setup (stage_of_data (done_with (opens_boot setup) (data_fate packet)) ended))
 
-pub stage_is : (start : List ℕ) (past : List Step) → stage start past ≡ stage_by (first_stall (transfer past)) (setup_of past) (data_packet start past) (is_ended (transfer past))
+pub stage_is : (start : SimValue) (past : List Step) → stage start past ≡ stage_by (first_stall (transfer past)) (setup_of past) (data_packet start past) (is_ended (transfer past))
 unfolding stage
 stage_is start past = refl
 
-stage-more : (start : List ℕ) (step : Step) (past : List Step) → opening_of step.event ≡ None
+stage-more : (start : SimValue) (step : Step) (past : List Step) → opening_of (kind step.event) ≡ None
     → stage start (step ∷ past)
     ≡ stage_by (first_of (first_stall (transfer past)) (stall_in step.answer)) (setup_of past) (data_here (data_packet start past) step (image_after start past)) (is_empty_packet step.answer || is_ended (transfer past))
 unfolding stage
@@ -41,15 +44,10 @@ opened : (b : Bool) → stage_of_data (done_with b None) false ≡ stage_opened 
 opened true = refl
 opened false = refl
 
-pub stage-setup : (start : List ℕ) (step : Step) (past : List Step) (bytes : List ℕ) → opening_of step.event ≡ Some (Some bytes)
+pub stage-setup : (start : SimValue) (step : Step) (past : List Step) (bytes : List ℕ) → opening_of (kind step.event) ≡ Some bytes
     → stage start (step ∷ past) ≡ stage_unless (refusal_of bytes) (stage_opened (opens_boot (Some bytes)))
 unfolding stage
 stage-setup start step past bytes e = rw e (ap (stage_unless (refusal_of bytes)) (opened (opens_boot (Some bytes))))
-
--- a start
-pub stage-start : (start : List ℕ) (step : Step) (past : List Step) → opening_of step.event ≡ Some None → stage start (step ∷ past) ≡ Rest
-unfolding stage
-stage-start start step past e = rw e refl
 
 first_of-none : {A : Type 0} (o : Option A) → first_of o None ≡ o
 first_of-none None = refl
@@ -59,14 +57,14 @@ fate_in-more : (image : List ℕ) (step : Step) (since : List Step) (read : Resu
 fate_in-more image step since (Ok command) = fate-more (keymap image) command step since
 fate_in-more image step since (Err error) = sym (ended_by-settled step.answer)
 
-data_fate-same : (d : Option DataPacket) (step : Step) (image : List ℕ) → EndsNone step.answer → bytes_taken step.event step.answer ≡ None → data_fate (data_here d step image) ≡ data_fate d
+data_fate-same : (d : Option DataPacket) (step : Step) (image : List ℕ) → EndsNone step.answer → bytes_taken (kind step.event) step.answer ≡ None → data_fate (data_here d step image) ≡ data_fate d
 data_fate-same None step image k n = rw n refl
 data_fate-same (Some packet) step image k n =
     ap Some (fate_in-more packet.image step packet.since (command_in packet.bytes) ∙ k.keeps (fate_in packet.image packet.since (command_in packet.bytes)))
 
 -- a step that carries no packet, stalls nothing and ends nothing
-pub stage-quiet : (start : List ℕ) (step : Step) (past : List Step) → opening_of step.event ≡ None → stall_in step.answer ≡ None → is_empty_packet step.answer ≡ false
-    → EndsNone step.answer → bytes_taken step.event step.answer ≡ None → stage start (step ∷ past) ≡ stage start past
+pub stage-quiet : (start : SimValue) (step : Step) (past : List Step) → opening_of (kind step.event) ≡ None → stall_in step.answer ≡ None → is_empty_packet step.answer ≡ false
+    → EndsNone step.answer → bytes_taken (kind step.event) step.answer ≡ None → stage start (step ∷ past) ≡ stage start past
 stage-quiet start step past o s p k n =
     stage-more start step past o
     ∙ rw (s, p, first_of-none (first_stall (transfer past)), data_fate-same (data_packet start past) step (image_after start past) k n) (sym (stage_is start past))
@@ -77,7 +75,7 @@ stalled_by None su su' d d' en en' why h = refl
 stalled_by (Some v) su su' d d' en en' why h = ap Stalled (h v refl)
 
 -- a stall, which repeats the reason where the transfer was stalled before
-pub stage-stall : (start : List ℕ) (step : Step) (past : List Step) (why : Why) → opening_of step.event ≡ None → step.answer ≡ Stall why
+pub stage-stall : (start : SimValue) (step : Step) (past : List Step) (why : Why) → opening_of (kind step.event) ≡ None → step.answer ≡ Stall why
     → ((v : Why) → stage start past ≡ Stalled v → v ≡ why) → stage start (step ∷ past) ≡ Stalled why
 stage-stall start step past why o a h =
     stage-more start step past o
@@ -160,25 +158,25 @@ status_parts settled true e = cc
 status_parts settled false e = (refl, refl)
 
 -- what has become of the data of the transfer
-abbrev progress : List ℕ → List Step → Option Fate
+abbrev progress : SimValue → List Step → Option Fate
 progress start past = done_with (opens_boot (setup_of past)) (data_fate (data_packet start past))
 
 -- in the data stage no packet was acknowledged yet
-in_data : (start : List ℕ) (past : List Step) → stage start past ≡ Taking → InData (first_stall (transfer past)) (setup_of past) (data_packet start past)
+in_data : (start : SimValue) (past : List Step) → stage start past ≡ Taking → InData (first_stall (transfer past)) (setup_of past) (data_packet start past)
 in_data start past e = taking_by (first_stall (transfer past)) (setup_of past) (data_packet start past) (is_ended (transfer past)) (sym (stage_is start past) ∙ e)
 
-pub no_packet : (start : List ℕ) (past : List Step) → stage start past ≡ Taking → data_packet start past ≡ None
+pub no_packet : (start : SimValue) (past : List Step) → stage start past ≡ Taking → data_packet start past ≡ None
 no_packet start past e = (in_data start past e).no_packet
 
 -- and the transfer has a data stage
-pub not_boot : (start : List ℕ) (past : List Step) → stage start past ≡ Taking → opens_boot (setup_of past) ≡ false
+pub not_boot : (start : SimValue) (past : List Step) → stage start past ≡ Taking → opens_boot (setup_of past) ≡ false
 not_boot start past e = (in_data start past e).data_due
 
 -- where the transfer was ended, it was done with its data
-pub record EndedSettled (start : List ℕ) (past : List Step) : Type 0 where
+pub record EndedSettled (start : SimValue) (past : List Step) : Type 0 where
   pub is_settled : done_with (opens_boot (setup_of past)) (data_fate (data_packet start past)) ≡ Some settled
 
-status_settled : (start : List ℕ) (past : List Step) → stage start past ≡ Status → EndedSettled start past
+status_settled : (start : SimValue) (past : List Step) → stage start past ≡ Status → EndedSettled start past
 status_settled start past e =
     let h : HasData (first_stall (transfer past)) (setup_of past) (progress start past) (is_ended (transfer past)) Status =
     has_by (first_stall (transfer past)) (setup_of past) (progress start past) (is_ended (transfer past)) Status (unfold waits_or_status in refl) (sym (stage_is start past) ∙ e) in
@@ -192,7 +190,7 @@ fate_of_packet false (Some other) packet e n s =
     let there : fate_in other.image other.since (command_in other.bytes) ≡ settled = cc in
     subst (λ (p : DataPacket). fate_in p.image p.since (command_in p.bytes) ≡ settled) same there
 
-pub packet_settled : (start : List ℕ) (past : List Step) (packet : DataPacket) → data_packet start past ≡ Some packet → opens_boot (setup_of past) ≡ false → stage start past ≡ Status
+pub packet_settled : (start : SimValue) (past : List Step) (packet : DataPacket) → data_packet start past ≡ Some packet → opens_boot (setup_of past) ≡ false → stage start past ≡ Status
     → fate_in packet.image packet.since (command_in packet.bytes) ≡ settled
 packet_settled start past packet d n e = fate_of_packet (opens_boot (setup_of past)) (data_packet start past) packet d n (status_settled start past e).is_settled
 
@@ -204,7 +202,7 @@ done_more false (Some packet) step image e =
     let was : fate_in packet.image packet.since (command_in packet.bytes) ≡ settled = cc in
     ap Some (fate_in-more packet.image step packet.since (command_in packet.bytes) ∙ rw was (ended_by-settled step.answer))
 
-ended_more : (start : List ℕ) (step : Step) (past : List Step) → opening_of step.event ≡ None → EndedSettled start past → EndedSettled start (step ∷ past)
+ended_more : (start : SimValue) (step : Step) (past : List Step) → opening_of (kind step.event) ≡ None → EndedSettled start past → EndedSettled start (step ∷ past)
 ended_more start step past o h = record { is_settled = rw o (done_more (opens_boot (setup_of past)) (data_packet start past) step (image_after start past) h.is_settled) }
 
 read_not_empty : (image : List ℕ) (read : Result Command KeymapError) (answer : Answer) → ReadAnswer image read answer → is_empty_packet answer ≡ false
@@ -232,10 +230,6 @@ sent_not_empty : (o : Option (List ℕ)) → is_empty_packet (sent o) ≡ false
 sent_not_empty None = refl
 sent_not_empty (Some bytes) = refl
 
-poll_not_empty : (protocol : Protocol) (calls : List MatrixCall) → is_empty_packet (poll_of protocol calls) ≡ false
-poll_not_empty Boot calls = sent_not_empty (answer_after Boot calls)
-poll_not_empty Report calls = refl
-
 in_empty_status : (now : Stage) → is_empty_packet (in_answer now) ≡ true → now ≡ Status
 in_empty_status Rest e = cc
 in_empty_status Taking e = cc
@@ -247,27 +241,29 @@ true_false : (b : Bool) → b ≡ true → b ≡ false → ⊥
 true_false b t f = cc
 
 -- only the status stage is answered by the empty packet
-empty_in_status : (start : List ℕ) (before : List Step) (event : Event) (answer : Answer) (image : List ℕ) → Answered start before event answer image → is_empty_packet answer ≡ true → stage start before ≡ Status
-empty_in_status start before (Setup bytes) answer image (a, e) t = absurd (true_false (is_empty_packet answer) t (rw a refl))
-empty_in_status start before (OutPacket packet) answer image (a, e) t = absurd (true_false (is_empty_packet answer) t (out_not_empty (stage start before) _ _ packet.items answer a))
-empty_in_status start before (Scan scan) answer image (a, e) t = absurd (true_false (is_empty_packet answer) t (rw a refl))
-empty_in_status start before Poll answer image (a, e) t = absurd (true_false (is_empty_packet answer) t (ap is_empty_packet a ∙ poll_not_empty (protocol_of before) (calls_of start before)))
-empty_in_status start before InPacket answer image (a, e) t = in_empty_status (stage start before) (rw a at t)
-empty_in_status start before Work answer image (work, a, w) t = absurd (true_false (is_empty_packet answer) t (rw a refl))
-empty_in_status start before Cut answer image (a, e) t = absurd (true_false (is_empty_packet answer) t (rw a refl))
-empty_in_status start before (Entry layer key) answer image (a, e) t = absurd (true_false (is_empty_packet answer) t (rw a refl))
-empty_in_status start before (SlotAt page slot) answer image (yes p a, e) t = absurd (true_false (is_empty_packet answer) t (rw a refl))
-empty_in_status start before (SlotAt page slot) answer image (no p a, e) t = absurd (true_false (is_empty_packet answer) t (rw a refl))
+empty_in_status : (start : SimValue) (before : List Step) (event : Event) (answer : Answer) (flash : SimValue) → Answered start before event answer flash → is_empty_packet answer ≡ true → stage start before ≡ Status
+empty_in_status start before (Setup bytes) answer flash (a, e) t = absurd (true_false (is_empty_packet answer) t (rw a refl))
+empty_in_status start before (OutPacket packet) answer flash (a, e) t = absurd (true_false (is_empty_packet answer) t (out_not_empty (stage start before) _ _ packet.items answer a))
+empty_in_status start before (Scan scan) answer flash (a, e) t = absurd (true_false (is_empty_packet answer) t (rw a refl))
+empty_in_status start before Poll answer flash (a, e) t = absurd (true_false (is_empty_packet answer) t (ap is_empty_packet a ∙ sent_not_empty (answer_after (protocol_of before) (calls_of start before))))
+empty_in_status start before InPacket answer flash (a, e) t = in_empty_status (stage start before) (rw a at t)
+empty_in_status start before Work answer flash (work, a, w) t = absurd (true_false (is_empty_packet answer) t (rw a refl))
+empty_in_status start before (WorkFault mask) answer flash (work, a, w) t = absurd (true_false (is_empty_packet answer) t (rw a refl))
+empty_in_status start before Cut answer flash (a, e) t = absurd (true_false (is_empty_packet answer) t (rw a refl))
+empty_in_status start before (CutInWork mask) answer flash (work, a, w) t = absurd (true_false (is_empty_packet answer) t (rw a refl))
+empty_in_status start before (Entry layer key) answer flash (a, e) t = absurd (true_false (is_empty_packet answer) t (rw a refl))
+empty_in_status start before (SlotAt page slot) answer flash (yes p a, e) t = absurd (true_false (is_empty_packet answer) t (rw a refl))
+empty_in_status start before (SlotAt page slot) answer flash (no p a, e) t = absurd (true_false (is_empty_packet answer) t (rw a refl))
 
-pub ended_settled : (start : List ℕ) (past : List Step) → EachStep IsAnswered start past → is_ended (transfer past) ≡ true → EndedSettled start past
+pub ended_settled : (start : SimValue) (past : List Step) → EachStep IsAnsweredIn start past → is_ended (transfer past) ≡ true → EndedSettled start past
 ended_settled start [] h t = cc
-ended_settled start (step ∷ past) h t = by_opening (opening_of step.event) refl (ended_settled start past h.1)
+ended_settled start (step ∷ past) h t = by_opening (opening_of (kind step.event)) refl (ended_settled start past h.1)
   where
-    by_empty : (b : Bool) → opening_of step.event ≡ None → is_empty_packet step.answer ≡ b → (is_ended (transfer past) ≡ true → EndedSettled start past) → (b || is_ended (transfer past)) ≡ true → EndedSettled start (step ∷ past)
-    by_empty true o b earlier e = ended_more start step past o (status_settled start past (empty_in_status start past step.event step.answer step.image h.0 b))
+    by_empty : (b : Bool) → opening_of (kind step.event) ≡ None → is_empty_packet step.answer ≡ b → (is_ended (transfer past) ≡ true → EndedSettled start past) → (b || is_ended (transfer past)) ≡ true → EndedSettled start (step ∷ past)
+    by_empty true o b earlier e = ended_more start step past o (status_settled start past (empty_in_status start past step.event step.answer step.flash h.0 b))
     by_empty false o b earlier e = ended_more start step past o (earlier e)
 
-    by_opening : (o : Option (Option (List ℕ))) → opening_of step.event ≡ o → (is_ended (transfer past) ≡ true → EndedSettled start past) → EndedSettled start (step ∷ past)
+    by_opening : (o : Option (List ℕ)) → opening_of (kind step.event) ≡ o → (is_ended (transfer past) ≡ true → EndedSettled start past) → EndedSettled start (step ∷ past)
     by_opening (Some opening) o earlier = (let none : is_ended (transfer (step ∷ past)) ≡ false = rw o refl in absurd (true_false (is_ended (transfer (step ∷ past))) t none))
     by_opening None o earlier = by_empty (is_empty_packet step.answer) o refl earlier (rw o at t)
 
@@ -285,7 +281,7 @@ not_true true n = absurd (n refl)
 not_true false n = refl
 
 -- in the data stage no IN token was answered yet
-taking_not_ended : (start : List ℕ) (past : List Step) → EachStep IsAnswered start past → stage start past ≡ Taking → is_ended (transfer past) ≡ false
+taking_not_ended : (start : SimValue) (past : List Step) → EachStep IsAnsweredIn start past → stage start past ≡ Taking → is_ended (transfer past) ≡ false
 taking_not_ended start past h e =
     let parts = in_data start past e in
     not_true (is_ended (transfer past)) (λ t. nothing_done (opens_boot (setup_of past)) (data_packet start past) parts.data_due parts.no_packet (ended_settled start past h t).is_settled)
@@ -318,8 +314,8 @@ after_data None None None o ended bytes came a b c r d = cc
 after_data None None (Some setup) None ended bytes came a b c r d = cc
 
 -- a data packet that is acknowledged
-pub stage-taken : (start : List ℕ) (step : Step) (past : List Step) (bytes : List ℕ) (command : Command) → EachStep IsAnswered start past → opening_of step.event ≡ None
-    → stall_in step.answer ≡ None → is_empty_packet step.answer ≡ false → bytes_taken step.event step.answer ≡ Some bytes → command_in bytes ≡ Ok command
+pub stage-taken : (start : SimValue) (step : Step) (past : List Step) (bytes : List ℕ) (command : Command) → EachStep IsAnsweredIn start past → opening_of (kind step.event) ≡ None
+    → stall_in step.answer ≡ None → is_empty_packet step.answer ≡ false → bytes_taken (kind step.event) step.answer ≡ Some bytes → command_in bytes ≡ Ok command
     → stage start past ≡ Taking → stage start (step ∷ past) ≡ stage_taken (changes (keymap (image_after start past)) command)
 stage-taken start step past bytes command h o s p b c t =
     let parts : InData (first_stall (transfer past)) (setup_of past) (data_packet start past) = in_data start past t in
@@ -337,7 +333,7 @@ stage-taken start step past bytes command h o s p b c t =
     ∙ taken_fate (keymap (image_after start past)) command (changes (keymap (image_after start past)) command) refl
 
 -- the status stage is answered
-pub stage-told : (start : List ℕ) (step : Step) (past : List Step) → opening_of step.event ≡ None → stall_in step.answer ≡ None → is_empty_packet step.answer ≡ true
+pub stage-told : (start : SimValue) (step : Step) (past : List Step) → opening_of (kind step.event) ≡ None → stall_in step.answer ≡ None → is_empty_packet step.answer ≡ true
     → stage start past ≡ Status → stage start (step ∷ past) ≡ Rest
 stage-told start step past o s p t =
     let parts : HasData (first_stall (transfer past)) (setup_of past) (progress start past) (is_ended (transfer past)) Status =
@@ -350,56 +346,78 @@ stage-told start step past o s p t =
     (is_empty_packet step.answer || is_ended (transfer past)) parts.bytes settled parts.no_stall s parts.setup_is parts.served now
     ∙ ap (stage_after_data settled) ended
 
--- what the end of a command makes of the stage
-abbrev pub stage_settled : Stage → Stage
-stage_settled Waiting = Status
-stage_settled Rest = Rest
-stage_settled Taking = Taking
-stage_settled Status = Status
-stage_settled (Stalled why) = Stalled why
+-- what a step of the flash work makes of the command and of the stage
+worked_fate : (work : WorkAnswer) (f : Fate) (ended : Bool) → (ended ≡ true → f ≡ settled) → stage_after_data (ended_by (Worked work) f) ended ≡ stage_worked work (stage_after_data f ended)
+worked_fate Idle works ended e = refl
+worked_fate Working works ended e = refl
+worked_fate Settled works true e = (let bad : works ≡ settled = e refl in cc)
+worked_fate Settled works false e = refl
+worked_fate Failed works ended e = refl
+worked_fate Idle settled true e = refl
+worked_fate Idle settled false e = refl
+worked_fate Working settled true e = refl
+worked_fate Working settled false e = refl
+worked_fate Settled settled true e = refl
+worked_fate Settled settled false e = refl
+worked_fate Failed settled true e = refl
+worked_fate Failed settled false e = refl
+worked_fate Idle failed ended e = refl
+worked_fate Working failed ended e = refl
+worked_fate Settled failed ended e = refl
+worked_fate Failed failed ended e = refl
 
-settled_fate : (f : Fate) (ended : Bool) → (ended ≡ true → f ≡ settled) → stage_after_data (ended_by (Worked Settled) f) ended ≡ stage_settled (stage_after_data f ended)
-settled_fate works true e = (let bad : works ≡ settled = e refl in cc)
-settled_fate works false e = refl
-settled_fate settled true e = refl
-settled_fate settled false e = refl
-settled_fate failed ended e = refl
+pub stalled_worked : (work : WorkAnswer) (why : Why) → stage_worked work (Stalled why) ≡ Stalled why
+stalled_worked Idle why = refl
+stalled_worked Working why = refl
+stalled_worked Settled why = refl
+stalled_worked Failed why = refl
 
-settled_unless : (r : Option Why) (a b : Stage) → b ≡ stage_settled a → stage_unless r b ≡ stage_settled (stage_unless r a)
-settled_unless (Some why) a b e = refl
-settled_unless None a b e = e
+rest_worked : (work : WorkAnswer) → stage_worked work Rest ≡ Rest
+rest_worked Idle = refl
+rest_worked Working = refl
+rest_worked Settled = refl
+rest_worked Failed = refl
 
-settled_setup : (su : Option (List ℕ)) (a b : Stage) → b ≡ stage_settled a → stage_of_setup su b ≡ stage_settled (stage_of_setup su a)
-settled_setup None a b e = refl
-settled_setup (Some bytes) a b e = settled_unless (refusal_of bytes) a b e
+taking_worked : (work : WorkAnswer) → stage_worked work Taking ≡ Taking
+taking_worked Idle = refl
+taking_worked Working = refl
+taking_worked Settled = refl
+taking_worked Failed = refl
 
--- the data of a transfer when the command settles
-settled_data : (b : Bool) (d : Option DataPacket) (step : Step) (image : List ℕ) (ended : Bool) → bytes_taken step.event step.answer ≡ None → step.answer ≡ Worked Settled
+worked_unless : (work : WorkAnswer) (r : Option Why) (a b : Stage) → b ≡ stage_worked work a → stage_unless r b ≡ stage_worked work (stage_unless r a)
+worked_unless work (Some why) a b e = sym (stalled_worked work why)
+worked_unless work None a b e = e
+
+worked_setup : (work : WorkAnswer) (su : Option (List ℕ)) (a b : Stage) → b ≡ stage_worked work a → stage_of_setup su b ≡ stage_worked work (stage_of_setup su a)
+worked_setup work None a b e = sym (rest_worked work)
+worked_setup work (Some bytes) a b e = worked_unless work (refusal_of bytes) a b e
+
+some_fate : (f : Fate) → Some f ≡ Some settled → f ≡ settled
+some_fate f e = cc
+
+-- the data of a transfer after a step of the flash work
+worked_data : (work : WorkAnswer) (b : Bool) (d : Option DataPacket) (step : Step) (image : List ℕ) (ended : Bool) → bytes_taken (kind step.event) step.answer ≡ None → step.answer ≡ Worked work
     → (ended ≡ true → done_with b (data_fate d) ≡ Some settled)
-    → stage_of_data (done_with b (data_fate (data_here d step image))) ended ≡ stage_settled (stage_of_data (done_with b (data_fate d)) ended)
-settled_data true d step image true n a h = refl
-settled_data true d step image false n a h = refl
-settled_data false None step image ended n a h = rw n refl
-settled_data false (Some packet) step image ended n a h =
-    let more : fate_in packet.image (step ∷ packet.since) (command_in packet.bytes) ≡ ended_by (Worked Settled) (fate_in packet.image packet.since (command_in packet.bytes)) =
+    → stage_of_data (done_with b (data_fate (data_here d step image))) ended ≡ stage_worked work (stage_of_data (done_with b (data_fate d)) ended)
+worked_data work true d step image ended n a h = ap (λ (f : Fate). stage_after_data f ended) (sym (ended_by-settled (Worked work))) ∙ worked_fate work settled ended (λ t. refl)
+worked_data work false None step image ended n a h = rw n (sym (taking_worked work))
+worked_data work false (Some packet) step image ended n a h =
+    let more : fate_in packet.image (step ∷ packet.since) (command_in packet.bytes) ≡ ended_by (Worked work) (fate_in packet.image packet.since (command_in packet.bytes)) =
     fate_in-more packet.image step packet.since (command_in packet.bytes) ∙ ap (λ (x : Answer). ended_by x (fate_in packet.image packet.since (command_in packet.bytes))) a in
     ap (λ (f : Fate). stage_after_data f ended) more
-    ∙ settled_fate (fate_in packet.image packet.since (command_in packet.bytes)) ended (λ t. some_fate (fate_in packet.image packet.since (command_in packet.bytes)) (h t))
-  where
-    some_fate : (f : Fate) → Some f ≡ Some settled → f ≡ settled
-    some_fate f e = cc
+    ∙ worked_fate work (fate_in packet.image packet.since (command_in packet.bytes)) ended (λ t. some_fate (fate_in packet.image packet.since (command_in packet.bytes)) (h t))
 
--- a step of the flash work that settles the command
-pub stage-settled : (start : List ℕ) (step : Step) (past : List Step) → EachStep IsAnswered start past → opening_of step.event ≡ None → bytes_taken step.event step.answer ≡ None
-    → step.answer ≡ Worked Settled → stage start (step ∷ past) ≡ stage_settled (stage start past)
-stage-settled start step past h o n a =
+-- a step of the flash work
+pub stage-worked : (start : SimValue) (step : Step) (past : List Step) (work : WorkAnswer) → EachStep IsAnsweredIn start past → opening_of (kind step.event) ≡ None → bytes_taken (kind step.event) step.answer ≡ None
+    → step.answer ≡ Worked work → stage start (step ∷ past) ≡ stage_worked work (stage start past)
+stage-worked start step past work h o n a =
     let stalls_none : stall_in step.answer ≡ None = rw a refl in
     let not_empty : is_empty_packet step.answer ≡ false = rw a refl in
     let data_before : Stage = stage_of_data (progress start past) (is_ended (transfer past)) in
     let data_after : Stage = stage_of_data (done_with (opens_boot (setup_of past)) (data_fate (data_here (data_packet start past) step (image_after start past)))) (is_ended (transfer past)) in
     stage-more start step past o
     ∙ rw (stalls_none, not_empty, first_of-none (first_stall (transfer past)))
-    (settled_unless (first_stall (transfer past)) (stage_of_setup (setup_of past) data_before) (stage_of_setup (setup_of past) data_after)
-    (settled_setup (setup_of past) data_before data_after
-    (settled_data (opens_boot (setup_of past)) (data_packet start past) step (image_after start past) (is_ended (transfer past)) n a (λ t. (ended_settled start past h t).is_settled))))
-    ∙ ap stage_settled (sym (stage_is start past))
+    (worked_unless work (first_stall (transfer past)) (stage_of_setup (setup_of past) data_before) (stage_of_setup (setup_of past) data_after)
+    (worked_setup work (setup_of past) data_before data_after
+    (worked_data work (opens_boot (setup_of past)) (data_packet start past) step (image_after start past) (is_ended (transfer past)) n a (λ t. (ended_settled start past h t).is_settled))))
+    ∙ ap (stage_worked work) (sym (stage_is start past))

@@ -13,28 +13,31 @@ use Rattle.page_turnover.specs.Turn.{next_seq}
 use Rattle.world.specs.declared.event.Event.TheVariants.{OutPacket}
 use Rattle.world.specs.declared.event.Answer.{Answer}
 use Rattle.world.specs.declared.event.Answer.TheVariants.{Done, Ack, Nak, Packet, Stall, Sent, Worked, Restarted, EntryIs, SlotIs, NoSlot}
-use Rattle.world.specs.declared.event.Why.{Why}
-use Rattle.world.specs.declared.event.Why.TheVariants.{UnknownReport, ShortData, LongData}
+use Rattle.control_ep.specs.declared.why.Why.{Why}
+use Rattle.control_ep.specs.declared.why.Why.TheVariants.{UnknownReport, ShortData, LongData}
 use Rattle.world.specs.declared.transfer.Stage.{Stage}
 use Rattle.world.specs.declared.transfer.Stage.TheVariants.{Taking, Waiting, Status, Stalled}
-use Rattle.world.specs.History.{Step, image_after, keymap}
+use Rattle.world.specs.Kinds.{kind}
+use Rattle.world.specs.History.{Step, flash_after, image_after, keymap}
 use Rattle.world.specs.Fate.{changes}
-use Rattle.world.specs.Feature.{Where, yes, no, why_not, report_length, report_id, FeatureAnswer, ReadAnswer, CommandAnswer, command_in}
+use Rattle.control_ep.specs.Reasons.{reason_of}
+use Rattle.world.specs.Feature.{Where, yes, no, report_length, report_id, FeatureAnswer, ReadAnswer, CommandAnswer, command_in}
 use Rattle.world.specs.Transfer.{stage}
 use Rattle.world.specs.Commands.{accepts, working}
 use Rattle.world.specs.Lawful.{OutAnswer}
 use Rattle.keymap_store.specs.Store.{Mirrors}
 use Rattle.keymap_store.specs.Submits.{IsWorn, HasPlace}
 use Rattle.world.specs.Value.{WorldValue, at_work}
-use Rattle.world.specs.Stands.{StandsFor, TakesCommand}
+use Rattle.world.specs.Private.{TakesCommand}
 use Rattle.world.specs.Bounded.{most_steps, steps_since}
 use Rattle.keymap_store.specs.Left.{left, Needs}
-use Rattle.world.specs.Writes.{accepted_image}
-use Rattle.world.proofs.Bounding.{in_time, steps_since-none, nothing_left, accepted_image-now, writes_none, nothing_needed}
+use Rattle.world.specs.Operated.{accepted_image}
+use Rattle.world.proofs.Bounding.{steps_since-none, nothing_left, accepted_image-now, nothing_needed}
 use Rattle.world.proofs.Keeping.{KeysStand, SameKeys, keys_kept}
 use Rattle.world.proofs.Changing.{changes-some, changes-nothing}
-use Rattle.world.proofs.Sessions.{orderly, working_after, after_takes, AfterTaken, now_works, changed_nothing}
+use Rattle.world.proofs.Sessions.{working_after, after_takes, AfterTaken, now_works, changed_nothing}
 use Rattle.world.proofs.Stages.{stage-taken, stage_taken}
+use Rattle.world.proofs.Now.{Now, More}
 use Rattle.world.proofs.Standing.{step_of, in_stage, stands_out, stands_quiet, stands_after_stall}
 
 -- what is read of a packet, by its length and its first byte
@@ -99,47 +102,47 @@ pub same_command : (packet payload : List ℕ) → payload ≡ drop 1 packet
 same_command packet payload e =
     rw (e, get_or-drop 1 packet 0 0, get_or-drop 1 packet 1 0, get_or-drop 1 packet 2 0, get_or-drop 1 packet 3 0, get_or-drop 1 packet 4 0) refl
 
-pub read_ok : (read : Result Command KeymapError) (result : Result Command Why) (command : Command) → MatchResult read (λ c. result ≡ Ok c) (λ error. result ≡ Err (why_not error)) → result ≡ Ok command → read ≡ Ok command
+pub read_ok : (read : Result Command KeymapError) (result : Result Command Why) (command : Command) → MatchResult read (λ c. result ≡ Ok c) (λ error. result ≡ Err (reason_of error)) → result ≡ Ok command → read ≡ Ok command
 read_ok (Ok c) result command m e = cc
 read_ok (Err error) result command m e = cc
 
 pub record ReadsError (read : Result Command KeymapError) (why : Why) : Type 0 where
   pub error : KeymapError
   pub is : read ≡ Err error
-  pub why_is : why ≡ why_not error
+  pub why_is : why ≡ reason_of error
 
-pub read_err : (read : Result Command KeymapError) (result : Result Command Why) (why : Why) → MatchResult read (λ c. result ≡ Ok c) (λ error. result ≡ Err (why_not error)) → result ≡ Err why → ReadsError read why
+pub read_err : (read : Result Command KeymapError) (result : Result Command Why) (why : Why) → MatchResult read (λ c. result ≡ Ok c) (λ error. result ≡ Err (reason_of error)) → result ≡ Err why → ReadsError read why
 read_err (Ok c) result why m e = cc
 read_err (Err error) result why m e = record { error = error; is = refl; why_is = cc }
 
 -- a packet that is refused before its command is read
-pub stands_refused : (start : List ℕ) (past : List Step) (packet : ArrayVec ℕ) (why : Why) (result : Result (List ℕ) Why) (old : WorldValue) → StandsFor start past old → old.stage ≡ Taking
-    → PayloadRead packet.items result → result ≡ Err why → StandsFor start (step_of (OutPacket packet) (Stall why) old ∷ past) (in_stage (Stalled why) old)
+pub stands_refused : (start : SimValue) (past : List Step) (packet : ArrayVec ℕ) (why : Why) (result : Result (List ℕ) Why) (old : WorldValue) → Now start past old → old.stage ≡ Taking
+    → PayloadRead packet.items result → result ≡ Err why → More start past (step_of (OutPacket packet) (Stall why) old) (in_stage (Stalled why) old)
 stands_refused start past packet why result old s e r f =
     stands_out start past packet why Taking old s e (λ v g. cc) (refused_packet (image_after start past) (is_some (working start past)) packet.items why result r f)
 
-not_working : (start : List ℕ) (past : List Step) (old : WorldValue) → StandsFor start past old → at_work old ≡ None → is_some (working start past) ≡ true → ⊥
+not_working : (start : SimValue) (past : List Step) (old : WorldValue) → Now start past old → at_work old ≡ None → is_some (working start past) ≡ true → ⊥
 not_working start past old s n b =
-    let none : working start past ≡ None = sym s.works ∙ n in
+    let none : working start past ≡ None = sym s.is.works ∙ n in
     let bad : is_some (working start past) ≡ false = rw none refl in
     cc
 
 -- numbers that are no command
-pub stands_unread : (start : List ℕ) (past : List Step) (packet : ArrayVec ℕ) (payload : List ℕ) (why : Why) (old : WorldValue) → StandsFor start past old → old.stage ≡ Taking → at_work old ≡ None
-    → IsFeature packet.items payload → ReadsError (command_in packet.items) why → StandsFor start (step_of (OutPacket packet) (Stall why) old ∷ past) (in_stage (Stalled why) old)
+pub stands_unread : (start : SimValue) (past : List Step) (packet : ArrayVec ℕ) (payload : List ℕ) (why : Why) (old : WorldValue) → Now start past old → old.stage ≡ Taking → at_work old ≡ None
+    → IsFeature packet.items payload → ReadsError (command_in packet.items) why → More start past (step_of (OutPacket packet) (Stall why) old) (in_stage (Stalled why) old)
 stands_unread start past packet payload why old s e n f r =
     stands_out start past packet why Taking old s e (λ v g. cc)
     (past_checks (image_after start past) (is_some (working start past)) packet.items payload (Stall why) f
     (no (not_working start past old s n) (subst (λ (x : Result Command KeymapError). ReadAnswer (image_after start past) x (Stall why)) (sym r.is) (ap Stall r.why_is))))
 
 -- the device is busy
-pub stands_busy : (start : List ℕ) (past : List Step) (packet : ArrayVec ℕ) (payload : List ℕ) (old : WorldValue) → StandsFor start past old → old.stage ≡ Taking → is_some (at_work old) ≡ true
-    → IsFeature packet.items payload → StandsFor start (step_of (OutPacket packet) Nak old ∷ past) old
+pub stands_busy : (start : SimValue) (past : List Step) (packet : ArrayVec ℕ) (payload : List ℕ) (old : WorldValue) → Now start past old → old.stage ≡ Taking → is_some (at_work old) ≡ true
+    → IsFeature packet.items payload → More start past (step_of (OutPacket packet) Nak old) old
 stands_busy start past packet payload old s e b f =
-    stands_quiet start past (OutPacket packet) Nak old s (record { goes_on = refl; opens_none = refl; ends_none = record { keeps = λ x. refl }; takes_none = refl; keeps = record { calls = λ boot entries protocol calls. refl; protocol = λ boot before. refl }; no_work = λ count. refl }) refl refl (
-      subst (λ (x : Stage). OutAnswer x (image_after start past) (working start past) packet.items Nak) (sym e ∙ s.transfer)
-          (past_checks (image_after start past) (is_some (working start past)) packet.items payload Nak f (yes (ap is_some (sym s.works) ∙ b) refl)),
-      s.flash,
+    stands_quiet start past (OutPacket packet) Nak old s (record { opens_none = refl; ends_none = record { keeps = λ x. refl }; takes_none = refl; keeps = record { calls = λ boot entries protocol calls. refl; protocol = λ boot before. refl }; no_work = λ count. refl }) refl refl (
+      subst (λ (x : Stage). OutAnswer x (image_after start past) (working start past) packet.items Nak) (sym e ∙ s.is.transfer)
+          (past_checks (image_after start past) (is_some (working start past)) packet.items payload Nak f (yes (ap is_some (sym s.is.works) ∙ b) refl)),
+      s.is.flash,
     )
 
 stage_if : (b : Bool) → stage_taken b ≡ (if b then Waiting else Status)
@@ -151,56 +154,51 @@ plus_none n = omega arith
 
 -- only stage and store are new
 keys_of : (new old : WorldValue) → new ≡ record old { stage = new.stage; store = new.store } → SameKeys new old
-keys_of new old o = record { opened = ap (λ (w : WorldValue). w.opened_boot) o; protocol = ap (λ (w : WorldValue). w.protocol) o; matrix = ap (λ (w : WorldValue). w.matrix) o }
+keys_of new old o = record { opened = ap (λ (w : WorldValue). w.opened_boot) o; protocol = ap (λ (w : WorldValue). w.protocol) o; keys = ap (λ (w : WorldValue). w.keys) o }
 
 -- a command that is handed in
-acked : (start : List ℕ) (past : List Step) (packet : ArrayVec ℕ) (payload : List ℕ) (command : Command) (old new : WorldValue) → StandsFor start past old → old.stage ≡ Taking → at_work old ≡ None
+acked : (start : SimValue) (past : List Step) (packet : ArrayVec ℕ) (payload : List ℕ) (command : Command) (old new : WorldValue) → Now start past old → old.stage ≡ Taking → at_work old ≡ None
     → IsFeature packet.items payload → command_in packet.items ≡ Ok command → TakesCommand old.flash.image command Ack old new
-    → StandsFor start (step_of (OutPacket packet) Ack new ∷ past) new
+    → More start past (step_of (OutPacket packet) Ack new) new
 unfolding accepts
 acked start past packet payload command old new s e n f c t =
     let step : Step = step_of (OutPacket packet) Ack new in
     let flash : new.flash ≡ old.flash = ap (λ (w : WorldValue). w.flash) t.only in
-    let same : new.flash.image ≡ image_after start past = ap (λ (x : SimValue). x.image) flash ∙ s.flash in
-    let keys : KeysStand start (step ∷ past) new = keys_kept start past step new old s refl (record { calls = λ boot entries protocol calls. refl; protocol = λ boot before. refl }) (keys_of new old t.only) in
-    let taking : stage start past ≡ Taking = sym s.transfer ∙ e in
+    let same : new.flash ≡ flash_after start past = flash ∙ s.is.flash in
+    let keys : KeysStand start (step ∷ past) new = keys_kept start past step new old s.is refl (record { calls = λ boot entries protocol calls. refl; protocol = λ boot before. refl }) (keys_of new old t.only) in
+    let taking : stage start past ≡ Taking = sym s.is.transfer ∙ e in
     let accepted : accepts start past step ≡ Some command = rw (taking, c) refl in
-    let change : changes (keymap old.flash.image) command ≡ changes (keymap (image_after start past)) command = ap (λ (image : List ℕ). changes (keymap image) command) s.flash in
-    let works : at_work new ≡ working start (step ∷ past) =
-    t.outcome.1 ∙ ap (λ (b : Bool). if b then Some command else None) change
-    ∙ by_taken (after_takes start past step command (orderly start past s.answered) refl (record { keeps = λ x. refl }) accepted same (not_working start past old s n)) in
-    let left_now : IsSome (at_work new) → left new.flash.image new.store + steps_since start (step ∷ past) ≤ most_steps =
-    λ w. subst (λ (c : ℕ). left new.flash.image new.store + c ≤ most_steps) (sym (steps_since-none start step past command accepted))
-    (let few : left old.flash.image new.store ≤ 387 = t.few in
-    let here : left new.flash.image new.store ≡ left old.flash.image new.store = ap (λ (x : SimValue). left x.image new.store) flash in
-    omega (arith, few, here)) in
+    let change : changes (keymap old.flash.image) command ≡ changes (keymap (image_after start past)) command = ap (λ (x : SimValue). changes (keymap x.image) command) s.is.flash in
     record {
-      flash = refl;
-      store = subst (λ (image : List ℕ). Mirrors image new.store) (sym (ap (λ (x : SimValue). x.image) flash)) t.mirrors;
-      works = works;
-      transfer = t.outcome.0 ∙ ap (λ (b : Bool). if b then Waiting else Status) change ∙ sym (stage_if (changes (keymap (image_after start past)) command))
-          ∙ sym (stage-taken start step past packet.items command s.answered refl refl refl refl c taking);
-      opened = keys.opened;
-      protocol = keys.protocol;
-      keys = keys.keys;
-      few = left_now;
-      in_time = (in_time start (step ∷ past) new.flash.image new works left_now, s.in_time);
-      needs =
-          λ w. subst (λ (image : List ℕ). Needs image (left new.flash.image new.store + steps_since start (step ∷ past))) (sym (accepted_image-now start step past command accepted))
-          (subst (λ (c : ℕ). Needs (image_after start past) (left new.flash.image new.store + c)) (sym (steps_since-none start step past command accepted))
-          (subst (λ (c : ℕ). Needs (image_after start past) c) (plus_none (left new.flash.image new.store))
-          (subst (λ (x : SimValue). Needs (image_after start past) (left x.image new.store)) (sym flash)
-          (subst (λ (image : List ℕ). Needs image (left old.flash.image new.store)) s.flash (t.needs w)))));
-      writes = (writes_none start past step (λ count. refl), s.writes);
-      answered = (
-        (
-          subst (λ (x : Stage). OutAnswer x (image_after start past) (working start past) packet.items Ack) (sym taking)
-              (past_checks (image_after start past) (is_some (working start past)) packet.items payload Ack f
-              (no (not_working start past old s n) (subst (λ (x : Result Command KeymapError). ReadAnswer (image_after start past) x Ack) (sym c)
-              (subst (λ (image : List ℕ). CommandAnswer image command Ack) s.flash t.answer_is)))),
-          same,
-        ),
-        s.answered,
+      stands = record {
+        flash = refl;
+        store = subst (λ (x : SimValue). Mirrors x.image new.store) (sym flash) t.mirrors;
+        works =
+            t.outcome.1 ∙ ap (λ (b : Bool). if b then Some command else None) change
+            ∙ by_taken (after_takes start past step command s.orderly (record { keeps = λ x. refl }) accepted same (not_working start past old s n));
+        transfer = t.outcome.0 ∙ ap (λ (b : Bool). if b then Waiting else Status) change ∙ sym (stage_if (changes (keymap (image_after start past)) command))
+            ∙ sym (stage-taken start step past packet.items command s.answered refl refl refl refl c taking);
+        opened = keys.opened;
+        protocol = keys.protocol;
+        keys = keys.keys;
+        few =
+            λ w. subst (λ (c : ℕ). left new.flash.image new.store + c ≤ most_steps) (sym (steps_since-none start step past command accepted))
+            (let few : left old.flash.image new.store ≤ 387 = t.few in
+            let here : left new.flash.image new.store ≡ left old.flash.image new.store = ap (λ (x : SimValue). left x.image new.store) flash in
+            omega (arith, few, here));
+        needs =
+            λ w. subst (λ (image : List ℕ). Needs image (left new.flash.image new.store + steps_since start (step ∷ past))) (sym (accepted_image-now start step past command accepted))
+            (subst (λ (c : ℕ). Needs (image_after start past) (left new.flash.image new.store + c)) (sym (steps_since-none start step past command accepted))
+            (subst (λ (c : ℕ). Needs (image_after start past) c) (plus_none (left new.flash.image new.store))
+            (subst (λ (x : SimValue). Needs (image_after start past) (left x.image new.store)) (sym flash)
+            (subst (λ (x : SimValue). Needs x.image (left old.flash.image new.store)) s.is.flash (t.needs w)))));
+      };
+      answer_is = (
+        subst (λ (x : Stage). OutAnswer x (image_after start past) (working start past) packet.items Ack) (sym taking)
+            (past_checks (image_after start past) (is_some (working start past)) packet.items payload Ack f
+            (no (not_working start past old s n) (subst (λ (x : Result Command KeymapError). ReadAnswer (image_after start past) x Ack) (sym c)
+            (subst (λ (x : SimValue). CommandAnswer x.image command Ack) s.is.flash t.answer_is)))),
+        same,
       );
     }
   where
@@ -213,35 +211,36 @@ acked start past packet payload command old new s e n f c t =
 world_is : (new old : WorldValue) (now : Stage) → new ≡ record old { stage = new.stage; store = new.store } → new.stage ≡ now → new ≡ record old { stage = now; store = new.store }
 world_is new old now o s = o ∙ ap (λ (x : Stage). record old { stage = x; store = new.store }) s
 
-refused_command : (start : List ℕ) (past : List Step) (packet : ArrayVec ℕ) (payload : List ℕ) (command : Command) (why : Why) (old new : WorldValue) → StandsFor start past old → old.stage ≡ Taking → at_work old ≡ None
+refused_command : (start : SimValue) (past : List Step) (packet : ArrayVec ℕ) (payload : List ℕ) (command : Command) (why : Why) (old new : WorldValue) → Now start past old → old.stage ≡ Taking → at_work old ≡ None
     → IsFeature packet.items payload → command_in packet.items ≡ Ok command → TakesCommand old.flash.image command (Stall why) old new
-    → StandsFor start (step_of (OutPacket packet) (Stall why) new ∷ past) new
+    → More start past (step_of (OutPacket packet) (Stall why) new) new
 refused_command start past packet payload command why old new s e n f c t =
     let mid : WorldValue = record old { store = new.store } in
-    let before : StandsFor start past mid = record {
-      flash = s.flash;
-      store = subst (λ (image : List ℕ). Mirrors image new.store) s.flash t.mirrors;
-      works = t.outcome.1 ∙ sym n ∙ s.works;
-      transfer = s.transfer;
-      opened = s.opened;
-      protocol = s.protocol;
-      keys = s.keys;
-      few = λ w. nothing_left (at_work mid) (left (image_after start past) new.store + steps_since start past) t.outcome.1 w;
-      needs = λ w. nothing_needed (at_work mid) (Needs (accepted_image start past) (left (image_after start past) new.store + steps_since start past)) t.outcome.1 w;
-      writes = s.writes;
+    let before : Now start past mid = record {
+      is = record {
+        flash = s.is.flash;
+        store = subst (λ (x : SimValue). Mirrors x.image new.store) s.is.flash t.mirrors;
+        works = t.outcome.1 ∙ sym n ∙ s.is.works;
+        transfer = s.is.transfer;
+        opened = s.is.opened;
+        protocol = s.is.protocol;
+        keys = s.is.keys;
+        few = λ w. nothing_left (at_work mid) (left (image_after start past) new.store + steps_since start past) t.outcome.1 w;
+        needs = λ w. nothing_needed (at_work mid) (Needs (accepted_image start past) (left (image_after start past) new.store + steps_since start past)) t.outcome.1 w;
+      };
       answered = s.answered;
-      in_time = s.in_time;
+      orderly = s.orderly;
     } in
-    let told : StandsFor start (step_of (OutPacket packet) (Stall why) mid ∷ past) (in_stage (Stalled why) mid) =
+    let told : More start past (step_of (OutPacket packet) (Stall why) mid) (in_stage (Stalled why) mid) =
     stands_out start past packet why Taking mid before e (λ v g. cc)
     (past_checks (image_after start past) (is_some (working start past)) packet.items payload (Stall why) f
     (no (not_working start past old s n) (subst (λ (x : Result Command KeymapError). ReadAnswer (image_after start past) x (Stall why)) (sym c)
-    (subst (λ (image : List ℕ). CommandAnswer image command (Stall why)) s.flash t.answer_is)))) in
+    (subst (λ (x : SimValue). CommandAnswer x.image command (Stall why)) s.is.flash t.answer_is)))) in
     stands_after_stall start past (OutPacket packet) why (Stall why) mid new refl (world_is new old (Stalled why) t.only t.outcome.0) told
 
-pub stands_command : (start : List ℕ) (past : List Step) (packet : ArrayVec ℕ) (payload : List ℕ) (command : Command) (answer : Answer) (old new : WorldValue) → StandsFor start past old → old.stage ≡ Taking → at_work old ≡ None
+pub stands_command : (start : SimValue) (past : List Step) (packet : ArrayVec ℕ) (payload : List ℕ) (command : Command) (answer : Answer) (old new : WorldValue) → Now start past old → old.stage ≡ Taking → at_work old ≡ None
     → IsFeature packet.items payload → command_in packet.items ≡ Ok command → TakesCommand old.flash.image command answer old new
-    → StandsFor start (step_of (OutPacket packet) answer new ∷ past) new
+    → More start past (step_of (OutPacket packet) answer new) new
 stands_command start past packet payload command Ack old new s e n f c t = acked start past packet payload command old new s e n f c t
 stands_command start past packet payload command (Stall why) old new s e n f c t = refused_command start past packet payload command why old new s e n f c t
 stands_command start past packet payload command Done old new s e n f c t = absurd t.outcome

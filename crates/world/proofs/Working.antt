@@ -1,236 +1,399 @@
--- A step of the flash work.
-use Rattle.std.proofs.Common.{◌≡◌, ◌≢◌, ℕ, suc, ◌+◌, ◌≤◌, arith, Option, Some, None, IsSome, List, [], ◌∷◌, refl, ap, sym, ◌∙◌, subst}
+-- A step of the flash work, whole or torn.
+use Rattle.std.proofs.Common.{◌≡◌, ◌≢◌, ℕ, suc, ◌+◌, ◌<◌, ◌≤◌, arith, Option, Some, None, IsSome, List, [], ◌∷◌, refl, ap, sym, ◌∙◌, subst}
+use Rattle.flash_model.specs.Sim.{SimValue}
 use Rattle.layers.specs.Entries.{changed}
 use Rattle.layers.specs.Keymaps.{HasEntries}
 use Rattle.layers.specs.declared.command.Command.{Command}
-use Rattle.world.specs.declared.event.Event.TheVariants.{Work}
-use Rattle.world.specs.declared.event.Answer.TheVariants.{Worked}
+use Rattle.world.specs.declared.event.Event.{Event}
+use Rattle.world.specs.declared.event.Event.TheVariants.{Work, WorkFault, CutInWork}
+use Rattle.world.specs.declared.event.Answer.TheVariants.{Worked, Restarted}
 use Rattle.keymap_store.specs.declared.store.Work.{Work as WorkAnswer}
 use Rattle.keymap_store.specs.declared.store.Work.TheVariants.{Idle, Working, Settled, Failed}
 use Rattle.world.specs.declared.transfer.Stage.{Stage}
 use Rattle.world.specs.declared.transfer.Stage.TheVariants.{Rest, Taking, Waiting, Status, Stalled}
-use Rattle.world.specs.History.{Step, image_after, keymap}
-use Rattle.world.specs.Transfer.{stage_worked}
+use Rattle.world.specs.Kinds.{kind, flash_step}
+use Rattle.world.specs.History.{Step, flash_after, image_after, keymap}
+use Rattle.world.specs.Transfer.{stage, stage_worked}
 use Rattle.world.specs.Commands.{accepts, working}
-use Rattle.world.specs.Restart.{SameEntries}
-use Rattle.world.specs.Lawful.{WorkAnswered, WorksOn}
-use Rattle.page_turnover.specs.Operates.{Operates}
+use Rattle.keymap_store.specs.Keymap.{SameEntries}
+use Rattle.world.specs.Operated.{armed_by, Works, WorksOn, Advances, Attempted, accepted_image}
+use Rattle.world.specs.Lawful.{WorkedOn, IsAnsweredIn}
 use Rattle.keymap_store.specs.Value.{StoreValue}
 use Rattle.keymap_store.specs.Store.{Mirrors, working as working_in}
-use Rattle.keymap_store.specs.Works.{WorksAs, WorksOn as KeepsOn, IsAppended, IsAppendedFor, IsPlaced, IsPlacedFor, IsPlacedAt, Turns}
+use Rattle.keymap_store.specs.Works.{WorksAs, IsAppendedFor, IsPlacedFor, IsPlacedAt, FailsFor, IsTornAt}
+use Rattle.flash_model.specs.Operations.{OnePage}
+use Rattle.page_turnover.specs.declared.operation.Operation.{Operation}
+use Rattle.page_turnover.specs.Turn.{target_page}
+use Rattle.page_turnover.specs.Value.{LogValue}
+use Rattle.keymap_store.specs.declared.store.Job.{Job}
+use Rattle.keymap_store.specs.declared.store.Job.TheVariants.{Resting, Appending, Turning}
+use Rattle.flash_model.specs.Image.{IsImage}
+use Rattle.flash_model.proofs.ByMask.{whole_program, whole_erase}
+use Rattle.page_turnover.specs.Next.{Makes, MayMake}
+use Rattle.page_turnover.specs.declared.operation.Operation.TheVariants.{Program, Erase}
+use Rattle.keymap_store.proofs.Cutting.{cut_leaves}
+use Rattle.keymap_store.specs.Turnovers.{Wears}
+use Rattle.keymap_store.specs.Next.{Attempts, AttemptsNext, next_operation_of}
+use Rattle.keymap_store.specs.Left.{left, left_for, Needs}
+use Rattle.arrayvec.specs.ArrayVec.{ArrayVec}
+use Rattle.world.specs.Private.{Arms, Operating}
 use Rattle.world.specs.Value.{WorldValue, at_work}
-use Rattle.world.specs.Stands.{StandsFor}
-use Rattle.world.proofs.Accepting.{ended_by-idle, ended_by-working, EndsNone, accepts-none}
+use Rattle.world.specs.Stands.{StandsIn}
 use Rattle.world.specs.Bounded.{most_steps, steps_since}
-use Rattle.keymap_store.specs.Left.{left, Needs}
-use Rattle.world.specs.Writes.{accepted_image, Advances}
-use Rattle.world.proofs.Bounding.{in_time, needs_more, steps_since-more, nothing_left, accepted_image-same, nothing_needed}
+use Rattle.world.proofs.Accepting.{ended_by-idle, ended_by-working, EndsNone, accepts-none}
+use Rattle.world.proofs.Bounding.{needs_more, steps_since-more, nothing_left, accepted_image-same, nothing_needed}
 use Rattle.world.proofs.Keeping.{SameKeys, KeysStand, keys_kept}
-use Rattle.world.proofs.Sessions.{orderly, working_after, after_stays, after_settles}
-use Rattle.world.proofs.Stages.{stage-quiet, stage-settled, stage_settled}
-use Rattle.world.proofs.Standing.{step_of}
-
-stage_idle : (now : Stage) → stage_worked Idle now ≡ now
-stage_idle Rest = refl
-stage_idle Taking = refl
-stage_idle Waiting = refl
-stage_idle Status = refl
-stage_idle (Stalled why) = refl
-
-stage_working : (now : Stage) → stage_worked Working now ≡ now
-stage_working Rest = refl
-stage_working Taking = refl
-stage_working Waiting = refl
-stage_working Status = refl
-stage_working (Stalled why) = refl
-
-stage_done : (now : Stage) → stage_worked Settled now ≡ stage_settled now
-stage_done Rest = refl
-stage_done Taking = refl
-stage_done Waiting = refl
-stage_done Status = refl
-stage_done (Stalled why) = refl
-
--- what a step of the work comes to: the command that worked, the flash before, the answer, the flash after, and the
--- command that works then. Of the flash after a fault nothing is known.
-abbrev pub IsWorkedOn : Command → List ℕ → WorkAnswer → List ℕ → Option Command → Type 0
-IsWorkedOn command old Settled new works = WorksOn command old Settled new × (works ≡ None)
-IsWorkedOn command old Working new works = WorksOn command old Working new × (works ≡ Some command)
-IsWorkedOn command old Failed new works = works ≡ None
-IsWorkedOn command old Idle new works = ⊥
-
-abbrev pub IsWorked : Option Command → List ℕ → WorkAnswer → List ℕ → Option Command → Type 0
-IsWorked None old answer new works = (answer ≡ Idle) × (new ≡ old) × (works ≡ None)
-IsWorked (Some command) old answer new works = IsWorkedOn command old answer new works
+use Rattle.world.proofs.Sessions.{After, working_after, after_stays, after_settles, after_fails}
+use Rattle.world.proofs.Stages.{stage-worked}
+use Rattle.world.proofs.Sounding.{usable_on}
+use Rattle.world.proofs.Now.{Now, More}
 
 -- two keymaps that have the same codes
 same_entries : (a b : ℕ → ℕ → ℕ) (codes : List ℕ) → HasEntries a codes → HasEntries b codes → SameEntries a b
 same_entries a b codes h g layer key l k = sym (h.each layer key l k) ∙ g.each layer key l k
 
-works_on : (old new : List ℕ) (before after : StoreValue) (w : Option Command) → working_in before.job ≡ w → Mirrors old before → Mirrors new after → KeepsOn before after → Operates old new
-    → IsWorked (working_in before.job) old Working new (working_in after.job)
-works_on old new before after None e m n k o = (let some : IsSome (working_in before.job) = k.some in let none : IsSome {T = Command} None = rw e at some in cc)
-works_on old new before after (Some command) e m n k o =
-    let same : SameEntries (keymap new) (keymap old) = same_entries (keymap new) (keymap old) before.keymap (subst (λ (codes : List ℕ). HasEntries (keymap new) codes) k.same_keymap n.keymap_is) m.keymap_is in
-    subst (λ (w : Option Command). IsWorked w old Working new (working_in after.job)) (sym e) ((same, o), k.same_command ∙ e)
-
-is_worked : (old new : List ℕ) (before after : StoreValue) (work : WorkAnswer) → Mirrors old before → Mirrors new after → WorksAs old before work new after
-    → (work ≢ Idle → work ≢ Failed → Operates old new) → (work ≡ Settled → IsAppended old before.job new) → work ≢ Failed → IsWorked (working_in before.job) old work new (working_in after.job)
-is_worked old new before after Idle m n w o a f =
-    subst (λ (x : Option Command). IsWorked x old Idle new (working_in after.job)) (sym w.none) (refl, w.same_image, ap (λ (s : StoreValue). working_in s.job) w.same_store ∙ w.none)
-is_worked old new before after Working m n w o a f = works_on old new before after (working_in before.job) refl m n w (o (λ e. cc) f)
-is_worked old new before after Settled m n w o a f =
-    let changes : SameEntries (keymap new) (changed (keymap old) (w.command ∷ [])) =
-    same_entries (keymap new) (changed (keymap old) (w.command ∷ [])) after.keymap n.keymap_is (w.changes (keymap old) m.keymap_is) in
-    let record_is : IsAppendedFor old (Some w.command) new = subst (λ (x : Option Command). IsAppendedFor old x new) w.was (a refl) in
-    subst (λ (x : Option Command). IsWorked x old Settled new (working_in after.job)) (sym w.was) ((record { record_is = record_is; entries = changes }, o (λ e. cc) f), w.done)
-is_worked old new before after Failed m n w o a f = absurd (f refl)
-
--- the entries are those of the history's image
-same_as : (a b c : ℕ → ℕ → ℕ) → SameEntries a b → SameEntries b c → SameEntries a c
-same_as a b c s t layer key l k = s layer key l k ∙ t layer key l k
-
-none_works : (w : Option Command) (command : Command) → w ≡ None → w ≡ Some command → ⊥
-none_works w command n s = cc
-
--- where the store writes, and that the last step is the one that settles
-pub record Writing (work : WorkAnswer) (old new : WorldValue) : Type 0 where
-  pub last : work ≡ Settled → left old.flash.image old.store ≡ 1
-  pub placed : work ≡ Settled → IsPlaced old.flash.image old.store.job new.flash.image
-  pub turns : work ≡ Working → Turns old.flash.image new.flash.image
-
-placed_for : (old : List ℕ) (o : Option Command) (command : Command) (new : List ℕ) → o ≡ Some command → IsPlacedFor old o new → IsPlacedAt old command new
-placed_for old o command new e p = let P : Option Command → Type 0 = λ x. IsPlacedFor old x new in subst P e p
+-- the world as it operates: its flash may have been armed, where a command works
+pub record Held (old held : WorldValue) : Type 0 where
+  pub only : held ≡ record old { flash = held.flash }
+  pub image : held.flash.image ≡ old.flash.image
+  pub none : at_work old ≡ None → held.flash ≡ old.flash
 
 same_command : (w : Option Command) (a b : Command) → w ≡ Some a → w ≡ Some b → a ≡ b
 same_command w a b e f = cc
 
-worked : (start : List ℕ) (past : List Step) (work : WorkAnswer) (w : Option Command) (old new : WorldValue) → StandsFor start past old → Mirrors new.flash.image new.store
-    → at_work old ≡ w → work ≢ Failed → new.stage ≡ stage_worked work old.stage → IsWorked w old.flash.image work new.flash.image (at_work new)
-    → SameKeys new old → (work ≡ Working → left new.flash.image new.store + 1 ≡ left old.flash.image old.store) → Writing work old new
-    → StandsFor start (step_of Work (Worked work) new ∷ past) new
-worked start past work None old new s h w f e (idle, same, rests) keys fewer writing =
-    let step : Step = step_of Work (Worked work) new in
-    let ends : EndsNone (Worked work) = record { keeps = λ x. rw idle (ended_by-idle x) } in
-    let stand : KeysStand start (step ∷ past) new = keys_kept start past step new old s refl (record { calls = λ boot entries protocol calls. refl; protocol = λ boot before. refl }) keys in
-    let none : accepts start past step ≡ None = accepts-none start past step refl in
-    let kept : SameEntries (keymap new.flash.image) (keymap (image_after start past)) = λ layer key l k. ap (λ (image : List ℕ). keymap image layer key) (same ∙ s.flash) in
-    let was : working start past ≡ None = sym s.works ∙ w in
-    let works : at_work new ≡ working start (step ∷ past) =
-    rests ∙ sym was ∙ sym (working_after start past step (working start past) (after_stays start past step (orderly start past s.answered) refl ends none kept)) in
-    let left_now : IsSome (at_work new) → left new.flash.image new.store + steps_since start (step ∷ past) ≤ most_steps =
-    λ x. nothing_left (at_work new) (left new.flash.image new.store + steps_since start (step ∷ past)) rests x in
-    record {
-      flash = refl;
-      store = h;
-      works = works;
-      few = left_now;
-      needs = λ x. nothing_needed (at_work new) (Needs (accepted_image start (step ∷ past)) (left new.flash.image new.store + steps_since start (step ∷ past))) rests x;
-      writes = ((λ ev command v. absurd (none_works (working start past) command was v)), s.writes);
-      in_time = (in_time start (step ∷ past) new.flash.image new works left_now, s.in_time);
-      transfer = e ∙ ap (λ (x : WorkAnswer). stage_worked x old.stage) idle ∙ stage_idle old.stage ∙ s.transfer ∙ sym (stage-quiet start step past refl refl refl ends refl);
-      opened = stand.opened;
-      protocol = stand.protocol;
-      keys = stand.keys;
-      answered = ((work, refl, subst (λ (o : Option Command). WorkAnswered o (image_after start past) work new.flash.image) (sym was) (idle, same ∙ s.flash)), s.answered);
-    }
-worked start past Settled (Some command) old new s h w f e (done, rests) keys fewer writing =
-    let step : Step = step_of Work (Worked Settled) new in
-    let stand : KeysStand start (step ∷ past) new = keys_kept start past step new old s refl (record { calls = λ boot entries protocol calls. refl; protocol = λ boot before. refl }) keys in
-    let none : accepts start past step ≡ None = accepts-none start past step refl in
-    let was : working start past ≡ Some command = sym s.works ∙ w in
-    let there : WorksOn command (image_after start past) Settled new.flash.image = subst (λ (image : List ℕ). WorksOn command image Settled new.flash.image) s.flash done in
-    let works : at_work new ≡ working start (step ∷ past) =
-    rests ∙ sym (working_after start past step None (after_settles start past step command (orderly start past s.answered) refl refl none was there.0.entries)) in
-    let left_now : IsSome (at_work new) → left new.flash.image new.store + steps_since start (step ∷ past) ≤ most_steps =
-    λ x. nothing_left (at_work new) (left new.flash.image new.store + steps_since start (step ∷ past)) rests x in
-    record {
-      flash = refl;
-      store = h;
-      works = works;
-      few = left_now;
-      needs = λ x. nothing_needed (at_work new) (Needs (accepted_image start (step ∷ past)) (left new.flash.image new.store + steps_since start (step ∷ past))) rests x;
-      writes = (
-        (
-            λ ev asked v.
-            (let there : asked ≡ command = same_command (working start past) asked command v was in
-            let here : Advances (accepted_image start past) (steps_since start past) command (image_after start past) new.flash.image (Worked Settled) = record {
-              needed = left (image_after start past) old.store + steps_since start past;
-              needs = s.needs (rw w refl);
-              last = λ x. (
-                (let one : left old.flash.image old.store ≡ 1 = writing.last refl in
-                    let image_is : left (image_after start past) old.store ≡ left old.flash.image old.store = ap (λ (image : List ℕ). left image old.store) (sym s.flash) in
-                    omega (arith, one, image_is)),
-                subst (λ (image : List ℕ). IsPlacedAt image command new.flash.image) s.flash (placed_for old.flash.image (at_work old) command new.flash.image w (writing.placed refl)),
-              );
-              before_last = λ x. cc;
-            } in
-            subst (λ (c : Command). Advances (accepted_image start past) (steps_since start past) c (image_after start past) new.flash.image (Worked Settled)) (sym there) here)
-            ),
-        s.writes,
-      );
-      in_time = (in_time start (step ∷ past) new.flash.image new works left_now, s.in_time);
-      transfer = e ∙ stage_done old.stage ∙ ap stage_settled s.transfer ∙ sym (stage-settled start step past s.answered refl refl refl);
-      opened = stand.opened;
-      protocol = stand.protocol;
-      keys = stand.keys;
-      answered = ((Settled, refl, subst (λ (o : Option Command). WorkAnswered o (image_after start past) Settled new.flash.image) (sym was) there), s.answered);
-    }
-worked start past Working (Some command) old new s h w f e (done, waits) keys fewer writing =
-    let step : Step = step_of Work (Worked Working) new in
-    let ends : EndsNone (Worked Working) = record { keeps = ended_by-working } in
-    let stand : KeysStand start (step ∷ past) new = keys_kept start past step new old s refl (record { calls = λ boot entries protocol calls. refl; protocol = λ boot before. refl }) keys in
-    let none : accepts start past step ≡ None = accepts-none start past step refl in
-    let was : working start past ≡ Some command = sym s.works ∙ w in
-    let there : WorksOn command (image_after start past) Working new.flash.image = subst (λ (image : List ℕ). WorksOn command image Working new.flash.image) s.flash done in
-    let works : at_work new ≡ working start (step ∷ past) =
-    waits ∙ sym was ∙ sym (working_after start past step (working start past) (after_stays start past step (orderly start past s.answered) refl ends none there.0)) in
-    let count : steps_since start (step ∷ past) ≡ suc (steps_since start past) = steps_since-more start step past (λ n. refl) none in
-    let left_now : IsSome (at_work new) → left new.flash.image new.store + steps_since start (step ∷ past) ≤ most_steps =
-    λ x. (let before : left (image_after start past) old.store + steps_since start past ≤ 387 = s.few (rw w refl) in
-    let image_is : left (image_after start past) old.store ≡ left old.flash.image old.store = ap (λ (image : List ℕ). left image old.store) (sym s.flash) in
-    omega (arith, before, image_is, fewer refl, count)) in
-    record {
-      flash = refl;
-      store = h;
-      works = works;
-      few = left_now;
-      needs =
-          λ x. subst (λ (image : List ℕ). Needs image (left new.flash.image new.store + steps_since start (step ∷ past))) (sym (accepted_image-same start step past none))
-          (subst (λ (n : ℕ). Needs (accepted_image start past) n)
-          (let image_is : left (image_after start past) old.store ≡ left old.flash.image old.store = ap (λ (image : List ℕ). left image old.store) (sym s.flash) in
-          omega (arith, image_is, fewer refl, count))
-          (s.needs (rw w refl)));
-      writes = (
-        (
-            λ ev asked v. record {
-              needed = left (image_after start past) old.store + steps_since start past;
-              needs = s.needs (rw w refl);
-              last = λ x. cc;
-              before_last = λ x. (
-                (let image_is : left (image_after start past) old.store ≡ left old.flash.image old.store = ap (λ (image : List ℕ). left image old.store) (sym s.flash) in
-                    let more : 1 ≤ left new.flash.image new.store = needs_more new.flash.image new.store (rw waits refl) in
-                    omega (arith, image_is, fewer refl, more)),
-                subst (λ (image : List ℕ). Turns image new.flash.image) s.flash (writing.turns refl),
-              );
-            }
-            ),
-        s.writes,
-      );
-      in_time = (in_time start (step ∷ past) new.flash.image new works left_now, s.in_time);
-      transfer = e ∙ stage_working old.stage ∙ s.transfer ∙ sym (stage-quiet start step past refl refl refl ends refl);
-      opened = stand.opened;
-      protocol = stand.protocol;
-      keys = stand.keys;
-      answered = ((Working, refl, subst (λ (o : Option Command). WorkAnswered o (image_after start past) Working new.flash.image) (sym was) there), s.answered);
-    }
-worked start past Idle (Some command) old new s h w f e done keys fewer writing = absurd done
-worked start past Failed (Some command) old new s h w f e done keys fewer writing = absurd (f refl)
+not_some : (w : Option Command) (command : Command) → w ≡ None → w ≡ Some command → ⊥
+not_some w command n s = cc
 
-pub stands_worked : (start : List ℕ) (past : List Step) (work : WorkAnswer) (old new : WorldValue) → StandsFor start past old → Mirrors old.flash.image old.store → Mirrors new.flash.image new.store
-    → WorksAs old.flash.image old.store work new.flash.image new.store → (work ≢ Idle → work ≢ Failed → Operates old.flash.image new.flash.image)
-    → (work ≡ Settled → IsAppended old.flash.image old.store.job new.flash.image) → work ≢ Failed → new.stage ≡ stage_worked work old.stage → SameKeys new old
-    → (work ≡ Working → left new.flash.image new.store + 1 ≡ left old.flash.image old.store) → Writing work old new
-    → StandsFor start (step_of Work (Worked work) new ∷ past) new
-stands_worked start past work old new s m n w o a f e keys fewer writing =
-    worked start past work (at_work old) old new s n refl f e (is_worked old.flash.image new.flash.image old.store new.store work m n w o a f) keys fewer writing
+not_both : (w : Option Command) → IsSome w → w ≡ None → ⊥
+not_both w s n = (let none : IsSome {T = Command} None = rw n at s in cc)
+
+placed_for : (old : List ℕ) (o : Option Command) (command : Command) (new : List ℕ) → o ≡ Some command → IsPlacedFor old o new → IsPlacedAt old command new
+placed_for old o command new e p = let P : Option Command → Type 0 = λ x. IsPlacedFor old x new in subst P e p
+
+appended_for : (old : List ℕ) (o : Option Command) (command : Command) (new : List ℕ) → o ≡ Some command → IsAppendedFor old o new → IsAppendedFor old (Some command) new
+appended_for old o command new e p = let P : Option Command → Type 0 = λ x. IsAppendedFor old x new in subst P e p
+
+-- what the operation is, by the store's clauses
+outcome : (command : Command) (held : WorldValue) (work : WorkAnswer) (new : WorldValue) → Mirrors held.flash.image held.store → Operating held work new → at_work held ≡ Some command
+    → WorksAs held.flash.image held.store work new.flash.image new.store → WorksOn command held.flash.image work new.flash.image
+outcome command held Idle new m o w a = not_some (at_work held) command a.none w
+outcome command held Working new m o w a = (
+  same_entries (keymap new.flash.image) (keymap held.flash.image) held.store.keymap (subst (λ (codes : List ℕ). HasEntries (keymap new.flash.image) codes) a.same_keymap o.mirrors.keymap_is) m.keymap_is,
+  o.operates (λ e. cc) (λ e. cc),
+)
+outcome command held Settled new m o w a =
+    let same : a.command ≡ command = same_command (at_work held) a.command command a.was w in
+    let entries : SameEntries (keymap new.flash.image) (changed (keymap held.flash.image) (a.command ∷ [])) =
+    same_entries (keymap new.flash.image) (changed (keymap held.flash.image) (a.command ∷ [])) new.store.keymap o.mirrors.keymap_is (a.changes (keymap held.flash.image) m.keymap_is) in (
+      record {
+        record_is = appended_for held.flash.image (at_work held) command new.flash.image w (o.writes.appended refl);
+        entries = subst (λ (c : Command). SameEntries (keymap new.flash.image) (changed (keymap held.flash.image) (c ∷ []))) same entries;
+      },
+      o.operates (λ e. cc) (λ e. cc),
+    )
+outcome command held Failed new m o w a = (
+  same_entries (keymap new.flash.image) (keymap held.flash.image) held.store.keymap (subst (λ (codes : List ℕ). HasEntries (keymap new.flash.image) codes) a.same_keymap o.mirrors.keymap_is) m.keymap_is,
+  o.torn refl,
+)
+
+not_idle : (command : Command) (held : WorldValue) (work : WorkAnswer) (new : WorldValue) → at_work held ≡ Some command → WorksAs held.flash.image held.store work new.flash.image new.store → work ≢ Idle
+not_idle command held Idle new w a e = not_some (at_work held) command a.none w
+not_idle command held Working new w a e = cc
+not_idle command held Settled new w a e = cc
+not_idle command held Failed new w a e = cc
+
+-- the record's program was torn, where it was due; and a step of a turn, where more than the record is due
+torn_last : (image : List ℕ) (log : LogValue) (job : Job) (command : Command) (new : List ℕ) → working_in job ≡ Some command → FailsFor image job new → left_for image log job ≡ 1 → IsTornAt image command new
+torn_last image log Resting command new w f n = cc
+torn_last image log (Appending other) command new w f n = (let same : other ≡ command = cc in subst (λ (c : Command). IsTornAt image c new) same f)
+torn_last image log (Turning other from) command new w f n = absurd (omega (arith, n))
+
+torn_before : (image : List ℕ) (log : LogValue) (job : Job) (new : List ℕ) → FailsFor image job new → 1 < left_for image log job → OnePage image (target_page image) new
+torn_before image log Resting new f n = absurd f
+torn_before image log (Appending other) new f n = absurd (omega (arith, n))
+torn_before image log (Turning other from) new f n = f
+
+-- which step of its command it is, and where it writes
+advances : (first : SimValue) (before : List Step) (command : Command) (old held : WorldValue) (work : WorkAnswer) (new : WorldValue) → Now first before old → Held old held → Operating held work new
+    → at_work held ≡ Some command → at_work old ≡ Some command → (work ≡ Working → IsSome (at_work new))
+    → Advances (accepted_image first before) (steps_since first before) command held.flash.image work new.flash.image
+advances first before command old held work new s h o w v on =
+    let there : IsSome (at_work old) = rw v refl in
+    let more : 1 ≤ left held.flash.image held.store = needs_more held.flash.image held.store (rw w refl) in
+    let left_is : left (image_after first before) old.store ≡ left held.flash.image held.store =
+    ap (λ (flash : SimValue). left flash.image old.store) (sym s.is.flash) ∙ ap (λ (image : List ℕ). left image old.store) (sym h.image) ∙ ap (λ (x : WorldValue). left held.flash.image x.store) (sym h.only) in
+    record {
+      needed = left (image_after first before) old.store + steps_since first before;
+      needs = s.is.needs there;
+      within = omega (arith, more, left_is);
+      last = λ e. (
+        (let one : left held.flash.image held.store ≡ 1 = o.down.last e in omega (arith, one, left_is)),
+        placed_for held.flash.image (at_work held) command new.flash.image w (o.writes.placed e),
+      );
+      before_last = λ e. (
+        (let some : 1 ≤ left new.flash.image new.store = needs_more new.flash.image new.store (on e) in omega (arith, o.down.fewer e, some, left_is)),
+        o.writes.turns e,
+      );
+      fails = o.writes.kept;
+      fails_last =
+          λ e n. torn_last held.flash.image held.store.log held.store.job command new.flash.image w (o.writes.fails e) (omega (arith, n, left_is));
+      fails_before =
+          λ e n. torn_before held.flash.image held.store.log held.store.job new.flash.image (o.writes.fails e) (omega (arith, n, left_is));
+    }
+
+works_for : (command : Command) (held : WorldValue) (work : WorkAnswer) (new : WorldValue) → WorksAs held.flash.image held.store work new.flash.image new.store → at_work held ≡ Some command
+    → work ≡ Working → at_work new ≡ Some command
+works_for command held Working new a w e = a.same_command ∙ w
+works_for command held Idle new a w e = cc
+works_for command held Settled new a w e = cc
+works_for command held Failed new a w e = cc
+
+held_mirrors : (first : SimValue) (before : List Step) (old held : WorldValue) → Now first before old → Held old held → Mirrors held.flash.image held.store
+held_mirrors first before old held s h =
+    let here : Mirrors old.flash.image old.store = subst (λ (flash : SimValue). Mirrors flash.image old.store) (sym s.is.flash) s.is.store in
+    subst (λ (x : WorldValue). Mirrors held.flash.image x.store) (sym h.only) (subst (λ (image : List ℕ). Mirrors image old.store) (sym h.image) here)
+
+held_work : (old held : WorldValue) → Held old held → at_work held ≡ at_work old
+held_work old held h = ap (λ (x : WorldValue). at_work x) h.only
+
+-- a whole operation is one that a mask may leave
+may_make : (old : List ℕ) (operation : Operation) (new : List ℕ) → IsImage old → Makes old operation new → MayMake old operation new
+may_make old (Program page slot word) new i m = whole_program old page slot _ new m
+may_make old (Erase page) new i m = whole_erase old page new i m
+
+made : (old : List ℕ) (operation : Operation) (work : WorkAnswer) (new : List ℕ) → IsImage old → Attempts old operation work new → MayMake old operation new
+made old operation Idle new i a = absurd (a.not_idle refl)
+made old operation Working new i a = may_make old operation new i (a.done (λ e. cc)).0
+made old operation Settled new i a = may_make old operation new i (a.done (λ e. cc)).0
+made old operation Failed new i a = (a.failed refl).0
+
+-- what the operation does to the active page
+wears_by : (next : Option Operation) (old : List ℕ) (store : StoreValue) (work : WorkAnswer) (new : List ℕ) → next_operation_of old store ≡ next → Mirrors old store → IsImage new → work ≢ Idle → AttemptsNext next old work new → Wears old new
+wears_by None old store work new e m i n (idle, same) = absurd (n idle)
+wears_by (Some operation) old store work new e m i n a = (cut_leaves old new store operation m e i (made old operation work new m.log_is.whole a)).wears
+
+attempted_by : (next : Option Operation) (old : List ℕ) (work : WorkAnswer) (new : List ℕ) → work ≢ Idle → AttemptsNext next old work new → Attempted old work new
+attempted_by None old work new n (idle, same) = absurd (n idle)
+attempted_by (Some operation) old work new n a = record { operation = operation; attempts = a }
+
+armed_by_fault : (armed : Option (List ℕ)) (work : WorkAnswer) → (armed ≡ None → work ≢ Failed) → work ≡ Failed → IsSome armed
+armed_by_fault None work f e = absurd (f refl e)
+armed_by_fault (Some mask) work f e = refl
+
+-- a step while a command works
+works : (first : SimValue) (before : List Step) (command : Command) (old held : WorldValue) (work : WorkAnswer) (new : WorldValue) → Now first before old → Held old held → Operating held work new
+    → at_work old ≡ Some command → Works first before command held.flash work new.flash
+works first before command old held work new s h o v =
+    let w : at_work held ≡ Some command = held_work old held h ∙ v in
+    let some : work ≢ Idle = not_idle command held work new w o.works in
+    let mirrors : Mirrors held.flash.image held.store = held_mirrors first before old held s h in
+    let done : WorksOn command held.flash.image work new.flash.image = outcome command held work new mirrors o w o.works in
+    record {
+      operated = o.operated some;
+      outcome = done;
+      attempted = attempted_by (next_operation_of held.flash.image held.store) held.flash.image work new.flash.image some o.attempts;
+      armed = armed_by_fault held.flash.armed work o.faultless;
+      sound = o.sound (usable_on command held.flash.image work new.flash.image done);
+      wears = wears_by (next_operation_of held.flash.image held.store) held.flash.image held.store work new.flash.image refl mirrors o.mirrors.log_is.whole some o.attempts;
+      advances = advances first before command old held work new s h o w v (λ e. rw (works_for command held work new o.works w e) refl);
+    }
+
+is_idle : (held : WorldValue) (work : WorkAnswer) (new : WorldValue) → at_work held ≡ None → WorksAs held.flash.image held.store work new.flash.image new.store → work ≡ Idle
+is_idle held Idle new n a = refl
+is_idle held Working new n a = absurd (not_both (at_work held) a.some n)
+is_idle held Settled new n a = absurd (not_some (at_work held) a.command n a.was)
+is_idle held Failed new n a = absurd (not_both (at_work held) a.some n)
+
+worked_by : (first : SimValue) (before : List Step) (w : Option Command) (old held : WorldValue) (work : WorkAnswer) (new : WorldValue) → Now first before old → Held old held → Operating held work new
+    → at_work old ≡ w → WorkedOn first before w held.flash work new.flash
+worked_by first before None old held work new s h o v =
+    let idle : work ≡ Idle = is_idle held work new (held_work old held h ∙ v) o.works in
+    (idle, o.untouched idle ∙ h.none v ∙ s.is.flash)
+worked_by first before (Some command) old held work new s h o v = works first before command old held work new s h o v
+
+-- what a step of the flash work makes of the flash is lawful
+pub worked_on : (first : SimValue) (before : List Step) (old held : WorldValue) (work : WorkAnswer) (new : WorldValue) → Now first before old → Held old held → Operating held work new
+    → WorkedOn first before (working first before) held.flash work new.flash
+worked_on first before old held work new s h o = worked_by first before (working first before) old held work new s h o s.is.works
+
+-- the step of an event that is flash work
+abbrev pub worked_step : Event → WorkAnswer → WorldValue → Step
+worked_step event work new = record { event = event; answer = Worked work; flash = new.flash }
+
+none_accepted : (first : SimValue) (before : List Step) (event : Event) (work : WorkAnswer) (new : WorldValue) → kind event ≡ flash_step → accepts first before (worked_step event work new) ≡ None
+none_accepted first before event work new k = accepts-none first before (worked_step event work new) (rw k refl)
+
+-- the keys of the world after it
+keys_after_work : (first : SimValue) (before : List Step) (event : Event) (work : WorkAnswer) (old held new : WorldValue) → Now first before old → Held old held → Operating held work new → kind event ≡ flash_step
+    → KeysStand first (worked_step event work new ∷ before) new
+keys_after_work first before event work old held new s h o k =
+    keys_kept first before (worked_step event work new) new old s.is (rw k refl)
+    (record { calls = λ boot entries protocol calls. rw k refl; protocol = λ boot protocol. rw k refl })
+    (record {
+      opened = ap (λ (x : WorldValue). x.opened_boot) o.only ∙ ap (λ (x : WorldValue). x.opened_boot) h.only;
+      protocol = ap (λ (x : WorldValue). x.protocol) o.only ∙ ap (λ (x : WorldValue). x.protocol) h.only;
+      keys = ap (λ (x : WorldValue). x.keys) o.only ∙ ap (λ (x : WorldValue). x.keys) h.only;
+    })
+
+stage_after_work : (first : SimValue) (before : List Step) (event : Event) (work : WorkAnswer) (old held new : WorldValue) → Now first before old → Held old held → Operating held work new → kind event ≡ flash_step
+    → new.stage ≡ stage first (worked_step event work new ∷ before)
+stage_after_work first before event work old held new s h o k =
+    o.stage ∙ ap (λ (x : WorldValue). stage_worked work x.stage) h.only ∙ ap (λ (now : Stage). stage_worked work now) s.is.transfer
+    ∙ sym (stage-worked first (worked_step event work new) before work s.answered (rw k refl) (rw k refl) refl)
+
+-- the image of a flash that was armed is the session's
+held_image : (first : SimValue) (before : List Step) (old held : WorldValue) → Now first before old → Held old held → held.flash.image ≡ image_after first before
+held_image first before old held s h = h.image ∙ ap (λ (flash : SimValue). flash.image) s.is.flash
+
+-- the world after it, once it is known which command works then
+stands_after : (first : SimValue) (before : List Step) (event : Event) (work : WorkAnswer) (old held new : WorldValue) → Now first before old → Held old held → Operating held work new → kind event ≡ flash_step
+    → at_work new ≡ working first (worked_step event work new ∷ before)
+    → (IsSome (at_work new) → left new.flash.image new.store + steps_since first (worked_step event work new ∷ before) ≤ most_steps)
+    → (IsSome (at_work new) → Needs (accepted_image first (worked_step event work new ∷ before)) (left new.flash.image new.store + steps_since first (worked_step event work new ∷ before)))
+    → StandsIn first (worked_step event work new ∷ before) new
+stands_after first before event work old held new s h o k works few needs =
+    let keys : KeysStand first (worked_step event work new ∷ before) new = keys_after_work first before event work old held new s h o k in
+    record {
+      flash = refl;
+      store = o.mirrors;
+      works = works;
+      transfer = stage_after_work first before event work old held new s h o k;
+      opened = keys.opened;
+      protocol = keys.protocol;
+      keys = keys.keys;
+      few = few;
+      needs = needs;
+    }
+
+-- where none works then
+rests_after : (first : SimValue) (before : List Step) (event : Event) (work : WorkAnswer) (old held new : WorldValue) → Now first before old → Held old held → Operating held work new → kind event ≡ flash_step
+    → at_work new ≡ None → After first before (worked_step event work new) None → StandsIn first (worked_step event work new ∷ before) new
+rests_after first before event work old held new s h o k rests after =
+    stands_after first before event work old held new s h o k (rests ∙ sym (working_after first before (worked_step event work new) None after))
+    (λ x. nothing_left (at_work new) (left new.flash.image new.store + steps_since first (worked_step event work new ∷ before)) rests x)
+    (λ x. nothing_needed (at_work new) (Needs (accepted_image first (worked_step event work new ∷ before)) (left new.flash.image new.store + steps_since first (worked_step event work new ∷ before))) rests x)
+
+-- where the command works on
+works_on : (first : SimValue) (before : List Step) (event : Event) (command : Command) (old held new : WorldValue) → Now first before old → Held old held → Operating held Working new → kind event ≡ flash_step
+    → at_work old ≡ Some command → at_work new ≡ Some command → After first before (worked_step event Working new) (Some command) → StandsIn first (worked_step event Working new ∷ before) new
+works_on first before event command old held new s h o k v w after =
+    let step : Step = worked_step event Working new in
+    let none : accepts first before step ≡ None = none_accepted first before event Working new k in
+    let there : IsSome (at_work old) = rw v refl in
+    let count : steps_since first (step ∷ before) ≡ suc (steps_since first before) = steps_since-more first step before (λ n. rw k refl) none in
+    let left_is : left (image_after first before) old.store ≡ left held.flash.image held.store =
+    ap (λ (image : List ℕ). left image old.store) (sym (held_image first before old held s h)) ∙ ap (λ (x : WorldValue). left held.flash.image x.store) (sym h.only) in
+    let sums : left (image_after first before) old.store + steps_since first before ≡ left new.flash.image new.store + steps_since first (step ∷ before) = omega (arith, o.down.fewer refl, left_is, count) in
+    stands_after first before event Working old held new s h o k (w ∙ sym (working_after first before step (Some command) after))
+    (λ x. subst (λ (n : ℕ). n ≤ most_steps) sums (s.is.few there))
+    (λ x. subst (λ (image : List ℕ). Needs image (left new.flash.image new.store + steps_since first (step ∷ before))) (sym (accepted_image-same first step before none))
+    (subst (λ (n : ℕ). Needs (accepted_image first before) n) sums (s.is.needs there)))
+
+same_for : (old held : List ℕ) (new : ℕ → ℕ → ℕ) → held ≡ old → SameEntries new (keymap held) → SameEntries new (keymap old)
+same_for old held new i e = subst (λ (image : List ℕ). SameEntries new (keymap image)) i e
+
+changed_for : (old held : List ℕ) (new : ℕ → ℕ → ℕ) (command : Command) → held ≡ old → SameEntries new (changed (keymap held) (command ∷ [])) → SameEntries new (changed (keymap old) (command ∷ []))
+changed_for old held new command i e = subst (λ (image : List ℕ). SameEntries new (changed (keymap image) (command ∷ []))) i e
+
+ended : (first : SimValue) (before : List Step) (event : Event) (command : Command) (work : WorkAnswer) (old held new : WorldValue) → Now first before old → Held old held → Operating held work new → kind event ≡ flash_step
+    → at_work old ≡ Some command → WorksOn command held.flash.image work new.flash.image → WorksAs held.flash.image held.store work new.flash.image new.store → StandsIn first (worked_step event work new ∷ before) new
+ended first before event command Idle old held new s h o k v c a = absurd c
+ended first before event command Settled old held new s h o k v c a =
+    let was : working first before ≡ Some command = sym s.is.works ∙ v in
+    rests_after first before event Settled old held new s h o k a.done
+    (after_settles first before (worked_step event Settled new) command s.orderly refl (none_accepted first before event Settled new k) was
+    (changed_for (image_after first before) held.flash.image (keymap new.flash.image) command (held_image first before old held s h) c.0.entries))
+ended first before event command Failed old held new s h o k v c a =
+    let was : working first before ≡ Some command = sym s.is.works ∙ v in
+    rests_after first before event Failed old held new s h o k a.gone
+    (after_fails first before (worked_step event Failed new) command s.orderly refl (none_accepted first before event Failed new k) was
+    (same_for (image_after first before) held.flash.image (keymap new.flash.image) (held_image first before old held s h) c.0))
+ended first before event command Working old held new s h o k v c a =
+    let was : working first before ≡ Some command = sym s.is.works ∙ v in
+    let after : After first before (worked_step event Working new) (working first before) =
+    after_stays first before (worked_step event Working new) s.orderly (record { keeps = ended_by-working }) (none_accepted first before event Working new k)
+    (same_for (image_after first before) held.flash.image (keymap new.flash.image) (held_image first before old held s h) c.0) in
+    works_on first before event command old held new s h o k v (a.same_command ∙ held_work old held h ∙ v)
+    (subst (λ (w : Option Command). After first before (worked_step event Working new) w) was after)
+
+idled : (first : SimValue) (before : List Step) (event : Event) (work : WorkAnswer) (old held new : WorldValue) → Now first before old → Held old held → Operating held work new → kind event ≡ flash_step
+    → at_work old ≡ None → work ≡ Idle → new.flash ≡ flash_after first before → WorksAs held.flash.image held.store work new.flash.image new.store → StandsIn first (worked_step event work new ∷ before) new
+idled first before event Working old held new s h o k v i e a = cc
+idled first before event Settled old held new s h o k v i e a = cc
+idled first before event Failed old held new s h o k v i e a = cc
+idled first before event Idle old held new s h o k v i e a =
+    let was : working first before ≡ None = sym s.is.works ∙ v in
+    let after : After first before (worked_step event Idle new) (working first before) =
+    after_stays first before (worked_step event Idle new) s.orderly (record { keeps = ended_by-idle }) (none_accepted first before event Idle new k)
+    (λ layer key l m. ap (λ (flash : SimValue). keymap flash.image layer key) e) in
+    rests_after first before event Idle old held new s h o k (ap (λ (x : StoreValue). working_in x.job) a.same_store ∙ held_work old held h ∙ v)
+    (subst (λ (w : Option Command). After first before (worked_step event Idle new) w) was after)
+
+worked_stands : (first : SimValue) (before : List Step) (event : Event) (work : WorkAnswer) (w : Option Command) (old held new : WorldValue) → Now first before old → Held old held → Operating held work new → kind event ≡ flash_step
+    → at_work old ≡ w → WorkedOn first before w held.flash work new.flash → StandsIn first (worked_step event work new ∷ before) new
+worked_stands first before event work None old held new s h o k v (idle, same) = idled first before event work old held new s h o k v idle same o.works
+worked_stands first before event work (Some command) old held new s h o k v on = ended first before event command work old held new s h o k v on.outcome o.works
+
+-- the session goes on
+pub stands_worked : (first : SimValue) (before : List Step) (event : Event) (work : WorkAnswer) (old held new : WorldValue) → Now first before old → Held old held → Operating held work new → kind event ≡ flash_step
+    → StandsIn first (worked_step event work new ∷ before) new
+stands_worked first before event work old held new s h o k =
+    worked_stands first before event work (at_work old) old held new s h o k refl (worked_by first before (at_work old) old held work new s h o refl)
+
+held_as_is : (old : WorldValue) → Held old old
+held_as_is old = record { only = refl; image = refl; none = λ n. refl }
+
+-- a step of the flash work
+pub more_work : (first : SimValue) (before : List Step) (old : WorldValue) (work : WorkAnswer) (new : WorldValue) → Now first before old → Operating old work new → More first before (worked_step Work work new) new
+more_work first before old work new s o = record {
+  stands = stands_worked first before Work work old old new s (held_as_is old) o refl;
+  answer_is = (
+    work,
+    refl,
+    subst (λ (flash : SimValue). WorkedOn first before (working first before) flash work new.flash) s.is.flash (worked_on first before old old work new s (held_as_is old) o),
+  );
+}
+
+held_by : (mask : List ℕ) (old held : WorldValue) (w : Option Command) → at_work old ≡ w → Arms mask old held → Held old held
+held_by mask old held None v a =
+    let same : held ≡ old = a.none v in
+    record {
+      only = same ∙ sym (ap (λ (flash : SimValue). let world : WorldValue = record old { flash = flash } in world) (ap (λ (x : WorldValue). x.flash) same));
+      image = ap (λ (x : WorldValue). x.flash.image) same;
+      none = λ n. ap (λ (x : WorldValue). x.flash) same;
+    }
+held_by mask old held (Some command) v a =
+    let is : held ≡ record old { flash = armed_by mask old.flash } = a.working (rw v refl) in
+    record {
+      only = is ∙ sym (ap (λ (flash : SimValue). let world : WorldValue = record old { flash = flash } in world) (ap (λ (x : WorldValue). x.flash) is));
+      image = ap (λ (x : WorldValue). x.flash.image) is;
+      none = λ n. absurd (not_some (at_work old) command n v);
+    }
+
+armed_on : (first : SimValue) (before : List Step) (mask : List ℕ) (old held : WorldValue) (work : WorkAnswer) (new : SimValue) (w : Option Command) → at_work old ≡ w → old.flash ≡ flash_after first before → Arms mask old held
+    → WorkedOn first before w held.flash work new → WorkedOn first before w (armed_by mask (flash_after first before)) work new
+armed_on first before mask old held work new None v e a on = on
+armed_on first before mask old held work new (Some command) v e a on =
+    subst (λ (flash : SimValue). Works first before command flash work new)
+    (ap (λ (x : WorldValue). x.flash) (a.working (rw v refl)) ∙ ap (λ (flash : SimValue). armed_by mask flash) e) on
+
+-- what is operated on a flash that a mask may have armed
+fault_on : (first : SimValue) (before : List Step) (mask : List ℕ) (old held : WorldValue) (work : WorkAnswer) (new : WorldValue) → Now first before old → Arms mask old held → Operating held work new
+    → WorkedOn first before (working first before) (armed_by mask (flash_after first before)) work new.flash
+fault_on first before mask old held work new s a o =
+    armed_on first before mask old held work new.flash (working first before) s.is.works s.is.flash a
+    (worked_on first before old held work new s (held_by mask old held (at_work old) refl a) o)
+
+-- a torn one
+pub more_fault : (first : SimValue) (before : List Step) (mask : ArrayVec ℕ) (old held : WorldValue) (work : WorkAnswer) (new : WorldValue) → Now first before old → Arms mask.items old held → Operating held work new
+    → More first before (worked_step (WorkFault mask) work new) new
+more_fault first before mask old held work new s a o = record {
+  stands = stands_worked first before (WorkFault mask) work old held new s (held_by mask.items old held (at_work old) refl a) o refl;
+  answer_is = (work, refl, fault_on first before mask.items old held work new s a o);
+}
+
+-- a cut inside it
+pub cut_inside : (first : SimValue) (before : List Step) (mask : ArrayVec ℕ) (old held : WorldValue) (work : WorkAnswer) (new : WorldValue) (flash : SimValue) → Now first before old → Arms mask.items old held → Operating held work new
+    → flash ≡ new.flash → IsAnsweredIn first before (record { event = CutInWork mask; answer = Restarted; flash = flash })
+cut_inside first before mask old held work new flash s a o e =
+    (work, refl, subst (λ (x : SimValue). WorkedOn first before (working first before) (armed_by mask.items (flash_after first before)) work x) (sym e) (fault_on first before mask.items old held work new s a o))

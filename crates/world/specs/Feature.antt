@@ -3,12 +3,11 @@ use Rattle.std.specs.Prelude.{◌≡◌, ◌≢◌, ℕ, ◌+◌, ◌*◌, ◌<�
 use Rattle.layers.specs.Commands.{command_read}
 use Rattle.layers.specs.Entries.{ChangesNothing}
 use Rattle.layers.specs.declared.code.KeymapError.{KeymapError}
-use Rattle.layers.specs.declared.code.KeymapError.TheVariants.{BadOperation as bad_operation, BadLayer as bad_layer, BadKey as bad_key, BadCode as bad_code}
 use Rattle.layers.specs.declared.command.Command.{Command}
 use Rattle.page_turnover.specs.Usable.{IsUsable}
 use Rattle.keymap_store.specs.Submits.{IsWorn}
-use Rattle.world.specs.declared.event.Why.{Why}
-use Rattle.world.specs.declared.event.Why.TheVariants.{UnknownReport, BadOperation, BadLayer, BadKey, BadCode, Unsound, Worn, ShortData, LongData}
+use Rattle.control_ep.specs.Reasons.{reason_of}
+use Rattle.control_ep.specs.declared.why.Why.TheVariants.{UnknownReport, Unsound, Worn, ShortData, LongData}
 use Rattle.world.specs.declared.event.Answer.{Answer}
 use Rattle.world.specs.declared.event.Answer.TheVariants.{Ack, Nak, Stall}
 use Rattle.world.specs.History.{keymap}
@@ -25,13 +24,6 @@ abbrev pub command_in : List ℕ → Result Command KeymapError
 command_in packet =
     command_read (slice_index packet 1) (slice_index packet 2) (slice_index packet 3) (slice_index packet 4 + 256 * slice_index packet 5)
 
--- the refusal of a number that is none
-abbrev pub why_not : KeymapError → Why
-why_not bad_operation = BadOperation
-why_not bad_layer = BadLayer
-why_not bad_key = BadKey
-why_not bad_code = BadCode
-
 -- where p holds, q; else r
 pub data Where (p q r : Type 0) : Type 0 where
   yes : p → q → Where p q r
@@ -46,7 +38,7 @@ CommandAnswer image command answer =
     (answer ≡ Ack)))
 
 abbrev pub ReadAnswer : List ℕ → Result Command KeymapError → Answer → Type 0
-ReadAnswer image (Err error) answer = answer ≡ Stall (why_not error)
+ReadAnswer image (Err error) answer = answer ≡ Stall (reason_of error)
 ReadAnswer image (Ok command) answer = CommandAnswer image command answer
 
 -- the answer to a feature packet: the first check that it does not pass decides

@@ -1,44 +1,49 @@
--- What has happened: an image at the start, and steps, newest first.
-use Rattle.std.specs.Prelude.{ℕ, Bool, true, false, if◌then◌else◌, List, [], ◌∷◌}
-use Rattle.layers.specs.Entries.{entry}
-use Rattle.page_turnover.specs.Words.{words}
+-- What has happened: the flash at the start, and steps, newest first; and the session that they end in.
+use Rattle.std.specs.Prelude.{ℕ, Bool, true, false, List, [], ◌∷◌}
+use Rattle.flash_model.specs.Sim.{SimValue}
+use Rattle.keymap_store.specs.Keymap.{entries_of}
 use Rattle.world.specs.declared.event.Event.{Event}
-use Rattle.world.specs.declared.event.Event.TheVariants.{Scan, Setup, OutPacket, InPacket, Poll, Work, Cut, Entry, SlotAt}
 use Rattle.world.specs.declared.event.Answer.{Answer}
+use Rattle.world.specs.Kinds.{kind, is_start}
 
--- an event, its answer, and the flash after it
+-- an event, its answer, and the flash after it: its bytes, both counts, and what is armed
 pub record Step : Type 0 where
   pub event : Event
   pub answer : Answer
-  pub image : List ℕ
+  pub flash : SimValue
 
 -- the flash after these steps
-abbrev pub image_after : List ℕ → List Step → List ℕ
-image_after start [] = start
-image_after start (step ∷ before) = step.image
+abbrev pub flash_after : SimValue → List Step → SimValue
+flash_after start [] = start
+flash_after start (step ∷ before) = step.flash
 
--- the keymap of an image: the commands among the words of the active page, the last writer of an entry decides
+abbrev pub image_after : SimValue → List Step → List ℕ
+image_after start past = (flash_after start past).image
+
+-- the keymap of an image: the commands among the words of the active page, read by its format; the last writer of an entry
+-- decides
 abbrev pub keymap : List ℕ → ℕ → ℕ → ℕ
-keymap image = entry (words image)
+keymap image = entries_of image
 
--- the device starts anew
-abbrev pub is_start : Event → Bool
-is_start Cut = true
-is_start (Scan scan) = false
-is_start (Setup bytes) = false
-is_start (OutPacket packet) = false
-is_start InPacket = false
-is_start Poll = false
-is_start Work = false
-is_start (Entry layer key) = false
-is_start (SlotAt page slot) = false
+-- a session is what comes after a start, up to the next one: the flash that it begins with, and its steps, newest first
+pub record Session : Type 0 where
+  pub first : SimValue
+  pub steps : List Step
 
--- a session is what comes after a start, up to the next one; this is the image that the present one began with
-abbrev pub session_image : List ℕ → List Step → List ℕ
-session_image start [] = start
-session_image start (step ∷ before) = if is_start step.event then step.image else session_image start before
+abbrev pub session_with : Bool → Step → Session → Session
+session_with true step before = record { first = step.flash; steps = [] }
+session_with false step before = record { first = before.first; steps = step ∷ before.steps }
+
+-- the session that a history ends in
+abbrev pub session : SimValue → List Step → Session
+session start [] = record { first = start; steps = [] }
+session start (step ∷ before) = session_with (is_start (kind step.event)) step (session start before)
 
 -- something holds of each step and of what came before it
-abbrev pub EachStep : (List ℕ → List Step → Step → Type 0) → List ℕ → List Step → Type 0
+abbrev pub EachStep : (SimValue → List Step → Step → Type 0) → SimValue → List Step → Type 0
 EachStep P start [] = Unit {0}
 EachStep P start (step ∷ before) = P start before step × EachStep P start before
+
+-- something holds of a step and of what came before it in its session
+abbrev pub InSession : (SimValue → List Step → Step → Type 0) → SimValue → List Step → Step → Type 0
+InSession P start before step = P (session start before).first (session start before).steps step

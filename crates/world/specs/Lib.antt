@@ -1,3 +1,4 @@
+pub mod Kinds
 pub mod History
 pub mod Feature
 pub mod Fate
@@ -5,10 +6,11 @@ pub mod Transfer
 pub mod Commands
 pub mod Keys
 pub mod Bounded
-pub mod Counts
-pub mod Writes
 pub mod Restart
+pub mod Operated
 pub mod Lawful
 pub mod Acknowledged
+pub mod Sound
 pub mod Value
 pub mod Stands
+pub mod Private

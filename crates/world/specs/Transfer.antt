@@ -1,18 +1,18 @@
--- The stage of the control transfer, by looking back to the SETUP packet that began it (USB 2.0, section 8.5.3).
+-- The stage of the control transfer, by looking back over a session to the SETUP packet that began it (USB 2.0, section 8.5.3).
 use Rattle.std.specs.Prelude.{ℕ, ◌||◌, ◌==◌, Bool, true, false, if◌then◌else◌, Option, None, Some, Result, Ok, Err, List, [], ◌∷◌, length}
 use Rattle.std.specs.Str.{bytes_eq}
+use Rattle.flash_model.specs.Sim.{SimValue}
 use Rattle.layers.specs.declared.code.KeymapError.{KeymapError}
 use Rattle.layers.specs.declared.command.Command.{Command}
-use Rattle.world.specs.declared.event.Event.{Event}
-use Rattle.world.specs.declared.event.Event.TheVariants.{Scan, Setup, OutPacket, InPacket, Poll, Work, Cut, Entry, SlotAt}
 use Rattle.world.specs.declared.event.Answer.{Answer}
-use Rattle.world.specs.declared.event.Answer.TheVariants.{Done, Ack, Nak, Packet, Stall, Sent, Worked, Restarted, EntryIs, SlotIs, NoSlot}
+use Rattle.world.specs.declared.event.Answer.TheVariants.{Ack, Packet, Stall}
 use Rattle.keymap_store.specs.declared.store.Work.{Work as WorkAnswer}
-use Rattle.keymap_store.specs.declared.store.Work.TheVariants.{Idle, Working, Settled, Failed}
-use Rattle.world.specs.declared.event.Why.{Why}
-use Rattle.world.specs.declared.event.Why.TheVariants.{UnknownRequest, FlashFault}
+use Rattle.keymap_store.specs.declared.store.Work.TheVariants.{Settled, Failed}
+use Rattle.control_ep.specs.declared.why.Why.{Why}
+use Rattle.control_ep.specs.declared.why.Why.TheVariants.{UnknownRequest, FlashFault}
 use Rattle.world.specs.declared.transfer.Stage.{Stage}
 use Rattle.world.specs.declared.transfer.Stage.TheVariants.{Rest, Taking, Waiting, Status, Stalled}
+use Rattle.world.specs.Kinds.{Kind, kind, out, opening_of}
 use Rattle.world.specs.History.{Step, image_after, keymap}
 use Rattle.world.specs.Feature.{command_in}
 use Rattle.world.specs.Fate.{Fate, works, settled, failed, fate}
@@ -27,60 +27,35 @@ set_boot = 0x21 ∷ 0x0b ∷ 0x00 ∷ 0x00 ∷ 0x00 ∷ 0x00 ∷ 0x00 ∷ 0x00 �
 
 -- why a SETUP packet is refused, if it is: these two requests alone are served
 abbrev pub refusal_of : List ℕ → Option Why
-refusal_of setup = if bytes_eq setup set_feature || bytes_eq setup set_boot then None else Some UnknownRequest
+refusal_of packet = if bytes_eq packet set_feature || bytes_eq packet set_boot then None else Some UnknownRequest
 
 -- a transfer began with SET_PROTOCOL
 abbrev pub opens_boot : Option (List ℕ) → Bool
-opens_boot (Some setup) = bytes_eq setup set_boot
+opens_boot (Some packet) = bytes_eq packet set_boot
 opens_boot None = false
 
--- an event that ends the transfer in progress, with the SETUP packet that begins the next one; a start begins none
-abbrev pub opening_of : Event → Option (Option (List ℕ))
-opening_of (Setup bytes) = Some (Some bytes)
-opening_of (Scan scan) = None
-opening_of Cut = Some None
-opening_of (OutPacket packet) = None
-opening_of InPacket = None
-opening_of Poll = None
-opening_of Work = None
-opening_of (Entry layer key) = None
-opening_of (SlotAt page slot) = None
+abbrev pub first_of : {A : Type 0} → Option A → Option A → Option A
+first_of (Some first) later = Some first
+first_of None later = later
 
--- the SETUP packet of the transfer, if it began with one
-abbrev pub setup_here : Option (Option (List ℕ)) → Option (List ℕ) → Option (List ℕ)
-setup_here (Some opening) before = opening
-setup_here None before = before
-
+-- the SETUP packet of the transfer, if there was one
 abbrev pub setup_of : List Step → Option (List ℕ)
 setup_of [] = None
-setup_of (step ∷ before) = setup_here (opening_of step.event) (setup_of before)
+setup_of (step ∷ before) = first_of (opening_of (kind step.event)) (setup_of before)
 
--- the steps of the transfer, newest first
-abbrev pub steps_here : Option (Option (List ℕ)) → List Step → List Step
+-- the steps since the SETUP packet, newest first, or all of them
+abbrev pub steps_here : Option (List ℕ) → List Step → List Step
 steps_here (Some opening) steps = []
 steps_here None steps = steps
 
 abbrev pub transfer : List Step → List Step
 transfer [] = []
-transfer (step ∷ before) = steps_here (opening_of step.event) (step ∷ transfer before)
+transfer (step ∷ before) = steps_here (opening_of (kind step.event)) (step ∷ transfer before)
 
 -- the reason of a stall
 abbrev pub stall_in : Answer → Option Why
 stall_in (Stall why) = Some why
-stall_in Done = None
-stall_in Ack = None
-stall_in Nak = None
-stall_in (Packet packet) = None
-stall_in (Sent bytes reading) = None
-stall_in (Worked work) = None
-stall_in Restarted = None
-stall_in (EntryIs code) = None
-stall_in (SlotIs bytes) = None
-stall_in NoSlot = None
-
-abbrev pub first_of : {A : Type 0} → Option A → Option A → Option A
-first_of (Some first) later = Some first
-first_of None later = later
+stall_in _ = None
 
 -- the reason of the first stall among steps
 abbrev pub first_stall : List Step → Option Why
@@ -90,16 +65,7 @@ first_stall (step ∷ before) = first_of (first_stall before) (stall_in step.ans
 -- an IN token was answered by the empty packet
 abbrev pub is_empty_packet : Answer → Bool
 is_empty_packet (Packet packet) = length packet.items == 0
-is_empty_packet Done = false
-is_empty_packet Ack = false
-is_empty_packet Nak = false
-is_empty_packet (Stall why) = false
-is_empty_packet (Sent bytes reading) = false
-is_empty_packet (Worked work) = false
-is_empty_packet Restarted = false
-is_empty_packet (EntryIs code) = false
-is_empty_packet (SlotIs bytes) = false
-is_empty_packet NoSlot = false
+is_empty_packet _ = false
 
 abbrev pub is_ended : List Step → Bool
 is_ended [] = false
@@ -108,28 +74,12 @@ is_ended (step ∷ before) = is_empty_packet step.answer || is_ended before
 -- a packet was acknowledged
 abbrev pub is_ack : Answer → Bool
 is_ack Ack = true
-is_ack Done = false
-is_ack Nak = false
-is_ack (Packet packet) = false
-is_ack (Stall why) = false
-is_ack (Sent bytes reading) = false
-is_ack (Worked work) = false
-is_ack Restarted = false
-is_ack (EntryIs code) = false
-is_ack (SlotIs bytes) = false
-is_ack NoSlot = false
+is_ack _ = false
 
 -- the bytes of an OUT packet that was acknowledged
-abbrev pub bytes_taken : Event → Answer → Option (List ℕ)
-bytes_taken (OutPacket packet) answer = if is_ack answer then Some packet.items else None
-bytes_taken (Scan scan) answer = None
-bytes_taken (Setup bytes) answer = None
-bytes_taken InPacket answer = None
-bytes_taken Poll answer = None
-bytes_taken Work answer = None
-bytes_taken Cut answer = None
-bytes_taken (Entry layer key) answer = None
-bytes_taken (SlotAt page slot) answer = None
+abbrev pub bytes_taken : Kind → Answer → Option (List ℕ)
+bytes_taken (out bytes) answer = if is_ack answer then Some bytes else None
+bytes_taken _ answer = None
 
 -- the first OUT packet of the transfer that was acknowledged
 pub record DataPacket : Type 0 where
@@ -145,16 +95,16 @@ data_from image None = None
 
 abbrev pub data_here : Option DataPacket → Step → List ℕ → Option DataPacket
 data_here (Some packet) step image = Some (record { bytes = packet.bytes; image = packet.image; since = step ∷ packet.since })
-data_here None step image = data_from image (bytes_taken step.event step.answer)
+data_here None step image = data_from image (bytes_taken (kind step.event) step.answer)
 
-abbrev pub data_unless : Option (Option (List ℕ)) → Option DataPacket → Option DataPacket
+abbrev pub data_unless : Option (List ℕ) → Option DataPacket → Option DataPacket
 data_unless (Some opening) packet = None
 data_unless None packet = packet
 
-abbrev pub data_packet : List ℕ → List Step → Option DataPacket
-data_packet start [] = None
-data_packet start (step ∷ before) =
-    data_unless (opening_of step.event) (data_here (data_packet start before) step (image_after start before))
+abbrev pub data_packet : SimValue → List Step → Option DataPacket
+data_packet first [] = None
+data_packet first (step ∷ before) =
+    data_unless (opening_of (kind step.event)) (data_here (data_packet first before) step (image_after first before))
 
 -- what has become of the command that it carried
 abbrev pub fate_in : List ℕ → List Step → Result Command KeymapError → Fate
@@ -187,29 +137,24 @@ stage_unless None stage = stage
 
 abbrev pub stage_of_setup : Option (List ℕ) → Stage → Stage
 stage_of_setup None stage = Rest
-stage_of_setup (Some setup) stage = stage_unless (refusal_of setup) stage
+stage_of_setup (Some packet) stage = stage_unless (refusal_of packet) stage
 
 -- the stage that a request begins with: the status stage of one without a data stage
 abbrev pub stage_opened : Bool → Stage
 stage_opened true = Status
 stage_opened false = Taking
 
--- the first of these that applies: a packet was stalled, the first one decides; no SETUP packet since the start; the
+-- the first of these that applies: a packet was stalled, the first one decides; no SETUP packet in the session; the
 -- SETUP packet is refused; there is a data stage, and no data packet was acknowledged yet; its command works, or
 -- failed; the status stage was answered; the status stage is still to come
-unfoldable pub stage : List ℕ → List Step → Stage
-stage start past =
-    stage_unless (first_stall (transfer past))
-    (stage_of_setup (setup_of past)
-    (stage_of_data (done_with (opens_boot (setup_of past)) (data_fate (data_packet start past))) (is_ended (transfer past))))
+unfoldable pub stage : SimValue → List Step → Stage
+stage first steps =
+    stage_unless (first_stall (transfer steps))
+    (stage_of_setup (setup_of steps)
+    (stage_of_data (done_with (opens_boot (setup_of steps)) (data_fate (data_packet first steps))) (is_ended (transfer steps))))
 
 -- what a step of the flash work makes of the stage
 abbrev pub stage_worked : WorkAnswer → Stage → Stage
 stage_worked Settled Waiting = Status
 stage_worked Failed Waiting = Stalled FlashFault
-stage_worked Idle Waiting = Waiting
-stage_worked Working Waiting = Waiting
-stage_worked work Rest = Rest
-stage_worked work Taking = Taking
-stage_worked work Status = Status
-stage_worked work (Stalled why) = Stalled why
+stage_worked _ stage = stage

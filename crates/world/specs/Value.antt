@@ -3,7 +3,7 @@ use Rattle.std.specs.Prelude.{Bool, Option}
 use Rattle.flash_model.specs.Sim.{SimValue}
 use Rattle.layers.specs.declared.command.Command.{Command}
 use Rattle.reports.specs.declared.Protocol.{Protocol}
-use Rattle.matrix.specs.Value.{MatrixValue}
+use Rattle.key_reports.specs.Value.{KeysValue}
 use Rattle.keymap_store.specs.Value.{StoreValue}
 use Rattle.keymap_store.specs.Store.{working}
 use Rattle.world.specs.declared.transfer.Stage.{Stage}
@@ -14,7 +14,7 @@ pub record WorldValue : Type 0 where
   pub stage : Stage
   pub opened_boot : Bool
   pub protocol : Protocol
-  pub matrix : MatrixValue
+  pub keys : KeysValue
   pub store : StoreValue
   pub flash : SimValue
 

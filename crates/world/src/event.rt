@@ -1,7 +1,9 @@
 //! What happens to the device, and what comes of it.
 
 use arrayvec::ArrayVec;
+use control_ep::Why;
 use debounce::Scan;
+use flash_model::Mask;
 use keymap_store::Work;
 use layers::{Code, KeyNo, LayerNo};
 use reports::Report;
@@ -21,8 +23,14 @@ pub enum Event {
     Poll,
     /// One step of the flash work: at most one flash operation.
     Work,
+    /// A step of the flash work whose operation is torn by the mask and answers a fault. Where no
+    /// command works it is a `Work`.
+    WorkFault(Mask),
     /// The power is cut and comes back: all RAM is lost, and the device starts on its flash.
     Cut,
+    /// The power is cut inside the operation of a step of the flash work, which is torn by the mask.
+    /// Where no command works it is a `Cut`.
+    CutInWork(Mask),
     /// A look at one entry of the keymap in RAM.
     Entry(LayerNo, KeyNo),
     /// A look at one slot of the flash. A place outside it is answered by `NoSlot`.
@@ -61,41 +69,4 @@ pub enum Answer {
 pub enum Reading {
     /// The host did not read it.
     Unread,
-}
-
-/// Why a packet is stalled. The number is what scripts and traces show.
-#[derive(Clone, Copy, Debug, PartialEq, Eq)]
-pub enum Why {
-    /// The pair of bmRequestType and bRequest is not served.
-    UnknownRequest = 1,
-    /// wIndex names another interface than 0.
-    WrongInterface = 2,
-    /// wValue names no descriptor.
-    UnknownDescriptor = 3,
-    /// wValue, or a packet's first byte, names no report.
-    UnknownReport = 4,
-    /// wLength is not the report's length.
-    WrongLength = 5,
-    /// wValue names no protocol.
-    BadProtocol = 6,
-    /// The feature report's operation is not one of the profile's.
-    BadOperation = 7,
-    /// The layer is 4 or more.
-    BadLayer = 8,
-    /// The key is 96 or more.
-    BadKey = 9,
-    /// The code means nothing.
-    BadCode = 10,
-    /// The header slot of some page is not sound, so nothing may be written.
-    Unsound = 11,
-    /// The active page is full and has the greatest sequence number.
-    Worn = 12,
-    /// The flash answered a fault while the command worked.
-    FlashFault = 13,
-    /// The data packet is shorter than wLength.
-    ShortData = 14,
-    /// The data packet is longer than wLength.
-    LongData = 15,
-    /// The transfer is not in a stage for this packet.
-    WrongStage = 16,
 }

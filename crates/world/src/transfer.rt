@@ -3,10 +3,10 @@
 
 ghost use Rattle.std.specs.Prelude.{◌≡◌, ◌≢◌, ◌+◌, ◌*◌, ◌<◌, Some, Ok, Err, length, drop, slice_index, MatchResult};
 ghost use Rattle.layers.specs.Commands.{command_read};
-ghost use Rattle.world.specs.Feature.{why_not};
+ghost use Rattle.control_ep.specs.Reasons.{reason_of};
 ghost use Rattle.world.specs.Transfer.{opens_boot};
 
-use crate::event::Why;
+use control_ep::Why;
 use keymap_store::Work;
 use layers::{Command, KeymapError};
 
@@ -87,20 +87,8 @@ pub fn payload_of(packet: &[u8]) -> Result<[u8; 5], Why>
 
 /// The command that a payload carries, or why it carries none.
 pub fn command_in(payload: [u8; 5]) -> Result<Command, Why>
-    ensures { MatchResult (command_read (slice_index payload 0) (slice_index payload 1) (slice_index payload 2) (slice_index payload 3 + 256 * slice_index payload 4)) (λ command. result ≡ Ok command) (λ error. result ≡ Err (why_not error)) }
+    ensures { MatchResult (command_read (slice_index payload 0) (slice_index payload 1) (slice_index payload 2) (slice_index payload 3 + 256 * slice_index payload 4)) (λ command. result ≡ Ok command) (λ error. result ≡ Err (reason_of error)) }
 {
     let [operation, layer, key, low, high] = payload;
-    Command::read(operation, layer, key, u16::from_le_bytes([low, high])).map_err(refusal)
-}
-
-/// Why a packet is stalled whose numbers are no command.
-fn refusal(error: KeymapError) -> Why
-    ensures { result ≡ why_not error }
-{
-    match error {
-        KeymapError::BadOperation => Why::BadOperation,
-        KeymapError::BadLayer => Why::BadLayer,
-        KeymapError::BadKey => Why::BadKey,
-        KeymapError::BadCode => Why::BadCode,
-    }
+    Command::read(operation, layer, key, u16::from_le_bytes([low, high])).map_err(Why::from)
 }

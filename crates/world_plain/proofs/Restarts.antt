@@ -6,7 +6,8 @@ use Rattle.layers.specs.Entries.{changed, last_written}
 use Rattle.layers.specs.declared.command.Command.TheVariants.{SetKey}
 use Rattle.world.specs.Fate.{Fate, settled}
 use Rattle.world.specs.Commands.{Accepted, commands_of, standing_of, settled_of, unless_failed, if_settled}
-use Rattle.world.specs.Restart.{SameEntries, LegalRestart}
+use Rattle.keymap_store.specs.Keymap.{SameEntries}
+use Rattle.world.specs.Restart.{LegalRestart}
 use Rattle.world_plain.specs.Sessions.{AllSettled, is_settled, still_works, has_failed}
 
 standing_all : (session : List Accepted) → AllSettled session → standing_of session ≡ session

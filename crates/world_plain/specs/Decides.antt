@@ -1,15 +1,10 @@
 -- A test that computes whether something holds.
-use Rattle.std.specs.Prelude.{◌≡◌, ℕ, ◌+◌, ◌^◌, ◌<◌, ◌≤◌, Bool, MatchBool, Option, Some, List, slice_index, bit_and}
+use Rattle.std.specs.Prelude.{◌≡◌, ℕ, ◌+◌, ◌^◌, ◌<◌, ◌≤◌, Bool, MatchBool, Some, List, slice_index, bit_and}
 use Rattle.records.specs.declared.Slot.TheVariants.{Free}
 use Rattle.records.specs.Slots.{encoded, slot_of}
 use Rattle.flash_model.specs.Image.{slot_at, page_count}
 use Rattle.flash_model.specs.Operations.{Programs, Erases}
 use Rattle.page_turnover.specs.Active.{active}
-use Rattle.layers.specs.declared.command.Command.{Command}
-use Rattle.world.specs.declared.event.Answer.{Answer}
-use Rattle.world.specs.declared.event.Answer.TheVariants.{Worked}
-use Rattle.keymap_store.specs.declared.store.Work.{Work as WorkAnswer}
-use Rattle.world.specs.Lawful.{WorkAnswered}
 
 -- true where it holds, and false where it does not
 abbrev pub Decides : Bool → Type 0 → Type 0
@@ -55,7 +50,3 @@ pub record ErasesSome (old new : List ℕ) : Type 0 where
 -- two keymaps have the same codes
 pub record SameTable (a b : List ℕ) : Type 0 where
   pub each : (place : ℕ) → place < 384 → slice_index a place ≡ slice_index b place
-
--- the answer to a step of the flash work, and the flash after it
-abbrev pub IsWorkAnswer : Option Command → List ℕ → Answer → List ℕ → Type 0
-IsWorkAnswer works old answer new = (work : WorkAnswer) × (answer ≡ Worked work) × WorkAnswered works old work new

@@ -1,5 +1,7 @@
 -- A recorded history as the steps of the definitions, newest first, and recorded commands as theirs.
 use Rattle.std.specs.Prelude.{ℕ, Option, Some, None, List, [], ◌∷◌}
+use Rattle.flash_model.specs.Sim.{SimValue}
+use Rattle.std.specs.Option.{option_map}
 use Rattle.world.specs.History.{Step}
 use Rattle.world.specs.Commands.{Accepted}
 use Rattle.world.specs.declared.event.Answer.{Answer}
@@ -7,12 +9,17 @@ use Rattle.world.specs.Feature.{command_in}
 use Rattle.world.specs.Fate.{Fate, works, settled, failed, ended_by}
 use Rattle.world.specs.Transfer.{fate_in}
 use Rattle.world_plain.specs.declared.recorded.Recorded.{Recorded}
+use Rattle.world_plain.specs.declared.recorded.Seen.{Seen}
 use Rattle.world_plain.specs.declared.recorded.Fate.{Fate as FateFound}
 use Rattle.world_plain.specs.declared.recorded.Fate.TheVariants.{Works, Settled, Failed}
 use Rattle.world_plain.specs.declared.commands.Taken.{Taken}
 
+-- a flash with what was noted of it
+abbrev pub seen_of : Seen → SimValue
+seen_of seen = record { image = seen.flash.image; armed = option_map (λ mask. mask.items) seen.armed; operations = seen.operations; faults = seen.faults }
+
 abbrev pub step_of : Recorded → Step
-step_of recorded = record { event = recorded.event; answer = recorded.answer; image = recorded.flash.image }
+step_of recorded = record { event = recorded.event; answer = recorded.answer; flash = seen_of recorded.flash }
 
 abbrev pub steps_of : List Recorded → List Step
 steps_of [] = []

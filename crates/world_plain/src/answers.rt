@@ -5,7 +5,7 @@ ghost use Rattle.world.specs.declared.event.Answer.TheVariants.{Done, Ack, Nak, 
 ghost use Rattle.std.specs.Option.{option_copied};
 ghost use Rattle.world.specs.declared.event.Reading.TheVariants.{Unread};
 ghost use Rattle.world.specs.Keys.{sent};
-ghost use Rattle.keymap_store.specs.declared.store.Work.TheVariants.{Idle, Working, Settled};
+ghost use Rattle.keymap_store.specs.declared.store.Work.TheVariants.{Idle, Working, Settled, Failed};
 ghost use Rattle.world_plain.specs.Decides.{Decides};
 
 use crate::flash::same_bytes;
@@ -80,6 +80,15 @@ pub(crate) fn is_settled(answer: &Answer) -> bool
 {
     match answer {
         Answer::Worked(Work::Settled) => true,
+        _ => false,
+    }
+}
+
+pub(crate) fn is_failed(answer: &Answer) -> bool
+    ensures { Decides result (answer.now ≡ Worked Failed) }
+{
+    match answer {
+        Answer::Worked(Work::Failed) => true,
         _ => false,
     }
 }

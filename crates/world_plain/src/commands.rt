@@ -2,16 +2,15 @@
 
 ghost use Rattle.std.specs.Prelude.{◌≡◌, ℕ, List, [], ◌++◌, map, IfOk, MatchOption, Some, None};
 ghost use Rattle.world.specs.Commands.{accepts, accepted_with, in_data_stage, accepted, working, working_of};
-ghost use Rattle.world.specs.History.{is_start, image_after, keymap};
-ghost use Rattle.world_plain.specs.Records.{steps_of, step_of, fate_of, taken_of, one_of};
+ghost use Rattle.world.specs.History.{image_after, keymap};
+ghost use Rattle.world_plain.specs.Records.{seen_of, steps_of, step_of, fate_of, taken_of, one_of};
 ghost use Rattle.world_plain.specs.Records.{end_with, newest_one};
 
-use crate::recorded::{Fate, Recorded};
+use crate::recorded::{Fate, Recorded, Seen};
 use crate::stage::{bytes_taken, command_in, fate_after, first_fate_of, flash_after, stage_of};
-use flash_model::SimFlash;
 use layers::Command;
 use std::alloc::{AllocError, Global};
-use world::{Answer, Event, Stage};
+use world::{Answer, Stage};
 
 /// A command that was accepted, and what has become of it.
 #[derive(Clone, Copy, Debug, PartialEq, Eq)]
@@ -20,41 +19,17 @@ pub struct Taken {
     pub fate: Fate,
 }
 
-/// The commands that the present session accepted, in order, after these steps, the newest first.
+/// The commands that a session accepted, in order, by its steps, the newest first.
 /// `AllocError` where there was no memory for them.
-pub fn accepted_of(
-    alloc: Global,
-    start: &SimFlash,
-    past: &[Recorded],
-) -> Result<Vec<Taken>, AllocError>
-    ensures { IfOk result (λ all. taken_of all.items ≡ accepted start.now.image (steps_of past.now)) }
+pub fn accepted_of(alloc: Global, start: &Seen, past: &[Recorded]) -> Result<Vec<Taken>, AllocError>
+    ensures { IfOk result (λ all. taken_of all.items ≡ accepted (seen_of start.now) (steps_of past.now)) }
 {
     let [step, before @ ..] = past else {
         return Ok(Vec::new(alloc));
     };
-    if is_start(&step.event) {
-        return Ok(Vec::new(alloc));
-    }
     let earlier = accepted_of(alloc, start, before)?;
     let newest = newest_of(start, before, step);
     after(alloc, earlier.as_slice(), &step.answer, newest)
-}
-
-/// Whether the device starts anew.
-pub(crate) fn is_start(event: &Event) -> bool
-    ensures { result ≡ is_start event.now }
-{
-    match event {
-        Event::Cut => true,
-        Event::Scan(_)
-        | Event::Setup(_)
-        | Event::OutPacket(_)
-        | Event::InPacket
-        | Event::Poll
-        | Event::Work
-        | Event::Entry(..)
-        | Event::SlotAt { .. } => false,
-    }
 }
 
 /// Accepted commands after one more answer, and then the newest one, if there is one.
@@ -80,12 +55,12 @@ fn after(
 }
 
 /// The command that a step accepts, if it accepts one, as it stands then.
-fn newest_of(start: &SimFlash, before: &[Recorded], step: &Recorded) -> Option<Taken>
-    ensures { newest_one result ≡ accepted_with (keymap (image_after start.now.image (steps_of before.now))) [] (accepts start.now.image (steps_of before.now) (step_of step.now)) }
+fn newest_of(start: &Seen, before: &[Recorded], step: &Recorded) -> Option<Taken>
+    ensures { newest_one result ≡ accepted_with (keymap (image_after (seen_of start.now) (steps_of before.now))) [] (accepts (seen_of start.now) (steps_of before.now) (step_of step.now)) }
 {
     match accepted_by(start, before, step) {
         Some(command) => {
-            let fate = first_fate_of(flash_after(start, before), &command);
+            let fate = first_fate_of(&flash_after(start, before).flash, &command);
             Some(Taken { command, fate })
         }
         None => None,
@@ -94,13 +69,12 @@ fn newest_of(start: &SimFlash, before: &[Recorded], step: &Recorded) -> Option<T
 
 /// The command that a step accepts after these steps, if it accepts one: that of a feature packet
 /// that is acknowledged in the data stage.
-fn accepted_by(start: &SimFlash, before: &[Recorded], step: &Recorded) -> Option<Command>
-    ensures { result ≡ accepts start.now.image (steps_of before.now) (step_of step.now) }
+pub(crate) fn accepted_by(start: &Seen, before: &[Recorded], step: &Recorded) -> Option<Command>
+    ensures { result ≡ accepts (seen_of start.now) (steps_of before.now) (step_of step.now) }
 {
-    let stage = stage_of(start, before);
     match bytes_taken(&step.event, &step.answer) {
-        Some(packet) => in_data_stage(stage, command_in(packet.as_slice())),
-        None => in_data_stage(stage, None),
+        Some(packet) => in_data_stage(stage_of(start, before), command_in(packet.as_slice())),
+        None => None,
     }
 }
 
@@ -114,14 +88,14 @@ fn in_data_stage(stage: Stage, command: Option<Command>) -> Option<Command>
     }
 }
 
-/// The command that works after these steps, the newest first. `AllocError` where there was no
-/// memory for the commands of the session.
+/// The command that works after these steps of a session, the newest first. `AllocError` where there
+/// was no memory for the commands of the session.
 pub fn working_of(
     alloc: Global,
-    start: &SimFlash,
+    start: &Seen,
     past: &[Recorded],
 ) -> Result<Option<Command>, AllocError>
-    ensures { IfOk result (λ works. works ≡ working start.now.image (steps_of past.now)) }
+    ensures { IfOk result (λ works. works ≡ working (seen_of start.now) (steps_of past.now)) }
 {
     let all = accepted_of(alloc, start, past)?;
     Ok(working_in(all.as_slice()))

@@ -8,6 +8,7 @@ ghost use Rattle.records.specs.declared.Slot.{Slot};
 ghost use Rattle.page_turnover.specs.Active.{active};
 ghost use Rattle.page_turnover.specs.Words.{words, IsBlank};
 ghost use Rattle.page_turnover.specs.Log.{Describes};
+ghost use Rattle.page_turnover.specs.Usable.{IsUsable};
 ghost use Rattle.page_turnover.specs.Operates.{Operates};
 ghost use Rattle.keymap_store.specs.Submits.{IsWorn};
 ghost use Rattle.world_plain.specs.Decides.{Decides, IsAnd, SameOutside, ProgramsAt, ProgramsOn, ProgramsSome, ErasesAt, ErasesSome};
@@ -51,8 +52,15 @@ pub fn is_worn(flash: &SimFlash) -> bool
     }
 }
 
+/// Whether slot 0 of each page is sound.
+pub fn is_usable(flash: &SimFlash) -> bool
+    ensures { Decides result (IsUsable flash.now.image) }
+{
+    Log::mount(flash).usable().is_ok()
+}
+
 /// Whether each slot of a page is free.
-fn is_blank(flash: &SimFlash, page: usize) -> bool
+pub(crate) fn is_blank(flash: &SimFlash, page: usize) -> bool
     requires { page < page_count flash.now.image }
     ensures { Decides result (IsBlank flash.now.image page) }
 {
@@ -178,7 +186,7 @@ fn erases_at(old: &SimFlash, new: &SimFlash, page: usize) -> bool
 }
 
 /// Whether a page is the active one.
-fn is_active(flash: &SimFlash, page: usize) -> bool
+pub(crate) fn is_active(flash: &SimFlash, page: usize) -> bool
     ensures { Decides result ((seq : ℕ) × (active flash.now.image ≡ Some (page, seq))) }
 {
     match Log::mount(flash).active() {
@@ -202,7 +210,13 @@ fn is_erased(old: &SimFlash, new: &SimFlash, page: usize) -> bool
 }
 
 /// Whether one flash is the other after a word is programmed into a slot.
-fn is_programmed(old: &SimFlash, new: &SimFlash, page: usize, slot: usize, word: u32) -> bool
+pub(crate) fn is_programmed(
+    old: &SimFlash,
+    new: &SimFlash,
+    page: usize,
+    slot: usize,
+    word: u32,
+) -> bool
     requires in_pages { page < page_count old.now.image }
     requires in_page { slot < 512 }
     ensures { Decides result (Programs old.now.image page slot (encoded word) new.now.image) }

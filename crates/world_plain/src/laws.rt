@@ -5,7 +5,8 @@ ghost use Rattle.layers.specs.Codes.{default_code};
 ghost use Rattle.layers.specs.Entries.{changed};
 ghost use Rattle.layers.specs.declared.command.Command.TheVariants.{SetKey};
 ghost use Rattle.world.specs.Commands.{Accepted, commands_of};
-ghost use Rattle.world.specs.Restart.{SameEntries, LegalRestart};
+ghost use Rattle.keymap_store.specs.Keymap.{SameEntries};
+ghost use Rattle.world.specs.Restart.{LegalRestart};
 ghost use Rattle.world_plain.specs.Sessions.{AllSettled, is_settled, still_works, has_failed};
 
 /// Where each command of a session is settled, a legal restart finds its keymap changed by all of

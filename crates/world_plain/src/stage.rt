@@ -3,22 +3,23 @@
 ghost use Rattle.std.specs.Prelude.{◌≡◌, ℕ, List, [], slice_index, Some, None, MatchOption};
 ghost use Rattle.std.specs.Result.{result_ok};
 ghost use Rattle.std.specs.Str.{bytes_eq};
-ghost use Rattle.world.specs.History.{image_after, keymap};
+ghost use Rattle.world.specs.Kinds.{kind, opening_of};
+ghost use Rattle.world.specs.History.{flash_after, keymap};
 ghost use Rattle.world.specs.Feature.{command_in};
 ghost use Rattle.world.specs.Fate.{changes, ended_by, fate};
-ghost use Rattle.world.specs.Transfer.{set_feature, set_boot, opening_of, setup_of, transfer, stall_in, first_stall, is_empty_packet, is_ended, bytes_taken, data_packet, data_fate, stage_after_data, stage};
-ghost use Rattle.world_plain.specs.Records.{steps_of, step_of, fate_of, fate_at_first};
+ghost use Rattle.world.specs.Transfer.{set_feature, set_boot, setup_of, transfer, stall_in, first_stall, is_empty_packet, is_ended, bytes_taken, data_packet, data_fate, stage_after_data, stage};
+ghost use Rattle.world_plain.specs.Records.{seen_of, steps_of, step_of, fate_of, fate_at_first};
 
 use crate::keymap::keymap_of;
-use crate::recorded::{Fate, Recorded};
+use crate::recorded::{Fate, Recorded, Seen};
 use arrayvec::ArrayVec;
 use flash_model::SimFlash;
 use layers::{Command, KeymapError};
 use world::{Answer, Event, Stage, Why, Work};
 
 /// The flash after these steps.
-pub(crate) fn flash_after<'a>(start: &'a SimFlash, past: &'a [Recorded]) -> &'a SimFlash
-    ensures { result.now.image ≡ image_after start.now.image (steps_of past.now) }
+pub(crate) fn flash_after<'a>(start: &'a Seen, past: &'a [Recorded]) -> &'a Seen
+    ensures { seen_of result.now ≡ flash_after (seen_of start.now) (steps_of past.now) }
 {
     match past {
         [step, ..] => &step.flash,
@@ -26,9 +27,10 @@ pub(crate) fn flash_after<'a>(start: &'a SimFlash, past: &'a [Recorded]) -> &'a 
     }
 }
 
-/// The stage of the control transfer after these steps, the newest first.
-pub fn stage_of(start: &SimFlash, past: &[Recorded]) -> Stage
-    ensures { result ≡ stage start.now.image (steps_of past.now) }
+/// The stage of the control transfer after these steps of a session, the newest first, which began
+/// on the flash `start`.
+pub fn stage_of(start: &Seen, past: &[Recorded]) -> Stage
+    ensures { result ≡ stage (seen_of start.now) (steps_of past.now) }
 {
     if let Some(why) = stall_of(past) {
         return Stage::Stalled(why);
@@ -59,19 +61,20 @@ fn after_data(fate: Fate, ended: bool) -> Stage
     }
 }
 
-/// Where an event ends the transfer in progress: the SETUP packet that begins the next one, if one
-/// does.
-fn opening_of(event: &Event) -> Option<Option<[u8; 8]>>
-    ensures { result ≡ opening_of event.now }
+/// The SETUP packet that ends the transfer in progress and begins the next one, if an event is one.
+fn opening_of(event: &Event) -> Option<[u8; 8]>
+    ensures { result ≡ opening_of (kind event.now) }
 {
     match event {
-        Event::Setup(bytes) => Some(Some(*bytes)),
-        Event::Cut => Some(None),
+        Event::Setup(bytes) => Some(*bytes),
         Event::Scan(_)
         | Event::OutPacket(_)
         | Event::InPacket
         | Event::Poll
         | Event::Work
+        | Event::WorkFault(_)
+        | Event::Cut
+        | Event::CutInWork(_)
         | Event::Entry(..)
         | Event::SlotAt { .. } => None,
     }
@@ -85,7 +88,7 @@ pub(crate) fn setup_of(past: &[Recorded]) -> Option<[u8; 8]>
         return None;
     };
     match opening_of(&step.event) {
-        Some(setup) => setup,
+        Some(setup) => Some(setup),
         None => setup_of(before),
     }
 }
@@ -179,8 +182,8 @@ pub(crate) fn is_empty_packet(answer: &Answer) -> bool
 }
 
 /// What has become of the data packet of the transfer, if one was acknowledged.
-fn fate_of_data(start: &SimFlash, past: &[Recorded]) -> Option<Fate>
-    ensures { MatchOption result (data_packet start.now.image (steps_of past.now) ≡ None) (λ f. data_fate (data_packet start.now.image (steps_of past.now)) ≡ Some (fate_of f)) }
+fn fate_of_data(start: &Seen, past: &[Recorded]) -> Option<Fate>
+    ensures { MatchOption result (data_packet (seen_of start.now) (steps_of past.now) ≡ None) (λ f. data_fate (data_packet (seen_of start.now) (steps_of past.now)) ≡ Some (fate_of f)) }
 {
     let [step, before @ ..] = past else {
         return None;
@@ -191,7 +194,7 @@ fn fate_of_data(start: &SimFlash, past: &[Recorded]) -> Option<Fate>
     match fate_of_data(start, before) {
         Some(fate) => Some(fate_after(fate, &step.answer)),
         None => match bytes_taken(&step.event, &step.answer) {
-            Some(packet) => Some(first_fate(flash_after(start, before), packet.as_slice())),
+            Some(packet) => Some(first_fate(&flash_after(start, before).flash, packet.as_slice())),
             None => None,
         },
     }
@@ -199,7 +202,7 @@ fn fate_of_data(start: &SimFlash, past: &[Recorded]) -> Option<Fate>
 
 /// The packet of an OUT event that was acknowledged.
 pub(crate) fn bytes_taken<'a>(event: &'a Event, answer: &Answer) -> Option<&'a ArrayVec<u8, 8>>
-    ensures { MatchOption result (bytes_taken event.now answer.now ≡ None) (λ packet. bytes_taken event.now answer.now ≡ Some packet.now.items) }
+    ensures { MatchOption result (bytes_taken (kind event.now) answer.now ≡ None) (λ packet. bytes_taken (kind event.now) answer.now ≡ Some packet.now.items) }
 {
     match (event, answer) {
         (Event::OutPacket(packet), Answer::Ack) => Some(packet),

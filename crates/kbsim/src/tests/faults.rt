@@ -196,7 +196,7 @@ const READ: [(&[u8], &[u8]); 18] = [
     ),
     (
         b"setup 210903030000060A\nout aAbB\nout\n",
-        b"1 ack\n2 stall 1\n3 stall 1\n",
+        b"1 ack\n2 stall 5\n3 stall 5\n",
     ),
     (b"work\ncut", b"1 idle\n2 restart\n"),
     (b"scan\npoll\n", b"1 ok\n2 nak\n"),

@@ -3,9 +3,10 @@
 use crate::{RunError, run_script};
 use arrayvec::ArrayVec;
 
-const SCRIPT: &[u8] = b"entry 0 0\nset 0 0 0005\nslot 0 1\ncut\nentry 0 0\n";
+const SCRIPT: &[u8] = b"fetch\nset 0 0 4192\nscans 5 0\npoll\ncut\nentry 0 0\n";
 
-const PRINTED: &[u8] = b"1 0004\n2 ack\n3 05000010faffffef\n4 restart\n5 0005\n";
+const PRINTED: &[u8] = b"1 fetched 99\n2 ack\n3 ok\n4 report 029201000000000000 read 000c0192\n\
+    5 restart\n6 4192\n";
 
 const REFUSED: &[u8] = b"fault memory\n";
 

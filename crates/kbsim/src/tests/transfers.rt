@@ -9,7 +9,7 @@ fn the_stored_key(rt: HostRuntime) -> Result<(), Fail> {
     let lines = [
         ("entry 0 0", "0004"),
         ("set 0 0 0005", "ack"),
-        ("slot 0 0", "01000010feffffef"),
+        ("slot 0 0", "01000020feffffdf"),
         ("slot 0 1", "05000010faffffef"),
         ("cut", "restart"),
         ("entry 0 0", "0005"),
@@ -119,4 +119,10 @@ fn page_counts(rt: HostRuntime) -> Result<(), Fail> {
     }
     let last = [("slot 7 0", "ffffffffffffffff")];
     side_by_side(&rt, 8, last.as_slice())
+}
+
+#[test]
+fn a_slot_of_the_last_of_eight_pages(rt: HostRuntime) -> Result<(), Fail> {
+    let lines = [("slot 7 511", "ffffffffffffffff"), ("set 0 0 0005", "ack")];
+    side_by_side(&rt, 8, lines.as_slice())
 }

@@ -5,7 +5,10 @@ use std::process::Abort;
 use std::test::Fail;
 
 /// Fills page 0 by 511 records on one entry, the last of code 0005, and runs these lines after that.
-fn after_a_full_page<R: AllocGlobal + Abort>(rt: &R, lines: &[(&str, &str)]) -> Result<(), Fail> {
+pub(super) fn after_a_full_page<R: AllocGlobal + Abort>(
+    rt: &R,
+    lines: &[(&str, &str)],
+) -> Result<(), Fail> {
     let mut script = String::new(rt.alloc());
     let mut expected = String::new(rt.alloc());
     for number in 1u32..512 {
@@ -32,7 +35,7 @@ fn a_command_on_a_full_page(rt: HostRuntime) -> Result<(), Fail> {
         ("work", "working"),
         ("work", "settled"),
         ("in", "data -"),
-        ("slot 1 0", "02000010fdffffef"),
+        ("slot 1 0", "02000020fdffffdf"),
         ("slot 1 1", "05000010faffffef"),
         ("slot 1 2", "06000010f9ffffef"),
         ("entry 0 0", "0006"),

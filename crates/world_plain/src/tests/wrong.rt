@@ -1,171 +1,320 @@
-//! Histories that the definitions refuse: each is a right one, with its last step changed.
+//! Histories that the definitions refuse: each is a right one with its last step changed.
 
 use super::*;
 
-/// The last step is refused, and with it the history; without it the history is right.
-pub(super) fn expect_refused(rt: &impl Abort, alloc: Global, run: &Run) -> Result<(), Fail> {
-    let history = run.history.as_slice();
-    let Some((last, before)) = history.split_first() else {
-        return Ok(());
-    };
-    let earlier = all_answered(alloc, &run.start, before)?;
-    assert!(rt; earlier);
-    let answered = is_answered(alloc, &run.start, before, last)?;
-    assert!(rt; !answered);
-    let all = all_answered(alloc, &run.start, history)?;
-    assert!(rt; !all);
-    Ok(())
+/// What is done on the way to the last step.
+#[derive(Clone, Copy, Debug)]
+enum Move {
+    /// The feature report that sets a key of layer 0.
+    Set(u8, u16),
+    Work,
+    /// A step of the flash work torn by a mask of this byte.
+    Fault(u8),
+    CutInWork(u8),
+    Cut,
+    In,
+    Look,
+    /// SET_PROTOCOL to the boot protocol, with its status stage.
+    Boot,
+    /// So many scans with key 0 pressed, and so many without.
+    Scans(u32, u32),
+    Poll,
 }
 
-/// Records a step that the device did not make.
-pub(super) fn forge(
-    run: &mut Run,
-    event: Event,
-    answer: Answer,
-    flash: SimFlash,
-) -> Result<(), Fail> {
-    run.history.insert(
-        0,
-        Recorded {
-            event,
-            answer,
-            flash,
-        },
-    )?;
-    Ok(())
+/// What is changed in the last step.
+#[derive(Clone, Copy, Debug)]
+enum Change {
+    Answer(Wrong),
+    /// A slot of the flash after it.
+    Slot(usize, usize, [u8; 8]),
+    /// How many operations and faults were counted in it.
+    Counts(u64, u64),
+    /// A mask is armed after it.
+    Armed,
+    /// The bytes of the flash are those before it, and its counts too.
+    NoOperation,
 }
 
-/// The flash on which these keys of layer 0 were set to these codes, in order.
-fn flash_with(rt: &impl Abort, alloc: Global, commands: &[(u8, u16)]) -> Result<SimFlash, Fail> {
-    let mut other = blank(alloc)?;
-    let mut first = true;
-    for (key, code) in commands {
-        if first {
-            set_first(rt, alloc, &mut other, *key, *code)?;
-        } else {
-            set_again(rt, alloc, &mut other, *key, *code)?;
+#[derive(Clone, Copy, Debug)]
+enum Wrong {
+    Worked(Work),
+    Packet,
+    Nak,
+    Restarted,
+    Stall(Why),
+    Code(u16),
+    /// The boot report with one usage.
+    Boot(u8),
+}
+
+const FREE: [u8; 8] = [0xff; 8];
+
+const HEADER: [u8; 8] = [0x01, 0x00, 0x00, 0x20, 0xfe, 0xff, 0xff, 0xdf];
+
+const RECORD: [u8; 8] = [0x05, 0x00, 0x00, 0x10, 0xfa, 0xff, 0xff, 0xef];
+
+/// On a blank flash: the way there, the last step, and what is wrong with it.
+const WRONG: [(&[Move], Move, Change); 34] = [
+    // A fault that reads back as intended is no failure, and one that does not is one.
+    (
+        &[Move::Set(0, 5), Move::Work],
+        Move::Fault(0xff),
+        Change::Answer(Wrong::Worked(Work::Failed)),
+    ),
+    (
+        &[Move::Set(0, 5), Move::Work],
+        Move::Fault(0x00),
+        Change::Answer(Wrong::Worked(Work::Settled)),
+    ),
+    (
+        &[Move::Set(0, 5)],
+        Move::Fault(0x0f),
+        Change::Answer(Wrong::Worked(Work::Working)),
+    ),
+    // Without a mask nothing fails.
+    (
+        &[Move::Set(0, 5)],
+        Move::Work,
+        Change::Answer(Wrong::Worked(Work::Failed)),
+    ),
+    // A bit that the record has was cleared, one that the mask leaves out, and another slot.
+    (
+        &[Move::Set(0, 5), Move::Work],
+        Move::Fault(0x0f),
+        Change::Slot(0, 1, [0xf4, 0xf0, 0xf0, 0xf0, 0xfa, 0xff, 0xff, 0xff]),
+    ),
+    (
+        &[Move::Set(0, 5), Move::Work],
+        Move::Fault(0x0f),
+        Change::Slot(0, 1, [0xf5, 0x70, 0xf0, 0xf0, 0xfa, 0xff, 0xff, 0xff]),
+    ),
+    (
+        &[Move::Set(0, 5), Move::Work],
+        Move::Fault(0x0f),
+        Change::Slot(0, 2, [0xf5, 0xf0, 0xf0, 0xf0, 0xfa, 0xff, 0xff, 0xff]),
+    ),
+    (
+        &[Move::Set(0, 5), Move::Work],
+        Move::CutInWork(0x0f),
+        Change::Slot(0, 1, RECORD),
+    ),
+    // A cut inside an operation tells of no end.
+    (
+        &[Move::Set(0, 5), Move::Work],
+        Move::CutInWork(0xff),
+        Change::Answer(Wrong::Worked(Work::Settled)),
+    ),
+    (
+        &[Move::Set(0, 5), Move::Work],
+        Move::CutInWork(0x00),
+        Change::Answer(Wrong::Worked(Work::Failed)),
+    ),
+    // A cut drops a settled command, a cut inside an operation does, or adds one that works.
+    (
+        &[Move::Set(0, 5), Move::Work, Move::Work, Move::In],
+        Move::Cut,
+        Change::Slot(0, 1, FREE),
+    ),
+    (
+        &[Move::Set(0, 5), Move::Work, Move::Work, Move::Set(1, 6)],
+        Move::CutInWork(0x00),
+        Change::Slot(0, 1, FREE),
+    ),
+    (
+        &[Move::Set(0, 5), Move::Work],
+        Move::Cut,
+        Change::Slot(0, 1, RECORD),
+    ),
+    // A second operation in one step, one where no command works, and none where one works.
+    (&[Move::Set(0, 5)], Move::Work, Change::Slot(0, 1, RECORD)),
+    (&[], Move::Work, Change::Slot(0, 0, HEADER)),
+    (&[], Move::Fault(0xff), Change::Counts(1, 1)),
+    (&[Move::Set(0, 5)], Move::Work, Change::NoOperation),
+    // A torn header is taken for a header: the record follows it, or the command goes on.
+    (
+        &[Move::Set(0, 5)],
+        Move::Fault(0x55),
+        Change::Answer(Wrong::Worked(Work::Working)),
+    ),
+    (
+        &[Move::Set(0, 5)],
+        Move::Fault(0x55),
+        Change::Slot(0, 0, HEADER),
+    ),
+    (
+        &[Move::Set(0, 5), Move::CutInWork(0x55), Move::Set(0, 5)],
+        Move::Work,
+        Change::Slot(0, 1, RECORD),
+    ),
+    // A count that did not rise, or rose without an operation or a fault.
+    (&[Move::Set(0, 5)], Move::Work, Change::Counts(0, 0)),
+    (&[Move::Set(0, 5)], Move::Fault(0xff), Change::Counts(1, 0)),
+    (&[Move::Set(0, 5)], Move::Work, Change::Counts(1, 1)),
+    (
+        &[Move::Set(0, 5)],
+        Move::CutInWork(0x00),
+        Change::Counts(0, 0),
+    ),
+    (&[Move::Set(0, 5)], Move::Fault(0x00), Change::Armed),
+    // The status stage: a fault that was none, an end that did not come, and an end that failed.
+    (
+        &[Move::Set(0, 5), Move::Work, Move::Work],
+        Move::In,
+        Change::Answer(Wrong::Stall(Why::FlashFault)),
+    ),
+    (
+        &[Move::Set(0, 5), Move::Work],
+        Move::In,
+        Change::Answer(Wrong::Packet),
+    ),
+    (
+        &[Move::Set(0, 5), Move::Fault(0x00)],
+        Move::In,
+        Change::Answer(Wrong::Packet),
+    ),
+    // The keymap of a command that failed, and one settled before its record.
+    (
+        &[Move::Set(0, 5), Move::Work, Move::Fault(0x00)],
+        Move::Look,
+        Change::Answer(Wrong::Code(5)),
+    ),
+    (
+        &[Move::Set(0, 5)],
+        Move::Work,
+        Change::Answer(Wrong::Worked(Work::Settled)),
+    ),
+    // A poll sends another usage, what waits behind the front, or nothing.
+    (
+        &[Move::Boot, Move::Scans(5, 0)],
+        Move::Poll,
+        Change::Answer(Wrong::Boot(5)),
+    ),
+    (
+        &[Move::Boot, Move::Scans(5, 5)],
+        Move::Poll,
+        Change::Answer(Wrong::Boot(0)),
+    ),
+    (&[Move::Scans(5, 0)], Move::Poll, Change::Answer(Wrong::Nak)),
+    (
+        &[Move::Boot, Move::Scans(5, 0), Move::Cut],
+        Move::Poll,
+        Change::Answer(Wrong::Boot(4)),
+    ),
+];
+
+/// What a move hands to the device last.
+fn event_of(last: Move) -> Result<Event, Fail> {
+    Ok(match last {
+        Move::Set(key, code) => Event::OutPacket(report(1, 0, key, code)),
+        Move::Work => Event::Work,
+        Move::Fault(byte) => Event::WorkFault(mask_of(&[byte])),
+        Move::CutInWork(byte) => Event::CutInWork(mask_of(&[byte])),
+        Move::Cut => Event::Cut,
+        Move::In | Move::Boot => Event::InPacket,
+        Move::Look => entry(0)?,
+        Move::Scans(_, _) => Event::Scan(Scan::NONE),
+        Move::Poll => Event::Poll,
+    })
+}
+
+/// Makes a move.
+fn make(rt: &impl Abort, alloc: Global, run: &mut Run, one: Move) -> Result<(), Fail> {
+    match one {
+        Move::Set(_, _) => take(rt, alloc, run, Event::Setup(SET_FEATURE))?,
+        Move::Boot => take(rt, alloc, run, Event::Setup(SET_BOOT))?,
+        Move::Scans(pressed, released) => {
+            for _ in 0..pressed {
+                take(rt, alloc, run, Event::Scan(Scan::NONE.with(0, true)))?;
+            }
+            for _ in 1..released {
+                take(rt, alloc, run, Event::Scan(Scan::NONE))?;
+            }
+            if released == 0 {
+                return Ok(());
+            }
         }
-        first = false;
+        _ => {}
     }
-    copy_of(alloc, other.world.flash())
+    take(rt, alloc, run, event_of(one)?)
 }
 
-#[test]
-fn an_acknowledged_command_is_missing_after_a_cut(rt: HostRuntime) -> Result<(), Fail> {
-    let alloc = rt.alloc();
-    let mut run = blank(alloc)?;
-    set_first(&rt, alloc, &mut run, 0, 0x0005)?;
-    forge(
-        &mut run,
-        Event::Cut,
-        Answer::Restarted,
-        SimFlash::new(alloc, 2)?,
-    )?;
-    expect_refused(&rt, alloc, &run)
+/// Makes moves, in order.
+fn make_all(rt: &impl Abort, alloc: Global, run: &mut Run, way: &[Move]) -> Result<(), Fail> {
+    for one in way {
+        make(rt, alloc, run, *one)?;
+    }
+    Ok(())
 }
 
-#[test]
-fn commands_are_in_another_order_after_a_cut(rt: HostRuntime) -> Result<(), Fail> {
-    let alloc = rt.alloc();
-    let mut run = blank(alloc)?;
-    set_first(&rt, alloc, &mut run, 0, 0x0005)?;
-    set_again(&rt, alloc, &mut run, 0, 0x0006)?;
-    let flash = flash_with(&rt, alloc, &[(0, 0x0006), (0, 0x0005)])?;
-    forge(&mut run, Event::Cut, Answer::Restarted, flash)?;
-    expect_refused(&rt, alloc, &run)
+/// The boot report with one usage, or none.
+fn boot_report(usage: u8) -> Answer {
+    let mut bytes = ArrayVec::new();
+    let _fits = bytes.try_extend_from_slice(&[0, 0, usage, 0, 0, 0, 0, 0]);
+    Answer::Sent {
+        bytes,
+        reading: Reading::Unread,
+    }
 }
 
-#[test]
-fn a_cut_skips_a_command_and_keeps_a_later_one(rt: HostRuntime) -> Result<(), Fail> {
-    let alloc = rt.alloc();
-    let mut run = blank(alloc)?;
-    set_first(&rt, alloc, &mut run, 0, 0x0005)?;
-    set_again(&rt, alloc, &mut run, 1, 0x0006)?;
-    let flash = flash_with(&rt, alloc, &[(1, 0x0006)])?;
-    forge(&mut run, Event::Cut, Answer::Restarted, flash)?;
-    expect_refused(&rt, alloc, &run)
+fn answer(wrong: Wrong) -> Result<Answer, Fail> {
+    Ok(match wrong {
+        Wrong::Worked(work) => Answer::Worked(work),
+        Wrong::Packet => Answer::Packet(ArrayVec::new()),
+        Wrong::Nak => Answer::Nak,
+        Wrong::Restarted => Answer::Restarted,
+        Wrong::Stall(why) => Answer::Stall(why),
+        Wrong::Code(bits) => code(bits)?,
+        Wrong::Boot(usage) => boot_report(usage),
+    })
 }
 
-#[test]
-fn the_keymap_changes_before_the_command_is_settled(rt: HostRuntime) -> Result<(), Fail> {
-    let alloc = rt.alloc();
-    let mut run = blank(alloc)?;
-    feature_set(&rt, alloc, &mut run, 0, 0x0005)?;
-    expect(
-        &rt,
-        alloc,
-        &mut run,
-        Event::Work,
-        Answer::Worked(Work::Working),
-    )?;
-    let flash = flash_with(&rt, alloc, &[(0, 0x0005)])?;
-    forge(&mut run, Event::Work, Answer::Worked(Work::Working), flash)?;
-    expect_refused(&rt, alloc, &run)
+/// The flash with another slot.
+fn with_slot(
+    alloc: Global,
+    flash: &SimFlash,
+    page: usize,
+    slot: usize,
+    new: [u8; 8],
+) -> Result<SimFlash, Fail> {
+    let mut bytes = Vec::new(alloc);
+    bytes.extend_from_slice(flash.image())?;
+    write(&mut bytes, page.wrapping_mul(512).wrapping_add(slot), new);
+    let flash = SimFlash::from_image(bytes)?;
+    Ok(flash)
 }
 
-#[test]
-fn the_keymap_changes_while_no_command_works(rt: HostRuntime) -> Result<(), Fail> {
-    let alloc = rt.alloc();
-    let mut run = blank(alloc)?;
-    set_first(&rt, alloc, &mut run, 0, 0x0005)?;
-    let flash = flash_with(&rt, alloc, &[(0, 0x0005), (0, 0x0006)])?;
-    forge(&mut run, Event::Work, Answer::Worked(Work::Idle), flash)?;
-    expect_refused(&rt, alloc, &run)
-}
-
-#[test]
-fn an_entry_is_answered_from_a_command_that_failed(rt: HostRuntime) -> Result<(), Fail> {
-    let alloc = rt.alloc();
-    let mut run = blank(alloc)?;
-    feature_set(&rt, alloc, &mut run, 0, 0x0005)?;
-    let flash = copy_of(alloc, run.world.flash())?;
-    forge(&mut run, Event::Work, Answer::Worked(Work::Failed), flash)?;
-    let failed = [Taken {
-        command: set_key(0, 5)?,
-        fate: Fate::Failed,
-    }];
-    expect_now(
-        &rt,
-        alloc,
-        &run,
-        Stage::Stalled(Why::FlashFault),
-        &failed,
-        None,
-    )?;
-    let look = |bits: u16| -> Result<Recorded, Fail> {
-        Ok(Recorded {
-            event: entry(0)?,
-            answer: code(bits)?,
-            flash: copy_of(alloc, run.world.flash())?,
-        })
-    };
-    let past = run.history.as_slice();
-    assert!(rt; !is_answered(alloc, &run.start, past, &look(0x0005)?)?);
-    assert!(rt; is_answered(alloc, &run.start, past, &look(0x0004)?)?);
+/// Changes a step.
+fn change_step(alloc: Global, now: &Seen, step: &mut Recorded, change: Change) -> Result<(), Fail> {
+    match change {
+        Change::Answer(wrong) => step.answer = answer(wrong)?,
+        Change::Slot(page, slot, new) => {
+            step.flash.flash = with_slot(alloc, &step.flash.flash, page, slot, new)?;
+        }
+        Change::Counts(operations, faults) => {
+            step.flash.operations = now.operations.wrapping_add(operations);
+            step.flash.faults = now.faults.wrapping_add(faults);
+        }
+        Change::Armed => step.flash.armed = Some(mask_of(&[0x0f])),
+        Change::NoOperation => {
+            step.flash.flash = copy_of(alloc, &now.flash)?;
+            step.flash.operations = now.operations;
+        }
+    }
     Ok(())
 }
 
 #[test]
-fn the_status_packet_comes_while_the_command_works(rt: HostRuntime) -> Result<(), Fail> {
+fn changed_steps_are_refused(rt: HostRuntime) -> Result<(), Fail> {
     let alloc = rt.alloc();
-    let mut run = blank(alloc)?;
-    feature_set(&rt, alloc, &mut run, 0, 0x0005)?;
-    let flash = copy_of(alloc, run.world.flash())?;
-    forge(
-        &mut run,
-        Event::InPacket,
-        Answer::Packet(ArrayVec::new()),
-        flash,
-    )?;
-    expect_refused(&rt, alloc, &run)
-}
-
-#[test]
-fn the_flash_changes_at_a_look(rt: HostRuntime) -> Result<(), Fail> {
-    let alloc = rt.alloc();
-    let mut run = blank(alloc)?;
-    set_first(&rt, alloc, &mut run, 0, 0x0005)?;
-    let flash = flash_with(&rt, alloc, &[(1, 0x0006), (0, 0x0005)])?;
-    forge(&mut run, entry(0)?, code(0x0005)?, flash)?;
-    expect_refused(&rt, alloc, &run)
+    for (way, last, wrong) in WRONG {
+        let mut run = blank(alloc, 2)?;
+        make_all(&rt, alloc, &mut run, way)?;
+        let mut step = recorded(alloc, &mut run, event_of(last)?)?;
+        let right = is_lawful(alloc, &run, &step)?;
+        assert!(rt; right, "{way:?} {last:?}");
+        change_step(alloc, now_of(&run), &mut step, wrong)?;
+        let refused = !is_lawful(alloc, &run, &step)?;
+        assert!(rt; refused, "{way:?} {last:?} {wrong:?}");
+    }
+    Ok(())
 }

@@ -10,7 +10,7 @@ pub record SoFar (run same : Type 0) : Type 0 where
 
 abbrev pub invariant-loop-line : goal.invariant-loop-line
 invariant-loop-line g l = SoFar
-    (RunSoFar l.pages (take l.line-index l.lines) l.world
+    (RunSoFar l.fn.flash (take l.line-index l.lines) l.world
     (append_known (g.W.Write.contents l.fn.printer.writer.now) l.fn.printer.waiting.bytes)
     (append_known (g.W.Write.contents l.printer.writer.now) l.printer.waiting.bytes))
     (l.printer.writer.ghost_name ≡ l.fn.printer.writer.ghost_name)

@@ -1,27 +1,30 @@
-use Rattle.std.proofs.Common.{◌≡◌, ◌∷◌, [], ◌++◌, None, ap, sym, ◌∙◌, append_assoc}
-use Rattle.layers.specs.Commands.{command_of}
-use Rattle.layers.proofs.LastWriter.{entry-append_other}
+use Rattle.std.proofs.Common.{◌≡◌, ◌∙◌, ℕ, List, [], rules, sym, subst, unwrap_or}
+use Rattle.std.proofs.lemmas.List.{append-nil}
+use Rattle.layers.specs.Keymaps.{StandsFor}
+use Rattle.page_turnover.specs.Words.{words}
+use Rattle.keymap_store.proofs.Keymaps.{together_more, stands_other, entries_of-is}
 use Rattle.world_plain.proofs.keymap.keymap_of.Goals as goal
 
-pub loop-word-preserved-in-Some-from_word : goal.loop-word-preserved-in-Some-from_word
-loop-word-preserved-in-Some-from_word c = record {
-  so_far = c.apply.ensures.stands c.loop-word.yielded c.in-Some.word c.loop-word.invariant.so_far (sym c.from_word.ensures.value ∙ c.in-Some-from_word.is);
-  to_come =
-      append_assoc c.loop-word.yielded (c.in-Some.word ∷ []) c.next.new.self
-      ∙ ap (λ xs. c.loop-word.yielded ++ xs) (sym c.in-Some.ensures.steps)
-      ∙ c.loop-word.invariant.to_come;
+pub loop-word-preserved-in-Some-command_in : goal.loop-word-preserved-in-Some-command_in
+loop-word-preserved-in-Some-command_in c = record {
+  stands = c.apply.ensures.stands _ c.loop-word.yielded c.in-Some.word c.loop-word.invariant.stands (sym c.command_in.ensures ∙ c.in-Some-command_in.is);
+  together = together_more c.loop-word.yielded c.loop-word.word-iterator c.next.new.self (words c.args.flash.now.image) c.in-Some.word c.in-Some.ensures.steps c.loop-word.invariant.together;
 }
 
 pub loop-word-preserved : goal.loop-word-preserved
 loop-word-preserved c = record {
-  so_far = (
-      let none : command_of c.in-Some.word ≡ None = sym c.from_word.ensures.value ∙ c.in_default.is in
-      record {
-        whole = c.loop-word.invariant.so_far.whole;
-        each = λ layer key l k. c.loop-word.invariant.so_far.each layer key l k ∙ sym (entry-append_other c.loop-word.yielded c.in-Some.word layer key none);
-      });
-  to_come =
-      append_assoc c.loop-word.yielded (c.in-Some.word ∷ []) c.next.new.self
-      ∙ ap (λ xs. c.loop-word.yielded ++ xs) (sym c.in-Some.ensures.steps)
-      ∙ c.loop-word.invariant.to_come;
+  stands = stands_other _ c.loop-word.yielded c.in-Some.word c.loop-word.keymap (sym c.command_in.ensures ∙ c.in_default.is) c.loop-word.invariant.stands;
+  together = together_more c.loop-word.yielded c.loop-word.word-iterator c.next.new.self (words c.args.flash.now.image) c.in-Some.word c.in-Some.ensures.steps c.loop-word.invariant.together;
 }
+
+pub loop-word-init : goal.loop-word-init
+loop-word-init c = record { stands = c.standard-keymap.ensures.stands _; together = search rules }
+
+pub returns : goal.returns
+returns c =
+    let image = c.args.flash.now.image in
+    let f = c.format-format.ensures image c.mount-log.ensures.describes in
+    let none : c.loop-word.word-iterator ≡ [] = search rules in
+    let all : c.loop-word.yielded ≡ words image = sym (append-nil c.loop-word.yielded) ∙ rw none at c.loop-word.invariant.together in
+    let P : List ℕ → Type 0 = λ ws. StandsFor (unwrap_or c.format-format.result 2) ws c.loop-word.keymap in
+    rw (entries_of-is image, ← f) (subst P all c.loop-word.invariant.stands)

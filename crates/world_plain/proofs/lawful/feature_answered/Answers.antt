@@ -1,6 +1,6 @@
 use Rattle.std.proofs.Common.{◌≡◌, sym, subst}
 use Rattle.world.specs.declared.event.Answer.TheVariants.{Stall}
-use Rattle.world.specs.declared.event.Why.{Why}
+use Rattle.control_ep.specs.declared.why.Why.{Why}
 use Rattle.world_plain.specs.Decides.{Decides}
 use Rattle.world_plain.proofs.LawfulLemmas.{refused_decided}
 use Rattle.world_plain.proofs.lawful.feature_answered.Goals as goal

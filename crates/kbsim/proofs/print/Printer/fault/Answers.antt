@@ -39,6 +39,18 @@ returns-in-Input-clause-same_writer g c =
     (λ k. (Appends-of_writes (λ s. s.writer.ghost_name) (λ s. append_known (g.W.Write.contents s.writer.now) s.waiting.bytes) _ _ _ k).0)
     c.writeln-in-Input.ensures.writes
 
+pub returns-in-Image-clause-printed : goal.returns-in-Image-clause-printed
+returns-in-Image-clause-printed g c =
+    rw c.in-Image.is (on_ok c.writeln-in-Image.result
+    (λ k. (Appends-of_writes (λ s. s.writer.ghost_name) (λ s. append_known (g.W.Write.contents s.writer.now) s.waiting.bytes) _ _ _ k).1)
+    c.writeln-in-Image.ensures.writes)
+
+pub returns-in-Image-clause-same_writer : goal.returns-in-Image-clause-same_writer
+returns-in-Image-clause-same_writer g c =
+    on_ok c.writeln-in-Image.result
+    (λ k. (Appends-of_writes (λ s. s.writer.ghost_name) (λ s. append_known (g.W.Write.contents s.writer.now) s.waiting.bytes) _ _ _ k).0)
+    c.writeln-in-Image.ensures.writes
+
 pub returns-in-Memory-clause-printed : goal.returns-in-Memory-clause-printed
 returns-in-Memory-clause-printed g c =
     rw c.in-Memory.is (on_ok c.writeln-in-Memory.result

@@ -1,7 +1,6 @@
-use Rattle.world.proofs.Standing.{stands_cut}
+use Rattle.std.proofs.Common.{refl, ◌∙◌}
+use Rattle.world.proofs.Now.{begins}
 use Rattle.world.proofs.device.World.cut.Goals as goal
 
-pub returns-clause-stands : goal.returns-clause-stands
-returns-clause-stands c start past s =
-    let t = rw (← c.self.view_is) at s in
-    stands_cut start past _ _ _ t c.mount-self-inside.ensures.mirrors c.mount-self-inside.ensures.rests c.new-self-inside.ensures
+pub returns : goal.returns
+returns c start past s = begins start past _ _ _ s refl (refl, c.restart.ensures.same ∙ s.now.flash) c.restart.ensures.begins

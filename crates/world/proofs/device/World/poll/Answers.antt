@@ -1,14 +1,20 @@
-use Rattle.std.proofs.Common.{Some, None}
+use Rattle.std.proofs.Common.{Some, None, refl}
+use Rattle.world.specs.History.{session}
 use Rattle.world.specs.Keys.{calls_of}
+use Rattle.world.proofs.Now.{now, goes_on}
 use Rattle.world.proofs.Standing.{stands_polled}
 use Rattle.world.proofs.device.World.poll.Goals as goal
 
-pub returns-clause-stands : goal.returns-clause-stands
-returns-clause-stands c start past s =
+pub returns : goal.returns
+returns c start past s =
     let t = rw (← c.self.view_is) at s in
-    stands_polled start past (Some c.in-Some.bytes) c.poll.new.self _ t (λ e. c.in-Some.ensures.boot e (calls_of start past) t.keys) c.in-Some.ensures.report (c.in-Some.ensures.stands (calls_of start past) t.keys)
+    let here = session start past in
+    goes_on start past _ _ _ t refl
+    (stands_polled here.first here.steps (Some c.in-Some.bytes) c.poll.new.self _ (now start past _ t) (c.in-Some.ensures.answer (calls_of here.first here.steps) t.now.keys) (c.in-Some.ensures.stands (calls_of here.first here.steps) t.now.keys))
 
-pub returns-in_default-clause-stands : goal.returns-in_default-clause-stands
-returns-in_default-clause-stands c start past s =
+pub returns-in_default : goal.returns-in_default
+returns-in_default c start past s =
     let t = rw (← c.self.view_is) at s in
-    stands_polled start past None c.poll.new.self _ t (λ e. c.in_default.ensures.boot e (calls_of start past) t.keys) c.in_default.ensures.report (c.in_default.ensures.stands (calls_of start past) t.keys)
+    let here = session start past in
+    goes_on start past _ _ _ t refl
+    (stands_polled here.first here.steps None c.poll.new.self _ (now start past _ t) (c.in_default.ensures.answer (calls_of here.first here.steps) t.now.keys) (c.in_default.ensures.stands (calls_of here.first here.steps) t.now.keys))

@@ -1,8 +1,13 @@
-use Rattle.world.specs.History.{keymap, image_after}
+use Rattle.std.proofs.Common.{refl}
+use Rattle.world.specs.History.{session, keymap, image_after}
+use Rattle.world.proofs.Now.{now, goes_on}
 use Rattle.world.proofs.Standing.{stands_scan}
 use Rattle.world.proofs.device.World.scan.Goals as goal
 
-pub returns-clause-stands : goal.returns-clause-stands
-returns-clause-stands c start past s =
+pub returns : goal.returns
+returns c start past s =
     let t = rw (← c.self.view_is) at s in
-    stands_scan start past c.args.scan c.scan.new.self _ t (c.scan.ensures.entries _ (keymap (image_after start past)) (c.keymap.ensures.stands (image_after start past) t.store) t.keys)
+    let here = session start past in
+    goes_on start past _ _ _ t refl
+    (stands_scan here.first here.steps c.args.scan c.scan.new.self _ (now start past _ t)
+    (c.scan.ensures.entries _ (keymap (image_after here.first here.steps)) (c.keymap.ensures.stands (image_after here.first here.steps) t.now.store) t.now.keys))

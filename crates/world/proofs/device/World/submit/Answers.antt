@@ -7,8 +7,8 @@ use Rattle.world.proofs.Bounding.{nothing_needed}
 use Rattle.world.proofs.Taking.{takes_settled, takes_working, not_worn}
 use Rattle.world.proofs.device.World.submit.Goals as goal
 
-pub returns-in-Ok-Settled-clause-takes : goal.returns-in-Ok-Settled-clause-takes
-returns-in-Ok-Settled-clause-takes c image h =
+pub returns-in-Ok-Settled : goal.returns-in-Ok-Settled
+returns-in-Ok-Settled c image h =
     let held : Mirrors image c.self.inside.store = subst (λ (w : WorldValue). Mirrors image w.store) (sym c.self.view_is) h in
     let only = ap (λ (w : WorldValue). record w { stage = Status; store = c.submit.new.self }) c.self.view_is in
     let all = rw c.in-Ok-Settled.field-0-is at (c.in-Ok-Settled.ensures.submits image held) in
@@ -16,8 +16,8 @@ returns-in-Ok-Settled-clause-takes c image h =
     let rests = ap (λ (s : StoreValue). working s.job) same ∙ all.0.idle in
     takes_settled image c.args.command.now c.args.self.now _ (c.submit.ensures.mirrors image held) (c.submit.ensures.few image) (λ w. nothing_needed _ _ rests w) only all.0.usable all.1 refl rests
 
-pub returns-in-Ok-Working-clause-takes : goal.returns-in-Ok-Working-clause-takes
-returns-in-Ok-Working-clause-takes c image h =
+pub returns-in-Ok-Working : goal.returns-in-Ok-Working
+returns-in-Ok-Working c image h =
     let held : Mirrors image c.self.inside.store = subst (λ (w : WorldValue). Mirrors image w.store) (sym c.self.view_is) h in
     let only = ap (λ (w : WorldValue). record w { stage = Waiting; store = c.submit.new.self }) c.self.view_is in
     let all = rw c.in-Ok-Working.field-0-is at (c.in-Ok-Working.ensures.submits image held) in

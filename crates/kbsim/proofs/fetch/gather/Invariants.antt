@@ -1,0 +1,5 @@
+use Rattle.kbsim.proofs.FetchLemmas.{GatheredSoFar}
+use Rattle.kbsim.proofs.fetch.gather.Given as goal
+
+abbrev pub invariant-loop-full : goal.invariant-loop-full
+invariant-loop-full l = GatheredSoFar l.full l.fn.world l.world

@@ -1,0 +1,8 @@
+pub mod ContextLemmas
+pub mod FieldLemmas
+pub mod HexLemmas
+pub mod ListingLemmas
+pub mod PrintLemmas
+pub mod ReaderLemmas
+pub mod UsageLemmas
+pub mod WalkLemmas

@@ -1,0 +1,10 @@
+pub mod Contexts
+pub mod Described
+pub mod HexTexts
+pub mod Listings
+pub mod Names
+pub mod Prints
+pub mod Readers
+pub mod Texts
+pub mod Values
+pub mod Words

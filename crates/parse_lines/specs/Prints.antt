@@ -1,0 +1,65 @@
+-- What is printed of a field, of a descriptor's bytes, and of a fault.
+use Rattle.std.specs.Prelude.{ℕ, ◌/◌, ◌%◌, ◌^◌, ◌==◌, if◌then◌else◌, Bool, true, false, List, [], ◌∷◌, ◌++◌, codes, zip}
+use Rattle.std.specs.List.{flat_map}
+use Rattle.std.specs.Fmt.{decimal, signed_decimal, digit_glyph}
+use Rattle.descriptor_parse.specs.Fault.{number_of}
+use Rattle.descriptor_parse.specs.declared.field.Field.{Field}
+use Rattle.descriptor_parse.specs.declared.field.Kind.{Kind}
+use Rattle.descriptor_parse.specs.declared.field.Kind.TheVariants.{Input, Output, Feature}
+use Rattle.parse_lines.specs.declared.fault.LinesError.{LinesError}
+use Rattle.parse_lines.specs.declared.fault.LinesError.TheVariants as error
+
+-- a byte in hex: two digits in lower case
+abbrev pub byte_in_hex : ℕ → List ℕ
+byte_in_hex b = digit_glyph false (b / 16) ∷ digit_glyph false (b % 16) ∷ []
+
+unfoldable pub in_hex : List ℕ → List ℕ
+in_hex bytes = flat_map byte_in_hex bytes
+
+-- a usage in hex, eight digits: its page and its number on that page
+abbrev pub usage_in_hex : ℕ → List ℕ
+usage_in_hex usage = in_hex (usage / 2 ^ 24 ∷ usage / 2 ^ 16 % 256 ∷ usage / 2 ^ 8 % 256 ∷ usage % 256 ∷ [])
+
+-- the usages of a range: the first and the last, or the only one
+abbrev pub shown_range : ℕ × ℕ → List ℕ
+shown_range range =
+    if range.0 == range.1 then usage_in_hex range.0 else usage_in_hex range.0 ++ (45 ∷ usage_in_hex range.1)
+
+-- the usages of a field, with commas between its ranges
+unfoldable pub shown_usages : List (ℕ × ℕ) → List ℕ
+shown_usages [] = codes "-"
+shown_usages (first ∷ more) = shown_range first ++ flat_map (λ range. 44 ∷ shown_range range) more
+
+abbrev pub kind_name : Kind → List ℕ
+kind_name Input = codes "input"
+kind_name Output = codes "output"
+kind_name Feature = codes "feature"
+
+abbrev pub form_name : Bool → List ℕ
+form_name true = codes "array"
+form_name false = codes "variable"
+
+-- where a field stands: its kind, report ID, first bit, bits of a place and number of places
+abbrev pub place_text : Field → List ℕ
+place_text f = kind_name f.kind ++ (32 ∷ (decimal f.id ++ (32 ∷ (decimal f.bit ++ (32 ∷ (decimal f.size ++ (32 ∷ decimal f.count)))))))
+
+-- what values a place has: the least, the greatest, and the form
+abbrev pub values_text : Field → List ℕ
+values_text f = signed_decimal f.min ++ (32 ∷ (signed_decimal f.max ++ (32 ∷ form_name f.array)))
+
+-- the line of a field: where it stands, its values, its usages
+abbrev pub field_line : Field → List (ℕ × ℕ) → List ℕ
+field_line f ranges = place_text f ++ (32 ∷ (values_text f ++ (32 ∷ (shown_usages ranges ++ 10 ∷ []))))
+
+-- the lines of fields, each with its usages
+unfoldable pub field_lines : List Field → List (List (ℕ × ℕ)) → List ℕ
+field_lines fields usages = flat_map (λ p. field_line p.0 p.1) (zip fields usages)
+
+-- the line of a fault; nothing is printed after the output failed
+abbrev pub fault_line : LinesError → List ℕ
+fault_line error.BadHexText = codes "fault hex" ++ 10 ∷ []
+fault_line (error.Refused e) = codes "fault parse " ++ (decimal (number_of e.fault) ++ (codes " at " ++ (decimal e.offset ++ 10 ∷ [])))
+fault_line error.TooLong = codes "fault too long" ++ 10 ∷ []
+fault_line error.Input = codes "fault input" ++ 10 ∷ []
+fault_line error.Memory = codes "fault memory" ++ 10 ∷ []
+fault_line error.Output = []

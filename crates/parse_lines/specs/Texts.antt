@@ -1,0 +1,52 @@
+-- What a text in hex declares, and why it is refused.
+use Rattle.std.specs.Prelude.{◌≡◌, ◌≢◌, ℕ, ◌<◌, ◌≤◌, List, length, Option, IfSome, ⊤}
+use Rattle.descriptor_parse.specs.declared.fault.ParseFault.TheVariants as fault
+use Rattle.descriptor_parse.specs.Descriptor.{DescriptorValue, Describes}
+use Rattle.descriptor_parse.specs.Faults.{IsFaultless, IsFirstFault, MayWantMemory, all_items}
+use Rattle.descriptor_parse.specs.Fields.{fields, field_usages}
+use Rattle.parse_lines.specs.HexTexts.{SaysBytes, IsNoHex}
+use Rattle.parse_lines.specs.Prints.{field_lines}
+use Rattle.parse_lines.specs.Readers.{longest}
+use Rattle.parse_lines.specs.declared.fault.LinesError.{LinesError}
+use Rattle.parse_lines.specs.declared.fault.LinesError.TheVariants as error
+
+-- the text is short enough, and says the bytes of a report descriptor without a fault
+pub record IsSound (text : List ℕ) : Type 0 where
+  pub bytes : List ℕ
+  pub short : length text ≤ longest
+  pub says : SaysBytes text bytes
+  pub faultless : IsFaultless bytes
+
+-- the text declares this descriptor
+pub record Declares (text : List ℕ) (d : DescriptorValue) : Type 0 where
+  pub bytes : List ℕ
+  pub short : length text ≤ longest
+  pub says : SaysBytes text bytes
+  pub faultless : IsFaultless bytes
+  pub describes : Describes (all_items bytes) d
+
+-- the lines of the fields that the text declares, in order of declaration
+pub record IsOutput (text lines : List ℕ) : Type 0 where
+  pub bytes : List ℕ
+  pub says : SaysBytes text bytes
+  pub prints : lines ≡ field_lines (fields (all_items bytes)) (field_usages (all_items bytes))
+
+-- why the bytes of a report descriptor are refused: for their first fault, or because an item that may want memory
+-- found none, before any fault
+abbrev pub IsRefusal : List ℕ → LinesError → Type 0
+IsRefusal bytes (error.Refused e) = (e.fault ≢ fault.Memory) × IsFirstFault bytes e
+IsRefusal bytes error.Memory = (offset : ℕ) × MayWantMemory bytes offset
+IsRefusal bytes error.BadHexText = ⊥
+IsRefusal bytes error.TooLong = ⊥
+IsRefusal bytes error.Input = ⊥
+IsRefusal bytes error.Output = ⊥
+
+-- why a text, where it is known, is refused
+abbrev pub IsTextFault : Option (List ℕ) → LinesError → Type 0
+IsTextFault text error.TooLong = IfSome text (λ t. longest < length t)
+IsTextFault text error.BadHexText = IfSome text (λ t. (length t ≤ longest) × IsNoHex t)
+IsTextFault text (error.Refused e) = IfSome text (λ t. (bytes : List ℕ)
+    × (length t ≤ longest) × SaysBytes t bytes × (e.fault ≢ fault.Memory) × IsFirstFault bytes e)
+IsTextFault text error.Input = ⊤
+IsTextFault text error.Memory = ⊤
+IsTextFault text error.Output = ⊤

@@ -1,0 +1,27 @@
+//! Report descriptors as lines of text: the fields or the items of one that is given in hex, and the descriptors that the
+//! keyboard serves.
+//!
+//! [`parse_text`] reads hex digits and prints a line for each field that they declare (HID 1.11, section 6.2.2), and
+//! [`items_text`] a line for each item, up to the first fault. [`describe`] prints the descriptors of the keyboard. They
+//! go from any reader to any writer.
+#![tactic(auto)]
+
+mod context;
+mod fault;
+mod hex_text;
+mod input;
+mod lines;
+mod listing;
+mod names;
+mod number;
+mod print;
+mod served;
+#[cfg(test)]
+mod tests;
+mod text;
+mod words;
+
+pub use fault::LinesError;
+pub use listing::items_text;
+pub use served::describe;
+pub use text::parse_text;

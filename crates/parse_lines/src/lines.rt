@@ -1,0 +1,184 @@
+//! The lines of items.
+
+ghost use Rattle.std.specs.Prelude.{◌≡◌, ◌-◌, ◌*◌, Some, OnOk};
+ghost use Rattle.std.specs.Io.KnownBytes.{Appends, append_known};
+ghost use Rattle.parse_lines.specs.Listings.{columns, fault_words, line, mark, offset_gap, spaced_hex, spaces};
+ghost use Rattle.parse_lines.specs.Values.{columns_text, line_text, told_text};
+
+use crate::print::Printer;
+use crate::words::Words;
+use descriptor_parse::ParseFault;
+use std::fmt;
+use std::fmt::Write as _;
+use std::io::Write;
+
+/// The columns on the left of a line: an offset, and bytes of the text.
+#[derive(Clone, Copy)]
+pub(crate) struct Columns<'a> {
+    pub(crate) offset: usize,
+    /// The bytes of an item before its data.
+    pub(crate) head: &'a [u8],
+    pub(crate) data: &'a [u8],
+}
+
+/// An item: its columns, by how much its words are indented, and these.
+#[derive(Clone, Copy)]
+pub(crate) struct ItemText<'a> {
+    pub(crate) columns: Columns<'a>,
+    pub(crate) indent: usize,
+    pub(crate) words: Words,
+}
+
+/// A line of the listing.
+#[derive(Clone, Copy)]
+pub(crate) enum Line<'a> {
+    Item(ItemText<'a>),
+    /// An item at which a fault comes.
+    FaultAtItem(ItemText<'a>, ParseFault),
+    /// A fault that no item has.
+    Fault(Columns<'a>, ParseFault),
+}
+
+impl<W: Write> Printer<'_, W> {
+    /// Prints a line of the listing.
+    pub(crate) fn listed(&mut self, told: Line<'_>) -> fmt::Result
+        ensures printed { OnOk result (Appends
+            (append_known (W.contents self.old.writer.now) self.old.waiting.bytes)
+            (append_known (W.contents self.new.writer.now) self.new.waiting.bytes)
+            (line (line_text told.entry))) }
+        ensures same_writer { OnOk result (self.new.writer.ghost_name ≡ self.old.writer.ghost_name) }
+    {
+        writeln!(self, "{told}")
+    }
+}
+
+impl fmt::Display for Line<'_> {
+    ghost output = { λ l. Some (line_text l) };
+
+    fn fmt<W: fmt::Write>(&self, f: &mut fmt::Formatter<W>) -> fmt::Result {
+        match *self {
+            Line::Item(item) => write!(f, "{item}"),
+            Line::FaultAtItem(item, fault) => {
+                let mark = Mark(fault);
+                write!(f, "{item}  {mark}")
+            }
+            Line::Fault(columns, fault) => {
+                let mark = Mark(fault);
+                write!(f, "{columns}{mark}")
+            }
+        }
+    }
+}
+
+impl fmt::Display for ItemText<'_> {
+    ghost output = { λ t. Some (told_text t) };
+
+    fn fmt<W: fmt::Write>(&self, f: &mut fmt::Formatter<W>) -> fmt::Result {
+        let columns = self.columns;
+        let indent = Spaces(self.indent);
+        let words = self.words;
+        write!(f, "{columns}{indent}{words}")
+    }
+}
+
+/// How many bytes a short item has at most.
+const SHORT: usize = 5;
+
+impl fmt::Display for Columns<'_> {
+    ghost output = { λ c. Some (columns_text c) };
+
+    #[tactic(auto, unfolding(crate::specs::Listings::columns))]
+    fn fmt<W: fmt::Write>(&self, f: &mut fmt::Formatter<W>) -> fmt::Result {
+        let offset = self.offset;
+        let gap = Spaces(offset_gap(offset));
+        let head = Spaced(self.head);
+        let data = Spaced(self.data);
+        let room = SHORT
+            .saturating_sub(self.head.len())
+            .saturating_sub(self.data.len());
+        let rest = Spaces(3 * room + 1);
+        write!(f, "{gap}{offset}  {head}{data}{rest}")
+    }
+}
+
+/// How many spaces make an offset four digits wide.
+fn offset_gap(offset: usize) -> usize
+    ensures { result ≡ offset_gap offset }
+{
+    match offset {
+        0..10 => 3,
+        10..100 => 2,
+        100..1000 => 1,
+        _ => 0,
+    }
+}
+
+/// So many spaces.
+#[derive(Drop)]
+struct Spaces(usize);
+
+impl fmt::Display for Spaces {
+    ghost output = { λ s. Some (spaces s.0) };
+
+    fn fmt<W: fmt::Write>(&self, f: &mut fmt::Formatter<W>) -> fmt::Result {
+        for place in 0..self.0 {
+            write!(f, " ")?;
+        }
+        Ok(())
+    }
+}
+
+/// Bytes in hex, each with a space behind it.
+#[derive(Drop)]
+struct Spaced<'a>(&'a [u8]);
+
+impl fmt::Display for Spaced<'_> {
+    ghost output = { λ s. Some (spaced_hex s.0.now) };
+
+    fn fmt<W: fmt::Write>(&self, f: &mut fmt::Formatter<W>) -> fmt::Result {
+        let bytes = self.0;
+        for byte in bytes {
+            let byte = *byte;
+            write!(f, "{byte:02x} ")?;
+        }
+        Ok(())
+    }
+}
+
+/// What marks a fault.
+#[derive(Drop)]
+struct Mark(ParseFault);
+
+impl fmt::Display for Mark {
+    ghost output = { λ m. Some (mark m.0) };
+
+    fn fmt<W: fmt::Write>(&self, f: &mut fmt::Formatter<W>) -> fmt::Result {
+        let number = self.0.number();
+        let words = fault_words(self.0);
+        write!(f, "<-- fault {number}: {words}")
+    }
+}
+
+fn fault_words(fault: ParseFault) -> &'static str
+    ensures { result.now ≡ fault_words fault }
+{
+    match fault {
+        ParseFault::Truncated => "truncated item",
+        ParseFault::Delimiter => "delimiter",
+        ParseFault::PopEmpty => "Pop without Push",
+        ParseFault::PushDeep => "Push too deep",
+        ParseFault::BadReportId => "bad Report ID",
+        ParseFault::SizeTooLarge => "Report Size too large",
+        ParseFault::CountTooLarge => "Report Count too large",
+        ParseFault::EndWithoutCollection => "End Collection without Collection",
+        ParseFault::CollectionDeep => "Collection too deep",
+        ParseFault::UnpairedUsage => "unpaired Usage Minimum or Maximum",
+        ParseFault::UsageInverted => "Usage Minimum over Maximum",
+        ParseFault::LogicalInverted => "Logical Minimum over Maximum",
+        ParseFault::TooManyFields => "too many fields",
+        ParseFault::MixedIds => "items with and without a Report ID",
+        ParseFault::CollectionOpen => "Collection not ended",
+        ParseFault::TooLong => "descriptor too long",
+        ParseFault::Memory => "out of memory",
+    }
+}

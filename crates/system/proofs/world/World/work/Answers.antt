@@ -1,0 +1,17 @@
+use Rattle.std.proofs.Common.{◌≡◌, ◌∙◌, ap, sym, Option}
+use Rattle.std.specs.Option.{option_map}
+use Rattle.flash_model.specs.Sim.{SimValue}
+use Rattle.system.specs.Flash.{torn_by}
+use Rattle.system.proofs.Standing.{same_flash, works_in, worked}
+use Rattle.system.proofs.world.World.work.Goals as goal
+
+pub returns : goal.returns
+returns c start past s =
+    let t = rw (← c.self.view_is) at s in
+    let image = same_flash start past _ t in
+    rw c.just.ensures
+    (worked start past _ c.work-work.result c.work-work.new.self c.work-work.new.flash.flash t (c.work-work.ensures.stands _ _ t.keyboard image)
+    (works_in start past _ (torn_by (option_map (λ m. m.items) c.self.inside.bench.tear) c.self.inside.bench.flash) _ c.work-work.result c.work-work.new.flash.flash t
+    (c.work-work.ensures.answer _ _ t.keyboard image)
+    (ap (λ tear. torn_by (option_map (λ m. m.items) tear) c.self.inside.bench.flash) c.self.invariant.1 ∙ t.flash)
+    (λ n. (c.work-work.ensures.operated n).0) (λ i. ap (λ b. b.flash) (c.work-work.ensures.untouched i)) (λ n. (c.work-work.ensures.faultless n).1)))

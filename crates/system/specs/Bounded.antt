@@ -1,0 +1,10 @@
+-- How many steps of the flash work a command takes.
+use Rattle.std.specs.Prelude.{List, ◌∷◌}
+use Rattle.flash_model.specs.Sim.{SimValue}
+use Rattle.keyboard.specs.Bounded.{IsInTime}
+use Rattle.system.specs.Kinds.{Step}
+use Rattle.system.specs.History.{session}
+
+-- after each step: while a command works, fewer steps of the flash work than the most were made for it
+abbrev pub StaysInTime : SimValue → List Step → Step → Type 0
+StaysInTime start before step = IsInTime (session start (step ∷ before)).first (session start (step ∷ before)).past

@@ -1,0 +1,70 @@
+-- What kind each step is. The look-backs over a history ask for the kind, so that a new event has to be placed here alone.
+use Rattle.std.specs.Prelude.{ℕ, Bool, Option, None, Some, List}
+use Rattle.flash_model.specs.Sim.{SimValue}
+use Rattle.control_ep.specs.declared.answer.EpAnswer.{EpAnswer}
+use Rattle.control_ep.specs.declared.answer.EpAnswer.TheVariants as ep
+use Rattle.keymap_store.specs.declared.store.Work.{Work as WorkAnswer}
+use Rattle.keymap_store.specs.declared.store.Work.TheVariants.{Idle}
+use Rattle.keyboard.specs.Calls.{Call, Scanned, SetUp, Out, In, Polled, Worked as KeyboardWorked, BusReset as KeyboardReset}
+use Rattle.system.specs.declared.event.Event.{Event}
+use Rattle.system.specs.declared.event.Event.TheVariants.{Scan, Setup, OutPacket, InPacket, Poll, Work, WorkFault, Cut, CutInWork, BusReset, Entry, SlotAt, Leds}
+use Rattle.system.specs.declared.event.Answer.{Answer}
+use Rattle.system.specs.declared.event.Answer.TheVariants.{Ack, Nak, Packet, Stall, Sent, Worked}
+
+-- an event, its answer, the flash after it (its bytes, both counts, and what is armed), and whether a growth of the host
+-- was refused in it
+pub record Step : Type 0 where
+  pub event : Event
+  pub answer : Answer
+  pub flash : SimValue
+  pub refused : Bool
+
+-- an answer of endpoint 0, as it is told
+abbrev pub told : EpAnswer → Answer
+told ep.Ack = Ack
+told ep.Nak = Nak
+told (ep.Packet packet) = Packet packet
+told (ep.Stall why) = Stall why
+
+-- and back; an answer that is none of endpoint 0 comes of no packet
+abbrev pub ep_told : Answer → EpAnswer
+ep_told Ack = ep.Ack
+ep_told (Packet packet) = ep.Packet packet
+ep_told (Stall why) = ep.Stall why
+ep_told _ = ep.Nak
+
+-- the bytes of a report that was sent, if one was
+abbrev pub bytes_told : Answer → Option (List ℕ)
+bytes_told (Sent bytes reading) = Some bytes.items
+bytes_told _ = None
+
+-- what a step of the flash work came to
+abbrev pub work_told : Answer → WorkAnswer
+work_told (Worked work) = work
+work_told _ = Idle
+
+pub data Kind : Type 0 where
+  -- the power was cut, between two flash operations or inside one, and the keyboard starts on its flash
+  starts : Kind
+  -- a call of the keyboard, with its answer
+  calls : Call → Kind
+  -- a look, which changes nothing
+  looks : Kind
+
+abbrev pub kind_of : Event → Answer → List ℕ → Kind
+kind_of (Scan scan) answer image = calls (Scanned scan)
+kind_of (Setup bytes) answer image = calls (SetUp bytes)
+kind_of (OutPacket packet) answer image = calls (Out packet.items (ep_told answer))
+kind_of InPacket answer image = calls (In (ep_told answer))
+kind_of Poll answer image = calls (Polled (bytes_told answer))
+kind_of Work answer image = calls (KeyboardWorked (work_told answer) image)
+kind_of (WorkFault mask) answer image = calls (KeyboardWorked (work_told answer) image)
+kind_of Cut answer image = starts
+kind_of (CutInWork mask) answer image = starts
+kind_of BusReset answer image = calls KeyboardReset
+kind_of (Entry layer key) answer image = looks
+kind_of (SlotAt page slot) answer image = looks
+kind_of Leds answer image = looks
+
+abbrev pub kind : Step → Kind
+kind step = kind_of step.event step.answer step.flash.image

@@ -1,0 +1,98 @@
+-- What may come of each event, by what came before it.
+use Rattle.std.specs.Prelude.{◌≡◌, ℕ, ◌<◌, Bool, true, false, IsSome, Option, None, Some, List, [], ◌∷◌}
+use Rattle.flash_model.specs.Image.{page_count, slot_at}
+use Rattle.flash_model.specs.Operated.{IsOperated}
+use Rattle.flash_model.specs.Sim.{SimValue}
+use Rattle.reports.specs.declared.Protocol.{Protocol}
+use Rattle.control_ep.specs.declared.answer.EpAnswer.{EpAnswer}
+use Rattle.control_ep.specs.declared.answer.EpAnswer.TheVariants as ep
+use Rattle.keymap_store.specs.declared.store.Work.{Work as WorkAnswer}
+use Rattle.keymap_store.specs.declared.store.Work.TheVariants.{Idle, Failed}
+use Rattle.host.specs.declared.reading.Reading.{Reading}
+use Rattle.host.specs.declared.reading.Reading.TheVariants.{NoMemory}
+use Rattle.host.specs.Calls.{HostCall}
+use Rattle.host.specs.Kept.{gathering}
+use Rattle.host.specs.Reads.{text_by, Reads}
+use Rattle.keyboard.specs.Calls.{Out, In, Polled, Worked as KeyboardWorked, keymap}
+use Rattle.keyboard.specs.Effects.{leds_after, protocol_after}
+use Rattle.keyboard.specs.Feature.{Where}
+use Rattle.keyboard.specs.Lawful as keyboard
+use Rattle.system.specs.declared.event.Event.{Event}
+use Rattle.system.specs.declared.event.Event.TheVariants.{Scan, Setup, OutPacket, InPacket, Poll, Work, WorkFault, Cut, CutInWork, BusReset, Entry, SlotAt, Leds}
+use Rattle.system.specs.declared.event.Answer.{Answer}
+use Rattle.system.specs.declared.event.Answer.TheVariants.{Done, Ack, Nak, Sent, Worked, Restarted, EntryIs, SlotIs, NoSlot, LedsAre}
+use Rattle.system.specs.Flash.{armed_by}
+use Rattle.system.specs.Kinds.{Step, told}
+use Rattle.system.specs.History.{Session, session, host_calls, flash_after}
+
+-- the flash stays as it was, and the host was refused no memory
+abbrev pub Untouched : SimValue → SimValue → Bool → Type 0
+Untouched old new refused = (new ≡ old) × (refused ≡ false)
+
+-- the host may be refused memory for a packet of data, while it gathers
+abbrev pub MayRefuse : List HostCall → EpAnswer → Bool → Type 0
+MayRefuse heard (ep.Packet packet) refused = refused ≡ true → IsSome (gathering heard)
+MayRefuse heard _ refused = refused ≡ false
+
+abbrev pub is_no_memory : Reading → Bool
+is_no_memory NoMemory = true
+is_no_memory _ = false
+
+-- what a poll is answered: NAK, or the report and what the host reads in it, in the protocol in force and by what it has
+-- heard. The reading is NoMemory exactly where a growth was refused
+abbrev pub IsSent : Protocol → List HostCall → Option (List ℕ) → Answer → Bool → Type 0
+IsSent protocol heard None answer refused = (answer ≡ Nak) × (refused ≡ false)
+IsSent protocol heard (Some bytes) answer refused =
+    (reading : Reading) × (answer ≡ Sent (record { items = bytes }) reading) × Reads (text_by protocol heard) bytes reading
+    × (refused ≡ is_no_memory reading)
+
+-- what a step of the flash work makes of a flash that is armed in this way: nothing, where it has nothing to do; else one
+-- operation, torn by the mask that is armed, if one is. Then both counts follow, and nothing is armed. A command fails only
+-- where the operation was torn
+abbrev pub OperatedAs : SimValue → SimValue → WorkAnswer → SimValue → Type 0
+OperatedAs old armed Idle new = new ≡ old
+OperatedAs old armed Failed new = IsOperated armed new × IsSome armed.armed
+OperatedAs old armed _ new = IsOperated armed new
+
+-- a step of the flash work: it comes to what the keyboard promises of it
+pub record WorksIn (now : Session) (old armed : SimValue) (work : WorkAnswer) (new : SimValue) : Type 0 where
+  pub lawful : keyboard.IsAnswered now.first now.past (KeyboardWorked work new.image)
+  pub operated : OperatedAs old armed work new
+
+-- the bytes of a slot, or that there is none
+abbrev pub SlotAnswer : List ℕ → ℕ → ℕ → Answer → Type 0
+SlotAnswer image page slot answer =
+    Where ((page < page_count image) × (slot < 512)) (answer ≡ SlotIs (slot_at image page slot)) (answer ≡ NoSlot)
+
+-- what comes of an event in a session, to a host that has heard this, and the flash before and after it. A torn step of the
+-- flash work arms the flash by its mask, in place of what was armed before; a cut inside an operation is such a step, whose
+-- end nobody is told
+abbrev pub Answered : Session → List HostCall → SimValue → Event → Answer → Bool → SimValue → Type 0
+Answered now heard old (Scan scan) answer refused new = (answer ≡ Done) × Untouched old new refused
+Answered now heard old (Setup bytes) answer refused new = (answer ≡ Ack) × Untouched old new refused
+Answered now heard old (OutPacket packet) answer refused new =
+    (by_ep : EpAnswer) × (answer ≡ told by_ep) × keyboard.IsAnswered now.first now.past (Out packet.items by_ep)
+    × Untouched old new refused
+Answered now heard old InPacket answer refused new =
+    (by_ep : EpAnswer) × (answer ≡ told by_ep) × keyboard.IsAnswered now.first now.past (In by_ep) × (new ≡ old)
+    × MayRefuse heard by_ep refused
+Answered now heard old Poll answer refused new =
+    (report : Option (List ℕ)) × keyboard.IsAnswered now.first now.past (Polled report) × (new ≡ old)
+    × IsSent (protocol_after now.past) heard report answer refused
+Answered now heard old Work answer refused new =
+    (work : WorkAnswer) × (answer ≡ Worked work) × WorksIn now old old work new × (refused ≡ false)
+Answered now heard old (WorkFault mask) answer refused new =
+    (work : WorkAnswer) × (answer ≡ Worked work) × WorksIn now old (armed_by mask.items old) work new × (refused ≡ false)
+Answered now heard old Cut answer refused new = (answer ≡ Restarted) × Untouched old new refused
+Answered now heard old (CutInWork mask) answer refused new =
+    (work : WorkAnswer) × (answer ≡ Restarted) × WorksIn now old (armed_by mask.items old) work new × (refused ≡ false)
+Answered now heard old BusReset answer refused new = (answer ≡ Done) × Untouched old new refused
+Answered now heard old (Entry layer key) answer refused new =
+    (answer ≡ EntryIs (keymap old.image layer key)) × Untouched old new refused
+Answered now heard old (SlotAt page slot) answer refused new = SlotAnswer old.image page slot answer × Untouched old new refused
+Answered now heard old Leds answer refused new = (answer ≡ LedsAre (leds_after now.past)) × Untouched old new refused
+
+-- each event is answered by what came before it
+abbrev pub IsAnswered : SimValue → List Step → Step → Type 0
+IsAnswered start before step =
+    Answered (session start before) (host_calls before) (flash_after start before) step.event step.answer step.refused step.flash

@@ -1,0 +1,12 @@
+pub mod Acknowledged
+pub mod Bounded
+pub mod Flash
+pub mod History
+pub mod Kinds
+pub mod Lawful
+pub mod Readings
+pub mod Restart
+pub mod Sound
+pub mod Stands
+pub mod Value
+pub mod Private

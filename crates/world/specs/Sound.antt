@@ -1,0 +1,10 @@
+-- Slot 0 of each page.
+use Rattle.std.specs.Prelude.{◌≡◌, ℕ, List}
+use Rattle.flash_model.specs.Sim.{SimValue}
+use Rattle.page_turnover.specs.Usable.{IsUsable}
+use Rattle.world.specs.History.{Step, flash_after, image_after}
+
+-- while each is sound, each stays so, whatever is torn; where one is not, no operation is ever made
+pub record KeepsSound (start : SimValue) (past : List Step) : Type 0 where
+  pub sound : IsUsable start.image → IsUsable (image_after start past)
+  pub untouched : (IsUsable start.image → ⊥) → flash_after start past ≡ start
