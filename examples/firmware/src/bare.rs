@@ -1,0 +1,116 @@
+//! The entry on a chip without an operating system. Interrupts leave what they bring in a mailbox, and the main loop
+//! leaves what is to be sent in another. They stand for the registers and the interrupts of your chip.
+
+use crate::chip::{Cells, Chip, Event};
+use crate::flash::Flash;
+use core::sync::atomic::{AtomicU8, AtomicU16, Ordering};
+use wuzhikar::{EpAnswer, Report, Scan};
+
+/// A packet and what it is.
+pub struct Mailbox {
+    /// 0 where nothing waits. Written last.
+    pub kind: AtomicU8,
+    pub len: AtomicU8,
+    pub bytes: [AtomicU8; 32],
+}
+
+impl Mailbox {
+    const EMPTY: Mailbox =
+        Mailbox { kind: AtomicU8::new(0), len: AtomicU8::new(0), bytes: [const { AtomicU8::new(0) }; 32] };
+
+    /// What waits, and empties the mailbox.
+    fn take(&self) -> (u8, [u8; 8], usize) {
+        let kind = self.kind.load(Ordering::Acquire);
+        let bytes = core::array::from_fn(|i| self.bytes[i].load(Ordering::Relaxed));
+        let len = self.len.load(Ordering::Relaxed);
+        self.kind.store(0, Ordering::Release);
+        (kind, bytes, usize::from(len))
+    }
+
+    fn put(&self, kind: u8, bytes: &[u8]) {
+        for (place, byte) in self.bytes.iter().zip(bytes) {
+            place.store(*byte, Ordering::Relaxed);
+        }
+        self.len.store(bytes.len() as u8, Ordering::Relaxed);
+        self.kind.store(kind, Ordering::Release);
+    }
+}
+
+/// What the interrupts bring: 1 a scan, 2 SETUP, 3 OUT, 4 IN, 5 a poll of endpoint 1, 6 a bus reset.
+pub static EVENT: Mailbox = Mailbox::EMPTY;
+
+/// The rows of the matrix.
+pub static ROWS: [AtomicU16; 6] = [const { AtomicU16::new(0) }; 6];
+
+/// What the endpoints send: 1 a packet, 2 ACK, 3 NAK, 4 STALL.
+pub static ENDPOINT_0: Mailbox = Mailbox::EMPTY;
+pub static ENDPOINT_1: Mailbox = Mailbox::EMPTY;
+
+/// The pins of the LEDs.
+pub static LEDS: AtomicU8 = AtomicU8::new(0);
+
+struct Generic;
+
+impl Chip for Generic {
+    type Controller = Cells;
+
+    fn flash(&mut self) -> Cells {
+        Cells::BLANK
+    }
+
+    fn event(&mut self) -> Event {
+        match EVENT.take() {
+            (1, ..) => Event::Millisecond(Scan { rows: core::array::from_fn(|row| ROWS[row].load(Ordering::Relaxed)) }),
+            (2, packet, _) => Event::Setup(packet),
+            (3, packet, len) => Event::Out(packet, len),
+            (4, ..) => Event::In,
+            (5, ..) => Event::Poll,
+            (6, ..) => Event::Reset,
+            _ => Event::Nothing,
+        }
+    }
+
+    fn answer(&mut self, answer: &EpAnswer) {
+        match answer {
+            EpAnswer::Packet(packet) => ENDPOINT_0.put(1, packet),
+            EpAnswer::Ack => ENDPOINT_0.put(2, &[]),
+            EpAnswer::Nak => ENDPOINT_0.put(3, &[]),
+            EpAnswer::Stall(_) => ENDPOINT_0.put(4, &[]),
+        }
+    }
+
+    fn report(&mut self, report: Option<&Report>) {
+        match report {
+            Some(report) => ENDPOINT_1.put(1, report),
+            None => ENDPOINT_1.put(3, &[]),
+        }
+    }
+
+    /// A controller would take the next IN token again.
+    fn arm(&mut self) {
+        ENDPOINT_0.put(0, &[]);
+    }
+
+    fn leds(&mut self, bits: u8) {
+        LEDS.store(bits, Ordering::Relaxed);
+    }
+}
+
+/// What the chip's start-up code calls.
+#[unsafe(no_mangle)]
+#[allow(unsafe_code)]
+pub extern "C" fn main() -> ! {
+    let mut chip = Generic;
+    let mut flash = Flash::new(chip.flash());
+    loop {
+        flash = crate::run(&mut chip, flash);
+    }
+}
+
+/// A panic stops the keyboard, for the watchdog to start it again.
+#[panic_handler]
+fn panic(_info: &core::panic::PanicInfo) -> ! {
+    loop {
+        core::hint::spin_loop();
+    }
+}

@@ -1,0 +1,80 @@
+//! A chip, and one that is played in memory: write your own in its place.
+
+use crate::flash::FlashController;
+use wuzhikar::{EpAnswer, Report, SLOT_BYTES, Scan};
+
+/// What the chip's interrupts have left for the main loop.
+#[cfg_attr(target_os = "none", allow(dead_code))] // nobody cuts the power in a program
+pub enum Event {
+    /// The timer of a millisecond, with the matrix as it was scanned: bit c of row r is key 16 * r + c.
+    Millisecond(Scan),
+    /// A SETUP packet of endpoint 0.
+    Setup([u8; 8]),
+    /// An OUT packet of endpoint 0, of so many bytes.
+    Out([u8; 8], usize),
+    /// The host asks for a packet of endpoint 0.
+    In,
+    /// The host asks for a packet of endpoint 1.
+    Poll,
+    /// The host resets the bus.
+    Reset,
+    /// Nothing waits.
+    Nothing,
+    /// The power goes. Only a chip that is played says so.
+    Cut,
+}
+
+/// What the main loop asks of a chip.
+pub trait Chip {
+    type Controller: FlashController;
+
+    /// The flash controller, once.
+    fn flash(&mut self) -> Self::Controller;
+
+    /// The next event.
+    fn event(&mut self) -> Event;
+
+    /// Puts an answer of endpoint 0 onto the bus.
+    fn answer(&mut self, answer: &EpAnswer);
+
+    /// Puts a report onto the bus, or a NAK.
+    fn report(&mut self, report: Option<&Report>);
+
+    /// Arms endpoint 0 again, which answered a NAK.
+    fn arm(&mut self);
+
+    /// Sets the LEDs.
+    fn leds(&mut self, bits: u8);
+}
+
+/// Cells of two pages in memory.
+pub struct Cells {
+    bytes: [u8; Cells::BYTES],
+}
+
+impl Cells {
+    const BYTES: usize = 2 * 4096;
+
+    /// Erased cells.
+    pub const BLANK: Cells = Cells { bytes: [0xff; Cells::BYTES] };
+}
+
+impl FlashController for Cells {
+    const PAGES: usize = 2;
+
+    fn read(&self, address: usize) -> u8 {
+        self.bytes[address]
+    }
+
+    fn program(&mut self, address: usize, bytes: [u8; SLOT_BYTES]) -> bool {
+        for (cell, byte) in self.bytes[address..].iter_mut().zip(bytes) {
+            *cell &= byte;
+        }
+        true
+    }
+
+    fn erase(&mut self, address: usize) -> bool {
+        self.bytes[address..address + 4096].fill(0xff);
+        true
+    }
+}

@@ -1,0 +1,144 @@
+"""Writes the device crates as one crate of plain Rust: `export-rust [--contracts] DIR`.
+
+What is exported is the text of the proved sources without what proofs alone read: ghost items, clauses, laws, the prover's
+attributes and impls. Paths are changed, since eleven crates become modules of one. `rules.py` says what is known; anything
+else is refused with its file and line, and then nothing is written.
+"""
+
+import argparse
+import hashlib
+import os
+import shutil
+import sys
+
+import rules
+from items import Translator
+from lexing import Refused
+
+HERE = os.path.dirname(os.path.abspath(__file__))
+ROOT = os.path.dirname(os.path.dirname(HERE))
+TEMPLATES = os.path.join(HERE, "templates")
+
+# The file that says of which sources a crate was exported; a folder that has it may be written anew.
+SOURCES = "SOURCES"
+
+BANNER = "// Exported from crates/{} by bin/export-rust. Edit that file instead.\n"
+
+
+class Export:
+    """The files of an export, by their path in it, and what was read for them."""
+
+    def __init__(self, root, contracts=False, crates=None):
+        self.root, self.contracts = root, contracts
+        self.crates = crates or rules.CRATES
+        self.files = {}
+        self.digests = {}
+        self.owed = set()
+        self.faults = []
+
+    def make(self):
+        """Reads all crates. `faults` then says what was refused."""
+        stands_on = read_crates(self.root)
+        for crate in self.crates:
+            for name in stands_on[crate]:
+                if name not in rules.STAND_INS and name not in rules.LIBRARIES and name not in self.crates:
+                    self.faults.append(f"crates.txt: {crate} stands on {name}, which is not exported")
+            neighbours = set(stands_on[crate]) & set(self.crates)
+            self.guarded(lambda: self.module(crate, "", neighbours, False))
+        for crate, name in sorted(set(rules.OWED) - self.owed):
+            self.faults.append(f"tools/export_rust/rules.py: OWED names {crate}::{name}, which has no condition")
+        self.templates()
+
+    def guarded(self, step):
+        """Takes a step, and notes what it refuses."""
+        try:
+            return step()
+        except Refused as fault:
+            self.faults.append(str(fault))
+        except OSError as fault:
+            self.faults.append(f"{fault.filename}: {fault.strerror}")
+        return True
+
+    def module(self, crate, module, neighbours, hosted):
+        """Translates a module's file and those of its modules, and answers whether any code is left of it."""
+        source = f"{crate}/src/{module or 'lib'}.rt"
+        with open(os.path.join(self.root, "crates", source), encoding="utf-8") as file:
+            text = file.read()
+        self.digests[source] = hashlib.sha256(text.encode()).hexdigest()
+        translator = Translator(crate, module, f"crates/{source}", neighbours, hosted, self.contracts)
+        translator.open_module = lambda name, hosted: self.guarded(
+            lambda: self.module(crate, translator.joined(name), neighbours, hosted))
+        made = translator.translate(text)
+        self.owed |= translator.owed
+        if not has_code(made):
+            return False
+        self.files[f"src/{crate}/{module}.rs" if module else f"src/{crate}.rs"] = BANNER.format(source) + made
+        return True
+
+    def templates(self):
+        """Adds what is written by hand, with the names of the crates filled in."""
+        modules = "\n".join(declaration(crate) for crate in self.crates)
+        for folder, _, names in os.walk(TEMPLATES):
+            for name in names:
+                path = os.path.join(folder, name)
+                with open(path, encoding="utf-8") as file:
+                    text = file.read()
+                text = text.replace("@MODULES@", modules).replace("@LIBRARIES@", "\n".join(rules.LIBRARIES.values()))
+                self.files[os.path.relpath(path, TEMPLATES)] = text
+
+    def write(self, folder):
+        """Writes the crate. A folder that holds anything but an earlier export is refused."""
+        if os.path.exists(folder) and os.listdir(folder) and not os.path.exists(os.path.join(folder, SOURCES)):
+            raise Refused(f"{folder}: is no earlier export, and not empty")
+        shutil.rmtree(os.path.join(folder, "src"), ignore_errors=True)
+        self.files[SOURCES] = "".join(f"{digest}  crates/{source}\n" for source, digest in sorted(self.digests.items()))
+        for name, text in sorted(self.files.items()):
+            path = os.path.join(folder, name)
+            os.makedirs(os.path.dirname(path), exist_ok=True)
+            with open(path, "w", encoding="utf-8") as file:
+                file.write(text)
+
+
+def declaration(crate):
+    """A crate as a module. Contracts alone use some imports, and other crates than these some calls."""
+    visibility = "pub " if crate in rules.PUBLIC_CRATES else ""
+    return f"#[allow(dead_code, unused_imports)]\n{visibility}mod {crate};"
+
+
+def has_code(text):
+    """Whether a file has anything but comments."""
+    return any(line.strip() and not line.strip().startswith("//") for line in text.split("\n"))
+
+
+def read_crates(root):
+    """The crates, and what each stands on."""
+    crates = {}
+    with open(os.path.join(root, "crates.txt"), encoding="utf-8") as file:
+        for line in file:
+            if not line.startswith("#") and ":" in line:
+                name, below = line.split(":")
+                crates[name.strip()] = below.split()
+    return crates
+
+
+def main():
+    parser = argparse.ArgumentParser(prog="export-rust", description="Writes the keyboard as one crate of plain Rust.")
+    parser.add_argument("--contracts", action="store_true", help="write each contract into its function's docs")
+    parser.add_argument("dir", metavar="DIR", help="the folder of the crate: none yet, an empty one, or an earlier export")
+    options = parser.parse_args()
+    export = Export(ROOT, options.contracts)
+    export.make()
+    if not export.faults:
+        export.guarded(lambda: export.write(options.dir))
+    for fault in export.faults:
+        print(f"export-rust: {fault}", file=sys.stderr)
+    if export.faults:
+        print("export-rust: nothing was written", file=sys.stderr)
+        return 1
+    lines = sum(text.count("\n") for name, text in export.files.items() if name.endswith(".rs"))
+    print(f"export-rust: {options.dir}: {len(export.digests)} files of the source read, {lines} lines of Rust written")
+    return 0
+
+
+if __name__ == "__main__":
+    sys.exit(main())

@@ -1,0 +1,310 @@
+"""The items of a file: what proofs alone read is left out, and the rest is Rust."""
+
+import re
+
+import rules
+from lexing import TRIVIA, Refused, Token, after, before, find, group_end, lex, text_at, trimmed
+from rewriting import Rewriter
+
+
+class Lead:
+    """What stands before an item: blanks and comments, its docs and its attributes."""
+
+    def __init__(self):
+        self.blanks = ""
+        self.docs = []
+        self.attributes = []
+        self.words = []         # of each attribute, also of one that is left out
+
+    def is_test_module(self):
+        return ["cfg", "(", "test", ")"] in self.words
+
+    def is_test(self):
+        return ["test"] in self.words
+
+
+class Translator:
+    """Translates one file. `module` is its path within the crate, "" for the crate's root."""
+
+    def __init__(self, crate, module, file, neighbours, hosted=False, contracts=False):
+        self.crate, self.module, self.contracts = crate, module, contracts
+        self.rewriter = Rewriter(crate, file, neighbours, hosted)
+        self.neighbours = neighbours
+        self.open_module = lambda name, hosted: True    # whether anything is left of the file of a module
+        self.owed = set()                               # the entries of OWED that were met with
+
+    def refuse(self, token, why):
+        self.rewriter.refuse(token, why)
+
+    def translate(self, text):
+        """The Rust for a file's text."""
+        return tidy(self.items(lex(text, self.rewriter.file), 0))
+
+    # Items
+
+    def items(self, tokens, depth):
+        """The Rust for the items of a file, a module, an impl or a trait."""
+        return self.parts(tokens, depth, self.item_end, lambda lead, item: self.item(lead, item, depth))
+
+    def parts(self, tokens, depth, end_of, text_of):
+        """The Rust for what stands side by side, each part with its lead. A ghost part is left out."""
+        out = []
+        at = 0
+        while at < len(tokens):
+            lead, at = self.lead(tokens, at)
+            if at == len(tokens):
+                out.append(lead.blanks)
+                break
+            if tokens[at].kind == "ghost":
+                text, end = None, at + 1
+            else:
+                end = end_of(tokens, at)
+                text = text_of(lead, tokens[at:end])
+            out.append(self.assembled(lead, text, depth))
+            at = end
+        return "".join(out)
+
+    def assembled(self, lead, text, depth):
+        """An item's text after its lead; of one that is left out the comments before it stay."""
+        if text is None:
+            return lead.blanks if lead.blanks.strip() else ""
+        indent = "    " * depth
+        return lead.blanks + "".join(line + "\n" + indent for line in lead.docs + lead.attributes) + text
+
+    def lead(self, tokens, at):
+        """What stands before the item at `at`, and where the item begins."""
+        lead = Lead()
+        while at < len(tokens):
+            token = tokens[at]
+            if token.kind == "inner" or token.kind in TRIVIA and not lead.docs and not lead.words:
+                lead.blanks += token.text
+            elif token.kind in ("outer", "comment"):
+                lead.docs.append(token.text)
+            elif token.text == "#":
+                at = self.attribute(tokens, at, lead)
+                continue
+            elif token.kind != "blank":
+                break
+            at += 1
+        return lead, at
+
+    def attribute(self, tokens, at, lead):
+        """Takes the attribute at `at`, and answers its end."""
+        is_inner = text_at(tokens, at + 1) == "!"
+        opening = at + 1 + is_inner
+        end = group_end(tokens, opening)
+        words = [token.text for token in tokens[opening + 1:end - 1] if token.kind not in TRIVIA]
+        if words[0] in rules.DROPPED_ATTRIBUTES:
+            pass
+        elif is_inner:
+            self.refuse(tokens[at], f"an inner attribute: {words[0]}")
+        elif words[0] == "derive":
+            lead.attributes += self.derive(tokens[at], words[2:-1])
+        elif words[0] in rules.KEPT_ATTRIBUTES:
+            lead.attributes.append("".join(token.text for token in tokens[at:end]))
+        else:
+            self.refuse(tokens[at], f"an attribute that is not known: {words[0]}")
+        if not is_inner:
+            lead.words.append(words)
+        return end
+
+    def derive(self, token, words):
+        """The derive of these names, if any of them is left."""
+        names = [word for word in words if word != "," and word not in rules.DROPPED_DERIVES]
+        for name in names:
+            if name not in rules.DERIVES:
+                self.refuse(token, f"a derive that is not known: {name}")
+        return [f"#[derive({', '.join(names)})]"] if names else []
+
+    def item_end(self, tokens, at):
+        """Past the item at `at`: its `;`, or its block."""
+        ends_by_semicolon = self.kind(tokens[at:]) in ("use", "const", "static", "type")
+        n = at
+        while n < len(tokens):
+            if tokens[n].text == ";":
+                return n + 1
+            if tokens[n].kind == "open":
+                is_block = tokens[n].text == "{"
+                n = group_end(tokens, n)
+                if is_block and not ends_by_semicolon:
+                    return n
+            else:
+                n += 1
+        return self.refuse(tokens[at], "an item without an end")
+
+    def kind(self, tokens):
+        """The word that says what an item is."""
+        at = self.past_visibility(tokens)
+        if text_at(tokens, at) == "const" and text_at(tokens, after(tokens, at)) == "fn":
+            return "fn"
+        return text_at(tokens, at)
+
+    def past_visibility(self, tokens):
+        """Where an item goes on after `pub` or `pub(..)`."""
+        at = after(tokens, -1)
+        if text_at(tokens, at) != "pub":
+            return at
+        at = after(tokens, at)
+        return after(tokens, group_end(tokens, at) - 1) if text_at(tokens, at) == "(" else at
+
+    def item(self, lead, tokens, depth):
+        """The Rust for one item, or None where it is for proofs alone."""
+        kind = self.kind(tokens)
+        if kind == "mod":
+            return self.module_item(lead, tokens, depth)
+        if kind == "use":
+            return self.use(lead, tokens)
+        if kind in ("impl", "trait"):
+            return self.implementation(tokens, depth)
+        if kind in ("struct", "enum"):
+            return self.in_block(tokens, depth, self.fields)
+        if kind == "fn":
+            return self.function(lead, tokens)
+        if kind in ("const", "static", "type"):
+            return self.rewriter.code(tokens)
+        return self.refuse(tokens[0], f"an item that is not known: {kind}")
+
+    def in_block(self, tokens, depth, inside):
+        """Code, with what its block holds translated by `inside`."""
+        brace = find(tokens, "{")
+        if brace == len(tokens):
+            return self.rewriter.code(tokens)
+        end = group_end(tokens, brace)
+        return self.rewriter.code(tokens[:brace + 1]) + inside(tokens[brace + 1:end - 1], depth + 1) \
+            + self.rewriter.code(tokens[end - 1:])
+
+    # Modules, uses, impls
+
+    def module_item(self, lead, tokens, depth):
+        """A module with its block, or one whose file is beside; one of which nothing is left is left out."""
+        name_at = after(tokens, self.past_visibility(tokens))
+        name = tokens[name_at].text
+        if name in self.neighbours:
+            self.refuse(tokens[0], f"a module with the name of the crate {name}")
+        key = (self.crate, self.joined(name))
+        hosted = self.rewriter.hosted or lead.is_test_module() or key in rules.HOSTED_MODULES \
+            or rules.MODULE_CONDITIONS.get(key) == "test"
+        if key in rules.MODULE_CONDITIONS:
+            lead.attributes.append(f"#[cfg({rules.MODULE_CONDITIONS[key]})]")
+        if text_at(tokens, after(tokens, name_at)) == ";":
+            return self.rewriter.code(tokens) if self.open_module(name, hosted) else None
+        outer, self.rewriter.hosted = self.rewriter.hosted, hosted
+        text = self.in_block(tokens, depth, self.items)
+        self.rewriter.hosted = outer
+        return text
+
+    def joined(self, name):
+        """The path of a module that is declared here."""
+        return f"{self.module}/{name}" if self.module else name
+
+    def use(self, lead, tokens):
+        """A `use`, under the condition of the module that it names."""
+        words = [token.text for token in tokens if token.kind not in TRIVIA]
+        if words[-2] == rules.PROVER_TRAIT:
+            return None
+        first = text_at(tokens, after(tokens, self.past_visibility(tokens)))
+        condition = rules.MODULE_CONDITIONS.get((self.crate, self.joined(first)))
+        if condition:
+            lead.attributes.append(f"#[cfg({condition})]")
+        return self.rewriter.code(tokens)
+
+    def implementation(self, tokens, depth):
+        """An impl or a trait. One of the prover's trait is left out."""
+        head = [token.text for token in tokens[:find(tokens, "{")] if token.kind not in TRIVIA]
+        implemented = head[:head.index("for")] if "for" in head else []
+        if rules.PROVER_TRAIT in implemented:
+            return None
+        if "Drop" in implemented:
+            self.refuse(tokens[0], "an `impl Drop`, which takes `self` in Rattle")
+        return self.in_block(tokens, depth, self.items)
+
+    def fields(self, tokens, depth):
+        """The fields of a struct, or the variants of an enum, without ghost fields."""
+
+        def end_of(tokens, at):
+            return min(find(tokens, ",", at) + 1, len(tokens))
+
+        return self.parts(tokens, depth, end_of, lambda lead, field: self.in_block(field, depth, self.fields))
+
+    # Functions
+
+    def function(self, lead, tokens):
+        """A function without its contract, or None for a law, which has no parameters, no result and no body."""
+        brace = find(tokens, "{")
+        clauses = [token for token in tokens[:brace] if token.kind == "clause"]
+        name = tokens[after(tokens, find(tokens, "fn"))].text
+        tokens = self.without_clauses(tokens, brace)
+        if clauses and self.is_law(tokens):
+            return None
+        if lead.is_test():
+            return self.test(tokens)
+        if any(clause.text.startswith("requires") for clause in clauses):
+            tokens = self.with_condition(lead, tokens, name)
+        if self.contracts:
+            lead.docs += contract(clauses, bool(lead.docs))
+        return self.rewriter.code(tokens)
+
+    def without_clauses(self, tokens, brace):
+        """A function whose body begins at `brace`, without the clauses before it and the comments on them."""
+        first = next((n for n in range(brace) if tokens[n].kind == "clause"), None)
+        if first is None:
+            return tokens
+        last = max(n for n in range(min(brace, len(tokens))) if tokens[n].kind == "clause")
+        for token in tokens[first:last]:
+            if token.kind not in TRIVIA | {"clause"}:
+                self.refuse(token, "code between clauses")
+        rest = after(tokens, last)
+        gap = [] if text_at(tokens, rest) == ";" else [Token("blank", " ", tokens[rest].line)]
+        return tokens[:before(tokens, first) + 1] + gap + tokens[rest:]
+
+    def is_law(self, tokens):
+        """Whether a function is `fn name() {}`."""
+        words = [token.text for token in tokens[self.past_visibility(tokens):] if token.kind not in TRIVIA]
+        return words[0] == "fn" and words[2:] == ["(", ")", "{", "}"]
+
+    def with_condition(self, lead, tokens, name):
+        """A function that asks something of its caller: the docs say it, or only the crate may call it."""
+        if text_at(tokens, 0) != "pub" or text_at(tokens, after(tokens, 0)) == "(":
+            return tokens
+        if (self.crate, name) not in rules.OWED:
+            return [Token("word", "pub(crate)", tokens[0].line)] + tokens[1:]
+        self.owed.add((self.crate, name))
+        lead.docs = [f"/// {rules.OWED[self.crate, name]}", "///"] + lead.docs
+        return tokens
+
+    def test(self, tokens):
+        """A test: the runtime that Rattle gives it is given by `rattle::test::run`."""
+        opening = find(tokens, "(")
+        body = find(tokens, "{")
+        closing = group_end(tokens, opening)
+        parameters = [token.text for token in tokens[opening + 1:closing - 1] if token.kind not in TRIVIA]
+        if parameters not in ([], ["rt", ":", "HostRuntime"], ["rt", ":", "HostRuntime", ","]):
+            self.refuse(tokens[opening], "a test that takes anything but a runtime")
+        result = self.rewriter.code(trimmed(tokens[closing:body]))
+        if not result and not parameters:
+            return self.rewriter.code(tokens)
+        name = "rt" if parameters else "_rt"
+        return self.rewriter.code(tokens[:opening]) + f"() {{ crate::rattle::test::run(|{name}| {result} " \
+            + self.rewriter.code(tokens[body:]) + ") }"
+
+
+def contract(clauses, has_docs):
+    """A contract as lines of docs."""
+    if not clauses:
+        return []
+    lines = [re.sub(r"\s+", " ", clause.text) for clause in clauses]
+    return ["///"] * has_docs + ["/// Proved of the source:", "/// ```text"] + [f"/// {line}" for line in lines] + ["/// ```"]
+
+
+def tidy(text):
+    """Blank lines as rustfmt has them: one in a row, and none at both ends of a block."""
+    tokens = lex(text, "the export")
+    out = []
+    for n, token in enumerate(tokens):
+        if token.kind != "blank":
+            out.append(token.text)
+            continue
+        most = 1 if text_at(tokens, n - 1) == "{" or text_at(tokens, n + 1) == "}" else 2
+        breaks = token.text.count("\n")
+        out.append("\n" * min(breaks, most) + token.text[token.text.rfind("\n") + 1:] if breaks else token.text)
+    return "".join(out).strip("\n") + "\n"

@@ -1,0 +1,24 @@
+//! The runtime of a test.
+
+use super::alloc::{AllocGlobal, Global};
+
+/// What may end the process: `assert!` of the source takes one.
+pub trait Abort {}
+
+/// The runtime that a test is given.
+#[derive(Clone, Copy, Debug)]
+pub struct HostRuntime;
+
+impl Abort for HostRuntime {}
+
+impl AllocGlobal for HostRuntime {
+    fn alloc(&self) -> Global {
+        Global
+    }
+}
+
+impl HostRuntime {
+    pub fn alloc(&self) -> Global {
+        Global
+    }
+}

@@ -1,0 +1,201 @@
+"""The exporter's own tests: what it leaves out, what it changes, what it refuses. They need no rustc."""
+
+import os
+import subprocess
+import sys
+import tempfile
+import unittest
+
+sys.dont_write_bytecode = True
+
+import rules
+from export_rust import HERE, ROOT, Export
+from items import Translator
+from lexing import Refused
+from scripts import script
+
+
+def rust(text, crate="layers", hosted=False, contracts=False, left=True):
+    """The Rust for a file of a crate that stands on `records`."""
+    translator = Translator(crate, "", "f.rt", {"records"}, hosted, contracts)
+    translator.open_module = lambda name, hosted: left
+    return translator.translate(text)
+
+
+# A name, a source, its export.
+LEFT_OUT = [
+    ("a ghost use", "ghost use A.{◌≡◌, x};\n\nuse records::Slot;\n", "use crate::records::Slot;\n"),
+    ("clauses and comments on them",
+     "/// Doc.\n#[tactic(auto, using(a::b))]\npub fn f(a: u8) -> u8\n    // why\n    ensures small { result < 2 }\n"
+     "    // and\n    ensures { result ≡ a -- }\n }\n{\n    a\n}\n", "/// Doc.\npub fn f(a: u8) -> u8 {\n    a\n}\n"),
+    ("a ghost field and Drop", "#[derive(Drop)]\npub struct S {\n    a: u8,\n    /// Why.\n    ghost inside: { a < 3 },\n}\n",
+     "pub struct S {\n    a: u8,\n}\n"),
+    ("a ghost field at the end", "struct S { a: u8, ghost inside: { a < 3 } }\n", "struct S { a: u8,}\n"),
+    ("Drop among derives", "#[derive(Debug, Drop, PartialEq)]\nenum E { A }\n", "#[derive(Debug, PartialEq)]\nenum E { A }\n"),
+    ("the prover's impl", "impl<'a, T> Model for S<'a, T> {\n    ghost Value = { ℕ };\n}\nfn g() -> u8 { 1 }\n", "fn g() -> u8 { 1 }\n"),
+    ("the prover's trait", "use std::marker::Model;\nconst A: u8 = 1;\n", "const A: u8 = 1;\n"),
+    ("ghosts of a trait",
+     "trait T {\n    /// Ghost.\n    ghost image: { Self → ℕ };\n\n    /// Runs.\n    fn a(&self) -> u8\n        ensures { result ≡ image self.now };\n}\n",
+     "trait T {\n    /// Runs.\n    fn a(&self) -> u8;\n}\n"),
+    ("a law", "/// Law.\npub fn law()\n    ensures { a }\n{}\nuse crate::x;\n", "use crate::layers::x;\n"),
+    ("the root's tactic", "//! Root.\n#![tactic(auto)]\n\nconst A: u8 = 1;\n", "//! Root.\n\nconst A: u8 = 1;\n"),
+]
+
+KEPT = [
+    ("words in strings and characters", "fn f() { let s = \"ghost use requires { {\"; let c = '{'; }\n"),
+    ("blank lines in a string", "const S: &str = \"{\n\n\n}\";\n"),
+    ("a function without a contract that does nothing", "fn f() {}\n"),
+    ("own methods", "impl S { fn f(&self) { self.push(1) } }\n"),
+    ("what is only for the crate", "pub(crate) fn b() -> u8 { 2 }\n"),
+    ("unreachable", "fn f() -> u8 { unreachable!() }\n"),
+    ("matches", "fn f(a: u8) -> bool { matches!(a, 1 | 2) }\n"),
+    ("a slice's open end", "fn f(a: &[u8]) -> &[u8] { &a[1..] }\n"),
+]
+
+CHANGED = [
+    ("a caller's condition", "pub fn f(a: u8) -> u8\n    requires { a < 2 }\n{\n    a\n}\n", "pub(crate) fn f(a: u8) -> u8 {\n    a\n}\n"),
+    ("core", "use std::fmt::Debug;\n", "use core::fmt::Debug;\n"),
+    ("memory", "use std::alloc::{AllocError, Global};\n", "use crate::rattle::alloc::{AllocError, Global};\n"),
+    ("a vector of lanes", "use std::simd::prelude::*;\n", "use crate::rattle::simd::prelude::*;\n"),
+    ("a stand-in", "use circular_buffer::HeapCircularBuffer;\n", "use crate::rattle::circular_buffer::HeapCircularBuffer;\n"),
+]
+
+HOSTED = [
+    ("a test with a runtime", "#[test]\nfn a(\n    rt: HostRuntime,\n) -> Result<(), Fail> {\n    assert_eq!(rt; f(), 1);\n    Ok(())\n}\n",
+     "#[test]\nfn a() { crate::rattle::test::run(|rt| -> Result<(), Fail> {\n    assert_eq!(f(), 1);\n    Ok(())\n}) }\n"),
+    ("a borrowed runtime", "fn a(rt: &impl Abort) { f().expect(rt, \"one\"); assert!(&rt; g()); }\n",
+     "fn a(rt: &impl Abort) { f().expect(\"one\"); assert!(g()); }\n"),
+    ("a vector", "fn a(rt: HostRuntime) -> Vec<u8> { vec![in rt.alloc(); 0u8; 4] }\n",
+     "fn a(rt: crate::rattle::HostRuntime) -> crate::rattle::Vec<u8> { crate::rattle::vec_in![rt.alloc(); 0u8; 4] }\n"),
+]
+
+REFUSED = [
+    "fn f() { let a = b.clone()?; }",
+    "fn f() -> u8 { v.push(1)?; 1 }",
+    "fn f() -> u8 { self.v.push(1)?; 1 }",
+    "impl Drop for S { fn drop(self) { } }",
+    "fn f(rt: &HostRuntime) -> u8 { 1 }",
+    "fn f(v: Vec<u8>) -> u8 { 1 }",
+    "use std::process::Abort;",
+    "use std::collections::HashMap;",
+    "fn f() -> u8 { assert!(rt; a); 1 }",
+    "fn f() -> u8 { panic!(\"a\") }",
+    "fn f() -> u8 { unreachable!(\"a\") }",
+    "fn f() -> u8 { prove!(a); 1 }",
+    "fn f() -> u8 { let g = |x: u8| -> u8 requires { x < 2 } { x }; g(1) }",
+    "fn f() -> u8 { ghost let a = { 1 }; 1 }",
+    "fn f() -> u8 requires a b { c } { 1 }",
+    "fn f() -> u8 { for x in 250u8.. { return x; } 1 }",
+    "const N: usize = size_of::<S>();",
+    "const N: usize = std::mem::size_of::<S>();",
+    "fn f() -> u8 { unsafe { 1 } }",
+    "static mut A: u8 = 1;",
+    "fn f(x: ℕ) -> u8 { 1 }",
+    "#[derive(Error)] enum E { A }",
+    "#[inline_always] fn f() {}",
+    "#![allow(unused)]",
+    "extern \"C\" fn f() {}",
+    "macro_rules! m { () => {} }",
+    "mod records;",
+    "fn f() {",
+    "fn f() { (] }",
+    "}",
+    "fn f()",
+    "const A: &str = \"",
+]
+
+
+class Forms(unittest.TestCase):
+    def test_what_proofs_alone_read_is_left_out(self):
+        for name, source, export in LEFT_OUT:
+            with self.subTest(name):
+                self.assertEqual(rust(source), export)
+
+    def test_the_rest_is_kept(self):
+        for name, source in KEPT:
+            with self.subTest(name):
+                self.assertEqual(rust(source), source)
+
+    def test_paths_and_conditions_are_changed(self):
+        for name, source, export in CHANGED:
+            with self.subTest(name):
+                self.assertEqual(rust(source), export)
+
+    def test_tests_take_no_runtime(self):
+        for name, source, export in HOSTED:
+            with self.subTest(name):
+                self.assertEqual(rust(source, hosted=True), export)
+
+    def test_what_is_not_known_is_refused_with_its_line(self):
+        for source in REFUSED:
+            with self.subTest(source):
+                with self.assertRaises(Refused) as fault:
+                    rust("\n\n" + source)
+                self.assertRegex(str(fault.exception), r"^f\.rt:3: ")
+
+    def test_a_condition_that_stays_is_said_first(self):
+        source = "/// Works.\npub fn work(&mut self) -> u8\n    requires { a }\n{ 1 }\n"
+        said, blank, docs, _ = rust(source, crate="keyboard").split("\n", 3)
+        self.assertEqual((said, blank, docs), (f"/// {rules.OWED['keyboard', 'work']}", "///", "/// Works."))
+
+    def test_contracts_are_docs_on_request(self):
+        source = "/// Doc.\nfn f() -> u8\n    ensures one {\n        result ≡ 1 }\n{ 1 }\n"
+        self.assertIn("/// ensures one { result ≡ 1 }\n", rust(source, contracts=True))
+        self.assertNotIn("ensures", rust(source))
+
+    def test_a_module_of_which_nothing_is_left_is_left_out(self):
+        self.assertEqual(rust("pub mod laws;\nmod a;\n", left=False), "\n")
+        self.assertEqual(rust("pub mod laws;\n"), "pub mod laws;\n")
+
+    def test_tests_see_the_runtime_and_the_rest_does_not(self):
+        text = "#[cfg(test)]\nmod tests { fn a(rt: HostRuntime) {} }\n"
+        self.assertIn("crate::rattle::HostRuntime", rust(text))
+        with self.assertRaises(Refused):
+            rust(text + "fn b(rt: HostRuntime) {}\n")
+
+
+class Whole(unittest.TestCase):
+    def test_the_sources_are_exported_the_same_each_time(self):
+        exports = []
+        for _ in range(2):
+            export = Export(ROOT)
+            export.make()
+            self.assertEqual(export.faults, [])
+            exports.append(export.files)
+        self.assertEqual(exports[0], exports[1])
+        self.assertIn("src/keyboard/keyboard.rs", exports[0])
+        for name, text in exports[0].items():
+            code = "\n".join(line for line in text.split("\n") if not line.strip().startswith("//"))
+            self.assertNotRegex(code, r"\b(ghost|requires|ensures|Model)\b", name)
+            self.assertNotRegex(code, r"\bunsafe\b(?!_)", name)
+
+    def test_a_fault_anywhere_writes_nothing(self):
+        with tempfile.TemporaryDirectory() as folder:
+            root = os.path.join(folder, "root")
+            os.makedirs(os.path.join(root, "crates/layers/src"))
+            with open(os.path.join(root, "crates.txt"), "w", encoding="utf-8") as file:
+                file.write("# Crates.\nlayers: records\n")
+            with open(os.path.join(root, "crates/layers/src/lib.rt"), "w", encoding="utf-8") as file:
+                file.write("const A: u8 = 1;\nmod missing;\n\nfn f() { unsafe { } }\n")
+            export = Export(root, crates=["layers"])
+            export.make()
+            self.assertIn("crates/layers/src/lib.rt:4: `unsafe` is not exported", export.faults)
+            self.assertIn("crates.txt: layers stands on records, which is not exported", export.faults)
+            self.assertTrue(any("missing.rt" in fault for fault in export.faults))
+
+    def test_a_folder_with_other_files_is_refused(self):
+        with tempfile.TemporaryDirectory() as folder:
+            with open(os.path.join(folder, "mine"), "w", encoding="utf-8") as file:
+                file.write("text")
+            ended = subprocess.run([sys.executable, "-B", os.path.join(HERE, "export_rust.py"), folder], capture_output=True, text=True)
+            self.assertEqual(ended.returncode, 1)
+            self.assertIn("nothing was written", ended.stderr)
+            self.assertEqual(os.listdir(folder), ["mine"])
+
+    def test_a_script_is_the_same_each_time(self):
+        self.assertEqual(script(7), script(7))
+        self.assertNotEqual(script(7), script(8))
+
+
+if __name__ == "__main__":
+    unittest.main()
