@@ -1,3 +1,4 @@
+-- Believed: what an operation leaves that is torn by a mask.
 use Rattle.std.specs.Prelude.{◌≡◌, ℕ, ◌+◌, ◌*◌, ◌%◌, ◌<◌, ◌≤◌, ◌==◌, if◌then◌else◌, List, length, slice_index, bit_and, bit_or}
 use Rattle.std.specs.Int.{bit_not, w8}
 use Rattle.flash_model.specs.declared.TheConstants.{PAGE_BYTES, PAGE_SLOTS, SLOT_BYTES}

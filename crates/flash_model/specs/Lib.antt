@@ -1,5 +1,6 @@
 pub mod ByMask
 pub mod Image
+pub mod FlashOperation
 pub mod Operated
 pub mod Operations
 pub mod Sim

@@ -1,3 +1,4 @@
+-- Believed: what a program or an erase does to a flash, whole or torn.
 use Rattle.std.specs.Prelude.{◌≡◌, ℕ, ◌<◌, List, length, slice_index, bit_and, replicate}
 use Rattle.flash_model.specs.declared.TheConstants.{PAGE_SLOTS, SLOT_BYTES}
 use Rattle.flash_model.specs.Image.{slot_at}

@@ -1,3 +1,4 @@
+-- Believed: what is known of a simulated flash.
 use Rattle.std.specs.Prelude.{ℕ, List, Option}
 
 -- a simulated flash: its bytes, the mask that the next operation is torn by, and how many operations were made and how

@@ -1,3 +1,4 @@
+-- Believed: what a torn operation may leave of some bytes.
 use Rattle.std.specs.Prelude.{◌≡◌, ℕ, ◌≤◌, List, length, slice_index, bit_and}
 use Rattle.std.specs.Int.{bit_at}
 

@@ -3,10 +3,16 @@
 //!
 //! `NorFlash` is the flash that the firmware writes to, with what each operation does to the bytes;
 //! `SimFlash` is one in memory.
+//!
+//! A `SimFlash` keeps the bytes, both counts, and the mask that its next operation is torn by. The
+//! promise is what a torn operation can leave: of its own bits some have taken effect and others
+//! have not, and nothing else has changed. A driver of a flash implements `NorFlash`;
+//! `page_turnover` and what stands on it write through it, and `world` runs on a `SimFlash`.
 #![tactic(auto)]
 
 ghost use Rattle.std.specs.Prelude.{◌≡◌, ◌+◌, ◌%◌, ◌^◌, ◌<◌, ℕ, List, IsOk, MatchResult, is_ok, if◌then◌else◌};
 ghost use Rattle.flash_model.specs.Image.{slot_at, page_count, IsImage};
+ghost use Rattle.flash_model.specs.FlashOperation.{FlashOperation, programs, erases};
 ghost use Rattle.flash_model.specs.Operations.{Programs, MayProgram, Erases, MayErase};
 
 pub mod laws;
@@ -46,9 +52,9 @@ pub trait NorFlash {
     /// No operation fails from here on. Of hardware nothing makes this hold.
     ghost is_faultless: { Self → Type 0 };
 
-    /// One program or erase was made between these two. What it says beside `image` and the counts
-    /// is each flash's own: of a simulated one, by which mask it was torn.
-    ghost operates: { Self → Self → Type 0 };
+    /// This program or erase makes the second flash of the first. What it says beside `image` and the
+    /// counts is each flash's own: of a simulated one, by which mask it was torn.
+    ghost operates: { Self → FlashOperation → Self → Type 0 };
 
     /// How many pages there are, 2 to 8.
     fn pages(&self) -> usize
@@ -82,7 +88,7 @@ pub trait NorFlash {
         ensures counted { operations self.new ≡ (operations self.old + 1) % 2 ^ 64 }
         ensures faulted { faults self.new ≡ (if is_ok result then faults self.old else (faults self.old + 1) % 2 ^ 64) }
         ensures faultless { is_faultless self.old → IsOk result × is_faultless self.new }
-        ensures operated { operates self.old self.new };
+        ensures operated { operates self.old (programs page slot bytes) self.new };
 
     /// Sets every bit of page `page`, below `pages()`; no other page is touched.
     ///
@@ -98,5 +104,5 @@ pub trait NorFlash {
         ensures counted { operations self.new ≡ (operations self.old + 1) % 2 ^ 64 }
         ensures faulted { faults self.new ≡ (if is_ok result then faults self.old else (faults self.old + 1) % 2 ^ 64) }
         ensures faultless { is_faultless self.old → IsOk result × is_faultless self.new }
-        ensures operated { operates self.old self.new };
+        ensures operated { operates self.old (erases page) self.new };
 }

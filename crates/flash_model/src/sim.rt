@@ -4,6 +4,7 @@ ghost use Rattle.std.specs.Prelude.{◌≡◌, ◌≢◌, None, Some, IsNone, Is
 ghost use Rattle.flash_model.specs.declared.TheConstants.{PAGE_SLOTS};
 ghost use Rattle.flash_model.specs.Image.{slot_at, page_count, IsImage};
 ghost use Rattle.flash_model.specs.ByMask.{ProgramsByMask, ErasesByMask};
+ghost use Rattle.flash_model.specs.FlashOperation.{programs, erases};
 ghost use Rattle.flash_model.specs.Operated.{IsOperated};
 ghost use Rattle.flash_model.specs.Operations.{Programs, MayProgram, Erases, MayErase};
 
@@ -23,7 +24,7 @@ pub enum FlashError {
 }
 
 /// A flash in memory. No operation of it fails, but that which comes after `fault_next`.
-#[derive(Drop)]
+#[derive(Debug, Drop)]
 pub struct SimFlash {
     bytes: Vec<u8>,
     armed: Option<Mask>,
@@ -129,7 +130,7 @@ impl NorFlash for SimFlash {
 
     ghost is_faultless = { λ f. f.armed ≡ None };
 
-    ghost operates = { λ f g. IsOperated f g };
+    ghost operates = { λ f o g. IsOperated f o g };
 
     fn pages(&self) -> usize {
         let bytes = self.bytes.as_slice();
@@ -172,7 +173,7 @@ impl NorFlash for SimFlash {
         ensures counted { self.new.operations ≡ (self.old.operations + 1) % 2 ^ 64 }
         ensures faulted { self.new.faults ≡ (if is_ok result then self.old.faults else (self.old.faults + 1) % 2 ^ 64) }
         ensures faultless { self.old.armed ≡ None → IsOk result × (self.new.armed ≡ None) }
-        ensures operated { IsOperated self.old self.new }
+        ensures operated { IsOperated self.old (programs page slot bytes) self.new }
     {
         self.operations = self.operations.wrapping_add(1);
         match &self.armed {
@@ -203,7 +204,7 @@ impl NorFlash for SimFlash {
         ensures counted { self.new.operations ≡ (self.old.operations + 1) % 2 ^ 64 }
         ensures faulted { self.new.faults ≡ (if is_ok result then self.old.faults else (self.old.faults + 1) % 2 ^ 64) }
         ensures faultless { self.old.armed ≡ None → IsOk result × (self.new.armed ≡ None) }
-        ensures operated { IsOperated self.old self.new }
+        ensures operated { IsOperated self.old (erases page) self.new }
     {
         self.operations = self.operations.wrapping_add(1);
         match &self.armed {

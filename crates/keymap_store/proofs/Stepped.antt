@@ -1,5 +1,5 @@
 -- A step of the log as a call of `work`.
-use Rattle.std.proofs.Common.{◌≡◌, ◌≢◌, ℕ, refl, sym, ap, List, Option, Some, None}
+use Rattle.std.proofs.Common.{◌≡◌, ◌≢◌, ◌∙◌, ℕ, refl, sym, ap, List, Option, Some, None}
 use Rattle.layers.specs.declared.command.Command.{Command}
 use Rattle.layers.specs.Commands.{word_of}
 use Rattle.flash_model.specs.Operations.{OnePage}
@@ -36,11 +36,15 @@ attempt_failed None old step new a e = let z = a.0 in cc
 attempt_failed (Some operation) old step new a e = record { not_idle = λ x. cc; done = λ x. absurd (x refl); failed = λ x. a.failed e }
 
 -- the operation of an append, and of a turn that was offered what it wants
-append_next : (old : List ℕ) (store : StoreValue) (command : Command) → Mirrors old store → store.job ≡ Appending command → next_operation_of old store ≡ next_operation old store.log
+pub append_next : (old : List ℕ) (store : StoreValue) (command : Command) → Mirrors old store → store.job ≡ Appending command → next_operation_of old store ≡ next_operation old store.log
 append_next old store command m e = let t = (appending old store command m e).task_is in rw t refl
 
 turn_next : (old : List ℕ) (store : StoreValue) (log : LogValue) (from : ℕ) → IsOffered (entries_of old) old store.log log from → next_operation_of old store ≡ next_operation old log
 turn_next old store log from o = ap (λ (l : LogValue). next_operation old l) (sym o.next)
+
+-- what the store asks of the flash is what its log asks
+pub turn_asks : (old : List ℕ) (store : StoreValue) (log : LogValue) (from : ℕ) (operation : Operation) → Mirrors old store → IsOffered (entries_of old) old store.log log from → next_operation_of old store ≡ Some operation → next_operation old log ≡ Some operation
+turn_asks old store log from operation m o e = sym (turn_next old store log from o) ∙ e
 
 pub append_settled : (old : List ℕ) (store : StoreValue) (command : Command) (step : Step) (new : List ℕ) → Mirrors old store → store.job ≡ Appending command → AttemptsStep (next_operation old store.log) old step new → step ≡ Steps.Committed → AttemptsNext (next_operation_of old store) old Settled new
 append_settled old store command step new m e a s = rw (append_next old store command m e) (attempt_done (next_operation old store.log) old step Settled new a (λ x. cc) (λ x. cc) (λ x. cc) (λ x. cc))

@@ -1,4 +1,5 @@
--- What the operation that a store makes next leaves, whole or torn: by a fault, or by a cut of the power inside it.
+-- Believed where this crate is called: what the operation that a store makes next leaves, whole or torn: by a fault, or by
+-- a cut of the power inside it.
 use Rattle.std.specs.Prelude.{◌≡◌, ℕ, List, [], ◌∷◌}
 use Rattle.layers.specs.declared.command.Command.{Command}
 use Rattle.layers.specs.Entries.{changed}
@@ -21,6 +22,8 @@ pub data KeymapAfter (old : List ℕ) (job : Job) (operation : Operation) (new :
   recorded : (command : Command) → IsRecorded job operation new command → SameEntries (entries_of new) (changed (entries_of old) (command ∷ [])) → KeymapAfter old job operation new
   as_before : ((command : Command) → IsRecorded job operation new command → ⊥) → SameEntries (entries_of new) (entries_of old) → KeymapAfter old job operation new
 
+-- what the operation that is next leaves of the flash and of the keymap: all slots 0 are sound, and of the active page at
+-- most the tail slot is touched, unless another page becomes the active one
 pub record CutLeaves (old : List ℕ) (store : StoreValue) (operation : Operation) (new : List ℕ) : Type 0 where
   pub operates : MayOperate old new
   pub usable : IsUsable new

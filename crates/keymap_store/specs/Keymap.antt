@@ -1,4 +1,4 @@
--- The keymap of an image.
+-- Believed: the keymap of an image.
 use Rattle.std.specs.Prelude.{◌≡◌, ℕ, ◌<◌, List, unwrap_or}
 use Rattle.layers.specs.Codes.{layers, keys}
 use Rattle.layers.specs.Entries.{entry_in}

@@ -1,4 +1,4 @@
--- How many flash operations the command that works still needs.
+-- Believed: how many flash operations the command that works still needs.
 use Rattle.std.specs.Prelude.{◌≡◌, ℕ, zero, suc, ◌+◌, ◌-◌, ◌==◌, if◌then◌else◌, List}
 use Rattle.layers.specs.Codes.{default_at}
 use Rattle.layers.specs.Copies.{places, entry_at}
@@ -38,6 +38,8 @@ target_of (Copy target word) = target
 target_of (Seal target) = target
 target_of _ = Unread
 
+-- the operations that a job still needs: none at rest, one for a record that there is room for, else those of a turn with
+-- the record after it
 abbrev pub left_for : List ℕ → LogValue → Job → ℕ
 left_for image log Resting = 0
 left_for image log (Appending command) = 1

@@ -1,4 +1,4 @@
--- The flash operation that a store makes next.
+-- Believed: the flash operation that a store makes next.
 use Rattle.std.specs.Prelude.{◌≡◌, ◌≢◌, ℕ, List, Option, Some, None, length, slice_index, nat_lt, if◌then◌else◌}
 use Rattle.layers.specs.Copies.{copies_below, places}
 use Rattle.page_turnover.specs.declared.operation.Operation.{Operation}

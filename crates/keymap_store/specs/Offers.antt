@@ -1,4 +1,4 @@
--- What the code's parts of a turn owe each other; the promise itself is in Works and Next.
+-- Only ties code to its definitions: what the private parts of a turn owe each other; what `work` promises is in Works.
 use Rattle.std.specs.Prelude.{◌≡◌, ◌<◌, ℕ, List}
 use Rattle.page_turnover.specs.Value.{LogValue, Task, Wait}
 use Rattle.page_turnover.specs.Log.{Describes}

@@ -1,4 +1,4 @@
--- A store mirrors an image.
+-- Believed where this crate is called: the command that works. From OffersBelow on only ties code: to an image.
 use Rattle.std.specs.Prelude.{◌≡◌, ◌≤◌, ℕ, List, [], ◌∷◌, ◌++◌, Option, None, Some}
 use Rattle.layers.specs.declared.command.Command.{Command}
 use Rattle.layers.specs.Commands.{command_of, word_of}

@@ -1,3 +1,4 @@
+-- Believed: when a command is taken, and why it is refused.
 use Rattle.std.specs.Prelude.{◌≡◌, ◌-◌, ◌^◌, ◌⊎◌, ℕ, List, None, Some, Result, Ok, Err, IsSome}
 use Rattle.layers.specs.declared.command.Command.{Command}
 use Rattle.layers.specs.Entries.{ChangesSome, ChangesNothing}

@@ -1,4 +1,4 @@
--- What the operations of a store do to the active page.
+-- Believed: what the operations of a store do to the active page.
 use Rattle.std.specs.Prelude.{◌≡◌, ℕ, suc, ◌<◌, List, Some}
 use Rattle.layers.specs.Copies.{AreCopies, places}
 use Rattle.flash_model.specs.Image.{slot_at}

@@ -1,3 +1,4 @@
+-- Only ties code to its definitions: the parts of a store.
 use Rattle.std.specs.Prelude.{ℕ, List}
 use Rattle.page_turnover.specs.Value.{LogValue}
 use Rattle.keymap_store.specs.declared.store.Job.{Job}

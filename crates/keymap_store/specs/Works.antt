@@ -1,4 +1,4 @@
--- What the answers of `work` mean.
+-- Believed: what the answers of `work` mean.
 use Rattle.std.specs.Prelude.{◌≡◌, ◌≢◌, ◌+◌, ◌%◌, ◌^◌, ◌≤◌, ◌⊎◌, ◌↔◌, ℕ, List, [], ◌∷◌, ◌++◌, Option, None, Some, IsSome}
 use Rattle.layers.specs.declared.command.Command.{Command}
 use Rattle.layers.specs.Commands.{word_of}
@@ -65,6 +65,7 @@ abbrev pub IsAppendedFor : List ℕ → Option Command → List ℕ → Type 0
 IsAppendedFor old None new = ⊥
 IsAppendedFor old (Some command) new = words new ≡ words old ++ word_of command ∷ []
 
+-- that is so of the command that this job is for
 abbrev pub IsAppended : List ℕ → Job → List ℕ → Type 0
 IsAppended old job new = IsAppendedFor old (working job) new
 
@@ -77,10 +78,12 @@ pub record IsPlacedAt (old : List ℕ) (command : Command) (new : List ℕ) : Ty
   pub is_tail : IsTail old page tail
   pub programs : Programs old page tail (encoded (word_of command)) new
 
+-- the record of the command that worked is programmed so
 abbrev pub IsPlacedFor : List ℕ → Option Command → List ℕ → Type 0
 IsPlacedFor old None new = ⊥
 IsPlacedFor old (Some command) new = IsPlacedAt old command new
 
+-- that is so of the command that this job is for
 abbrev pub IsPlaced : List ℕ → Job → List ℕ → Type 0
 IsPlaced old job new = IsPlacedFor old (working job) new
 

@@ -91,6 +91,8 @@ impl Store {
     ghost use Rattle.keymap_store.specs.Next.{next_operation_of, AttemptsNext};
     ghost use Rattle.keymap_store.specs.Works.{WorksAs, WritesAs, CountsAs, CountsDown};
     ghost use Rattle.keymap_store.specs.Left.{left, Needs};
+    ghost use Rattle.page_turnover.specs.declared.operation.Operation.{Operation};
+    ghost use Rattle.page_turnover.specs.Next.{on_flash};
     ghost use Rattle.page_turnover.specs.Operates.{Operates, MayOperate};
 
     /// Reads log and keymap of a flash, and changes nothing.
@@ -191,7 +193,8 @@ impl Store {
         // a flash with an unsound slot 0 is never written, and no other gets one
         ensures sound { IsUsable (F.image flash.old) → IsUsable (F.image flash.new) }
         ensures unusable { (IsUsable (F.image flash.old) → ⊥) → result ≡ Work.Idle }
-        ensures operated { result ≢ Work.Idle → F.operates flash.old flash.new }
+        // what the flash says of that operation
+        ensures operated { (operation : Operation) → next_operation_of (F.image flash.old) self.old ≡ Some operation → F.operates flash.old (on_flash operation) flash.new }
         ensures untouched { result ≡ Work.Idle → flash.new ≡ flash.old }
         // how many operations are made, and are left to make
         ensures counts { CountsAs result (F.operations flash.old) (F.operations flash.new) (F.faults flash.old) (F.faults flash.new) }
@@ -216,7 +219,7 @@ impl Store {
         ensures operates { result ≢ Work.Idle → result ≢ Work.Failed → Operates (F.image flash.old) (F.image flash.new) }
         ensures torn { result ≡ Work.Failed → MayOperate (F.image flash.old) (F.image flash.new) }
         ensures sound { IsUsable (F.image flash.old) → IsUsable (F.image flash.new) }
-        ensures operated { result ≢ Work.Idle → F.operates flash.old flash.new }
+        ensures operated { (operation : Operation) → next_operation_of (F.image flash.old) self.old ≡ Some operation → F.operates flash.old (on_flash operation) flash.new }
         ensures counts { CountsAs result (F.operations flash.old) (F.operations flash.new) (F.faults flash.old) (F.faults flash.new) }
         ensures faultless { F.is_faultless flash.old → F.is_faultless flash.new × (result ≢ Work.Failed) }
         ensures some { (result ≢ Work.Idle) × (result ≢ Work.Working) }
@@ -246,7 +249,7 @@ impl Store {
         ensures operates { result ≢ Work.Idle → result ≢ Work.Failed → Operates (F.image flash.old) (F.image flash.new) }
         ensures torn { result ≡ Work.Failed → MayOperate (F.image flash.old) (F.image flash.new) }
         ensures sound { IsUsable (F.image flash.old) → IsUsable (F.image flash.new) }
-        ensures operated { result ≢ Work.Idle → F.operates flash.old flash.new }
+        ensures operated { (operation : Operation) → next_operation_of (F.image flash.old) self.old ≡ Some operation → F.operates flash.old (on_flash operation) flash.new }
         ensures counts { CountsAs result (F.operations flash.old) (F.operations flash.new) (F.faults flash.old) (F.faults flash.new) }
         ensures faultless { F.is_faultless flash.old → F.is_faultless flash.new × (result ≢ Work.Failed) }
         ensures some { (result ≢ Work.Idle) × (result ≢ Work.Settled) }

@@ -1,20 +1,23 @@
--- The codes of a keymap, and the code that each key has at first.
+-- Believed: the codes of a keymap, and the code that each key has at first.
 use Rattle.std.specs.Prelude.{ℕ, ◌+◌, ◌-◌, ◌/◌, ◌%◌, ◌==◌, ◌&&◌, ◌||◌, Bool, nat_le, nat_lt, if◌then◌else◌}
 
--- how many layers and keys there are
+-- how many layers there are
 abbrev pub layers : ℕ
 layers = 4
 
+-- how many keys there are
 abbrev pub keys : ℕ
 keys = 96
 
+-- n is at least the low number and at most the high one
 abbrev pub is_between : ℕ → ℕ → ℕ → Bool
 is_between low high n = nat_le low n && nat_le n high
 
--- the code of a key that does nothing, and of one that does what the layer below says
+-- the code of a key that does nothing
 abbrev pub none : ℕ
 none = 0x0000
 
+-- the code of a key that does what the layer below says
 abbrev pub transparent : ℕ
 transparent = 0x0001
 
@@ -34,6 +37,7 @@ is_consumer code = is_between 0x4001 0x43FF code
 abbrev pub is_momentary : ℕ → Bool
 is_momentary code = is_between 0x5001 0x5003 code
 
+-- a number is a code if it is of one of these kinds
 abbrev pub is_code : ℕ → Bool
 is_code code =
     (code == none) || (code == transparent) || is_key_usage code || is_modifier code || is_consumer code || is_momentary code

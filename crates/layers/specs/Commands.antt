@@ -1,4 +1,4 @@
--- Commands, how they are read, and the words that they are stored as.
+-- Believed: commands, how they are read, and the words that they are stored as.
 use Rattle.std.specs.Prelude.{ℕ, ◌+◌, ◌*◌, ◌/◌, ◌%◌, ◌^◌, ◌<◌, ◌==◌, ◌&&◌, ◌||◌, not, Bool, nat_lt, nat_le, if◌then◌else◌, IsTrue, Option, None, Result, Ok, Err}
 use Rattle.std.specs.Result.{result_ok}
 use Rattle.layers.specs.Codes.{layers, keys, is_code, is_between}
@@ -31,6 +31,7 @@ command_read op layer key code =
 abbrev pub word_with : ℕ → ℕ → ℕ → ℕ → ℕ
 word_with op layer key code = 2 ^ 28 * op + 2 ^ 24 * layer + 2 ^ 16 * key + code
 
+-- the word of a command; a field that its operation does not use is 0
 abbrev pub word_of : Command → ℕ
 word_of (SetKey layer key code) = word_with 1 layer key code
 word_of (ResetLayer layer) = word_with 2 layer 0 0

@@ -1,4 +1,4 @@
--- The entries that differ from the default, by rising place, and the words that set them.
+-- Believed: the entries that differ from the default, by rising place, and the words that set them.
 use Rattle.std.specs.Prelude.{◌≡◌, ◌≢◌, ℕ, zero, suc, ◌*◌, ◌/◌, ◌%◌, ◌<◌, ◌≤◌, ◌==◌, if◌then◌else◌, IsTrue, List, [], ◌∷◌, ◌++◌}
 use Rattle.layers.specs.Codes.{layers, keys, is_code, default_at}
 use Rattle.layers.specs.Commands.{word_of}

@@ -1,4 +1,4 @@
--- The entries of a keymap by the commands that changed it: the last writer decides.
+-- Believed: the entries of a keymap by the commands that changed it: the last writer decides.
 use Rattle.std.specs.Prelude.{◌≡◌, ◌≢◌, ℕ, ◌<◌, ◌==◌, ◌&&◌, if◌then◌else◌, Option, Some, None, unwrap_or, List, [], ◌∷◌, All}
 use Rattle.std.specs.List.{filter_map}
 use Rattle.std.specs.Option.{option_and_then}
@@ -13,6 +13,7 @@ written (SetKey l k code) layer key = if (l == layer) && (k == key) then Some co
 written (ResetLayer l) layer key = if l == layer then Some (default_code layer key) else None
 written ResetAll layer key = Some (default_code layer key)
 
+-- the first code, if there is one, else the second
 abbrev pub or_else : Option ℕ → Option ℕ → Option ℕ
 or_else (Some code) other = Some code
 or_else None other = other

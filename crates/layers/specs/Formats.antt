@@ -1,4 +1,4 @@
--- The two formats of pages: how their words stand for commands.
+-- Believed: the two formats of pages: how their words stand for commands.
 use Rattle.std.specs.Prelude.{ℕ, ◌+◌, ◌-◌, ◌*◌, ◌/◌, ◌%◌, ◌^◌, ◌==◌, ◌&&◌, not, if◌then◌else◌, Option, Some, None, List, [], ◌∷◌, slice_index}
 use Rattle.std.specs.Option.{option_map, option_and_then}
 use Rattle.layers.specs.Codes.{is_between, is_code, is_consumer}

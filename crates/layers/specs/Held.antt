@@ -1,4 +1,4 @@
--- The keys that are held, and the codes that they have, looked up in what was pressed and released.
+-- Believed: the keys that are held, and the codes that they have, looked up in what was pressed and released.
 use Rattle.std.specs.Prelude.{ℕ, zero, suc, ◌==◌, ◌&&◌, ◌||◌, not, Bool, false, if◌then◌else◌, Option, Some, None, is_none, List, [], ◌∷◌}
 use Rattle.std.specs.List.{find}
 use Rattle.layers.specs.Codes.{keys, none, transparent, activates}
@@ -14,6 +14,7 @@ unfoldable pub any_below : (ℕ → Bool) → ℕ → Bool
 any_below test zero = false
 any_below test (suc n) = test n || any_below test n
 
+-- there is a code, and it passes
 abbrev pub passes : (ℕ → Bool) → Option ℕ → Bool
 passes test None = false
 passes test (Some code) = test code

@@ -1,4 +1,4 @@
--- What is kept of the held keys stands for the calls that made it.
+-- Only ties code to its definitions: what is kept of the held keys stands for the calls that made it.
 use Rattle.std.specs.Prelude.{◌≡◌, ℕ, ◌<◌, Option, None, List, length, slice_index_or}
 use Rattle.layers.specs.Codes.{keys, names_key_usage, names_consumer}
 use Rattle.layers.specs.Held.{HeldCall, code, any_has}

@@ -1,4 +1,4 @@
--- A keymap as the list of its codes, layer by layer.
+-- Believed: a keymap as the list of its codes, layer by layer.
 use Rattle.std.specs.Prelude.{◌≡◌, ℕ, ◌+◌, ◌*◌, ◌<◌, List, length, slice_index}
 use Rattle.layers.specs.Codes.{layers, keys}
 use Rattle.layers.specs.Entries.{entry_in}

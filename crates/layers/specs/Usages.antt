@@ -1,4 +1,4 @@
--- The usages of the keys that are held, as sets.
+-- Believed: the usages of the keys that are held, as sets.
 use Rattle.std.specs.Prelude.{◌≡◌, ℕ, ◌/◌, ◌%◌, ◌<◌, ◌≤◌, ◌==◌, Bool, true, false, List, slice_index}
 use Rattle.std.specs.Int.{bit_at}
 use Rattle.layers.specs.Codes.{names_key_usage, names_consumer}
@@ -12,17 +12,20 @@ key_usages past usage = any_has (code past) (names_key_usage usage)
 abbrev pub consumer_usages : List HeldCall → ℕ → Bool
 consumer_usages past usage = any_has (code past) (names_consumer usage)
 
--- two sets of numbers, a bit for each number, eight to a byte and 64 to a word
+-- two sets of usages, of page 07h and of page 0Ch: a bit for each number, eight to a byte and 64 to a word
 pub record UsageSets : Type 0 where
   pub key_bits : List ℕ
   pub consumer_words : List ℕ
 
+-- the bit of a number is set in cells of so many bits each
 abbrev pub has_bit : ℕ → List ℕ → ℕ → Bool
 has_bit size cells number = bit_at (slice_index cells (number / size)) (number % size) == 1
 
+-- a usage of page 07h is in the set
 unfoldable pub has_key : UsageSets → ℕ → Bool
 has_key usages usage = has_bit 8 usages.key_bits usage
 
+-- a usage of page 0Ch is in the set
 unfoldable pub has_consumer : UsageSets → ℕ → Bool
 has_consumer usages usage = has_bit 64 usages.consumer_words usage
 
@@ -36,9 +39,10 @@ pub record IsNext (test : ℕ → Bool) (from number : ℕ) : Type 0 where
 pub record PassesNoneFrom (test : ℕ → Bool) (from : ℕ) : Type 0 where
   pub each : (number : ℕ) → from ≤ number → test number ≡ false
 
--- the least usage of page 0Ch in the set at or after `from`, and that there is none
+-- the least usage of page 0Ch in the set at or after `from`
 abbrev pub IsNextConsumer : UsageSets → ℕ → ℕ → Type 0
 IsNextConsumer usages from usage = IsNext (has_consumer usages) from usage
 
+-- no usage of page 0Ch at or after `from` is in the set
 abbrev pub HasNoConsumerFrom : UsageSets → ℕ → Type 0
 HasNoConsumerFrom usages from = PassesNoneFrom (has_consumer usages) from

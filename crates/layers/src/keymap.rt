@@ -1,6 +1,8 @@
 //! The table of codes.
 
-ghost use Rattle.std.specs.Prelude.{◌≡◌, ◌≢◌, ◌+◌, ◌*◌, ◌/◌, ◌%◌, ◌<◌, ◌≤◌, ℕ, List, [], ◌∷◌, ◌++◌, Some, length, slice_index, MatchBool, MatchOption, IfSome};
+ghost use Rattle.std.specs.Prelude.{◌≡◌, ◌≢◌, ◌+◌, ◌*◌, ◌/◌, ◌%◌, ◌<◌, ◌≤◌, ℕ, List, [], ◌∷◌, ◌++◌, Some, length, slice_index, MatchBool, MatchOption, IfSome, nat_eq};
+ghost use Rattle.std.specs.Cmp.{partial_equiv_from_equiv};
+ghost use Rattle.std.specs.Cmp.Lexicographic.{pointwise, nat_list_eq_equiv};
 ghost use Rattle.layers.specs.Codes.{layers, keys, default_code, default_at};
 ghost use Rattle.layers.specs.Commands.{IsCommand};
 ghost use Rattle.layers.specs.Formats.{command_in};
@@ -16,7 +18,7 @@ use std::marker::Model;
 const ENTRIES: usize = 384;
 
 /// The code of each key on each layer.
-#[derive(Drop)]
+#[derive(Clone, Debug, Drop)]
 pub struct Keymap {
     codes: [Code; ENTRIES],
 }
@@ -95,6 +97,20 @@ impl Keymap {
         }
         None
     }
+}
+
+impl PartialEq for Keymap {
+    ghost eq = { pointwise nat_eq };
+
+    ghost laws = { partial_equiv_from_equiv nat_list_eq_equiv };
+
+    fn eq(&self, other: &Keymap) -> bool {
+        self.codes == other.codes
+    }
+}
+
+impl Eq for Keymap {
+    ghost laws = { nat_list_eq_equiv };
 }
 
 /// The command that gives the entry at a place this code.

@@ -1,3 +1,4 @@
+-- Believed: the active page of an image.
 use Rattle.std.specs.Prelude.{◌≡◌, ℕ, ◌<◌, ◌≤◌, suc, zero, nat_lt, if◌then◌else◌, List, Option, Some, None}
 use Rattle.records.specs.declared.Slot.TheVariants.{Good}
 use Rattle.records.specs.Slots.{slot_of}
@@ -33,6 +34,7 @@ newer best page None = best
 newer None page (Some seq) = Some (page, seq)
 newer (Some best) page (Some seq) = if nat_lt best.1 seq then Some (page, seq) else Some best
 
+-- the best of the first n pages, with its sequence number
 unfoldable pub newest : List ℕ → ℕ → Option (ℕ × ℕ)
 newest image zero = None
 newest image (suc n) = newer (newest image n) n (header_of (slot_of (slot_at image n 0)))

@@ -1,3 +1,4 @@
+-- Believed: whether a page is blank, as a test.
 use Rattle.std.specs.Prelude.{ℕ, zero, suc, ◌&&◌, List, Bool, true}
 use Rattle.records.specs.Slots.{slot_of}
 use Rattle.records.specs.Blocks.{is_free}

@@ -1,4 +1,4 @@
--- What an iterator over the words of a page keeps of the block that it is in.
+-- Only ties code to its definitions: what an iterator over the words of a page keeps of the block that it is in.
 use Rattle.std.specs.Prelude.{◌≡◌, ℕ, ◌+◌, ◌%◌, ◌<◌, List, if◌then◌else◌}
 use Rattle.std.specs.Int.{bit_at}
 use Rattle.records.specs.Slots.{slot_of}

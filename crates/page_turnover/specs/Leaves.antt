@@ -1,4 +1,4 @@
--- What the operation that is next leaves, whole or torn: by a fault, or by a cut before anything is read back.
+-- Believed: what the operation that is next leaves, whole or torn: by a fault, or by a cut before anything is read back.
 use Rattle.std.specs.Prelude.{ℕ, List}
 use Rattle.page_turnover.specs.declared.operation.Operation.{Operation}
 use Rattle.page_turnover.specs.declared.operation.Operation.TheVariants.{Program, Erase}
@@ -23,6 +23,7 @@ abbrev pub MakesNoHeader : List ℕ → Operation → List ℕ → Type 0
 MakesNoHeader old (Program page slot word) new = Unit {0}
 MakesNoHeader old (Erase page) new = (p s : ℕ) → HasHeader new p s → HasHeader old p s
 
+-- all that is said of what the operation leaves
 pub record Leaves (old : List ℕ) (log : LogValue) (operation : Operation) (new : List ℕ) : Type 0 where
   pub operates : MayOperate old new
   pub usable : IsUsable new

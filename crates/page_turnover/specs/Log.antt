@@ -1,3 +1,4 @@
+-- Believed: HasTailRoom. IsHeld and Describes only tie code: what a log holds stands for an image.
 use Rattle.std.specs.Prelude.{◌≡◌, ℕ, List, Some, None, MatchOption, IsSomeAnd, ◌≤◌}
 use Rattle.flash_model.specs.Image.{IsImage}
 use Rattle.page_turnover.specs.Active.{active, format}

@@ -1,4 +1,4 @@
--- What the code's parts of a step owe each other; the promise itself is in Steps, Next and Leaves.
+-- Only ties code to its definitions: what the private parts of a step owe each other; what a step promises is in Steps.
 use Rattle.std.specs.Prelude.{◌≡◌, ◌≢◌, ℕ, ◌+◌, ◌%◌, ◌^◌, ◌<◌, ◌⊎◌, List, Bool, true, false, Some}
 use Rattle.records.specs.declared.Slot.TheVariants.{Free}
 use Rattle.records.specs.Slots.{slot_of}

@@ -1,8 +1,9 @@
--- The operation that a step of a log makes next.
+-- Believed: the operation that a step of a log makes next.
 use Rattle.std.specs.Prelude.{◌≡◌, ℕ, ◌+◌, List, Bool, true, false, Option, Some, None}
 use Rattle.records.specs.declared.Slot.TheVariants.{Good}
 use Rattle.records.specs.Slots.{slot_of, encoded}
 use Rattle.flash_model.specs.Image.{slot_at}
+use Rattle.flash_model.specs.FlashOperation.{FlashOperation, programs, erases}
 use Rattle.flash_model.specs.Operations.{Programs, MayProgram, Erases, MayErase}
 use Rattle.page_turnover.specs.declared.log.ActivePage.{ActivePage}
 use Rattle.page_turnover.specs.declared.operation.Operation.{Operation}
@@ -39,6 +40,11 @@ operation_for (Seal target) image log = Some (turn_operation (is_ready image tar
 -- the operation that the next step makes, if any
 abbrev pub next_operation : List ℕ → LogValue → Option Operation
 next_operation image log = operation_for log.task image log
+
+-- an operation as the flash is asked for it
+abbrev pub on_flash : Operation → FlashOperation
+on_flash (Program page slot word) = programs page slot (encoded word)
+on_flash (Erase page) = erases page
 
 -- the whole of an operation
 abbrev pub Makes : List ℕ → Operation → List ℕ → Type 0

@@ -1,4 +1,4 @@
--- What one operation of a log does to the flash, whatever it is for.
+-- Believed: what one operation of a log does to the flash, whatever it is for.
 use Rattle.std.specs.Prelude.{◌≡◌, ℕ, ◌<◌, ◌^◌, List, Some}
 use Rattle.records.specs.declared.Slot.TheVariants.{Free}
 use Rattle.records.specs.Slots.{encoded, slot_of}

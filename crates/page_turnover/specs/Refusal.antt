@@ -1,3 +1,4 @@
+-- Believed: when a turn is refused.
 use Rattle.std.specs.Prelude.{◌≡◌, ◌-◌, ◌^◌, None, IsSome, IsSomeAnd, MatchOption, ⊤}
 use Rattle.page_turnover.specs.declared.log.turning.TurnRefusal.{TurnRefusal}
 use Rattle.page_turnover.specs.declared.log.turning.TurnRefusal.TheVariants.{Unsound, Worn}

@@ -1,4 +1,4 @@
--- What a step of a log does to the image and to what the log holds.
+-- Believed: what a step of a log does to the image and to what the log holds.
 use Rattle.std.specs.Prelude.{◌≡◌, ◌≢◌, ℕ, ◌+◌, ◌%◌, ◌^◌, ◌⊎◌, List, [], ◌∷◌, ◌++◌, length, Option, Some, None}
 use Rattle.records.specs.Slots.{encoded}
 use Rattle.flash_model.specs.Operations.{Programs, Erases}
@@ -63,6 +63,7 @@ StepsFor (Wait target) old before step new after = Idles old before step new aft
 StepsFor (Copy target word) old before step new after = ErasesTarget old before target (λ t. Copy t word) step new after ⊎ Copies old before target word step new after
 StepsFor (Seal target) old before step new after = ErasesTarget old before target Seal step new after ⊎ Seals old before target step new after
 
+-- what a step does, by what is under way
 abbrev pub Steps : List ℕ → LogValue → Step → List ℕ → LogValue → Type 0
 Steps old before step new after = StepsFor before.task old before step new after
 
@@ -79,6 +80,7 @@ pub record Moves (old : List ℕ) (before : Task) (new : List ℕ) (after : Task
   pub format_is : format new ≡ format old
   pub copies_are : copies new after ++ offered after ≡ copies old before ++ offered before
 
+-- the word comes after the words before, on the same active page
 pub record CommitsWord (old : List ℕ) (word : ℕ) (new : List ℕ) : Type 0 where
   pub words_are : words new ≡ words old ++ word ∷ []
   pub active_is : active new ≡ active old

@@ -1,3 +1,4 @@
+-- Believed: the page that a turn writes, and how far it is. From IsGood to UnderWay, but for copied, only ties code.
 use Rattle.std.specs.Prelude.{◌≡◌, ℕ, ◌+◌, ◌%◌, ◌^◌, ◌<◌, ◌≤◌, List, [], ◌∷◌, Option, Some, None}
 use Rattle.records.specs.declared.Slot.{Slot}
 use Rattle.records.specs.declared.Slot.TheVariants.{Free, Good, Spoiled}
@@ -13,6 +14,7 @@ abbrev pub page_after : Option (ℕ × ℕ) → ℕ → ℕ
 page_after (Some place) pages = (place.0 + 1) % pages
 page_after None pages = 0
 
+-- the page that a turn writes
 unfoldable pub target_page : List ℕ → ℕ
 target_page image = page_after (active image) (page_count image)
 
@@ -21,6 +23,7 @@ abbrev pub seq_after : Option (ℕ × ℕ) → ℕ
 seq_after (Some place) = place.1 + 1
 seq_after None = 1
 
+-- the sequence number of the header that a turn writes
 unfoldable pub next_seq : List ℕ → ℕ
 next_seq image = seq_after (active image)
 
@@ -121,6 +124,7 @@ with_copy (Wait target) word = Copy target word
 with_copy (Copy target other) word = Copy target other
 with_copy (Seal target) word = Seal target
 
+-- a turn that waits gets its seal
 abbrev pub with_seal : Task → Task
 with_seal Rest = Rest
 with_seal (Append word) = Append word

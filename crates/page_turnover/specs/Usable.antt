@@ -1,3 +1,4 @@
+-- Believed: whether anything may be written.
 use Rattle.std.specs.Prelude.{ℕ, ◌<◌, List}
 use Rattle.records.specs.Slots.{IsSound}
 use Rattle.flash_model.specs.Image.{slot_at, page_count}

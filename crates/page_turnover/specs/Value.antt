@@ -1,3 +1,4 @@
+-- Believed: what a log holds. From target_value on only ties code.
 use Rattle.std.specs.Prelude.{ℕ, Option}
 use Rattle.page_turnover.specs.declared.log.ActivePage.{ActivePage}
 use Rattle.page_turnover.specs.declared.log.Target as stored_target

@@ -4,6 +4,7 @@ ghost use Rattle.std.specs.Prelude.{◌≡◌, ◌+◌, ◌%◌, ◌^◌, ◌<�
 ghost use Rattle.flash_model.specs.Image.{page_count, slot_at, IsImage};
 ghost use Rattle.records.specs.Slots.{slot_of};
 ghost use Rattle.page_turnover.specs.Made.{CanMake, IsMade, RaisesFaults};
+ghost use Rattle.page_turnover.specs.Next.{on_flash};
 
 use crate::reading::is_blank;
 use flash_model::NorFlash;
@@ -28,7 +29,7 @@ pub fn make<F: NorFlash>(flash: &mut F, operation: Operation) -> bool
     ensures counted { F.operations flash.new ≡ (F.operations flash.old + 1) % 2 ^ 64 }
     ensures faulted { RaisesFaults result (F.faults flash.old) (F.faults flash.new) }
     ensures faultless { F.is_faultless flash.old → F.is_faultless flash.new × (result ≡ true) }
-    ensures operated { F.operates flash.old flash.new }
+    ensures operated { F.operates flash.old (on_flash operation) flash.new }
 {
     let _pages = flash.pages();
     match operation {

@@ -1,3 +1,4 @@
+-- Believed: what a slot can be, and slots side by side; number_at only ties code.
 use Rattle.std.specs.Prelude.{ℕ, ◌+◌, ◌*◌, Bool, true, false, List, take, drop, slice_index}
 use Rattle.records.specs.declared.Slot.{Slot}
 use Rattle.records.specs.declared.Slot.TheVariants.{Free, Good}

@@ -1,3 +1,4 @@
+-- Believed: what a slot of eight bytes says.
 use Rattle.std.specs.Prelude.{◌≡◌, ℕ, ◌+◌, ◌-◌, ◌<◌, ◌≤◌, ◌^◌, ◌==◌, ◌&&◌, if◌then◌else◌, List, ◌++◌, length, take, drop, slice_index}
 use Rattle.std.specs.Int.{to_le_bytes, from_le_bytes, bit_at, bit_not, w32}
 use Rattle.records.specs.declared.Slot.{Slot}

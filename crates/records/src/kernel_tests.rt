@@ -3,7 +3,9 @@
 use crate::{Kinds, Slot, all_ones, classify, kinds8};
 use std::process::Abort;
 
-const HEADER: [u8; 8] = [0x01, 0x00, 0x00, 0x10, 0xfe, 0xff, 0xff, 0xef];
+const HEADER: [u8; 8] = [0x01, 0x00, 0x00, 0x20, 0xfe, 0xff, 0xff, 0xdf];
+
+const OLD_HEADER: [u8; 8] = [0x01, 0x00, 0x00, 0x10, 0xfe, 0xff, 0xff, 0xef];
 
 const RECORD: [u8; 8] = [0x05, 0x00, 0x00, 0x10, 0xfa, 0xff, 0xff, 0xef];
 
@@ -38,15 +40,16 @@ fn check(rt: &impl Abort, slots: [[u8; 8]; 8]) {
 
 #[test]
 fn a_header_a_record_and_a_torn_one(rt: HostRuntime) {
-    let slots = [HEADER, RECORD, TORN_RECORD, FREE, FREE, FREE, FREE, FREE];
-    let kinds = kinds8(&block_of(slots));
-    assert_eq!(rt;
-        kinds,
-        Kinds {
-            good: 0x03,
-            free: 0xf8
-        }
-    );
+    for header in [HEADER, OLD_HEADER] {
+        let slots = [header, RECORD, TORN_RECORD, FREE, FREE, FREE, FREE, FREE];
+        assert_eq!(rt;
+            kinds8(&block_of(slots)),
+            Kinds {
+                good: 0x03,
+                free: 0xf8
+            }
+        );
+    }
 }
 
 #[test]
@@ -76,7 +79,7 @@ fn one_clear_bit_is_seen_at_each_place(rt: HostRuntime) {
     for len in 0..131 {
         assert!(rt; all_ones(&bytes[..len]));
         for k in 0..len {
-            for bit in [0xfe, 0xf7, 0x7f] {
+            for bit in [0xfe, 0xfd, 0xfb, 0xf7, 0xef, 0xdf, 0xbf, 0x7f] {
                 bytes[k] = bit;
                 assert!(rt; !all_ones(&bytes[..len]));
                 bytes[k] = 0xff;

@@ -40,7 +40,7 @@ pub struct Plan {
 
 impl Log {
     ghost use Rattle.page_turnover.specs.Log.{Describes, HasTailRoom};
-    ghost use Rattle.page_turnover.specs.Next.{next_operation};
+    ghost use Rattle.page_turnover.specs.Next.{next_operation, on_flash};
     ghost use Rattle.page_turnover.specs.Operates.{Operates, MayOperate, FillsAtMostOne};
     ghost use Rattle.page_turnover.specs.Made.{Plans};
     ghost use Rattle.page_turnover.specs.Steps.{EndsAs, AttemptsNext, CountsAs, Moves, Commits};
@@ -74,8 +74,8 @@ impl Log {
         ensures fills { FillsAtMostOne (F.image flash.old) (F.image flash.new) }
         ensures counts { CountsAs result (F.operations flash.old) (F.operations flash.new) (F.faults flash.old) (F.faults flash.new) }
         ensures faultless { F.is_faultless flash.old → F.is_faultless flash.new × (result ≢ Step.Failed) }
-        // what this flash says of an operation beside that
-        ensures operated { result ≢ Step.Idle → F.operates flash.old flash.new }
+        // what this flash says of that operation
+        ensures operated { (operation : Operation) → next_operation (F.image flash.old) self.old ≡ Some operation → F.operates flash.old (on_flash operation) flash.new }
     {
         let Some(plan) = self.plan(flash) else {
             return Step::Idle;

@@ -1,6 +1,6 @@
-use Rattle.std.proofs.Common.{refl}
+use Rattle.std.proofs.Common.{refl, sym, ◌∙◌}
 use Rattle.keymap_store.proofs.Working.{appended, failed}
-use Rattle.keymap_store.proofs.Stepped.{append_settled, append_failed, append_writes, append_fails}
+use Rattle.keymap_store.proofs.Stepped.{append_next, append_settled, append_failed, append_writes, append_fails}
 use Rattle.keymap_store.proofs.store.Store.append.Goals as goal
 
 pub returns-in-Committed-clause-mirrors : goal.returns-in-Committed-clause-mirrors
@@ -56,7 +56,13 @@ pub returns-in-Failed-clause-torn : goal.returns-in-Failed-clause-torn
 returns-in-Failed-clause-torn g c f = c.step.ensures.torn c.in-Failed.is
 
 pub returns-in-Committed-clause-operated : goal.returns-in-Committed-clause-operated
-returns-in-Committed-clause-operated g c idle = let made = c.in-Committed.is in c.step.ensures.operated (λ e. cc)
+returns-in-Committed-clause-operated g c operation e =
+    let old = g.F.NorFlash.image c.args.flash.now in
+    let next = append_next old _ c.args.command (rw (← c.self.view_is) at c.requires.mirrors) (rw (← c.self.view_is) at c.requires.job) in
+    c.step.ensures.operated operation (sym next ∙ rw (← c.self.view_is) at e)
 
 pub returns-in-Failed-clause-operated : goal.returns-in-Failed-clause-operated
-returns-in-Failed-clause-operated g c idle = let made = c.in-Failed.is in c.step.ensures.operated (λ e. cc)
+returns-in-Failed-clause-operated g c operation e =
+    let old = g.F.NorFlash.image c.args.flash.now in
+    let next = append_next old _ c.args.command (rw (← c.self.view_is) at c.requires.mirrors) (rw (← c.self.view_is) at c.requires.job) in
+    c.step.ensures.operated operation (sym next ∙ rw (← c.self.view_is) at e)

@@ -4,7 +4,7 @@ use Rattle.keymap_store.specs.Keymap.{entries_of}
 use Rattle.keymap_store.specs.Left.{turn_left}
 use Rattle.keymap_store.proofs.Counting.{moved_left, committed_left, turning_left}
 use Rattle.keymap_store.proofs.Working.{turning, turn_few, turn_moves, turn_room, turn_commits, keeps_of, failed}
-use Rattle.keymap_store.proofs.Stepped.{turn_working, turn_failed, in_target, turn_prepares, turn_over, turn_fails}
+use Rattle.keymap_store.proofs.Stepped.{turn_asks, turn_working, turn_failed, in_target, turn_prepares, turn_over, turn_fails}
 use Rattle.keymap_store.proofs.store.Store.turn.Goals as goal
 
 pub offer_next-from-requires-clause-few : goal.offer_next-from-requires-clause-few
@@ -157,10 +157,25 @@ pub returns-in-Failed-clause-torn : goal.returns-in-Failed-clause-torn
 returns-in-Failed-clause-torn g c f = c.step.ensures.torn c.in-Failed.is
 
 pub returns-in-Moved-clause-operated : goal.returns-in-Moved-clause-operated
-returns-in-Moved-clause-operated g c idle = let made = c.in-Moved.is in c.step.ensures.operated (λ e. cc)
+returns-in-Moved-clause-operated g c operation e =
+    let old = g.F.NorFlash.image c.args.flash.now in
+    let m = rw (← c.self.view_is) at c.requires.mirrors in
+    let j = turning old _ c.args.command c.args.from m (rw (← c.self.view_is) at c.requires.job) in
+    let s = c.offer_next-from.ensures.stands old (entries_of old) m.keymap_is m.log_is j.offers in
+    c.step.ensures.operated operation (turn_asks old _ c.offer_next-from.new.log c.offer_next-from.result operation m s (rw (← c.self.view_is) at e))
 
 pub returns-in-Committed-clause-operated : goal.returns-in-Committed-clause-operated
-returns-in-Committed-clause-operated g c idle = let made = c.in-Committed.is in c.step.ensures.operated (λ e. cc)
+returns-in-Committed-clause-operated g c operation e =
+    let old = g.F.NorFlash.image c.args.flash.now in
+    let m = rw (← c.self.view_is) at c.requires.mirrors in
+    let j = turning old _ c.args.command c.args.from m (rw (← c.self.view_is) at c.requires.job) in
+    let s = c.offer_next-from.ensures.stands old (entries_of old) m.keymap_is m.log_is j.offers in
+    c.step.ensures.operated operation (turn_asks old _ c.offer_next-from.new.log c.offer_next-from.result operation m s (rw (← c.self.view_is) at e))
 
 pub returns-in-Failed-clause-operated : goal.returns-in-Failed-clause-operated
-returns-in-Failed-clause-operated g c idle = let made = c.in-Failed.is in c.step.ensures.operated (λ e. cc)
+returns-in-Failed-clause-operated g c operation e =
+    let old = g.F.NorFlash.image c.args.flash.now in
+    let m = rw (← c.self.view_is) at c.requires.mirrors in
+    let j = turning old _ c.args.command c.args.from m (rw (← c.self.view_is) at c.requires.job) in
+    let s = c.offer_next-from.ensures.stands old (entries_of old) m.keymap_is m.log_is j.offers in
+    c.step.ensures.operated operation (turn_asks old _ c.offer_next-from.new.log c.offer_next-from.result operation m s (rw (← c.self.view_is) at e))
