@@ -1,3 +1,4 @@
+-- Only ties code to its definitions: what is kept of all keys.
 use Rattle.std.specs.Prelude.{◌≡◌, ℕ, ◌<◌, List, [], length, slice_index, slice_index_or}
 use Rattle.debounce.specs.declared.Scan.{Scan}
 use Rattle.debounce.specs.declared.row.Row.{Row}

@@ -1,4 +1,4 @@
--- What is kept of one row, and of each of its keys: a bit of each word.
+-- Only ties code to its definitions: what is kept of one row, and of each of its keys: a bit of each word.
 use Rattle.std.specs.Prelude.{◌≡◌, ℕ, ◌<◌, ◌==◌, not, Bool, List, ◌∷◌}
 use Rattle.std.specs.Int.{bit_at}
 use Rattle.debounce.specs.declared.row.Row.{Row}

@@ -1,7 +1,9 @@
+-- Believed: the samples of a key and its debounced value.
 use Rattle.std.specs.Prelude.{ℕ, ◌+◌, min, Bool, true, false, List, [], ◌∷◌, map, if◌then◌else◌, nat_le}
 use Rattle.debounce.specs.declared.Scan.{Scan}
 use Rattle.debounce.specs.Scans.{has}
 
+-- two values are the same, as a test
 abbrev pub same : Bool → Bool → Bool
 same true b = b
 same false true = false

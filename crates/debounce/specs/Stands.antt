@@ -1,3 +1,4 @@
+-- Only ties code to its definitions: a debouncer stands for the scans that it was fed.
 use Rattle.std.specs.Prelude.{ℕ, ◌<◌, ◌/◌, ◌%◌, List}
 use Rattle.debounce.specs.declared.Scan.{Scan}
 use Rattle.debounce.specs.Samples.{samples}

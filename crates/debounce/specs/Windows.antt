@@ -1,3 +1,4 @@
+-- Believed where this crate is called: five equal samples in a row, and the newest ones.
 use Rattle.std.specs.Prelude.{◌≡◌, ℕ, ◌+◌, ◌<◌, Bool, List, Some, slice_get}
 
 -- the five samples from this place on, of samples newest first, are there and have this value

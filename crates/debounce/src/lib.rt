@@ -1,6 +1,10 @@
 //! Debouncing of a matrix of 96 keys: scans in, edges and the keys that are down out. A contact
 //! bounces when it closes or opens, so a key takes a new value only after five equal samples in a
 //! row. One scan is one millisecond.
+//!
+//! A `Debouncer` keeps of each key its latest sample, how many of the latest are equal, and whether
+//! it is down. The promise is that a key has the value of the newest five equal samples in a row,
+//! and that an edge is a change of it. `key_reports` calls it at each scan.
 #![tactic(auto)]
 
 ghost use Rattle.std.specs.Prelude.{◌≡◌, ◌/◌, ◌%◌, ◌<◌, ◌&&◌, ◌||◌, ◌==◌, ℕ, length, slice_index};

@@ -1,9 +1,10 @@
--- What the keys were asked, and what they answered.
+-- Believed: what the keys were asked, and what they answered.
 use Rattle.std.specs.Prelude.{ℕ, List}
 use Rattle.debounce.specs.declared.Scan.{Scan}
 use Rattle.reports.specs.declared.Protocol.{Protocol}
 use Rattle.reports.specs.Calls.{PollerCall}
 
+-- a call of the keys
 pub data KeyCall : Type 0 where
   -- a scan in this protocol, with the codes of the keymap at that moment
   Scanned : (scan : Scan) → (keymap : List ℕ) → (protocol : Protocol) → KeyCall

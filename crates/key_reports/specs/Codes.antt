@@ -1,4 +1,4 @@
--- The code of a key, said of its latest press.
+-- Believed: the code of a key, said of its latest press.
 use Rattle.std.specs.Prelude.{◌≡◌, ℕ, ◌<◌, ◌&&◌, ◌||◌, Bool, true, false, IsTrue, nat_lt, if◌then◌else◌, Option, Some, None, List, [], ◌∷◌, ◌++◌}
 use Rattle.debounce.specs.declared.Scan.{Scan}
 use Rattle.debounce.specs.Samples.{down}

@@ -1,4 +1,4 @@
--- Not part of the promise: the releases and presses that the edges of a scan come to, newest first.
+-- Only ties code to its definitions: the releases and presses that the edges of a scan come to, newest first.
 use Rattle.std.specs.Prelude.{ℕ, Option, List, ◌++◌, map, reverse}
 use Rattle.debounce.specs.declared.Scan.{Scan}
 use Rattle.debounce.specs.declared.debouncer.Edges.{Edges}

@@ -1,5 +1,5 @@
--- What the calls, newest first, come to: scans, presses and releases, the wanted bytes of the reports, the calls of the
--- poller, and the answer of a poll.
+-- Believed: what the calls, newest first, come to: scans, presses and releases, the wanted bytes of the reports, the calls
+-- of the poller, and the answer of a poll.
 use Rattle.std.specs.Prelude.{ℕ, zero, suc, Bool, ◌&&◌, not, if◌then◌else◌, Option, List, [], ◌∷◌, ◌++◌, map}
 use Rattle.debounce.specs.declared.Scan.{Scan}
 use Rattle.debounce.specs.Samples.{down}
@@ -23,10 +23,11 @@ scans_of (Asked call ∷ past) = scans_of past
 abbrev pub is_down : List KeyCall → ℕ → Bool
 is_down past key = down (scans_of past) key
 
--- whether this scan, after these, presses or releases a key
+-- whether this scan, after these, presses a key
 abbrev pub presses : Scan → List Scan → ℕ → Bool
 presses scan scans key = down (scan ∷ scans) key && not (down scans key)
 
+-- whether this scan, after these, releases a key
 abbrev pub releases : Scan → List Scan → ℕ → Bool
 releases scan scans key = down scans key && not (down (scan ∷ scans) key)
 
@@ -45,10 +46,11 @@ held_calls (Scanned scan keymap protocol ∷ past) =
     ++ held_calls past)
 held_calls (Asked call ∷ past) = held_calls past
 
--- the usages of page 07h, and those of page 0Ch, that the codes of the held keys name
+-- the usages of page 07h that the codes of the held keys name
 unfoldable pub keys_after : List KeyCall → ℕ → Bool
 keys_after past = key_usages (held_calls past)
 
+-- the usages of page 0Ch that they name
 unfoldable pub consumer_after : List KeyCall → ℕ → Bool
 consumer_after past = consumer_usages (held_calls past)
 

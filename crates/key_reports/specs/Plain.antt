@@ -1,4 +1,4 @@
--- What the scans of the plain program stand for.
+-- Only ties code to its definitions: what the scans of the plain program stand for.
 use Rattle.std.specs.Prelude.{ℕ, Option, None, List, [], ◌∷◌, map}
 use Rattle.std.specs.Borrow.{Bor}
 use Rattle.debounce.specs.declared.Scan.{Scan}

@@ -1,4 +1,4 @@
--- Not part of the promise: what ties the code to a past. It holds of new keys, and each call keeps it.
+-- Only ties code to its definitions: what is kept stands for a past. It holds of new keys, and each call keeps it.
 use Rattle.std.specs.Prelude.{List}
 use Rattle.debounce.specs.Stands as debounce
 use Rattle.layers.specs.HeldStands.{HeldStandsFor}

@@ -1,4 +1,4 @@
--- A keymap by its entries.
+-- Believed: a keymap by its entries.
 use Rattle.std.specs.Prelude.{ℕ, List, map}
 use Rattle.std.specs.List.{range_with_len}
 use Rattle.layers.specs.Copies.{places, entry_at}

@@ -1,3 +1,4 @@
+-- Only ties code to its definitions: the parts of the keys.
 use Rattle.std.specs.Prelude.{ℕ, List, Option}
 use Rattle.debounce.specs.Kept as debounce
 use Rattle.reports.specs.Kept as reports

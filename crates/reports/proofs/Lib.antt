@@ -5,6 +5,7 @@ pub mod LayoutLaws
 pub mod Rising
 pub mod Waiting
 pub mod Rule
+pub mod Sizes
 pub mod Due
 pub mod ByteBits
 pub mod Following

@@ -1,3 +1,4 @@
+-- Believed: the calls of a poller.
 use Rattle.std.specs.Prelude.{ℕ, Bool, true, false, List, Option}
 use Rattle.reports.specs.declared.Protocol.{Protocol}
 use Rattle.reports.specs.declared.IdleId.{IdleId}
@@ -9,8 +10,11 @@ pub data PollerCall : Type 0 where
   ticked : (protocol : Protocol) → (before now : Input → List ℕ) → PollerCall
   -- a poll in this protocol, with the bytes that it answered, if any
   polled : (protocol : Protocol) → (answer : Option (List ℕ)) → PollerCall
+  -- an idle value is set by a request of this ID
   idle_set : (id : IdleId) → (duration : ℕ) → PollerCall
+  -- what was sent and what waits is forgotten
   forgot : PollerCall
+  -- the same at a reset, which brings back the idle values of the start
   was_reset : PollerCall
 
 -- whether nothing that was sent or pushed before the call counts
@@ -19,10 +23,12 @@ forgets forgot = true
 forgets was_reset = true
 forgets _ = false
 
+-- whether the call is a scan
 abbrev pub is_tick : PollerCall → Bool
 is_tick (ticked protocol before now) = true
 is_tick _ = false
 
+-- whether the call is a poll
 abbrev pub is_poll : PollerCall → Bool
 is_poll (polled protocol answer) = true
 is_poll _ = false

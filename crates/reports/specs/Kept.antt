@@ -1,4 +1,4 @@
--- What a poller keeps; callers know it only by the calls that it stands for.
+-- Only ties code to its definitions: what a poller keeps, which callers know only by the calls that it stands for.
 use Rattle.std.specs.Prelude.{ℕ, List, Option}
 use Rattle.reports.specs.declared.Input.{Input}
 
@@ -7,6 +7,7 @@ pub record SentValue : Type 0 where
   pub bytes : List ℕ
   pub age : ℕ
 
+-- of the three reports, which of the reports 1 and 2 was sent last, the reports that wait, and both idle values
 pub record Kept : Type 0 where
   pub boot : SentValue
   pub one : SentValue

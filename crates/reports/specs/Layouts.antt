@@ -1,4 +1,4 @@
--- The layouts of the reports, said of each bit and place.
+-- Believed: the layouts of the reports, said of each bit and place.
 use Rattle.std.specs.Prelude.{◌≡◌, ℕ, ◌+◌, ◌-◌, ◌*◌, ◌/◌, ◌%◌, ◌<◌, ◌≤◌, ◌↔◌, Bool, true, List, length, Contains, slice_index, if◌then◌else◌}
 use Rattle.std.specs.Int.{bit_at}
 use Rattle.std.specs.List.Sorted.{IsStrictlyIncreasing}
@@ -9,10 +9,11 @@ pub record AreListed (keys : ℕ → Bool) (usages : List ℕ) : Type 0 where
   pub rising : IsStrictlyIncreasing usages
   pub members : (u : ℕ) → Contains usages u ↔ ((4 ≤ u) × (u ≤ 164) × (keys u ≡ true))
 
--- how many usages a boot report has to list, and how many of them are less than u
+-- how many usages a boot report has to list
 abbrev pub listed_count : (ℕ → Bool) → ℕ
 listed_count keys = length (listed keys)
 
+-- how many of them are less than u
 abbrev pub listed_below : (ℕ → Bool) → ℕ → ℕ
 listed_below keys u = length (members keys 4 (u - 4))
 
@@ -44,10 +45,11 @@ pub record IsBitmapReport (keys : ℕ → Bool) (bytes : List ℕ) : Type 0 wher
   pub usages : (u : ℕ) → 4 ≤ u → u ≤ 164 → bit_after_id bytes (8 + (u - 4)) ≡ bit_of (keys u)
   pub padding : (b : ℕ) → 169 ≤ b → b < 176 → bit_after_id bytes b ≡ 0
 
--- how many consumer usages a report has to list, and how many of them are less than u
+-- how many consumer usages there are to list
 abbrev pub consumer_count : (ℕ → Bool) → ℕ
 consumer_count consumer = length (consumer_listed consumer)
 
+-- how many of them are less than u
 abbrev pub consumer_below : (ℕ → Bool) → ℕ → ℕ
 consumer_below consumer u = length (members consumer 1 (u - 1))
 

@@ -1,4 +1,4 @@
--- The latest poll that sent a report, said of a past that is cut there, newest first.
+-- Believed where this crate is called: the latest poll that sent a report, said of a past that is cut there, newest first.
 use Rattle.std.specs.Prelude.{◌≡◌, ℕ, false, List, None, All, count_by}
 use Rattle.reports.specs.declared.Input.{Input}
 use Rattle.reports.specs.Calls.{PollerCall, forgets, is_tick}

@@ -1,4 +1,4 @@
--- What the calls and bytes of the plain program stand for.
+-- Believed where this crate is called: what the calls and bytes of the plain program stand for; from_last only ties code.
 use Rattle.std.specs.Prelude.{ℕ, ◌-◌, nat_lt, if◌then◌else◌, List, length, slice_get, Option, None}
 use Rattle.std.specs.Option.{option_map}
 use Rattle.reports.specs.declared.Input.{Input}
@@ -8,11 +8,13 @@ use Rattle.reports.specs.declared.plain.Call.TheVariants as call
 use Rattle.reports.specs.declared.plain.Wanted.{Wanted}
 use Rattle.reports.specs.Calls.{PollerCall, ticked, polled, idle_set, forgot, was_reset}
 
+-- the bytes of one of the three reports
 abbrev pub bytes_in : Wanted → Input → List ℕ
 bytes_in wanted Boot = wanted.boot
 bytes_in wanted One = wanted.one
 bytes_in wanted Two = wanted.two
 
+-- a call of the plain program as a poller's call
 abbrev pub call_of : Call → PollerCall
 call_of (call.Ticked protocol before now) = ticked protocol (bytes_in before) (bytes_in now)
 call_of (call.Polled protocol answer) = polled protocol (option_map (λ r. r.items) answer)

@@ -1,4 +1,4 @@
--- What a poll answers, by a look back over the poller's calls, newest first.
+-- Believed: what a poll answers, by a look back over the poller's calls, newest first.
 use Rattle.std.specs.Prelude.{ℕ, ◌+◌, ◌*◌, ◌==◌, Bool, true, false, ◌&&◌, ◌||◌, not, List, [], ◌∷◌, length, Option, Some, None, is_some, unwrap_or, slice_get, if◌then◌else◌, nat_le}
 use Rattle.std.specs.Option.{option_map, option_or}
 use Rattle.std.specs.Str.{bytes_eq}
@@ -34,7 +34,7 @@ last_bytes report (call ∷ past) =
     if forgets call then wanted (λ _. false) (λ _. false) report
     else unwrap_or (sent_by report call) (last_bytes report past)
 
--- the ticks since a report was sent, or since what was sent was forgotten
+-- the ticks since a report was sent, since what was sent was forgotten, or since the start
 unfoldable pub age : Input → List PollerCall → ℕ
 age report [] = 0
 age report (call ∷ past) =

@@ -1,4 +1,4 @@
--- The reports that wait to be sent, by a look back over the poller's calls, newest first.
+-- Believed: the reports that wait to be sent, by a look back over the poller's calls, newest first.
 use Rattle.std.specs.Prelude.{ℕ, ◌+◌, ◌-◌, min, if◌then◌else◌, List, [], ◌∷◌, ◌++◌, length, flat_map}
 use Rattle.std.specs.Str.{bytes_eq}
 use Rattle.circular_buffer.specs.Buffer.{keep_last}

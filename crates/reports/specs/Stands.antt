@@ -1,4 +1,4 @@
--- Not part of the promise: what ties the code to a past. It holds of a new poller, and each call keeps it.
+-- Only ties code to its definitions: what is kept stands for a past. It holds of a new poller, and each call keeps it.
 use Rattle.std.specs.Prelude.{◌≡◌, min, None, List, []}
 use Rattle.reports.specs.declared.Input.{Input}
 use Rattle.reports.specs.declared.Input.TheVariants.{Boot, One, Two}

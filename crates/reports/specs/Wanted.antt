@@ -1,5 +1,5 @@
--- The bytes of each report for a set of usages. A set is a test: `keys u` says that usage u of page
--- 07h is in it, `consumer u` that usage u of page 0Ch is.
+-- Believed: the bytes of each report for a set of usages. A set is a test: `keys u` says that usage u of page 07h is in it,
+-- `consumer u` that usage u of page 0Ch is.
 use Rattle.std.specs.Prelude.{ℕ, zero, suc, ◌+◌, ◌-◌, ◌*◌, ◌/◌, ◌%◌, ◌^◌, Bool, ◌&&◌, List, [], ◌∷◌, ◌++◌, length, take, replicate, if◌then◌else◌, nat_le, nat_lt}
 use Rattle.reports.specs.declared.Input.{Input}
 use Rattle.reports.specs.declared.Input.TheVariants.{Boot, One, Two}

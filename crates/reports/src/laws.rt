@@ -8,7 +8,7 @@ ghost use Rattle.reports.specs.declared.Input.{Input};
 ghost use Rattle.reports.specs.declared.Protocol.{Protocol};
 ghost use Rattle.reports.specs.Calls.{PollerCall, ticked, polled, idle_set, forgets};
 ghost use Rattle.reports.specs.LookBack.{NoneSent, Last, scans};
-ghost use Rattle.reports.specs.Poll.{sent_by};
+ghost use Rattle.reports.specs.Poll.{size_of, sent_by};
 ghost use Rattle.reports.specs.Queue.{pushed_by, waiting, queue};
 ghost use Rattle.reports.specs.Wanted.{listed, wanted, boot_bytes, bitmap_bytes, consumer_bytes};
 ghost use Rattle.reports.specs.Layouts.{AreListed, IsBootReport, IsBitmapReport, IsConsumerReport};
@@ -31,6 +31,11 @@ pub fn bitmap_has_its_layout()
 /// The bytes of the report of ID 2 have its layout.
 pub fn consumer_has_its_layout()
     ensures { (consumer : ℕ → Bool) → IsConsumerReport consumer (consumer_bytes consumer) }
+{}
+
+/// A report is known by its length: no two have the same.
+pub fn lengths_differ()
+    ensures { (a b : Input) → size_of a ≡ size_of b → a ≡ b }
 {}
 
 /// What was sent last of a report, and how long ago: the bytes that the latest poll gave that sent it, and

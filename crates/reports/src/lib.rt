@@ -1,6 +1,10 @@
 //! Input reports: the bytes of each report for a set of usages, and which of them a poll sends. A
 //! report that a scan changes waits in a queue of eight, so that the host sees a key that is pressed and
 //! released between two polls. `Poller::new` takes the queue's memory, and nothing else takes any.
+//!
+//! A `Poller` keeps what was sent last of each report and how many scans ago, the reports that
+//! wait, and the idle values. The promise is that each poll is answered as a look back over the
+//! poller's calls says. `key_reports` calls it at each scan and poll.
 #![tactic(auto)]
 
 use arrayvec::ArrayVec;
