@@ -1,4 +1,4 @@
--- What each packet is answered, stage by stage (USB 2.0 section 8.5.3).
+-- Believed: what each packet is answered, stage by stage (USB 2.0 section 8.5.3).
 use Rattle.std.specs.Prelude.{ℕ, ◌%◌, ◌^◌, ◌==◌, not, Bool, true, List, [], ◌∷◌, length, drop, slice_index, nat_lt, if◌then◌else◌, Option, Some, None, Result, Ok, Err}
 use Rattle.control_ep.specs.declared.why.Why.{Why}
 use Rattle.control_ep.specs.declared.why.Why.TheVariants.{UnknownReport, ShortData, LongData, WrongStage}

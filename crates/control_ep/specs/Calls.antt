@@ -1,4 +1,4 @@
--- What a control endpoint was asked, and what it answered.
+-- Believed: what a control endpoint was asked, and what it answered.
 use Rattle.std.specs.Prelude.{ℕ, List}
 use Rattle.control_ep.specs.declared.answer.EpAnswer.{EpAnswer}
 use Rattle.control_ep.specs.declared.answer.OutStep.{OutStep}
@@ -6,6 +6,7 @@ use Rattle.control_ep.specs.declared.answer.Verdict.{Verdict}
 use Rattle.control_ep.specs.declared.answer.Effect.{Effect}
 use Rattle.control_ep.specs.declared.answer.DeviceView.{DeviceView}
 
+-- a call of a control endpoint
 pub data EpCall : Type 0 where
   -- a SETUP packet, with the device at that moment
   Setup : List ℕ → DeviceView → EpCall

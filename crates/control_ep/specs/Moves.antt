@@ -1,4 +1,4 @@
--- What each call does to the stage: the look-back of `stage`, one call at a time.
+-- Believed where this crate is called: what each call does to the stage, the look-back of `stage` one call at a time.
 use Rattle.std.specs.Prelude.{ℕ, ◌+◌, List, [], Some}
 use Rattle.control_ep.specs.declared.why.Why.TheVariants.{FlashFault, WrongStage}
 use Rattle.control_ep.specs.declared.answer.EpAnswer.{EpAnswer}

@@ -1,4 +1,4 @@
--- The packets of a transfer that reads (USB 2.0 sections 5.5.3 and 8.5.3).
+-- Believed: the packets of a transfer that reads (USB 2.0 sections 5.5.3 and 8.5.3).
 use Rattle.std.specs.Prelude.{ℕ, zero, suc, ◌++◌, unwrap_or, ◌*◌, ◌==◌, ◌&&◌, List, [], length, take, drop, nat_lt, if◌then◌else◌, Option, Some, None}
 
 -- the bytes that are sent: no more than were asked for

@@ -1,4 +1,4 @@
--- Not part of the promise: the bytes of a read, wherever they are.
+-- Only ties code to its definitions: the bytes of a read, wherever they are.
 use Rattle.std.specs.Prelude.{ℕ, List}
 use Rattle.control_ep.specs.declared.data.Source.{Source}
 use Rattle.control_ep.specs.declared.data.Source.TheVariants.{Lent, Copied}

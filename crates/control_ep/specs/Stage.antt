@@ -1,4 +1,4 @@
--- The stage of the transfer under way, by looking back over the calls, newest first.
+-- Believed: the stage of the transfer under way, by looking back over the calls, newest first.
 use Rattle.std.specs.Prelude.{ℕ, ◌+◌, ◌==◌, ◌||◌, Bool, true, false, List, [], ◌∷◌, if◌then◌else◌, Option, Some, None, Result, Ok, Err}
 use Rattle.control_ep.specs.declared.why.Why.{Why}
 use Rattle.control_ep.specs.declared.why.Why.TheVariants.{FlashFault}
@@ -35,6 +35,7 @@ last_setup (In _ _ ∷ past) = last_setup past
 last_setup (Settle ∷ past) = last_setup past
 last_setup (Fail ∷ past) = last_setup past
 
+-- the reason of an answer that is a STALL
 abbrev pub reason_in : EpAnswer → Option Why
 reason_in (Stall why) = Some why
 reason_in _ = None
@@ -46,6 +47,7 @@ stall_of (Judged _ answer) = reason_in answer
 stall_of (In answer _) = reason_in answer
 stall_of _ = None
 
+-- the first, if there is one, else the second
 abbrev pub or_else : {A : Type 0} → Option A → Option A → Option A
 or_else (Some a) b = Some a
 or_else None b = b
@@ -55,6 +57,7 @@ abbrev pub first_stall : List EpCall → Option Why
 first_stall [] = None
 first_stall (call ∷ before) = or_else (first_stall before) (stall_of call)
 
+-- the call is an empty OUT packet
 abbrev pub is_empty_out : EpCall → Bool
 is_empty_out (Out [] _) = true
 is_empty_out _ = false
@@ -70,10 +73,12 @@ count_in [] = 0
 count_in (In _ _ ∷ before) = count_in before + 1
 count_in (_ ∷ before) = count_in before
 
+-- an answer acknowledges
 abbrev pub is_ack : EpAnswer → Bool
 is_ack Ack = true
 is_ack _ = false
 
+-- the call is an OUT packet or its verdict, and acknowledges it
 abbrev pub acknowledges : EpCall → Bool
 acknowledges (Out _ (Answered answer)) = is_ack answer
 acknowledges (Out _ (Leds _)) = true
@@ -85,6 +90,7 @@ abbrev pub is_taken : List EpCall → Bool
 is_taken [] = false
 is_taken (call ∷ before) = acknowledges call || is_taken before
 
+-- what became of the command of a feature report: there is none, it works, it is settled, or it failed
 pub data CommandState : Type 0 where
   NoCommand : CommandState
   Works : CommandState
@@ -104,14 +110,17 @@ command_of (Settle ∷ before) = state_after (command_of before) Settled
 command_of (Fail ∷ before) = state_after (command_of before) Failed
 command_of (_ ∷ before) = command_of before
 
+-- there is no byte
 abbrev pub is_nil : List ℕ → Bool
 is_nil [] = true
 is_nil (_ ∷ _) = false
 
+-- an answer is the empty packet
 abbrev pub is_empty_packet : EpAnswer → Bool
 is_empty_packet (Packet packet) = is_nil packet.items
 is_empty_packet _ = false
 
+-- the call is an IN packet that the empty packet answered
 abbrev pub is_empty_in : EpCall → Bool
 is_empty_in (In answer _) = is_empty_packet answer
 is_empty_in _ = false
@@ -141,6 +150,7 @@ pub record Progress : Type 0 where
   pub command : CommandState
   pub confirmed : Bool
 
+-- these calls, newest first, tell this
 abbrev pub progress_of : List EpCall → Progress
 progress_of calls = record {
   closed = is_closed calls;
@@ -164,6 +174,7 @@ stage_after None progress = Rest
 stage_after (Some (Err why, length)) progress = Stalled why
 stage_after (Some (Ok transfer, length)) progress = stage_in transfer length progress
 
+-- stalled for this reason, if there is one
 abbrev pub unless_stalled : Option Why → Stage → Stage
 unless_stalled (Some why) stage = Stalled why
 unless_stalled None stage = stage

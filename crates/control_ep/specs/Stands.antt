@@ -1,4 +1,5 @@
--- A control endpoint stands for the calls that were made on it, newest first.
+-- Believed where this crate is called: the calls of a control endpoint are answered by the tables. StandsFor only ties
+-- code: a control endpoint stands for the calls that were made on it, newest first.
 use Rattle.std.specs.Prelude.{◌≡◌, Bool, true, false, List, [], ◌∷◌, IsTrue}
 use Rattle.control_ep.specs.declared.answer.OutStep.TheVariants.{Offer}
 use Rattle.control_ep.specs.Transfers.{Stage}
@@ -26,6 +27,7 @@ abbrev pub AllAnswered : List EpCall → Type 0
 AllAnswered [] = Unit {0}
 AllAnswered (call ∷ past) = IsAnswered past call × AllAnswered past
 
+-- the endpoint is in the stage of these calls, each of which was answered so
 pub record StandsFor (past : List EpCall) (now : Stage) : Type 0 where
   pub answered : AllAnswered past
   pub stage : now ≡ stage past

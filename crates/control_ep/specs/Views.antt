@@ -1,4 +1,4 @@
--- Not part of the promise: what the endpoint's own types stand for.
+-- Only ties code to its definitions: what the endpoint's own types stand for.
 use Rattle.std.specs.Prelude.{Option, Some, None, Result, Ok, Err}
 use Rattle.control_ep.specs.declared.why.Why.{Why}
 use Rattle.control_ep.specs.declared.endpoint.Stage as Kept

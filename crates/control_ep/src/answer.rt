@@ -5,7 +5,7 @@ use arrayvec::ArrayVec;
 use reports::{IdleId, Protocol};
 
 /// The answer to a packet of endpoint 0 (USB 2.0 section 8.5.3).
-#[derive(Debug, Drop, PartialEq, Eq)]
+#[derive(Clone, Debug, Drop, PartialEq, Eq)]
 #[must_use]
 pub enum EpAnswer {
     /// The packet is acknowledged.
@@ -19,7 +19,7 @@ pub enum EpAnswer {
 }
 
 /// What an OUT packet comes to.
-#[derive(Debug, Drop, PartialEq, Eq)]
+#[derive(Clone, Debug, Drop, PartialEq, Eq)]
 #[must_use]
 pub enum OutStep {
     /// The packet is answered.

@@ -5,6 +5,10 @@
 //! STALL. What it can't decide itself it hands out: the LED bits of an output report, the change that a
 //! status packet brings, and the command of a feature report, for which its caller gives a verdict.
 //!
+//! The promise is that each packet is answered as the stage of its transfer says, which is looked
+//! up in the calls since the SETUP packet. `keyboard` calls it, and tells it what the device is at
+//! that moment.
+//!
 //! **In a controller's firmware.** `setup` is called at each SETUP packet of a served request, `out` and
 //! `in_packet` at the OUT and IN tokens of endpoint 0; the answer goes onto the bus at once, and an
 //! effect is given with its packet. A controller that is handed IN packets before they are asked for

@@ -1,4 +1,4 @@
--- The descriptors that the keyboard serves, byte by byte.
+-- Believed: the descriptors that the keyboard serves, byte by byte.
 use Rattle.std.specs.Prelude.{ℕ, ◌+◌, ◌*◌, List, [], ◌∷◌, ◌++◌, slice_index}
 
 -- two bytes from this place on, the low one first
