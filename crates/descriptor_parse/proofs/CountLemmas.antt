@@ -1,5 +1,5 @@
 -- How many usages ranges have.
-use Rattle.std.proofs.Common.{◌≡◌, ◌≢◌, ℕ, zero, suc, ◌+◌, ◌-◌, ◌*◌, ◌/◌, ◌%◌, ◌^◌, ◌<◌, ◌≤◌, List, [], ◌∷◌, ◌++◌, append_assoc, length, take, drop, get_or, true, false, refl, arith, sym, ◌∙◌, ap, Some, None, length-append, map}
+use Rattle.std.proofs.Common.{◌≡◌, ℕ, zero, suc, ◌+◌, ◌-◌, ◌*◌, ◌/◌, ◌%◌, ◌^◌, ◌<◌, ◌≤◌, List, [], ◌∷◌, ◌++◌, append_assoc, length, take, drop, get_or, true, false, refl, arith, sym, ◌∙◌, ap, Some, None, length-append, map}
 use Rattle.std.specs.Prelude.{All, Option, min, unwrap_or, slice_get, slice_index, ◌==◌, if◌then◌else◌}
 use Rattle.std.proofs.lemmas.Bool.{ne_eqb, lt-ltb, le-ltb}
 use Rattle.std.proofs.lemmas.Option.{slice_get_past, slice_get-get_or}
@@ -8,7 +8,7 @@ use Rattle.descriptor_parse.specs.declared.field.Field.{Field}
 use Rattle.descriptor_parse.specs.declared.locals.UsageRange.{UsageRange}
 use Rattle.descriptor_parse.specs.Descriptor.{count_up, usage_list, usage_of_place}
 use Rattle.descriptor_parse.specs.Counts.{AreCounts}
-use Rattle.descriptor_parse.specs.CountsStand.{count_with, wrapped_counts, AreWrapped, AreCountsFrom, StandTogether}
+use Rattle.descriptor_parse.specs.CountsStand.{count_with, wrapped_counts, AreWrapped, AreCountsFrom}
 use Rattle.descriptor_parse.specs.Parts.{parts_from, AreEnds}
 use Rattle.descriptor_parse.specs.WellFormed.{IsRange, AreFew}
 use Rattle.descriptor_parse.proofs.PartLemmas.{start_of, ends_within, start_is, field_part, no_field_part}
@@ -184,28 +184,6 @@ field_counts ends ranges counts place start end l e s c =
 
 pub no_field_counts : (ends : List ℕ) (ranges : List (ℕ × ℕ)) (place : ℕ) → length ends ≤ place → AreCounts (unwrap_or (slice_get (parts_from 0 ends ranges) place) []) []
 no_field_counts ends ranges place l = rw (← no_field_part ends ranges place l) (refl, λ i m. absurd (omega arith))
-
--- the first field that is left, and those after it
-pub record FrontStands (start end : ℕ) (rest : List ℕ) (ranges : List (ℕ × ℕ)) (counts : List ℕ) : Type 0 where
-  pub order : start ≤ end
-  pub within : end ≤ length ranges
-  pub within_counts : end ≤ length counts
-  pub counted : AreCounts (drop start (take end ranges)) (drop start (take end counts))
-  pub after : StandTogether end rest ranges counts
-
-pub front_stands : (start : ℕ) (ends rest : List ℕ) (end : ℕ) (ranges : List (ℕ × ℕ)) (counts : List ℕ) → ends ≡ end ∷ rest → StandTogether start ends ranges counts
-    → FrontStands start end rest ranges counts
-front_stands start ends rest end ranges counts e s =
-    let places : AreEnds start (end ∷ rest) (length ranges) = rw e at s.rising in
-    let counted : AreCountsFrom start (end ∷ rest) ranges counts = rw e at s.counted in
-    let within : end ≤ length ranges = ends_within end rest (length ranges) places.1 in
-    record {
-      order = places.0;
-      within = within;
-      within_counts = omega (arith, s.as_many);
-      counted = counted.0;
-      after = record { rising = places.1; as_many = s.as_many; counted = counted.1 };
-    }
 
 -- ---- the parser's loop
 

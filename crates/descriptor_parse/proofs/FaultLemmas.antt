@@ -16,8 +16,10 @@ use Rattle.descriptor_parse.specs.Parse.{HasReached, Refuses}
 use Rattle.descriptor_parse.specs.declared.field.Kind.{Kind}
 use Rattle.descriptor_parse.specs.declared.field.Kind.TheVariants.{Input, Output, Feature}
 use Rattle.descriptor_parse.specs.declared.reports.Reports.{Reports}
-use Rattle.descriptor_parse.specs.Totals.{bits_in}
-use Rattle.descriptor_parse.specs.Descriptor.{Describes, bits_of}
+use Rattle.descriptor_parse.specs.Totals.{bits_in, no_reports}
+use Rattle.std.proofs.Math.ListN.{get_or-map}
+use Rattle.descriptor_parse.specs.declared.totals.IdReports.{IdReports}
+use Rattle.descriptor_parse.specs.Descriptor.{Describes, bits_of, bits_on}
 use Rattle.descriptor_parse.specs.DescriptorView.{value_of}
 use Rattle.descriptor_parse.proofs.ItemLemmas.{size_pos, items_none, items_short, items_more, items_next}
 
@@ -346,9 +348,7 @@ refuse_open text rest offset state r none short open_ones =
     (omega arith)
 
 bits_same : (reports : Reports) (kind : Kind) (id : ℕ) → bits_of (value_of reports) kind id ≡ bits_in reports.totals kind id
-bits_same reports Input id = refl
-bits_same reports Output id = refl
-bits_same reports Feature id = refl
+bits_same reports kind id = ap (bits_on kind) (get_or-map (λ (r : IdReports). r.bits) reports.totals.by_id.items id no_reports)
 
 -- the whole text was read and shows no fault
 pub accept_end : (text rest : List ℕ) (offset : ℕ) (state : State) (r : HasReached text rest offset state)

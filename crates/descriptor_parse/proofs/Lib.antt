@@ -16,4 +16,5 @@ pub mod OneFault
 pub mod CutLemmas
 pub mod WellLemmas
 pub mod WalkLemmas
-pub mod ReaderLemmas
+pub mod LinkLemmas
+mod ReaderLemmas

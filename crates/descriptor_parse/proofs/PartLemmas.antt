@@ -2,6 +2,7 @@
 use Rattle.std.proofs.Common.{◌≡◌, ℕ, zero, suc, ◌+◌, ◌≤◌, List, [], ◌∷◌, ◌++◌, length, take, drop, get_or, slice_get, Some, None, refl, arith, sym, ◌∙◌, ap, length-append}
 use Rattle.std.specs.Prelude.{◌-◌, ◌<◌, ◌==◌, if◌then◌else◌, slice_index, unwrap_or}
 use Rattle.std.proofs.lemmas.Bool.{ne_eqb}
+use Rattle.std.proofs.lemmas.Grind.{get_or_default_zero}
 use Rattle.std.proofs.lemmas.Option.{slice_get-get_or, slice_get_past}
 use Rattle.std.proofs.lemmas.List.{take-append-le, take_all}
 use Rattle.descriptor_parse.specs.Parts.{parts_from, AreEnds}
@@ -71,3 +72,25 @@ field_part ends ranges place start end l e s =
 -- no part where there is no field
 pub no_field_part : (ends : List ℕ) (ranges : List (ℕ × ℕ)) (place : ℕ) → length ends ≤ place → [] ≡ unwrap_or (slice_get (parts_from 0 ends ranges) place) []
 no_field_part ends ranges place l = rw (no_part 0 ends ranges place (slice_get_past ends place l)) refl
+
+pub length_parts : (start : ℕ) (ends : List ℕ) (ranges : List (ℕ × ℕ)) → length (parts_from start ends ranges) ≡ length ends
+unfolding parts_from
+length_parts start [] ranges = refl
+length_parts start (end ∷ ends) ranges = ap suc (length_parts end ends ranges)
+
+ends_at : (start : ℕ) (ends : List ℕ) (len place : ℕ) → AreEnds start ends len → place < length ends → (start_of start ends place ≤ get_or ends place 0) × (get_or ends place 0 ≤ len)
+ends_at start [] len place e l = absurd (omega arith)
+ends_at start (end ∷ ends) len zero e l = (e.0, ends_within end ends len e.1)
+ends_at start (end ∷ ends) len (suc zero) e l = ends_at end ends len zero e.1 (omega arith)
+ends_at start (end ∷ ends) len (suc (suc place)) e l = ends_at end ends len (suc place) e.1 (omega arith)
+
+-- a field's usages are in order and within all
+pub field_ends : (ends : List ℕ) (len place start end d : ℕ) → AreEnds 0 ends len → place < length ends → end ≡ get_or ends place d
+    → start ≡ (if place == 0 then 0 else slice_index ends (place - 1)) → (start ≤ end) × (end ≤ len)
+field_ends ends len place start end d a l e s =
+    let both = ends_at 0 ends len place a l in
+    let order : start_of 0 ends place ≤ get_or ends place 0 = both.0 in
+    let within : get_or ends place 0 ≤ len = both.1 in
+    let at : start ≡ start_of 0 ends place = s ∙ start_is ends place in
+    let same : end ≡ get_or ends place 0 = e ∙ get_or_default_zero ends place d l in
+    (omega arith, omega arith)

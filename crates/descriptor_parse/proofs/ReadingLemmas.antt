@@ -1,22 +1,32 @@
 -- A text that comes in pieces.
-use Rattle.std.proofs.Common.{◌≡◌, ℕ, zero, suc, ◌+◌, ◌-◌, ◌<◌, ◌≤◌, List, [], ◌∷◌, ◌++◌, length, take, drop, refl, arith, sym, ◌∙◌, ap, subst, Bool, true, false, None, Some, inl, inr, length-append, length-drop, append_assoc}
+use Rattle.std.proofs.Common.{◌≡◌, ℕ, zero, suc, ◌+◌, ◌*◌, ◌-◌, map, get_or, ◌<◌, ◌≤◌, List, [], ◌∷◌, ◌++◌, length, take, drop, refl, arith, sym, ◌∙◌, ap, subst, Bool, true, false, None, Some, inl, inr, length-append, length-drop, append_assoc}
 use Rattle.std.specs.Prelude.{slice_index, ◌==◌, IsTrue, Option, Result, IfOk, IfErr, ◌≢◌, Ok, Err}
 use Rattle.std.proofs.Math.Seq.{drop-append_seam}
+use Rattle.std.proofs.Math.ListN.{get_or-eq_default}
+use Rattle.std.proofs.lemmas.List.{length-map}
+use Rattle.std.proofs.lemmas.List.Elements.{All-weaker}
 use Rattle.std.proofs.lemmas.List.{take-append-le, drop-append-le, append-nil}
 use Rattle.std.proofs.lemmas.Bool.{cases_Bool, cases_lt, cases_eq, eq-eqb, eqb-true}
 use Rattle.descriptor_parse.specs.declared.fault.ParseError.{ParseError}
 use Rattle.descriptor_parse.specs.declared.fault.ParseFault.{ParseFault}
 use Rattle.descriptor_parse.specs.declared.fault.ParseFault.TheVariants.{Truncated, CollectionOpen, Memory, TooLong}
+use Rattle.descriptor_parse.specs.declared.field.Kind.{Kind}
+use Rattle.descriptor_parse.specs.declared.reports.Link.{Link}
+use Rattle.descriptor_parse.specs.declared.totals.IdReports.{IdReports}
 use Rattle.descriptor_parse.specs.declared.state.State.{State}
 use Rattle.descriptor_parse.specs.declared.reading.Reading.{Reading}
 use Rattle.descriptor_parse.specs.Items.{ItemValue, items_at, item_size, front_item, data_size, head_size}
 use Rattle.descriptor_parse.specs.Faults.{fault_at, all_items, IsFaultAmong, IsFaultAtEnd, IsFirst, IsFirstFault, IsFaultless, MayWantMemory}
-use Rattle.descriptor_parse.specs.Descriptor.{DescriptorValue, Describes}
+use Rattle.descriptor_parse.specs.Descriptor.{DescriptorValue, Describes, bits_on, bits_of, no_bits}
 use Rattle.descriptor_parse.specs.DescriptorView.{value_of}
+use Rattle.descriptor_parse.specs.Linked.{ends_of}
+use Rattle.descriptor_parse.specs.ReportsStand.{CanLink}
+use Rattle.descriptor_parse.specs.WellFormed.{FitsField}
 use Rattle.descriptor_parse.specs.CountsStand.{StandTogether}
 use Rattle.descriptor_parse.specs.StateStands.{StateStands, Takes, IsRefused}
 use Rattle.descriptor_parse.specs.Parse.{HasReached, Refuses, MayGoOn, is_of_the_end, Answers, IsOfTheText, AreSame}
 use Rattle.descriptor_parse.specs.Fed.{AreBytes, IsAt, IsFront, IsReading, RefusesAll, WasFed}
+use Rattle.descriptor_parse.proofs.PartLemmas.{length_parts}
 use Rattle.descriptor_parse.proofs.CountLemmas.{exact_from}
 use Rattle.descriptor_parse.proofs.WellLemmas.{well_formed}
 use Rattle.descriptor_parse.proofs.OneFault.{one_first}
@@ -240,7 +250,7 @@ ends_known text rest offset state bytes a none closed =
 
 -- and its counts stand beside its ranges
 pub ends_counted : (text rest : List ℕ) (offset : ℕ) (state : State) → AreBytes text → IsAt text rest offset state → length rest ≡ 0 → state.collections ≡ 0
-    → StandTogether 0 state.reports.ends.items state.reports.ranges.items state.reports.counts.items
+    → StandTogether 0 (ends_of state.reports.links.items) state.reports.ranges.items state.reports.counts.items
 ends_counted text rest offset state bytes a none closed =
     let k = ends_known text rest offset state bytes a none closed in
     let well = well_formed k.0 (value_of state.reports) k.1 k.2 k.3 k.4 in
@@ -248,7 +258,43 @@ ends_counted text rest offset state bytes a none closed =
     record {
       rising = reports.ends;
       as_many = reports.as_many_counts;
-      counted = exact_from 0 state.reports.ends.items state.reports.ranges.items state.reports.counts.items well.ranges well.few_ranges reports.counts;
+      counted = exact_from 0 (ends_of state.reports.links.items) state.reports.ranges.items state.reports.counts.items well.ranges well.few_ranges reports.counts;
+    }
+
+no_bits_some : (kind : Kind) (bits : ℕ) → bits_on kind no_bits ≡ bits → 0 < bits → ⊥
+no_bits_some Kind.Input bits e l = omega arith
+no_bits_some Kind.Output bits e l = omega arith
+no_bits_some Kind.Feature bits e l = omega arith
+
+id_within : (totals : List IdReports) (kind : Kind) (id bits : ℕ) → bits_on kind (get_or (map (λ (r : IdReports). r.bits) totals) id no_bits) ≡ bits → 0 < bits → id < length totals
+id_within totals kind id bits e some = elim (cases_lt id (length totals)) [
+  | inl within ↦ within
+  | inr past ↦ (let none : get_or (map (λ (r : IdReports). r.bits) totals) id no_bits ≡ no_bits =
+      get_or-eq_default (map (λ (r : IdReports). r.bits) totals) no_bits (omega (arith, length-map totals (λ (r : IdReports). r.bits))) in
+      absurd (no_bits_some kind bits (sym (ap (bits_on kind) none) ∙ e) some))
+]
+
+some_bits : (bit size count all : ℕ) → 0 < size → 0 < count → bit + size * count ≤ all → 0 < all
+some_bits bit (suc size) (suc count) all s c l = omega arith
+some_bits bit zero count all s c l = omega arith
+some_bits bit (suc size) zero all s c l = omega arith
+
+-- and its fields can be tied together
+pub ends_linkable : (text rest : List ℕ) (offset : ℕ) (state : State) → AreBytes text → IsAt text rest offset state → length rest ≡ 0 → state.collections ≡ 0 → CanLink state.reports
+ends_linkable text rest offset state bytes a none closed =
+    let k = ends_known text rest offset state bytes a none closed in
+    let d = value_of state.reports in
+    let well = well_formed k.0 d k.1 k.2 k.3 k.4 in
+    let ends : length (ends_of state.reports.links.items) ≡ length state.reports.links.items = length-map state.reports.links.items (λ (l : Link). l.end) in
+    let all : length d.ranges ≡ length (ends_of state.reports.links.items) = length_parts 0 (ends_of state.reports.links.items) state.reports.ranges.items in
+    let many : length d.ranges ≡ length state.reports.fields.items = well.as_many in
+    record {
+      few = well.few;
+      as_many = omega arith;
+      ids = All-weaker (FitsField d) (λ f. f.id < length state.reports.totals.by_id.items)
+          (λ f fits. id_within state.reports.totals.by_id.items f.kind f.id (bits_of d f.kind f.id) refl (some_bits f.bit f.size f.count (bits_of d f.kind f.id) fits.size_some fits.count_some fits.bits))
+          state.reports.fields.items well.fields;
+      unlinked = (at_end text rest offset state a).stands.reports.unlinked;
     }
 
 -- what a test on a length says

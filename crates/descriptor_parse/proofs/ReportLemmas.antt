@@ -17,8 +17,9 @@ use Rattle.descriptor_parse.specs.Tags.{tag, same_kind, is_data, is_data_of, is_
 use Rattle.descriptor_parse.specs.Globals.{unsigned, in_force, usage_page, report_size, report_count, report_id}
 use Rattle.descriptor_parse.specs.Locals.{usages_since_main}
 use Rattle.descriptor_parse.specs.Fields.{is_constant, is_field, declared_field, fields, field_usages, report_bits, has_bare_data}
-use Rattle.descriptor_parse.specs.Totals.{bits_in}
+use Rattle.descriptor_parse.specs.Totals.{bits_in, first_in, no_field}
 use Rattle.descriptor_parse.specs.Parts.{parts_from, parts, AreEnds}
+use Rattle.descriptor_parse.specs.Linked.{ends_of}
 use Rattle.descriptor_parse.specs.CountsStand.{wrapped_counts, AreWrapped}
 use Rattle.descriptor_parse.proofs.PartLemmas.{ends_more, parts_more}
 use Rattle.descriptor_parse.proofs.CountLemmas.{wrapped_len, counts_more}
@@ -26,11 +27,13 @@ use Rattle.descriptor_parse.specs.GlobalsStand.{globals_of}
 use Rattle.descriptor_parse.specs.LocalsStand.{LocalsStand, range_on}
 use Rattle.descriptor_parse.specs.ReportsStand.{declares, field_by, Declares, FitsData, ReportsStand}
 
-pub stand_new : (reports : Reports) → ((kind : Kind) (id : ℕ) → bits_in reports.totals kind id ≡ 0) → reports.fields.items ≡ []
-    → reports.ends.items ≡ [] → reports.ranges.items ≡ [] → reports.counts.items ≡ [] → reports.has_ids ≡ false → reports.has_bare ≡ false → ReportsStand [] reports
+pub stand_new : (reports : Reports) → ((kind : Kind) (id : ℕ) → bits_in reports.totals kind id ≡ 0)
+    → ((kind : Kind) (id : ℕ) → first_in reports.totals kind id ≡ no_field) → reports.fields.items ≡ []
+    → ends_of reports.links.items ≡ [] → reports.ranges.items ≡ [] → reports.counts.items ≡ [] → reports.has_ids ≡ false → reports.has_bare ≡ false → ReportsStand [] reports
 unfolding report_bits fields field_usages has_bare_data parts_from
-stand_new reports b f n r c i h = record {
+stand_new reports b u f n r c i h = record {
   bits = b;
+  unlinked = u;
   small = λ kind id. omega arith;
   fields = f;
   ends = rw (n, r) refl;
@@ -61,7 +64,7 @@ no_id _ n = refl
 
 -- what is no data item leaves all but the use of IDs
 pub stand_no_data : (before : List ItemValue) (item : ItemValue) (old new : Reports) → is_data (tag item) ≡ false
-    → new.totals ≡ old.totals → new.fields.items ≡ old.fields.items → new.ends.items ≡ old.ends.items → new.ranges.items ≡ old.ranges.items
+    → new.totals ≡ old.totals → new.fields.items ≡ old.fields.items → ends_of new.links.items ≡ ends_of old.links.items → new.ranges.items ≡ old.ranges.items
     → new.counts.items ≡ old.counts.items → new.has_ids ≡ (is_report_id (tag item) || old.has_ids) → new.has_bare ≡ old.has_bare
     → ReportsStand before old → ReportsStand (item ∷ before) new
 unfolding report_bits fields field_usages has_bare_data
@@ -69,6 +72,7 @@ stand_no_data before item old new d t f n r c i h s = record {
   bits = λ kind id. ap (λ x. bits_in x kind id) t ∙ s.bits kind id ∙ (rw (no_data_of kind (tag item) d) refl);
   small = λ kind id. rw (no_data_of kind (tag item) d) (let l = s.small kind id in omega arith);
   fields = f ∙ s.fields ∙ (rw d refl);
+  unlinked = λ kind id. ap (λ x. first_in x kind id) t ∙ s.unlinked kind id;
   ends = rw (n, r) s.ends;
   ranges = rw (n, r) (s.ranges ∙ (rw d refl));
   as_many_counts = rw (r, c) s.as_many_counts;
@@ -144,28 +148,28 @@ within before item g f fits d =
 
 -- the usages of all fields, with those of one more if it is one
 record PartsStand (b : Bool) (usages : List (List (ℕ × ℕ))) (more : List (ℕ × ℕ)) (reports : Reports) : Type 0 where
-  ends : AreEnds 0 reports.ends.items (length reports.ranges.items)
-  ranges : parts reports.ends.items reports.ranges.items ≡ cond b (usages ++ more ∷ []) usages
+  ends : AreEnds 0 (ends_of reports.links.items) (length reports.ranges.items)
+  ranges : parts (ends_of reports.links.items) reports.ranges.items ≡ cond b (usages ++ more ∷ []) usages
   as_many : length reports.counts.items ≡ length reports.ranges.items
-  counts : AreWrapped 0 reports.ends.items reports.ranges.items reports.counts.items
+  counts : AreWrapped 0 (ends_of reports.links.items) reports.ranges.items reports.counts.items
 
 parts_with : (b : Bool) (usages : List (List (ℕ × ℕ))) (page : ℕ) (locals : Locals) (old new : Reports)
     → new.ranges.items ≡ cond b (old.ranges.items ++ map (range_on page) locals.usages.items) old.ranges.items
-    → new.ends.items ≡ cond b (old.ends.items ++ (length old.ranges.items + length locals.usages.items) ∷ []) old.ends.items
+    → ends_of new.links.items ≡ cond b (ends_of old.links.items ++ (length old.ranges.items + length locals.usages.items) ∷ []) (ends_of old.links.items)
     → new.counts.items ≡ cond b (old.counts.items ++ wrapped_counts 0 (map (range_on page) locals.usages.items)) old.counts.items
-    → length old.counts.items ≡ length old.ranges.items → AreWrapped 0 old.ends.items old.ranges.items old.counts.items
-    → AreEnds 0 old.ends.items (length old.ranges.items) → parts old.ends.items old.ranges.items ≡ usages
+    → length old.counts.items ≡ length old.ranges.items → AreWrapped 0 (ends_of old.links.items) old.ranges.items old.counts.items
+    → AreEnds 0 (ends_of old.links.items) (length old.ranges.items) → parts (ends_of old.links.items) old.ranges.items ≡ usages
     → PartsStand b usages (map (range_on page) locals.usages.items) new
 parts_with true usages page locals old new r n c many counts ends same =
     let more = map (range_on page) locals.usages.items in
     let len : length more ≡ length locals.usages.items = length-map locals.usages.items (range_on page) in
-    let n' : new.ends.items ≡ old.ends.items ++ (length old.ranges.items + length more) ∷ [] = n ∙ (rw len refl) in
+    let n' : ends_of new.links.items ≡ ends_of old.links.items ++ (length old.ranges.items + length more) ∷ [] = n ∙ (rw len refl) in
     let all : length new.ranges.items ≡ length old.ranges.items + length more = ap length r ∙ length-append old.ranges.items more in
     record {
-      ends = rw (n', all) (ends_more 0 old.ends.items (length old.ranges.items) (length more) ends);
-      ranges = rw (n', r) (parts_more 0 old.ends.items old.ranges.items more ends ∙ ap (λ (u : List (List (ℕ × ℕ))). u ++ more ∷ []) same);
+      ends = rw (n', all) (ends_more 0 (ends_of old.links.items) (length old.ranges.items) (length more) ends);
+      ranges = rw (n', r) (parts_more 0 (ends_of old.links.items) old.ranges.items more ends ∙ ap (λ (u : List (List (ℕ × ℕ))). u ++ more ∷ []) same);
       as_many = rw (c, r) (omega (arith, many, length-append old.counts.items (wrapped_counts 0 more), wrapped_len 0 more, length-append old.ranges.items more));
-      counts = rw (n', r, c) (counts_more 0 old.ends.items old.ranges.items more old.counts.items ends many counts);
+      counts = rw (n', r, c) (counts_more 0 (ends_of old.links.items) old.ranges.items more old.counts.items ends many counts);
     }
 parts_with false usages page locals old new r n c many counts ends same = record {
   ends = rw (n, r) ends;
@@ -175,44 +179,47 @@ parts_with false usages page locals old new r n c many counts ends same = record
 }
 
 -- a data item within the limits
-pub stand_data : (before : List ItemValue) (item : ItemValue) (kind : Kind) (g : Globals) (locals : Locals) (old mid new : Reports) (product : ℕ)
+pub stand_data : (before : List ItemValue) (item : ItemValue) (kind : Kind) (g : Globals) (locals : Locals) (old mid new : Reports) (bit product : ℕ)
     → tag item ≡ Main (Data kind) → g ≡ globals_of (in_force before) → LocalsStand before locals → FitsData before item → length before ≤ 4096
-    → Declares kind (unsigned item.bytes) g locals old mid
-    → product ≡ min (g.size * g.count) (2 ^ 64 - 1)
-    → ((k : Kind) (i : ℕ) → bits_in mid.totals k i < 2 ^ 64 → bits_in new.totals k i
-    ≡ cond (same_kind k kind && g.id == i) (min (2 ^ 64 - 1) (bits_in mid.totals k i + product)) (bits_in mid.totals k i))
-    → new.fields.items ≡ mid.fields.items → new.ends.items ≡ mid.ends.items → new.ranges.items ≡ mid.ranges.items → new.counts.items ≡ mid.counts.items
-    → new.has_ids ≡ mid.has_ids → new.has_bare ≡ (mid.has_bare || g.id == 0)
+    → product ≡ min (g.size * g.count) (2 ^ 64 - 1) → bit ≡ bits_in old.totals kind g.id
+    → ((k : Kind) (i : ℕ) → bits_in old.totals k i < 2 ^ 64 → bits_in mid.totals k i
+    ≡ cond (same_kind k kind && g.id == i) (min (2 ^ 64 - 1) (bits_in old.totals k i + product)) (bits_in old.totals k i))
+    → ((k : Kind) (i : ℕ) → first_in mid.totals k i ≡ first_in old.totals k i)
+    → mid.fields.items ≡ old.fields.items → ends_of mid.links.items ≡ ends_of old.links.items → mid.ranges.items ≡ old.ranges.items → mid.counts.items ≡ old.counts.items
+    → mid.has_ids ≡ old.has_ids → mid.has_bare ≡ (old.has_bare || g.id == 0)
+    → Declares kind bit (unsigned item.bytes) g locals mid new
     → ReportsStand before old → ReportsStand (item ∷ before) new
 unfolding fields field_usages has_bare_data
-stand_data before item kind g locals old mid new product e f ls fits few d p add fs ns rs cs ids bare s =
+stand_data before item kind g locals old mid new bit product e f ls fits few p was add first fs ns rs cs ids bare d s =
     let field : declares (unsigned item.bytes) g ≡ is_field before item = declares_field before item kind g e f in
-    let more : (k : Kind) (i : ℕ) → (bits_in new.totals k i ≡ report_bits k i (item ∷ before)) × (report_bits k i (item ∷ before) ≤ 2 ^ 20 * length (item ∷ before)) =
-    λ k i. (let same : bits_in mid.totals k i ≡ report_bits k i before = ap (λ t. bits_in t k i) d.totals ∙ s.bits k i in
-    let small : report_bits k i before ≤ 2 ^ 20 * length before = s.small k i in
-    total_more before item kind g k i (bits_in mid.totals k i) (bits_in new.totals k i) e f fits few small same (add k i (omega arith) ∙ (rw p refl))) in
+    let more : (k : Kind) (i : ℕ) → (bits_in mid.totals k i ≡ report_bits k i (item ∷ before)) × (report_bits k i (item ∷ before) ≤ 2 ^ 20 * length (item ∷ before)) =
+    λ k i. (let small : report_bits k i before ≤ 2 ^ 20 * length before = s.small k i in
+    let same : bits_in old.totals k i ≡ report_bits k i before = s.bits k i in
+    total_more before item kind g k i (bits_in old.totals k i) (bits_in mid.totals k i) e f fits few small same (add k i (omega arith) ∙ (rw p refl))) in
     let id : g.id ≡ report_id before = ap (λ x. x.id) f in
     let page : g.page ≡ usage_page before = ap (λ x. x.page) f in
-    let bit : bits_in old.totals kind g.id ≡ report_bits kind (report_id before) before = s.bits kind g.id ∙ ap (λ i. report_bits kind i before) id in
-    let declared : field_by kind (bits_in old.totals kind g.id) (unsigned item.bytes) g ≡ declared_field before item = same_field before item kind _ g e f bit in
-    let usages_stand : PartsStand (declares (unsigned item.bytes) g) (field_usages before) (map (range_on g.page) locals.usages.items) mid =
-    parts_with (declares (unsigned item.bytes) g) (field_usages before) g.page locals old mid d.ranges d.ends d.counts s.as_many_counts s.counts s.ends s.ranges in
+    let from : bit ≡ report_bits kind (report_id before) before = was ∙ s.bits kind g.id ∙ ap (λ i. report_bits kind i before) id in
+    let declared : field_by kind bit (unsigned item.bytes) g ≡ declared_field before item = same_field before item kind bit g e f from in
+    let usages_stand : PartsStand (declares (unsigned item.bytes) g) (field_usages before) (map (range_on g.page) locals.usages.items) new =
+    parts_with (declares (unsigned item.bytes) g) (field_usages before) g.page locals mid new d.ranges d.ends d.counts
+    (rw (cs, rs) s.as_many_counts) (rw (ns, rs, cs) s.counts) (rw (ns, rs) s.ends) (rw (ns, rs) s.ranges) in
     let usages : map (range_on g.page) locals.usages.items ≡ usages_since_main (usage_page before) before = ls.usages g.page ∙ ap (λ p. usages_since_main p before) page in
     record {
-      bits = λ k i. (more k i).0;
+      bits = λ k i. ap (λ t. bits_in t k i) d.totals ∙ (more k i).0;
       small = λ k i. (more k i).1;
-      fields = fs ∙ d.fields (within before item g f fits) ∙ (rw (field, s.fields, declared) refl);
-      ends = rw (ns, rs) usages_stand.ends;
-      ranges = rw (ns, rs) (usages_stand.ranges ∙ (rw (field, usages) refl));
-      as_many_counts = rw (cs, rs) usages_stand.as_many;
-      counts = rw (ns, rs, cs) usages_stand.counts;
-      has_ids = ids ∙ d.has_ids ∙ s.has_ids ∙ (rw e refl);
-      has_bare = bare ∙ ap (λ b. b || g.id == 0) (d.has_bare ∙ s.has_bare) ∙ or_bare (has_bare_data before) (g.id == 0) ∙ (rw (e, f) refl);
+      unlinked = λ k i. ap (λ t. first_in t k i) d.totals ∙ first k i ∙ s.unlinked k i;
+      fields = d.fields (within before item g f fits) ∙ (rw (field, fs, s.fields, declared) refl);
+      ends = usages_stand.ends;
+      ranges = usages_stand.ranges ∙ (rw (field, usages) refl);
+      as_many_counts = usages_stand.as_many;
+      counts = usages_stand.counts;
+      has_ids = d.has_ids ∙ ids ∙ s.has_ids ∙ (rw e refl);
+      has_bare = d.has_bare ∙ bare ∙ ap (λ b. b || g.id == 0) s.has_bare ∙ or_bare (has_bare_data before) (g.id == 0) ∙ (rw (e, f) refl);
     }
 
 -- a Report ID
 pub stand_noted_id : (before : List ItemValue) (item : ItemValue) (t : GlobalTag) (old new : Reports) → tag item ≡ Global t → t ≡ ReportId
-    → new.totals ≡ old.totals → new.fields.items ≡ old.fields.items → new.ends.items ≡ old.ends.items → new.ranges.items ≡ old.ranges.items
+    → new.totals ≡ old.totals → new.fields.items ≡ old.fields.items → ends_of new.links.items ≡ ends_of old.links.items → new.ranges.items ≡ old.ranges.items
     → new.counts.items ≡ old.counts.items → new.has_ids ≡ true → new.has_bare ≡ old.has_bare → ReportsStand before old → ReportsStand (item ∷ before) new
 stand_noted_id before item t old new e id a b n c k d f s =
     let is : tag item ≡ Global ReportId = e ∙ ap Global id in

@@ -1,4 +1,4 @@
--- How the counts of all fields stand in one list.
+-- Only ties code to its definitions: how the counts of all fields stand in one list.
 use Rattle.std.specs.Prelude.{◌≡◌, ℕ, ◌+◌, ◌-◌, ◌%◌, ◌^◌, List, [], ◌∷◌, length, take, drop}
 use Rattle.descriptor_parse.specs.Counts.{AreCounts}
 use Rattle.descriptor_parse.specs.Parts.{AreEnds}

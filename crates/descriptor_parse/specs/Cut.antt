@@ -1,3 +1,4 @@
+-- Believed: how a text is cut into items.
 use Rattle.std.specs.Prelude.{◌≡◌, ◌≢◌, ℕ, ◌+◌, ◌⊎◌, List, [], ◌∷◌, ◌++◌, length, Result, Err}
 use Rattle.descriptor_parse.specs.declared.fault.ParseError.{ParseError}
 use Rattle.descriptor_parse.specs.declared.fault.ParseFault.TheVariants.{Truncated}

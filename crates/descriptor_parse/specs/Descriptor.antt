@@ -1,3 +1,4 @@
+-- Believed: the descriptor of a text, and what is looked up in it; last_of only ties code.
 use Rattle.std.specs.Prelude.{◌≡◌, ℕ, zero, suc, ◌+◌, ◌-◌, ◌/◌, ◌==◌, nat_lt, min, Bool, if◌then◌else◌, List, [], ◌∷◌, length, flat_map, slice_get, slice_index_or, Option, Some, None, option_and_then, unwrap_or}
 use Rattle.descriptor_parse.specs.declared.field.Kind.{Kind}
 use Rattle.descriptor_parse.specs.declared.field.Kind.TheVariants.{Input, Output, Feature}
@@ -12,6 +13,7 @@ bits_on Input bits = bits.input
 bits_on Output bits = bits.output
 bits_on Feature bits = bits.feature
 
+-- a report of each kind without a bit
 abbrev pub no_bits : ReportBits
 no_bits = record { input = 0; output = 0; feature = 0 }
 
@@ -39,6 +41,7 @@ abbrev pub report_len : DescriptorValue → Kind → ℕ → Option ℕ
 report_len d kind id =
     if bits_of d kind id == 0 then None else Some ((bits_of d kind id + 7) / 8 + (if d.uses_ids then 1 else 0))
 
+-- the usages of a field, as first and last of ranges
 abbrev pub ranges_at : DescriptorValue → ℕ → List (ℕ × ℕ)
 ranges_at d field = unwrap_or (slice_get d.ranges field) []
 
@@ -61,5 +64,6 @@ usage_of_place field usages place =
     if field.array then slice_get usages place
     else (if nat_lt place field.count then slice_get usages (min place (length usages - 1)) else None)
 
+-- the usage of a place of a field, if it has one
 abbrev pub usage_at : DescriptorValue → ℕ → ℕ → Option ℕ
 usage_at d field place = option_and_then (λ f. usage_of_place f (usage_list (ranges_at d field)) place) (slice_get d.fields field)

@@ -1,3 +1,4 @@
+-- Believed: the numbers of faults.
 use Rattle.std.specs.Prelude.{ℕ}
 use Rattle.descriptor_parse.specs.declared.fault.ParseFault.{ParseFault}
 use Rattle.descriptor_parse.specs.declared.fault.ParseFault.TheVariants.{Truncated, Delimiter, PopEmpty, PushDeep, BadReportId, SizeTooLarge, CountTooLarge, EndWithoutCollection, CollectionDeep, UnpairedUsage, UsageInverted, LogicalInverted, TooManyFields, MixedIds, CollectionOpen, TooLong, Memory}

@@ -1,3 +1,4 @@
+-- Believed: the faults of a text, which of them is the first, and where memory may be wanted.
 use Rattle.std.specs.Prelude.{◌≡◌, ℕ, ◌<◌, ◌≤◌, ◌==◌, if◌then◌else◌, nat_lt, nat_le, Bool, true, false, not, ◌&&◌, ◌||◌, IsTrue, ◌⊎◌, List, [], ◌∷◌, length, find, int_lt, Option, is_some, Result, Ok, Err}
 use Rattle.descriptor_parse.specs.declared.fault.ParseError.{ParseError}
 use Rattle.descriptor_parse.specs.declared.fault.ParseFault.{ParseFault}
@@ -71,6 +72,7 @@ IsFaultAtEnd text _ offset = ⊥
 abbrev pub HasFault : List ℕ → ParseFault → ℕ → Type 0
 HasFault text fault offset = IsFaultAmong [] (items_at 0 text) fault offset ⊎ IsFaultAtEnd text fault offset
 
+-- a text shows no fault
 abbrev pub IsFaultless : List ℕ → Type 0
 IsFaultless text = (fault : ParseFault) (offset : ℕ) → HasFault text fault offset → ⊥
 

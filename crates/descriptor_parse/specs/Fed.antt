@@ -1,4 +1,4 @@
--- What ties the parser to the bytes that it was fed.
+-- Believed: RefusesAll. All else only ties code: the parser to the bytes that it was fed.
 use Rattle.std.specs.Prelude.{◌≡◌, ℕ, ◌<◌, ◌≤◌, List, ◌++◌, length, slice_index, Option, Some, None}
 use Rattle.descriptor_parse.specs.declared.fault.ParseError.{ParseError}
 use Rattle.descriptor_parse.specs.declared.state.State.{State}

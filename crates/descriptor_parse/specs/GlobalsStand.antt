@@ -1,3 +1,4 @@
+-- Only ties code to its definitions: the Global items that are kept stand for the items before.
 use Rattle.std.specs.Prelude.{◌≡◌, ℕ, ◌%◌, ◌^◌, if◌then◌else◌, List, [], ◌∷◌, ◌++◌, ℤ, pos, int_lt}
 use Rattle.descriptor_parse.specs.declared.globals.Globals.{Globals}
 use Rattle.descriptor_parse.specs.declared.globals.GlobalStack.{GlobalStack}

@@ -22,6 +22,7 @@ pub mod Fed
 pub mod StandsFor
 pub mod WellFormed
 pub mod Readers
+pub mod Linked
 pub mod FieldView
 pub mod FieldsLeft
 pub mod Cut

@@ -1,4 +1,4 @@
--- How the usages of all fields stand in one list.
+-- Only ties code to its definitions: how the usages of all fields stand in one list.
 use Rattle.std.specs.Prelude.{◌≡◌, ℕ, ◌≤◌, List, [], ◌∷◌, take, drop}
 
 -- A list in parts, of which each goes on to its end.

@@ -1,4 +1,5 @@
-use Rattle.std.specs.Prelude.{◌≡◌, ℕ, ◌+◌, ◌≤◌, ◌*◌, ◌/◌, ◌%◌, ◌^◌, ◌==◌, nat_lt, Bool, true, false, ◌&&◌, if◌then◌else◌, List, [], ◌∷◌, ◌++◌, length, map}
+-- Only ties code to its definitions: the fields and reports that are kept stand for the items before.
+use Rattle.std.specs.Prelude.{◌≡◌, ℕ, ◌+◌, ◌≤◌, ◌<◌, All, ◌*◌, ◌/◌, ◌%◌, ◌^◌, ◌==◌, nat_lt, Bool, true, false, ◌&&◌, if◌then◌else◌, List, [], ◌∷◌, ◌++◌, length, map}
 use Rattle.descriptor_parse.specs.declared.field.Kind.{Kind}
 use Rattle.descriptor_parse.specs.declared.field.Field.{Field}
 use Rattle.descriptor_parse.specs.declared.globals.Globals.{Globals}
@@ -9,7 +10,8 @@ use Rattle.descriptor_parse.specs.Fields.{is_constant, fields, field_usages, rep
 use Rattle.descriptor_parse.specs.declared.locals.Locals.{Locals}
 use Rattle.descriptor_parse.specs.GlobalsStand.{max_of}
 use Rattle.descriptor_parse.specs.LocalsStand.{range_on}
-use Rattle.descriptor_parse.specs.Totals.{bits_in}
+use Rattle.descriptor_parse.specs.Totals.{bits_in, first_in, no_field}
+use Rattle.descriptor_parse.specs.Linked.{ends_of}
 use Rattle.descriptor_parse.specs.Parts.{parts, AreEnds}
 use Rattle.descriptor_parse.specs.CountsStand.{wrapped_counts, AreWrapped}
 
@@ -32,12 +34,12 @@ field_by kind bit flags g = record {
   array = flags / 2 % 2 == 0;
 }
 
--- A field more and its usages, if a data item declares one; nothing else changes.
-pub record Declares (kind : Kind) (flags : ℕ) (g : Globals) (locals : Locals) (old new : Reports) : Type 0 where
+-- A field more, from a bit on, and its usages, if a data item declares one; nothing else changes.
+pub record Declares (kind : Kind) (bit flags : ℕ) (g : Globals) (locals : Locals) (old new : Reports) : Type 0 where
   pub fields : (declares flags g ≡ true → (g.size ≤ 32) × (g.count ≤ 1024)) → new.fields.items
-      ≡ (if declares flags g then old.fields.items ++ field_by kind (bits_in old.totals kind g.id) flags g ∷ [] else old.fields.items)
+      ≡ (if declares flags g then old.fields.items ++ field_by kind bit flags g ∷ [] else old.fields.items)
   pub ranges : new.ranges.items ≡ (if declares flags g then old.ranges.items ++ map (range_on g.page) locals.usages.items else old.ranges.items)
-  pub ends : new.ends.items ≡ (if declares flags g then old.ends.items ++ (length old.ranges.items + length locals.usages.items) ∷ [] else old.ends.items)
+  pub ends : ends_of new.links.items ≡ (if declares flags g then ends_of old.links.items ++ (length old.ranges.items + length locals.usages.items) ∷ [] else ends_of old.links.items)
   pub counts : new.counts.items ≡ (if declares flags g then old.counts.items ++ wrapped_counts 0 (map (range_on g.page) locals.usages.items) else old.counts.items)
   pub totals : new.totals ≡ old.totals
   pub has_ids : new.has_ids ≡ old.has_ids
@@ -49,13 +51,21 @@ pub record FitsData (before : List ItemValue) (item : ItemValue) : Type 0 where
   pub field_size : is_constant item ≡ false → report_size before ≤ 32
   pub count : report_count before ≤ 1024
 
+-- the fields can be tied together: none is yet, and the table has their IDs
+pub record CanLink (reports : Reports) : Type 0 where
+  pub few : length reports.fields.items ≤ 256
+  pub as_many : length reports.links.items ≡ length reports.fields.items
+  pub ids : All (λ f. f.id < length reports.totals.by_id.items) reports.fields.items
+  pub unlinked : (kind : Kind) (id : ℕ) → first_in reports.totals kind id ≡ no_field
+
 pub record ReportsStand (before : List ItemValue) (reports : Reports) : Type 0 where
   pub bits : (kind : Kind) (id : ℕ) → bits_in reports.totals kind id ≡ report_bits kind id before
   pub small : (kind : Kind) (id : ℕ) → report_bits kind id before ≤ 2 ^ 20 * length before
   pub fields : reports.fields.items ≡ fields before
-  pub ends : AreEnds 0 reports.ends.items (length reports.ranges.items)
-  pub ranges : parts reports.ends.items reports.ranges.items ≡ field_usages before
+  pub unlinked : (kind : Kind) (id : ℕ) → first_in reports.totals kind id ≡ no_field
+  pub ends : AreEnds 0 (ends_of reports.links.items) (length reports.ranges.items)
+  pub ranges : parts (ends_of reports.links.items) reports.ranges.items ≡ field_usages before
   pub as_many_counts : length reports.counts.items ≡ length reports.ranges.items
-  pub counts : AreWrapped 0 reports.ends.items reports.ranges.items reports.counts.items
+  pub counts : AreWrapped 0 (ends_of reports.links.items) reports.ranges.items reports.counts.items
   pub has_ids : reports.has_ids ≡ has_report_id before
   pub has_bare : reports.has_bare ≡ has_bare_data before

@@ -1,4 +1,4 @@
--- What callers of the parser know of it.
+-- Only ties code to its definitions: what callers of the parser know of it, by name alone.
 use Rattle.std.specs.Prelude.{◌≡◌, ℕ, List, Some}
 use Rattle.descriptor_parse.specs.declared.fault.ParseError.{ParseError}
 use Rattle.descriptor_parse.specs.declared.parser.Parser.{Parser}

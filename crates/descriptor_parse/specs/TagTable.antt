@@ -1,4 +1,4 @@
--- What ties the code to the tags: an item by its prefix without the two bits of the size, shifted down.
+-- Only ties code to its definitions: the tags, of an item by its prefix without the two bits of the size, shifted down.
 use Rattle.std.specs.Prelude.{ℕ, ◌==◌, if◌then◌else◌}
 use Rattle.descriptor_parse.specs.declared.field.Kind.TheVariants.{Input, Output, Feature}
 use Rattle.descriptor_parse.specs.declared.tag.Tag.{Tag}

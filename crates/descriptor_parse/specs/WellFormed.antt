@@ -1,4 +1,4 @@
--- What holds of every descriptor.
+-- Believed: what holds of every descriptor; IsKnown only ties code.
 use Rattle.std.specs.Prelude.{◌≡◌, ℕ, ◌+◌, ◌*◌, ◌/◌, ◌^◌, ◌<◌, ◌≤◌, ◌↔◌, false, List, length, slice_index, All, pos, neg_ℤ, ◌≤ℤ◌, ◌<ℤ◌}
 use Rattle.descriptor_parse.specs.declared.field.Kind.{Kind}
 use Rattle.descriptor_parse.specs.declared.field.Field.{Field}
@@ -29,6 +29,8 @@ pub record IsRange (range : ℕ × ℕ) : Type 0 where
 abbrev pub AreFew : List (ℕ × ℕ) → Type 0
 AreFew ranges = length ranges ≤ 4096
 
+-- the numbers of fields, of their ranges and of the bits of reports are within the limits, and each field and range is as
+-- said
 pub record IsWellFormed (d : DescriptorValue) : Type 0 where
   pub few : length d.fields ≤ 256
   pub as_many : length d.ranges ≡ length d.fields

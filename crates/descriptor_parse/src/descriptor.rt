@@ -1,17 +1,19 @@
 //! A report descriptor that was parsed.
 
-ghost use Rattle.std.specs.Prelude.{◌≡◌, ◌-◌, ◌==◌, List, slice_index, take, drop, if◌then◌else◌};
+ghost use Rattle.std.specs.Prelude.{◌≡◌, ◌-◌, ◌==◌, List, length, slice_index, ◌≤◌, take, drop, if◌then◌else◌};
 ghost use Rattle.descriptor_parse.specs.Descriptor.{report_len, ranges_at, usage_list, usage_at};
 ghost use Rattle.descriptor_parse.specs.Counts.{AreCounts};
 ghost use Rattle.descriptor_parse.specs.CountsStand.{StandTogether};
 ghost use Rattle.descriptor_parse.specs.DescriptorView.{value_of};
 ghost use Rattle.descriptor_parse.specs.WellFormed.{IsWellFormed, IsKnown};
 ghost use Rattle.descriptor_parse.specs.Readers.{fields_of};
+ghost use Rattle.descriptor_parse.specs.Linked.{AreLinked, HasFirst, ends_of};
+ghost use Rattle.descriptor_parse.specs.ReportsStand.{CanLink};
 
 use crate::counts::place_usage;
 use crate::field::{Field, Kind};
 use crate::readers::{ReportFields, Usages};
-use crate::reports::Reports;
+use crate::reports::{Link, Reports};
 use std::marker::Model;
 
 /// The fields of a report descriptor, their usages, and the lengths of its reports.
@@ -25,21 +27,26 @@ impl Model for Descriptor {
     ghost use Rattle.descriptor_parse.specs.DescriptorView.{value_of};
     ghost use Rattle.descriptor_parse.specs.WellFormed.{IsKnown};
     ghost use Rattle.descriptor_parse.specs.CountsStand.{StandTogether};
+    ghost use Rattle.descriptor_parse.specs.Linked.{AreLinked, HasFirst, ends_of};
 
     ghost Value = { DescriptorValue };
 
     ghost view = { λ d. value_of d.reports };
 
     ghost invariant = { λ d. IsKnown (value_of d.reports)
-        × ∥ StandTogether 0 d.reports.ends.items d.reports.ranges.items d.reports.counts.items ∥₁ };
+        × ∥ StandTogether 0 (ends_of d.reports.links.items) d.reports.ranges.items d.reports.counts.items ∥₁
+        × AreLinked d.reports.fields.items d.reports.links.items × HasFirst d.reports.totals 0 d.reports.fields.items };
 }
 
 impl Descriptor {
     pub(crate) fn new(reports: Reports) -> Descriptor
         requires known { IsKnown (value_of reports) }
-        requires counted { ∥ StandTogether 0 reports.ends.items reports.ranges.items reports.counts.items ∥₁ }
+        requires counted { ∥ StandTogether 0 (ends_of reports.links.items) reports.ranges.items reports.counts.items ∥₁ }
+        requires linkable { CanLink reports }
         ensures { result ≡ value_of reports }
     {
+        let mut reports = reports;
+        reports.link();
         Descriptor { reports }
     }
 
@@ -86,13 +93,13 @@ impl Descriptor {
     pub fn ranges(&self, field: usize) -> &[(u32, u32)]
         ensures { result.now ≡ ranges_at self.now field }
     {
-        let Some(end) = self.reports.ends.get(field) else {
+        let Some(link) = self.reports.links.get(field) else {
             return &[];
         };
         part(
             &self.reports.ranges,
-            start_of(&self.reports.ends, field),
-            *end,
+            start_of(&self.reports.links, field),
+            link.end,
         )
     }
 
@@ -100,32 +107,37 @@ impl Descriptor {
     pub fn counts(&self, field: usize) -> &[u32]
         ensures { AreCounts (ranges_at self.now field) result.now }
     {
-        let Some(end) = self.reports.ends.get(field) else {
+        let Some(link) = self.reports.links.get(field) else {
             return &[];
         };
         part(
             &self.reports.counts,
-            start_of(&self.reports.ends, field),
-            *end,
+            start_of(&self.reports.links, field),
+            link.end,
         )
     }
 
     /// The fields of one report with their usages, in order. The ID is 0 where none is used.
+    ///
+    /// The time is that of these fields alone, whatever other reports there are.
     pub fn report(&self, kind: Kind, id: u8) -> ReportFields<'_>
-        ensures { result ≡ fields_of self.now kind id }
+        ensures all { result ≡ fields_of self.now kind id }
+        ensures well_formed { IsWellFormed self.now }
     {
         let reports = &self.reports;
         ReportFields::new(
             kind,
             id,
+            reports.totals.first(kind, id),
             &reports.fields,
-            &reports.ends,
+            &reports.links,
             &reports.ranges,
             &reports.counts,
         )
     }
 
-    /// The usages of a field one by one; none if there is no such field.
+    /// The usages of a field one by one, as they were declared; none if there is no such field. There can be more than the
+    /// field has places, and tens of millions where the text declares wide ranges.
     pub fn usages(&self, field: usize) -> Usages<'_>
         ensures { result ≡ usage_list (ranges_at self.now field) }
     {
@@ -145,13 +157,15 @@ impl Descriptor {
 }
 
 /// Where the usages of a field start.
-fn start_of(ends: &[usize], field: usize) -> usize
-    ensures { result ≡ (if field == 0 then 0 else slice_index ends.now (field - 1)) }
+#[inline(always)]
+pub(crate) fn start_of(links: &[Link], field: usize) -> usize
+    requires { field ≤ length links.now }
+    ensures { result ≡ (if field == 0 then 0 else slice_index (ends_of links.now) (field - 1)) }
 {
     if field == 0 {
         return 0;
     }
-    ends.get(field - 1).copied().unwrap_or(0)
+    links[field - 1].end
 }
 
 /// The elements from `start` to `end`, as far as there are any.

@@ -1,7 +1,12 @@
 //! The host's parser of HID report descriptors (HID 1.11, section 6.2.2).
 //!
-//! [`Items`] cuts a text into its items, whatever they say. [`parse`] reads a whole text: it gives the fields that the
-//! text declares, or its first fault. Nothing is trusted: any bytes may come.
+//! [`parse`] reads a whole text: it gives the fields that the text declares, or its first fault. A [`Parser`] takes the
+//! text in pieces, as they come off the bus, and gives the same answer. [`Items`] cuts a text into its items, whatever
+//! they say. Nothing is trusted: any bytes may come, and the time is linear in them.
+//!
+//! A [`Descriptor`] keeps the fields in order of declaration, each with its usages, and how long each report is. It says
+//! nothing of collections, units, physical extents, Relative or Null State. The promise is that its fields are exactly
+//! those that the text declares, and that a refusal is the text's first fault. `host_extract` reads reports by it.
 #![tactic(auto)]
 
 mod counts;

@@ -155,7 +155,9 @@ impl Locals {
         ensures half { self.new.half ≡ None }
     {
         self.usages.clear();
-        self.half = None;
+        if self.half.is_some() {
+            self.half = None;
+        }
     }
 
     /// Appends the ranges, where short usages are of this page, and how many usages those up to each have.

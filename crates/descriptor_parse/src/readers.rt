@@ -5,11 +5,13 @@ ghost use Rattle.std.specs.Iterator.{YieldsFirst, YieldsFirstBy, item_count};
 ghost use Rattle.descriptor_parse.specs.Descriptor.{usage_list};
 ghost use Rattle.descriptor_parse.specs.CountsStand.{StandTogether};
 ghost use Rattle.descriptor_parse.specs.FieldView.{field_view};
-ghost use Rattle.descriptor_parse.specs.FieldsLeft.{fields_left};
-ghost use Rattle.descriptor_parse.specs.Readers.{is_of_report};
+ghost use Rattle.descriptor_parse.specs.FieldsLeft.{fields_left, IsNext};
+ghost use Rattle.descriptor_parse.specs.Linked.{AreLinked, ends_of};
 
+use crate::descriptor::start_of;
 use crate::field::{Field, Kind};
 use crate::field_usages::FieldUsages;
+use crate::reports::Link;
 use std::marker::Model;
 
 /// The fields of one report, in order of declaration.
@@ -17,46 +19,52 @@ use std::marker::Model;
 pub struct ReportFields<'a> {
     kind: Kind,
     id: u8,
+    /// The place of the next field.
+    next: u16,
     fields: &'a [Field],
-    ends: &'a [usize],
+    links: &'a [Link],
     ranges: &'a [(u32, u32)],
     counts: &'a [u32],
-    start: usize,
 }
 
 impl<'a> Model for ReportFields<'a> {
     ghost use Rattle.std.specs.Prelude.{ℕ, List};
     ghost use Rattle.descriptor_parse.specs.declared.field.Field.{Field};
-    ghost use Rattle.descriptor_parse.specs.FieldsLeft.{fields_left};
+    ghost use Rattle.descriptor_parse.specs.FieldsLeft.{fields_left, IsNext};
     ghost use Rattle.descriptor_parse.specs.CountsStand.{StandTogether};
+    ghost use Rattle.descriptor_parse.specs.Linked.{AreLinked, ends_of};
 
     ghost Value = { List (Field × List (ℕ × ℕ)) };
 
-    ghost view = { λ s. fields_left s.kind s.id s.start s.fields.now s.ends.now s.ranges.now };
+    ghost view = { λ s. fields_left s.kind s.id s.next s.fields.now (ends_of s.links.now) s.ranges.now };
 
-    ghost invariant = { λ s. ∥ StandTogether s.start s.ends.now s.ranges.now s.counts.now ∥₁ };
+    ghost invariant = { λ s. ∥ StandTogether 0 (ends_of s.links.now) s.ranges.now s.counts.now ∥₁
+        × AreLinked s.fields.now s.links.now × IsNext s.kind s.id s.next s.fields.now };
 }
 
 impl<'a> ReportFields<'a> {
     pub(crate) fn new(
         kind: Kind,
         id: u8,
+        first: u16,
         fields: &'a [Field],
-        ends: &'a [usize],
+        links: &'a [Link],
         ranges: &'a [(u32, u32)],
         counts: &'a [u32],
     ) -> ReportFields<'a>
-        requires { ∥ StandTogether 0 ends.now ranges.now counts.now ∥₁ }
-        ensures { result ≡ fields_left kind id 0 fields.now ends.now ranges.now }
+        requires together { ∥ StandTogether 0 (ends_of links.now) ranges.now counts.now ∥₁ }
+        requires linked { AreLinked fields.now links.now }
+        requires next { IsNext kind id first fields.now }
+        ensures { result ≡ fields_left kind id first fields.now (ends_of links.now) ranges.now }
     {
         ReportFields {
             kind,
             id,
+            next: first,
             fields,
-            ends,
+            links,
             ranges,
             counts,
-            start: 0,
         }
     }
 
@@ -64,24 +72,19 @@ impl<'a> ReportFields<'a> {
     fn take(&mut self) -> Option<FieldUsages<'a>>
         ensures { MatchOption result ((self.old ≡ []) × (self.new ≡ [])) (λ f. self.old ≡ field_view f ∷ self.new) }
     {
-        while let Some((field, fields)) = self.fields.split_first() {
-            let Some((end, ends)) = self.ends.split_first() else {
-                return None;
-            };
-            let ranges = between(self.ranges, self.start, *end);
-            let counts = between(self.counts, self.start, *end);
-            self.fields = fields;
-            self.ends = ends;
-            self.start = *end;
-            if is_of_report(field, self.kind, self.id) {
-                return Some(FieldUsages {
-                    field: *field,
-                    ranges,
-                    counts,
-                });
-            }
-        }
-        None
+        let place = self.next as usize;
+        let Some(link) = self.links.get(place) else {
+            return None;
+        };
+        let start = start_of(self.links, place);
+        let ranges = between(self.ranges, start, link.end);
+        let counts = between(self.counts, start, link.end);
+        self.next = link.next;
+        Some(FieldUsages {
+            field: self.fields[place],
+            ranges,
+            counts,
+        })
     }
 }
 
@@ -95,18 +98,6 @@ fn between<T>(all: &[T], start: usize, end: usize) -> &[T]
     let (front, _) = all.split_at(end);
     let (_, wanted) = front.split_at(start);
     wanted
-}
-
-/// Whether a field is of this report.
-fn is_of_report(field: &Field, kind: Kind, id: u8) -> bool
-    ensures { result ≡ is_of_report kind id field.now }
-{
-    match (field.kind, kind) {
-        (Kind::Input, Kind::Input) => field.id == id,
-        (Kind::Output, Kind::Output) => field.id == id,
-        (Kind::Feature, Kind::Feature) => field.id == id,
-        _ => false,
-    }
 }
 
 impl<'a> Iterator for ReportFields<'a> {

@@ -7,8 +7,10 @@ ghost use Rattle.descriptor_parse.specs.Globals.{unsigned, in_force, report_size
 ghost use Rattle.descriptor_parse.specs.Locals.{usages_since_main};
 ghost use Rattle.descriptor_parse.specs.Fields.{is_constant};
 ghost use Rattle.descriptor_parse.specs.GlobalsStand.{globals_of};
+ghost use Rattle.descriptor_parse.specs.Linked.{AreLinked, HasFirst, ends_of};
+ghost use Rattle.descriptor_parse.specs.DescriptorView.{value_of};
 ghost use Rattle.descriptor_parse.specs.LocalsStand.{LocalsStand};
-ghost use Rattle.descriptor_parse.specs.ReportsStand.{ReportsStand, FitsData, Declares, declares, fills, field_by};
+ghost use Rattle.descriptor_parse.specs.ReportsStand.{CanLink, ReportsStand, FitsData, Declares, declares, fills, field_by};
 ghost use Rattle.descriptor_parse.specs.declared.tag.Tag.{Tag};
 ghost use Rattle.descriptor_parse.specs.declared.tag.MainTag.{MainTag};
 
@@ -16,7 +18,7 @@ use crate::field::{Field, Kind};
 use crate::globals::Globals;
 use crate::locals::Locals;
 use crate::tag::GlobalTag;
-use crate::totals::Totals;
+use crate::totals::{NO_FIELD, Totals};
 use std::alloc::{AllocError, Global};
 
 /// The most bits of a place.
@@ -31,13 +33,22 @@ const FIRST_FIELDS: usize = 16;
 /// How many ranges of usages there is room for at first.
 const FIRST_RANGES: usize = 64;
 
+/// What stands beside a field.
+#[derive(Clone, Copy)]
+pub(crate) struct Link {
+    /// Where the usages of the field end in `ranges`.
+    pub(crate) end: usize,
+    /// The next field of its report, once all are there; none while they come.
+    pub(crate) next: u16,
+}
+
 /// The fields so far with their usages, the bits of each report, and whether report IDs are used.
 #[derive(Drop)]
 pub(crate) struct Reports {
     pub(crate) totals: Totals,
     pub(crate) fields: Vec<Field>,
-    /// Where the usages of each field end in `ranges`.
-    pub(crate) ends: Vec<usize>,
+    /// Beside each field, where its usages end and which field comes next.
+    pub(crate) links: Vec<Link>,
     /// The usages of all fields.
     pub(crate) ranges: Vec<(u32, u32)>,
     /// Beside each range, how many usages its field has up to it.
@@ -55,7 +66,7 @@ impl Reports {
         Reports {
             totals: Totals::new(alloc),
             fields: Vec::new(alloc),
-            ends: Vec::new(alloc),
+            links: Vec::new(alloc),
             ranges: Vec::new(alloc),
             counts: Vec::new(alloc),
             has_ids: false,
@@ -88,41 +99,62 @@ impl Reports {
             → FitsData before item → length before ≤ 4096 → ReportsStand before self.old → ReportsStand (item ∷ before) self.new) }
         ensures refused { OnErr result (IsTrue (fills globals.now)) }
     {
-        self.declare(kind, flags, globals, locals)?;
         let more = (globals.size as u64).saturating_mul(globals.count as u64);
-        self.totals.add(kind, globals.id, more)?;
+        let bit = self.totals.add(kind, globals.id, more)?;
         self.has_bare |= globals.id == 0;
+        self.declare(kind, bit, flags, globals, locals)?;
         Ok(())
     }
 
-    /// Adds the field of a data item, if it declares one.
+    /// Adds the field of a data item, from this bit on, if it declares one.
     #[inline(always)]
     fn declare(
         &mut self,
         kind: Kind,
+        bit: u64,
         flags: u32,
         globals: &Globals,
         locals: &Locals,
     ) -> Result<(), AllocError>
-        ensures declared { OnOk result (Declares kind flags globals.now locals.now self.old self.new) }
+        ensures declared { OnOk result (Declares kind bit flags globals.now locals.now self.old self.new) }
         ensures refused { OnErr result (IsTrue (fills globals.now)) }
     {
         if !declares(flags, globals) {
             return Ok(());
         }
         self.make_room()?;
-        let bit = self.totals.bits(kind, globals.id);
         locals.append_to(&mut self.ranges, &mut self.counts, globals.page)?;
-        self.ends.push(self.ranges.len())?;
+        self.links.push(Link {
+            end: self.ranges.len(),
+            next: NO_FIELD,
+        })?;
         self.fields.push(field(kind, bit, flags, globals))?;
         Ok(())
+    }
+
+    /// Ties the fields of each report together, the last first.
+    pub(crate) fn link(&mut self)
+        requires { CanLink self.old }
+        ensures nexts { AreLinked self.new.fields.items self.new.links.items }
+        ensures first { HasFirst self.new.totals 0 self.new.fields.items }
+        ensures same { value_of self.new ≡ value_of self.old }
+        ensures ends { ends_of self.new.links.items ≡ ends_of self.old.links.items }
+        ensures ranges { self.new.ranges.items ≡ self.old.ranges.items }
+        ensures counts { self.new.counts.items ≡ self.old.counts.items }
+    {
+        let mut place = self.fields.len();
+        while place > 0 {
+            place -= 1;
+            let next = self.totals.lead(&self.fields[place], place as u16);
+            self.links[place].next = next;
+        }
     }
 
     /// Takes memory for some fields before the first.
     #[inline(always)]
     fn make_room(&mut self) -> Result<(), AllocError>
         ensures fields { self.new.fields.items ≡ self.old.fields.items }
-        ensures ends { self.new.ends.items ≡ self.old.ends.items }
+        ensures links { self.new.links.items ≡ self.old.links.items }
         ensures ranges { self.new.ranges.items ≡ self.old.ranges.items }
         ensures counts { self.new.counts.items ≡ self.old.counts.items }
         ensures totals { self.new.totals ≡ self.old.totals }
@@ -131,7 +163,7 @@ impl Reports {
     {
         if self.fields.is_empty() {
             self.fields.reserve(FIRST_FIELDS)?;
-            self.ends.reserve(FIRST_FIELDS)?;
+            self.links.reserve(FIRST_FIELDS)?;
             self.ranges.reserve(FIRST_RANGES)?;
             self.counts.reserve(FIRST_RANGES)?;
         }
@@ -155,8 +187,8 @@ fn field(kind: Kind, bit: u64, flags: u32, globals: &Globals) -> Field
         kind,
         id: globals.id,
         bit,
-        size: globals.size.min(MAX_SIZE) as u8,
-        count: globals.count.min(MAX_COUNT) as u16,
+        size: (globals.size % 0x100) as u8,
+        count: (globals.count % 0x1_0000) as u16,
         min: globals.min,
         max: globals.max(),
         array: flags / 2 % 2 == 0,

@@ -1,3 +1,4 @@
+-- Only ties code to its definitions: which items are not skipped.
 use Rattle.std.specs.Prelude.{Bool, true, false}
 use Rattle.descriptor_parse.specs.declared.tag.Tag.{Tag}
 use Rattle.descriptor_parse.specs.declared.tag.Tag.TheVariants.{Skipped}

@@ -1,3 +1,4 @@
+-- Believed where this crate is called: error_in. From error_at on only ties code: the least of several faults.
 use Rattle.std.specs.Prelude.{◌≡◌, ℕ, ◌<◌, ◌≤◌, ◌==◌, nat_lt, nat_le, Bool, IsTrue, ◌⊎◌, if◌then◌else◌, List, [], ◌∷◌, length, Option, Some, None, option_map, Result, Ok, Err}
 use Rattle.descriptor_parse.specs.declared.fault.ParseError.{ParseError}
 use Rattle.descriptor_parse.specs.declared.fault.ParseFault.{ParseFault}

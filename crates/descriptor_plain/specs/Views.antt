@@ -1,3 +1,4 @@
+-- Believed where this crate is called: items and fields of the plain program as those of the definitions.
 use Rattle.std.specs.Prelude.{List, map}
 use Rattle.descriptor_parse.specs.declared.field.Field.{Field}
 use Rattle.descriptor_parse.specs.Items.{ItemValue}

@@ -1,3 +1,4 @@
+-- Only ties code to its definitions: the Pops that wait for their Push.
 use Rattle.std.specs.Prelude.{ℕ, zero, suc, ◌+◌, ◌-◌, ◌==◌, if◌then◌else◌, Bool, false, List}
 use Rattle.std.specs.List.{list_any}
 use Rattle.descriptor_parse.specs.Items.{ItemValue}

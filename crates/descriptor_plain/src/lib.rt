@@ -3,6 +3,9 @@
 //!
 //! Items are held in a list, the newest first. The functions here look back over the whole of it at every question,
 //! as the definitions do, and keep nothing. They run on a host, on small texts, beside the parser that keeps a state.
+//!
+//! The promise is that each answer is exactly what the definition says, for every text. Nothing calls it but its tests,
+//! which compare it with the parser.
 #![tactic(auto)]
 
 mod bits;

@@ -1,3 +1,4 @@
+-- Believed: what a host was told.
 use Rattle.std.specs.Prelude.{ℕ, Bool, List}
 
 -- The calls of a host that change it; lists of them hold the newest first.

@@ -1,4 +1,4 @@
--- Whether a text has a fault, as a test.
+-- Believed: whether a text has a fault, as a test.
 use Rattle.std.specs.Prelude.{◌≡◌, ℕ, ◌==◌, nat_le, Bool, true, false, ◌&&◌, List, [], ◌∷◌, length, Option, Some, None, Result, Ok, Err}
 use Rattle.descriptor_parse.specs.declared.fault.ParseError.{ParseError}
 use Rattle.descriptor_parse.specs.declared.fault.ParseFault.{ParseFault}
@@ -6,6 +6,7 @@ use Rattle.descriptor_parse.specs.Items.{ItemValue, items_at}
 use Rattle.descriptor_parse.specs.Fields.{open_collections}
 use Rattle.descriptor_parse.specs.Faults.{fault_at, all_items}
 
+-- there is no fault, and more holds
 abbrev pub both : Option ParseFault → Bool → Bool
 both None more = more
 both (Some fault) more = false

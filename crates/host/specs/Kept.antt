@@ -1,4 +1,4 @@
--- The report descriptor that a host keeps, by looking back over its calls.
+-- Believed: the report descriptor that a host keeps, by looking back over its calls.
 use Rattle.std.specs.Prelude.{ℕ, ◌+◌, ◌*◌, ◌==◌, if◌then◌else◌, nat_lt, nat_le, Bool, not, ◌&&◌, ◌||◌, List, [], ◌∷◌, ◌++◌, length, slice_index, Option, Some, None}
 use Rattle.host.specs.Calls.{HostCall, was_set_up, got_packet, lost}
 use Rattle.host.specs.Faultless.{is_faultless}
@@ -14,6 +14,7 @@ asks_for_report setup =
     slice_index setup 0 == 0x81 && (slice_index setup 1 == 0x06 && (slice_index setup 2 == 0x00 && (slice_index setup 3 == 0x22
     && (slice_index setup 4 == 0x00 && slice_index setup 5 == 0x00))))
 
+-- how many bytes a SETUP packet asks for
 abbrev pub wanted_length : List ℕ → ℕ
 wanted_length setup = slice_index setup 6 + 256 * slice_index setup 7
 
@@ -21,6 +22,7 @@ wanted_length setup = slice_index setup 6 + 256 * slice_index setup 7
 abbrev pub begun_by : List ℕ → Option Fetch
 begun_by setup = if asks_for_report setup then Some (record { wanted = wanted_length setup; bytes = [] }) else None
 
+-- a text with a packet more
 abbrev pub with_packet : Fetch → List ℕ → Fetch
 with_packet g packet = record { wanted = g.wanted; bytes = g.bytes ++ packet }
 
@@ -33,13 +35,14 @@ abbrev pub goes_on : Option Fetch → List ℕ → Bool → Option Fetch
 goes_on None packet taken = None
 goes_on (Some g) packet taken = if taken && not (is_end g packet) then Some (with_packet g packet) else None
 
+-- the text that is being gathered after these calls, if one is
 unfoldable pub gathering : List HostCall → Option Fetch
 gathering [] = None
 gathering (was_set_up setup ∷ past) = begun_by setup
 gathering (got_packet packet taken ∷ past) = goes_on (gathering past) packet taken
 gathering (lost ∷ past) = None
 
--- the bytes of the keyboard's report descriptor
+-- how many bytes the keyboard's report descriptor has
 abbrev pub text_length : ℕ
 text_length = 99
 

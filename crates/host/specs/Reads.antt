@@ -1,4 +1,4 @@
--- What a host reads in an input report.
+-- Believed: what a host reads in an input report.
 use Rattle.std.specs.Prelude.{◌≡◌, ℕ, List, Option, Some, None, IsSome}
 use Rattle.descriptor_parse.specs.Descriptor.{DescriptorValue, Describes}
 use Rattle.descriptor_parse.specs.Faults.{all_items}

@@ -1,4 +1,4 @@
--- What ties a host to its calls.
+-- Only ties code to its definitions: what is kept of a host stands for its calls, part by part.
 use Rattle.std.specs.Prelude.{◌≡◌, ℕ, ◌++◌, List, length, true, false, Option, Some, None}
 use Rattle.descriptor_parse.specs.Descriptor.{DescriptorValue, Describes}
 use Rattle.descriptor_parse.specs.Faults.{all_items}

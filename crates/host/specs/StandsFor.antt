@@ -1,3 +1,4 @@
+-- Only ties code to its definitions: a host stands for its calls.
 use Rattle.std.specs.Prelude.{List}
 use Rattle.host.specs.declared.gatherer.Host.{Host}
 use Rattle.host.specs.Calls.{HostCall}

@@ -81,6 +81,7 @@ impl Host {
     /// Reads an input report: in boot protocol by the host's own descriptor, in report protocol by the one that it keeps.
     ///
     /// The reading is `Unread` without a descriptor, and where [`extract`] refuses the report otherwise than for memory.
+    /// In boot protocol the descriptor is parsed anew for each report.
     pub fn read(&self, protocol: Protocol, report: &[u8]) -> Reading
         ensures { (past : List HostCall) → StandsFor past self.now → Reads (text_by protocol past) report.now result }
     {

@@ -1,3 +1,4 @@
+-- Believed: how a host reads boot reports.
 use Rattle.std.specs.Prelude.{ℕ, List, [], ◌∷◌}
 
 -- The host's own descriptor of boot reports, 39 bytes (HID 1.11, appendix B.1): eight modifier bits, a byte of padding,

@@ -1,3 +1,4 @@
+-- Only ties code to its definitions: which fields can be read with numbers of 64 bits.
 use Rattle.std.specs.Prelude.{◌+◌, ◌*◌, ◌≤◌, ◌<◌, ◌^◌}
 use Rattle.descriptor_parse.specs.declared.field.Field.{Field}
 

@@ -1,4 +1,4 @@
--- What a host reads in an input report (HID 1.11, 5.6, 6.2.2.5 and 6.2.2.8).
+-- Believed: what a host reads in an input report (HID 1.11, 5.6, 6.2.2.5 and 6.2.2.8).
 use Rattle.std.specs.Prelude.{ℕ, zero, suc, ◌+◌, ◌*◌, ◌%◌, ◌^◌, ◌==◌, if◌then◌else◌, ◌||◌, List, [], ◌∷◌, ◌++◌, drop, flat_map, slice_get, slice_index, ℤ, pos, int_lt, Option, Some, None}
 use Rattle.std.specs.Int.{int_gap}
 use Rattle.descriptor_parse.specs.declared.field.Kind.TheVariants.{Input}
@@ -22,6 +22,7 @@ abbrev pub in_array : Field → List ℕ → ℤ → List Found
 in_array field usages value =
     if int_lt value field.min || int_lt field.max value then [] else named (slice_get usages (int_gap field.min value)) (pos 1)
 
+-- what a place of a field reads
 abbrev pub reading_at : Field → List ℕ → List ℕ → ℕ → List Found
 reading_at field usages bytes place =
     if field.array then in_array field usages (value_at field bytes place)
@@ -40,8 +41,10 @@ found_in fields bytes = flat_map (λ p. readings_of p.0 (usage_list p.1) bytes p
 abbrev pub id_of : DescriptorValue → List ℕ → ℕ
 id_of d report = if d.uses_ids then slice_index report 0 else 0
 
+-- the bytes of a report after its ID
 abbrev pub bytes_of : DescriptorValue → List ℕ → List ℕ
 bytes_of d report = if d.uses_ids then drop 1 report else report
 
+-- what an input report reads
 unfoldable pub found : DescriptorValue → List ℕ → List Found
 found d report = found_in (fields_of d Input (id_of d report)) (bytes_of d report)

@@ -1,3 +1,4 @@
+-- Believed: what is pressed by the readings of a report.
 use Rattle.std.specs.Prelude.{◌≡◌, ◌≢◌, ℕ, ◌↔◌, List, Contains, pos}
 use Rattle.std.specs.List.Sorted.{IsStrictlyIncreasing}
 use Rattle.host_extract.specs.declared.reading.Found.{Found}

@@ -1,4 +1,4 @@
--- Which reports are not read.
+-- Believed: which reports are not read.
 use Rattle.std.specs.Prelude.{ℕ, nat_lt, if◌then◌else◌, List, [], ◌∷◌, length, Option, Some, None}
 use Rattle.descriptor_parse.specs.declared.field.Kind.TheVariants.{Input}
 use Rattle.descriptor_parse.specs.Descriptor.{DescriptorValue, report_len}
@@ -19,6 +19,7 @@ abbrev pub refused_by_len : DescriptorValue → List ℕ → Option ℕ → Opti
 refused_by_len d report None = if d.uses_ids then Some UnknownId else None
 refused_by_len d report (Some len) = if nat_lt (length report) len then Some Short else None
 
+-- why a report is refused, if it is
 unfoldable pub refusal : DescriptorValue → List ℕ → Option ExtractError
 refusal d [] = Some Empty
 refusal d (b ∷ bs) = refused_by_len d (b ∷ bs) (report_len d Input (id_of d (b ∷ bs)))

@@ -10,7 +10,7 @@ ghost use Rattle.host_extract.specs.declared.error.ExtractError.{ExtractError};
 use crate::error::ExtractError;
 use crate::places::read_field;
 use crate::reading::Found;
-use descriptor_parse::{Descriptor, Field, Kind};
+use descriptor_parse::{Descriptor, Kind};
 use std::alloc::{AllocError, Global};
 
 /// Reads an input report: the usages that it names, with their values, in the order of the fields and their places.
@@ -77,8 +77,7 @@ fn read_fields(
 ) -> Result<Vec<Found>, AllocError>
     ensures { IfOk result (λ v. v.items ≡ found_in (fields_of descriptor.now Kind.Input id) bytes.now) }
 {
-    let declared = descriptor.fields();
-    let mut out = Vec::with_capacity(alloc, places(declared, id))?;
+    let mut out = Vec::with_capacity(alloc, places(descriptor, id))?;
     for place in descriptor.report(Kind::Input, id) {
         read_field(&mut out, &place, bytes)?;
     }
@@ -86,12 +85,10 @@ fn read_fields(
 }
 
 /// How many places the fields of an input report have together.
-fn places(declared: &[Field], id: u8) -> usize {
+fn places(descriptor: &Descriptor, id: u8) -> usize {
     let mut places = 0usize;
-    for field in declared {
-        if field.id == id && field.kind == Kind::Input {
-            places = places.saturating_add(field.count as usize);
-        }
+    for declared in descriptor.report(Kind::Input, id) {
+        places = places.saturating_add(declared.field.count as usize);
     }
     places
 }

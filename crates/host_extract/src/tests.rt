@@ -43,6 +43,7 @@ fn refusals_in_order(rt: HostRuntime) -> Result<(), Fail> {
     assert_eq!(rt; told(alloc, &SERVED, &[3, 0])?.as_str(), "UnknownId");
     assert_eq!(rt; told(alloc, &SERVED, &[0])?.as_str(), "UnknownId");
     assert_eq!(rt; told(alloc, &SERVED, &[2, 0, 0x20])?.as_str(), "Short");
+    assert_eq!(rt; told(alloc, &SERVED, &[2, 0])?.as_str(), "Short");
     assert_eq!(rt; told(alloc, &SERVED, &[2])?.as_str(), "Short");
     assert_eq!(rt; told(alloc, &BOOT_DESCRIPTOR, &[0; 7])?.as_str(), "Short");
     assert_eq!(rt; ExtractError::Empty.number(), 1);

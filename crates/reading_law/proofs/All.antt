@@ -1,4 +1,5 @@
 use Rattle.std.proofs.Common.{◌≡◌, ℕ, Bool, None}
+use Rattle.std.specs.List.Sorted.{IsStrictlyIncreasing}
 use Rattle.descriptor_parse.specs.Descriptor.{DescriptorValue, Describes}
 use Rattle.descriptor_parse.specs.Faults.{all_items}
 use Rattle.host_extract.specs.Found.{found}
@@ -9,9 +10,9 @@ use Rattle.reports.specs.declared.Input.TheVariants.{Boot, One, Two}
 use Rattle.reports.specs.Wanted.{wanted}
 use Rattle.reading_law.specs.Texts.{text_of}
 use Rattle.reading_law.specs.Usages.{wanted_usages}
-use Rattle.reading_law.proofs.Bitmap.{bitmap-read}
-use Rattle.reading_law.proofs.BootRead.{boot-read}
-use Rattle.reading_law.proofs.ConsumerRead.{consumer-read}
+use Rattle.reading_law.proofs.Bitmap.{wanted-rising, bitmap-read}
+use Rattle.reading_law.proofs.BootRead.{boot-rising, boot-read}
+use Rattle.reading_law.proofs.ConsumerRead.{consumer-rising, consumer-read}
 use Rattle.reading_law.proofs.Taken.{bitmap-taken, boot-taken, consumer-taken}
 
 pub all-read : (keys consumer : ℕ → Bool) (input : Input) (d : DescriptorValue) → Describes (all_items (text_of input)) d
@@ -25,3 +26,9 @@ pub all-taken : (keys consumer : ℕ → Bool) (input : Input) (d : DescriptorVa
 all-taken keys consumer Boot d h = boot-taken keys d h
 all-taken keys consumer One d h = bitmap-taken keys d h
 all-taken keys consumer Two d h = consumer-taken consumer d h
+
+-- the wanted usages rise, each once
+pub usages-rising : (keys consumer : ℕ → Bool) (input : Input) → IsStrictlyIncreasing (wanted_usages keys consumer input)
+usages-rising keys consumer Boot = boot-rising keys
+usages-rising keys consumer One = wanted-rising keys
+usages-rising keys consumer Two = consumer-rising consumer

@@ -146,7 +146,7 @@ rising-append xs ys b rx ry below above k l = elim (cases_lt (k + 1) (length xs)
   ]
 ]
 
-wanted-rising : (keys : ℕ → Bool) → IsStrictlyIncreasing (key_usages keys ++ modifier_usages keys)
+pub wanted-rising : (keys : ℕ → Bool) → IsStrictlyIncreasing (key_usages keys ++ modifier_usages keys)
 wanted-rising keys = rising-append (members (test keys) 0x70004 161) (members (test keys) 0x700E0 8) 0x700E0
     (members-rising (test keys) 0x70004 161) (members-rising (test keys) 0x700E0 8)
     (λ x c. let m = members-sound (test keys) 0x70004 161 x c in let high = m.1 in omega arith)

@@ -1,12 +1,12 @@
-use Rattle.std.proofs.Common.{◌≡◌, refl, List, [], ◌∷◌, true}
-use Rattle.descriptor_parse.specs.Items.{ItemValue, items_at, first_items}
+use Rattle.std.proofs.Common.{◌≡◌, refl, true}
+use Rattle.descriptor_parse.specs.Items.{items_at, first_items}
 use Rattle.descriptor_parse.specs.Faults.{all_items, shows, fault_at}
 use Rattle.descriptor_parse.specs.Tags.{tag_of}
 use Rattle.descriptor_parse.specs.Globals.{signed, in_force}
 use Rattle.descriptor_parse.specs.Locals.{usages_since_main, unpaired}
-use Rattle.descriptor_parse.specs.Fields.{fields, field_usages, report_bits, has_bare_data, open_collections}
+use Rattle.descriptor_parse.specs.Fields.{fields, field_usages, report_bits, has_bare_data}
 use Rattle.host_extract.specs.Boot.{boot_descriptor_bytes}
-use Rattle.host.proofs.BootLemmas.{boot_items, boot-items}
+use Rattle.host.proofs.BootLemmas.{boot_items}
 use Rattle.reading_law.specs.Declared.{boot_fields, boot_usages}
 use Rattle.host.specs.Faultless.{all_clean, is_faultless}
 

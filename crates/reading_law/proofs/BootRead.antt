@@ -8,7 +8,6 @@ use Rattle.std.proofs.lemmas.List.Elements.{Contains-append_left, Contains-appen
 use Rattle.descriptor_parse.specs.Descriptor.{DescriptorValue, Describes, usage_list}
 use Rattle.descriptor_parse.specs.Faults.{all_items}
 use Rattle.descriptor_parse.specs.Fields.{fields, field_usages, has_report_id}
-use Rattle.descriptor_parse.specs.Tags.{tag_of}
 use Rattle.reports.specs.Wanted.{listed, places_of, modifiers_of, boot_bytes}
 use Rattle.reports.specs.Layouts.{bit_of}
 use Rattle.reports.proofs.Bits.{bit_at-byte_of}
@@ -21,7 +20,7 @@ use Rattle.host_extract.specs.Numbers.{report_bit}
 use Rattle.host_extract.specs.Found.{readings_of, found, found_in}
 use Rattle.host_extract.specs.Pressed.{IsRead, ArePressed}
 use Rattle.reading_law.specs.Usages.{key_usages, modifier_usages, boot_key_usages}
-use Rattle.host.proofs.BootLemmas.{boot_items, boot-items, boot-ids}
+use Rattle.host.proofs.BootLemmas.{boot-items, boot-ids}
 use Rattle.reading_law.proofs.Boot.{boot-fields, boot-usages}
 use Rattle.reading_law.proofs.Fields.{bit_field, HasBits, bits-sound, bits-complete}
 use Rattle.host_extract.proofs.Readings.{read-left, read-right, read-cases, none-read}
@@ -205,10 +204,13 @@ parts : (keys : ℕ → Bool) → boot_bytes keys ≡ bytes_of_boot (modifiers_o
 unfolding boot_bytes
 parts keys = refl
 
+pub boot-rising : (keys : ℕ → Bool) → IsStrictlyIncreasing (boot_key_usages keys ++ modifier_usages keys)
+boot-rising keys = rising-append (wanted_places keys) (modifier_usages keys) 0x700E0 (places-rising keys) (members-rising (test keys) 0x700E0 8)
+    (places-below keys) (λ y c. (members-sound (test keys) 0x700E0 8 y c).0)
+
 pub boot-read : (keys : ℕ → Bool) (d : DescriptorValue) → Describes (all_items boot_descriptor_bytes) d → ArePressed (found d (boot_bytes keys)) (boot_key_usages keys ++ modifier_usages keys)
 boot-read keys d h = record {
-  rising = rising-append (wanted_places keys) (modifier_usages keys) 0x700E0 (places-rising keys) (members-rising (test keys) 0x700E0 8)
-      (places-below keys) (λ y c. (members-sound (test keys) 0x700E0 8 y c).0);
+  rising = boot-rising keys;
   members = λ u. (
     λ c. rw (found-boot d (boot_bytes keys) h) (complete keys (boot_bytes keys) u (parts keys) c),
     λ r. sound keys (boot_bytes keys) u (parts keys) (rw (found-boot d (boot_bytes keys) h) at r),

@@ -168,6 +168,9 @@ four-least consumer = record {
   some = λ u c. let (low, high, on) = members-sound consumer 1 1023 u (in-front 4 (consumer_listed consumer) u c) in (omega arith, omega arith);
 }
 
+pub consumer-rising : (consumer : ℕ → Bool) → IsStrictlyIncreasing (consumer_usages consumer)
+consumer-rising consumer = map-rising (take 4 (consumer_listed consumer)) (four-least consumer).rising
+
 pub consumer-read : (consumer : ℕ → Bool) (d : DescriptorValue) → Describes (all_items report_bytes) d → ArePressed (found d (consumer_bytes consumer)) (consumer_usages consumer)
 unfolding consumer_bytes
 consumer-read consumer d h = array-read (take 4 (consumer_listed consumer)) d (four-least consumer) h

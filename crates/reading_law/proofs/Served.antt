@@ -4,7 +4,7 @@ use Rattle.descriptor_parse.specs.Faults.{all_items, shows, fault_at}
 use Rattle.descriptor_parse.specs.Tags.{tag_of}
 use Rattle.descriptor_parse.specs.Globals.{signed, in_force}
 use Rattle.descriptor_parse.specs.Locals.{usages_since_main, unpaired}
-use Rattle.descriptor_parse.specs.Fields.{fields, field_usages, report_bits, has_bare_data, open_collections}
+use Rattle.descriptor_parse.specs.Fields.{fields, field_usages, report_bits, has_bare_data}
 use Rattle.descriptor_build.specs.Served.{report_bytes}
 use Rattle.reading_law.specs.Declared.{served_fields, served_usages}
 use Rattle.host.specs.Faultless.{all_clean, is_faultless}

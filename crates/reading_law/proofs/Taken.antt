@@ -1,5 +1,5 @@
-use Rattle.std.proofs.Common.{◌≡◌, ℕ, ◌+◌, ◌/◌, ◌<◌, ◌≤◌, Bool, true, false, List, [], ◌∷◌, length, arith, refl, sym, ◌∙◌, ap, Some, None}
-use Rattle.std.specs.Prelude.{◌==◌, nat_lt, take, if◌then◌else◌}
+use Rattle.std.proofs.Common.{◌≡◌, ℕ, ◌+◌, ◌/◌, ◌≤◌, Bool, true, false, List, ◌∷◌, length, arith, refl, ◌∙◌, ap, None}
+use Rattle.std.specs.Prelude.{◌==◌, take, if◌then◌else◌}
 use Rattle.std.proofs.lemmas.Bool.{le-ltb}
 use Rattle.descriptor_parse.specs.declared.field.Kind.TheVariants.{Input}
 use Rattle.descriptor_parse.specs.Descriptor.{DescriptorValue, Describes, bits_of, report_len}

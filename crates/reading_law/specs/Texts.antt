@@ -1,3 +1,4 @@
+-- Believed where this crate is called: which descriptor reads which report.
 use Rattle.std.specs.Prelude.{ℕ, List}
 use Rattle.descriptor_build.specs.Served.{report_bytes}
 use Rattle.host_extract.specs.Boot.{boot_descriptor_bytes}

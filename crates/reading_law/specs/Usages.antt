@@ -1,5 +1,6 @@
--- The usages that an input report of the keyboard is to name, as the host reads them: 32 bits, the page in the high half;
--- rising, each once. A set is a test: `keys u` says that usage u of page 07h is in it, `consumer u` usage u of page 0Ch.
+-- Believed: the usages that an input report of the keyboard is to name, as the host reads them: 32 bits, the page in the
+-- high half; rising, each once. A set is a test: `keys u` says that usage u of page 07h is in it, `consumer u` usage u of
+-- page 0Ch.
 use Rattle.std.specs.Prelude.{ℕ, ◌+◌, ◌-◌, Bool, List, [], ◌∷◌, ◌++◌, length, map, take, nat_le, if◌then◌else◌}
 use Rattle.reports.specs.Wanted.{members, listed, consumer_listed}
 use Rattle.reports.specs.declared.Input.{Input}
@@ -9,6 +10,7 @@ use Rattle.reports.specs.declared.Input.TheVariants.{Boot, One, Two}
 abbrev pub key_usages : (ℕ → Bool) → List ℕ
 key_usages keys = members (λ usage. keys (usage - 0x70000)) 0x70004 161
 
+-- the modifiers among them
 abbrev pub modifier_usages : (ℕ → Bool) → List ℕ
 modifier_usages keys = members (λ usage. keys (usage - 0x70000)) 0x700E0 8
 
@@ -20,6 +22,7 @@ boot_key_usages keys = if nat_le (length (listed keys)) 6 then key_usages keys e
 abbrev pub consumer_usages : (ℕ → Bool) → List ℕ
 consumer_usages consumer = map (λ usage. 0xC0000 + usage) (take 4 (consumer_listed consumer))
 
+-- the usages that each input report is to name
 abbrev pub wanted_usages : (ℕ → Bool) → (ℕ → Bool) → Input → List ℕ
 wanted_usages keys consumer Boot = boot_key_usages keys ++ modifier_usages keys
 wanted_usages keys consumer One = key_usages keys ++ modifier_usages keys

@@ -1,5 +1,8 @@
 //! What a host reads in the keyboard's input reports is what they were to say: a law over the definitions of the bytes
 //! that the keyboard sends, of its report descriptor, and of what a host reads by a descriptor.
+//!
+//! Nothing is kept, and nothing runs: the functions have empty bodies, and their contracts are the law. `session_law`
+//! takes it for the reports of a session.
 #![tactic(auto)]
 
 ghost use Rattle.std.specs.Prelude.{◌≡◌, ℕ, Bool, length, None, true};

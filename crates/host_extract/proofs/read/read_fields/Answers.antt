@@ -8,10 +8,10 @@ use Rattle.host_extract.proofs.read.read_fields.Goals as goal
 
 pub loop-place-init : goal.loop-place-init
 loop-place-init c =
-    let all = c.into_iter-place-iterator.ensures.into_iter_gives ∙ c.report-place-items.ensures in
+    let all = c.into_iter-place-iterator.ensures.into_iter_gives ∙ c.report-place-items.ensures.all in
     record {
       readings = rw (c.in_ok-out.ensures.items, all) refl;
-      fit = rw all (fit-all c.args.descriptor.now Input c.args.id c.fields-declared.ensures.well_formed);
+      fit = rw all (fit-all c.args.descriptor.now Input c.args.id c.report-place-items.ensures.well_formed);
     }
 
 pub loop-place-preserved : goal.loop-place-preserved

@@ -1,14 +1,14 @@
 use Rattle.std.proofs.Props.{props}
 use Rattle.std.proofs.Math.Logic.{∥∥₁_elim}
-use Rattle.descriptor_parse.proofs.CountLemmas.{field_counts, no_field_counts}
+use Rattle.descriptor_parse.proofs.ReaderLemmas.{link_counts, no_link_counts}
 use Rattle.descriptor_parse.proofs.descriptor.Descriptor.counts.Goals as goal
 
 pub returns-in_default : goal.returns-in_default
-returns-in_default c = rw (← c.self.view_is) (no_field_counts c.self.inside.reports.ends.items c.self.inside.reports.ranges.items c.args.field (rw c.deref.ensures.value at c.in_default.ensures.lookup.3))
+returns-in_default c = rw (← c.self.view_is) (no_link_counts c.self.inside.reports.links.items c.self.inside.reports.ranges.items c.args.field (rw c.deref.ensures.value at c.in_default.ensures.lookup.3))
 
 pub returns : goal.returns
 returns c =
     rw (← c.self.view_is, c.part.ensures, c.deref-2.ensures.value)
     (∥∥₁_elim c.self.invariant.1 (Prim.hlevel props) (λ k.
-    field_counts c.self.inside.reports.ends.items c.self.inside.reports.ranges.items c.self.inside.reports.counts.items c.args.field c.start_of.result c.in-Some.end.now
-    (rw c.deref.ensures.value at c.in-Some.ensures.lookup.3.0) (rw c.deref.ensures.value at c.in-Some.ensures.lookup.1) (rw c.deref-3.ensures.value at c.start_of.ensures) k.counted))
+    link_counts c.self.inside.reports.links.items c.self.inside.reports.ranges.items c.self.inside.reports.counts.items c.args.field c.start_of.result c.in-Some.link.now
+    (rw c.deref.ensures.value at c.in-Some.ensures.lookup.3.0) (rw c.deref.ensures.value at c.in-Some.ensures.lookup.1) (rw c.deref-3.ensures.value at c.start_of.ensures) k))

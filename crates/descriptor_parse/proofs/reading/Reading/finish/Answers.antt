@@ -1,6 +1,7 @@
 use Rattle.std.proofs.Common.{arith}
-use Rattle.std.proofs.Math.Logic.{∥∥₁_map}
-use Rattle.descriptor_parse.proofs.ReadingLemmas.{ends_short, ends_open, ends_well, ends_known, ends_counted}
+use Rattle.std.proofs.Props.{props}
+use Rattle.std.proofs.Math.Logic.{∥∥₁_elim, ∥∥₁_map}
+use Rattle.descriptor_parse.proofs.ReadingLemmas.{ends_short, ends_open, ends_well, ends_known, ends_counted, ends_linkable}
 use Rattle.descriptor_parse.proofs.reading.Reading.finish.Goals as goal
 
 pub returns-then-has_bytes : goal.returns-then-has_bytes
@@ -16,6 +17,10 @@ new-requires-clause-known c = rw c.into_reports.ensures (∥∥₁_map c.require
 pub new-requires-clause-counted : goal.new-requires-clause-counted
 new-requires-clause-counted c = rw c.into_reports.ensures (∥∥₁_map c.requires (λ p.
     ends_counted p.0 _ _ _ p.1 p.2.at (rw c.deref.ensures.0 at c.if-has_bytes.ensures) (omega (arith, c.if-state-gt0.false))))
+
+pub new-requires-clause-linkable : goal.new-requires-clause-linkable
+new-requires-clause-linkable c = rw c.into_reports.ensures (∥∥₁_elim c.requires (Prim.hlevel props) (λ p.
+    ends_linkable p.0 _ _ _ p.1 p.2.at (rw c.deref.ensures.0 at c.if-has_bytes.ensures) (omega (arith, c.if-state-gt0.false))))
 
 pub returns : goal.returns
 returns c = λ text s.
