@@ -5,8 +5,7 @@ ghost use Rattle.keyboard.specs.Value.{RunsOn};
 
 use arrayvec::ArrayVec;
 use flash_model::NorFlash;
-use keyboard::{EpAnswer, Keyboard, Report, Scan, Work};
-use std::alloc::{AllocError, Global};
+use keyboard::{EpAnswer, Keyboard, Report, Room, Scan, Work};
 use std::marker::Model;
 
 /// What the chip's interrupts bring.
@@ -54,11 +53,12 @@ impl<F: NorFlash + Drop> Model for Board<F> {
 }
 
 impl<F: NorFlash + Drop> Board<F> {
-    /// The power comes: the keymap is read from the flash. `AllocError` where there was no memory for
-    /// the reports that wait.
-    pub fn start(alloc: Global, flash: F) -> Result<Board<F>, AllocError> {
-        let keyboard = Keyboard::start(alloc, &flash)?;
-        Ok(Board { keyboard, flash })
+    /// The power comes: the keymap is read from the flash, by a keyboard in this room.
+    pub fn start(room: Room, flash: F) -> Board<F>
+        ensures { result ≡ flash }
+    {
+        let keyboard = Keyboard::start_in(room, &flash);
+        Board { keyboard, flash }
     }
 
     /// An interrupt. None of them touches the flash.

@@ -49,7 +49,7 @@ impl<C: NorFlash> NorFlash for CountingFlash<C> {
 
     ghost is_faultless = { λ f. C.is_faultless f.cells };
 
-    ghost operates = { λ f g. C.operates f.cells g.cells };
+    ghost operates = { λ f o g. C.operates f.cells o g.cells };
 
     fn pages(&self) -> usize {
         self.cells.pages()

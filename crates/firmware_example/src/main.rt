@@ -2,6 +2,9 @@
 //!
 //! A host sets key 0 to the letter b, the power is cut as soon as the host was told that this is stored, and the key
 //! is pressed again.
+//!
+//! A `Board` keeps a keyboard beside the flash that it started on, and promises that it is lent no other one. Nothing
+//! calls this program but the gate, which runs it: it is there to be copied from.
 #![tactic(auto)]
 
 mod board;
@@ -12,7 +15,7 @@ use crate::flash::CountingFlash;
 use anyhow::Result;
 use arrayvec::ArrayVec;
 use flash_model::SimFlash;
-use keyboard::{EpAnswer, Scan};
+use keyboard::{EpAnswer, Room, Scan};
 use std::alloc::AllocError;
 
 /// SET_REPORT of the feature report (HID 1.11 section 7.2.2), whose packet follows.
@@ -26,7 +29,7 @@ const HELD: u8 = 5;
 
 fn main(rt: HostRuntime) -> Result<()> {
     let cells = SimFlash::new(rt.alloc(), 2).map_err(|_| AllocError)?;
-    let mut board = Board::start(rt.alloc(), CountingFlash::new(cells))?;
+    let mut board = Board::start(Room::take(rt.alloc())?, CountingFlash::new(cells));
     println!(rt; "the key before: {:?}", press_key_0(&mut board))?;
 
     let mut packet = ArrayVec::new();
@@ -46,7 +49,7 @@ fn main(rt: HostRuntime) -> Result<()> {
     }
 
     let flash = board.cut();
-    let mut board = Board::start(rt.alloc(), flash)?;
+    let mut board = Board::start(Room::take(rt.alloc())?, flash);
     println!(rt; "the key after the cut: {:?}", press_key_0(&mut board))?;
     println!(rt;
         "{} programs, {} erases",

@@ -58,8 +58,8 @@ follows_in start first (BusReset ∷ calls) past e h n = follows_in start first 
 
 pub apart : (start : List ℕ) (before calls : List Call) (work : WorkAnswer) (first last : List ℕ) → EachCall IsAnswered start (calls ++ Worked work first ∷ before)
     → TurnsOver (image_after start before) first → NoneTurnsOver start calls (Worked work first ∷ before) → TurnsOver (image_after start (calls ++ Worked work first ∷ before)) last
-    → 127 ≤ operations calls
+    → (n : ℕ) × Follows first n (image_after start (calls ++ Worked work first ∷ before)) × (127 ≤ n) × (n ≤ operations calls)
 apart start before calls work first last h t n l =
     let f : FollowsIn first (operations calls) (image_after start (calls ++ Worked work first ∷ before)) = follows_in start first calls (Worked work first ∷ before) refl h n in
     let many : 127 ≤ f.count = between (image_after start before) first (image_after start (calls ++ Worked work first ∷ before)) last f.count t f.follows l in
-    omega (arith, many, f.few)
+    (f.count, f.follows, many, f.few)

@@ -8,6 +8,7 @@ pub mod Restarting
 pub mod Sounding
 pub mod Cutting
 pub mod Telling
+pub mod Confirming
 pub mod Bounding
 pub mod Standing
 pub mod Timing

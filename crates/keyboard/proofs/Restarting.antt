@@ -31,7 +31,7 @@ unless_failed-append works one xs ys = refl
 unless_failed-append settled one xs ys = refl
 unless_failed-append failed one xs ys = refl
 
-standing_of-append : (xs ys : List Accepted) → standing_of (xs ++ ys) ≡ standing_of xs ++ standing_of ys
+pub standing_of-append : (xs ys : List Accepted) → standing_of (xs ++ ys) ≡ standing_of xs ++ standing_of ys
 standing_of-append [] ys = refl
 standing_of-append (one ∷ xs) ys =
     ap (λ (zs : List Accepted). unless_failed one.fate one zs) (standing_of-append xs ys) ∙ unless_failed-append one.fate one (standing_of xs) (standing_of ys)

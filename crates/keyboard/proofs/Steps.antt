@@ -1,5 +1,6 @@
 -- What the one operation of a step of the flash work comes to.
-use Rattle.std.proofs.Common.{◌≡◌, ◌≢◌, ℕ, suc, ◌<◌, List, Some, refl, subst}
+use Rattle.std.proofs.Common.{◌≡◌, ◌≢◌, ℕ, suc, ◌+◌, ◌<◌, ◌≤◌, arith, List, Some, length, slice_index, refl, sym, ◌∙◌, subst, inl, inr}
+use Rattle.std.proofs.lemmas.Bool.{cases_lt}
 use Rattle.flash_model.specs.Image.{IsImage}
 use Rattle.flash_model.specs.Operations.{OneSlot, OnePage}
 use Rattle.layers.specs.declared.command.Command.{Command}
@@ -9,15 +10,16 @@ use Rattle.page_turnover.specs.Next.{Makes, MayMake, ReadsBack}
 use Rattle.page_turnover.specs.Operates.{Operates, programs, erases, MayOperate, may_program, may_erase}
 use Rattle.page_turnover.specs.Turn.{target_page}
 use Rattle.page_turnover.specs.Usable.{IsUsable}
+use Rattle.page_turnover.specs.Words.{IsBlank, HasRoom}
 use Rattle.keymap_store.specs.declared.store.Work.{Work as WorkAnswer}
 use Rattle.keymap_store.specs.declared.store.Work.TheVariants.{Idle, Working, Settled, Failed}
-use Rattle.keymap_store.specs.Next.{Attempts}
+use Rattle.keymap_store.specs.Next.{Attempts, all_copies}
 use Rattle.keymap_store.specs.Works.{IsPlacedAt, IsTornAt}
 use Rattle.keyboard.specs.Bounded.{steps_since}
-use Rattle.keyboard.specs.Calls.{Call, image_after, EachCall}
+use Rattle.keyboard.specs.Calls.{Call, image_after, keymap, EachCall}
 use Rattle.keyboard.specs.Commands.{working}
 use Rattle.keyboard.specs.Lawful.{IsAnswered}
-use Rattle.keyboard.specs.Operated.{LosesNothing, IsRecord, IsOfTurn, erases as erases_target, copies, heads, Works}
+use Rattle.keyboard.specs.Operated.{LosesNothing, IsRecord, HoldsFirst, IsOfTurn, erases as erases_target, copies, heads, Works}
 use Rattle.keyboard.specs.Restart.{RestartsLegally}
 use Rattle.keyboard.proofs.Working.{cut_legal}
 
@@ -65,14 +67,14 @@ slot_in_page : (old : List ℕ) (page slot : ℕ) (new : List ℕ) → OneSlot o
 slot_in_page old page slot new o = record { same_length = o.same_length; others = λ p s l n. o.others p s l (λ e f. n e) }
 
 in_target_whole : (old : List ℕ) (operation : Operation) (new : List ℕ) → IsOfTurn old operation → Makes old operation new → OnePage old (target_page old) new
-in_target_whole old operation new (erases_target e) m = (let M : Operation → Type 0 = λ o. Makes old o new in (subst M e m).rest)
-in_target_whole old operation new (copies n l e) m = (let M : Operation → Type 0 = λ o. Makes old o new in slot_in_page old (target_page old) _ new (subst M e m).rest)
-in_target_whole old operation new (heads e) m = (let M : Operation → Type 0 = λ o. Makes old o new in slot_in_page old (target_page old) 0 new (subst M e m).rest)
+in_target_whole old operation new (erases_target e used) m = (let M : Operation → Type 0 = λ o. Makes old o new in (subst M e m).rest)
+in_target_whole old operation new (copies n l e h) m = (let M : Operation → Type 0 = λ o. Makes old o new in slot_in_page old (target_page old) _ new (subst M e m).rest)
+in_target_whole old operation new (heads e h) m = (let M : Operation → Type 0 = λ o. Makes old o new in slot_in_page old (target_page old) 0 new (subst M e m).rest)
 
 in_target_torn : (old : List ℕ) (operation : Operation) (new : List ℕ) → IsOfTurn old operation → MayMake old operation new → OnePage old (target_page old) new
-in_target_torn old operation new (erases_target e) m = (let M : Operation → Type 0 = λ o. MayMake old o new in (subst M e m).rest)
-in_target_torn old operation new (copies n l e) m = (let M : Operation → Type 0 = λ o. MayMake old o new in slot_in_page old (target_page old) _ new (subst M e m).rest)
-in_target_torn old operation new (heads e) m = (let M : Operation → Type 0 = λ o. MayMake old o new in slot_in_page old (target_page old) 0 new (subst M e m).rest)
+in_target_torn old operation new (erases_target e used) m = (let M : Operation → Type 0 = λ o. MayMake old o new in (subst M e m).rest)
+in_target_torn old operation new (copies n l e h) m = (let M : Operation → Type 0 = λ o. MayMake old o new in slot_in_page old (target_page old) _ new (subst M e m).rest)
+in_target_torn old operation new (heads e h) m = (let M : Operation → Type 0 = λ o. MayMake old o new in slot_in_page old (target_page old) 0 new (subst M e m).rest)
 
 in_target_by : (old : List ℕ) (operation : Operation) (work : WorkAnswer) (new : List ℕ) → IsOfTurn old operation → Attempts old operation work new → OnePage old (target_page old) new
 in_target_by old operation Idle new t a = absurd (a.not_idle refl)
@@ -82,6 +84,75 @@ in_target_by old operation Failed new t a = in_target_torn old operation new t (
 
 pub in_target : (start : List ℕ) (past : List Call) (command : Command) (old : List ℕ) (work : WorkAnswer) (new : List ℕ) (works : Works start past command old work new) → suc (steps_since past) < works.advances.needed → OnePage old (target_page old) new
 in_target start past command old work new w l = in_target_by old w.operation work new (w.advances.turn_before l) w.attempts
+
+-- what each operation of a turn asks of the flash
+same_page : (p q slot other word more : ℕ) → Program p slot word ≡ Program q other more → p ≡ q
+same_page p q slot other word more e = cc
+
+same_slot : (p q slot other word more : ℕ) → Program p slot word ≡ Program q other more → slot ≡ other
+same_slot p q slot other word more e = cc
+
+same_word : (p q slot other word more : ℕ) → Program p slot word ≡ Program q other more → word ≡ more
+same_word p q slot other word more e = cc
+
+erased_page : (p q : ℕ) → Erase p ≡ Erase q → p ≡ q
+erased_page p q e = cc
+
+by_turn_erased : (old : List ℕ) (operation : Operation) (page : ℕ) → IsOfTurn old operation → operation ≡ Erase page → (page ≡ target_page old) × (IsBlank old page → ⊥)
+by_turn_erased old operation page (erases_target e used) o =
+    let same : page ≡ target_page old = erased_page page (target_page old) (sym o ∙ e) in
+    (same, rw same used)
+by_turn_erased old operation page (copies n l e h) o = cc
+by_turn_erased old operation page (heads e h) o = cc
+
+by_turn_copied : (old : List ℕ) (operation : Operation) (n word : ℕ) → IsOfTurn old operation → operation ≡ Program (target_page old) (n + 1) word
+    → (word ≡ slice_index (all_copies (keymap old)) n) × HoldsFirst old n
+by_turn_copied old operation n word (erases_target e used) o = cc
+by_turn_copied old operation n word (copies k l e h) o =
+    let at : n + 1 ≡ k + 1 = same_slot (target_page old) (target_page old) (n + 1) (k + 1) word _ (sym o ∙ e) in
+    let same : k ≡ n = omega arith in
+    let w : word ≡ slice_index (all_copies (keymap old)) k = same_word (target_page old) (target_page old) (n + 1) (k + 1) word _ (sym o ∙ e) in
+    (rw same at w, subst (λ (x : ℕ). HoldsFirst old x) same h)
+by_turn_copied old operation n word (heads e h) o =
+    let at : n + 1 ≡ 0 = same_slot (target_page old) (target_page old) (n + 1) 0 word _ (sym o ∙ e) in
+    absurd (omega arith)
+
+by_turn_headed : (old : List ℕ) (operation : Operation) (word : ℕ) → IsOfTurn old operation → operation ≡ Program (target_page old) 0 word → HoldsFirst old (length (all_copies (keymap old)))
+by_turn_headed old operation word (erases_target e used) o = cc
+by_turn_headed old operation word (copies k l e h) o =
+    let at : 0 ≡ k + 1 = same_slot (target_page old) (target_page old) 0 (k + 1) word _ (sym o ∙ e) in
+    absurd (omega arith)
+by_turn_headed old operation word (heads e h) o = h
+
+-- a record is programmed, and not into slot 0
+no_erase : (command : Command) (old : List ℕ) (operation : Operation) (page : ℕ) → IsRecord command old operation → operation ≡ Erase page → ⊥
+no_erase command old operation page r o = (let e = r.operation_is in cc)
+
+no_header : (command : Command) (old : List ℕ) (operation : Operation) (word : ℕ) → IsRecord command old operation → operation ≡ Program (target_page old) 0 word → ⊥
+no_header command old operation word r o =
+    let at : 0 ≡ r.tail = same_slot (target_page old) r.page 0 r.tail word _ (sym o ∙ r.operation_is) in
+    absurd (omega (arith, r.is_tail.low))
+
+last_of_all : (made needed : ℕ) → suc made ≤ needed → needed ≤ suc made → suc made ≡ needed
+last_of_all made needed w l = omega arith
+
+pub erased_step : (start : List ℕ) (past : List Call) (command : Command) (old : List ℕ) (work : WorkAnswer) (new : List ℕ) (page : ℕ) (works : Works start past command old work new) → works.operation ≡ Erase page
+    → (page ≡ target_page old) × (IsBlank old page → ⊥) × (HasRoom old → ⊥)
+erased_step start past command old work new page w o = elim (cases_lt (suc (steps_since past)) w.advances.needed) [
+  | inl l ↦ (let t = by_turn_erased old w.operation page (w.advances.turn_before l) o in (t.0, t.1, w.advances.no_room l))
+  | inr l ↦ absurd (no_erase command old w.operation page (w.advances.record_last (last_of_all (steps_since past) w.advances.needed w.advances.within l)) o)
+]
+
+pub copied_step : (start : List ℕ) (past : List Call) (command : Command) (old : List ℕ) (work : WorkAnswer) (new : List ℕ) (n word : ℕ) (works : Works start past command old work new) → suc (steps_since past) < works.advances.needed
+    → works.operation ≡ Program (target_page old) (n + 1) word → (word ≡ slice_index (all_copies (keymap old)) n) × HoldsFirst old n × (HasRoom old → ⊥)
+copied_step start past command old work new n word w l o = (let t = by_turn_copied old w.operation n word (w.advances.turn_before l) o in (t.0, t.1, w.advances.no_room l))
+
+pub headed_step : (start : List ℕ) (past : List Call) (command : Command) (old : List ℕ) (work : WorkAnswer) (new : List ℕ) (word : ℕ) (works : Works start past command old work new) → works.operation ≡ Program (target_page old) 0 word
+    → HoldsFirst old (length (all_copies (keymap old))) × (HasRoom old → ⊥)
+headed_step start past command old work new word w o = elim (cases_lt (suc (steps_since past)) w.advances.needed) [
+  | inl l ↦ (by_turn_headed old w.operation word (w.advances.turn_before l) o, w.advances.no_room l)
+  | inr l ↦ absurd (no_header command old w.operation word (w.advances.record_last (last_of_all (steps_since past) w.advances.needed w.advances.within l)) o)
+]
 
 -- and of a cut inside it
 pub cut_step : (start : List ℕ) (past : List Call) (command : Command) (work : WorkAnswer) (new image : List ℕ) (works : Works start past command (image_after start past) work new) → EachCall IsAnswered start past → working start past ≡ Some command → IsImage image

@@ -377,7 +377,7 @@ accepts_out before (Polled answer) command e = cc
 accepts_out before (Worked work image) command e = cc
 accepts_out before BusReset command e = cc
 
-EachCall-later : (P : List ℕ → List Call → Call → Type 0) (start : List ℕ) (later past : List Call) → EachCall P start (later ++ past) → EachCall P start past
+pub EachCall-later : (P : List ℕ → List Call → Call → Type 0) (start : List ℕ) (later past : List Call) → EachCall P start (later ++ past) → EachCall P start past
 EachCall-later P start [] past h = h
 EachCall-later P start (call ∷ later) past h = EachCall-later P start later past h.1
 
@@ -391,7 +391,7 @@ NoneAcceptedWrites-sooner (call ∷ later) earlier past layer key n =
     (subst (λ (xs : List Call). Leaves layer key (accepts xs call)) (append_assoc later earlier past) n.0, NoneAcceptedWrites-sooner later earlier past layer key n.1)
 
 -- the command was settled when the empty packet came
-settled_here : (start : List ℕ) (between before : List Call) (call : Call) (asked : Command) → SameTransfer between → accepts before call ≡ Some asked → EachCall IsAnswered start (between ++ call ∷ before)
+pub settled_here : (start : List ℕ) (between before : List Call) (call : Call) (asked : Command) → SameTransfer between → accepts before call ≡ Some asked → EachCall IsAnswered start (between ++ call ∷ before)
     → Packet (record { items = [] }) ≡ in_answer (stage_after start (between ++ call ∷ before)) → fate (keymap (image_after start before)) asked between ≡ settled
 settled_here start between before call asked same s h e =
     let o : IsOut call = accepts_out before call asked s in

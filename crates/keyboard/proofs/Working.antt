@@ -32,7 +32,7 @@ use Rattle.keyboard.specs.Commands.{accepts, working}
 use Rattle.keyboard.specs.Endpoint.{ep_calls}
 use Rattle.keyboard.specs.Bounded.{most_steps, steps_since, accepted_image}
 use Rattle.keyboard.specs.Operated.{Works, WorksOn, Advances, IsCutShort}
-use Rattle.keyboard.specs.Lawful.{WorkedOn, IsAnswered}
+use Rattle.keyboard.specs.Lawful.{WorkedOn, IsAnswered, MakesSuch}
 use Rattle.keyboard.specs.Private.{Operating}
 use Rattle.keyboard.specs.Restart.{RestartsLegally, CutsLegally}
 use Rattle.keyboard.proofs.Restarting.{restarts_with, restarts_without}
@@ -41,7 +41,7 @@ use Rattle.keyboard.specs.Stands.{StandsFor}
 use Rattle.keyboard.proofs.Accepting.{ended_by-idle, ended_by-working}
 use Rattle.keyboard.proofs.Bounding.{needs_more, steps_since-more, nothing_left, accepted_image-same, nothing_needed}
 use Rattle.keyboard.proofs.Effects.{accepts-work}
-use Rattle.keyboard.proofs.Operation.{due_last, due_before, loses_by}
+use Rattle.keyboard.proofs.Operation.{due_last, due_before, due_no_room, loses_by}
 use Rattle.keyboard.proofs.Sessions.{After, orderly, working_after, after_stays, after_settles, after_fails}
 
 -- two keymaps that have the same codes
@@ -96,6 +96,7 @@ advances start before command old operation work after new s o v n on =
       within = omega (arith, more);
       record_last = λ e. due_last old.store.job (image_after start before) old.store command operation refl s.now.store n v (omega (arith, e));
       turn_before = λ e. due_before old.store.job (image_after start before) old.store command operation refl s.now.store n v (omega (arith, e));
+      no_room = λ e. due_no_room old.store.job (image_after start before) old.store command operation refl s.now.store n v (omega (arith, e));
       last = λ e. (let one : left (image_after start before) old.store ≡ 1 = o.down.last e in omega (arith, one));
       before_last = λ e. (
         (let some : 1 ≤ left after new = needs_more after new (on e) in omega (arith, o.down.fewer e, some)),
@@ -154,25 +155,46 @@ usable_by image store Working after new o n = was_usable image after (o.operates
 usable_by image store Settled after new o n = was_usable image after (o.operates (λ e. cc) (λ e. cc))
 usable_by image store Failed after new o n = was_usable_torn image after (o.torn refl)
 
--- a step while a command works, by the operation that is next
-works_by : (next : Option Operation) (start : List ℕ) (before : List Call) (command : Command) (old : KeyboardValue) (work : WorkAnswer) (after : List ℕ) (new : StoreValue) → next_operation_of (image_after start before) old.store ≡ next → StandsFor start before old
-    → Operating (image_after start before) old.store work after new → at_work old ≡ Some command → work ≢ Idle → AttemptsNext next (image_after start before) work after → Works start before command (image_after start before) work after
-works_by None start before command old work after new n s o v some (idle, same) = absurd (some idle)
-works_by (Some operation) start before command old work after new n s o v some a =
+-- a step while a command works, that makes this operation
+record WorksBy (start : List ℕ) (before : List Call) (command : Command) (work : WorkAnswer) (after : List ℕ) (operation : Operation) : Type 0 where
+  step : Works start before command (image_after start before) work after
+  operation_is : step.operation ≡ operation
+
+works_of : (operation : Operation) (start : List ℕ) (before : List Call) (command : Command) (old : KeyboardValue) (work : WorkAnswer) (after : List ℕ) (new : StoreValue) → next_operation_of (image_after start before) old.store ≡ Some operation → StandsFor start before old
+    → Operating (image_after start before) old.store work after new → at_work old ≡ Some command → work ≢ Idle → Attempts (image_after start before) operation work after → WorksBy start before command work after operation
+works_of operation start before command old work after new n s o v some a =
     let image : List ℕ = image_after start before in
     let held : Mirrors image old.store = s.now.store in
     let usable : IsUsable image = usable_by image old.store work after new o some in
     record {
-      operation = operation;
-      usable = usable;
-      loses_nothing = loses_by old.store.job image old.store command operation refl held n v;
-      attempts = a;
-      advances = advances start before command old operation work after new s o v n (λ e. rw (works_for command image old.store work after new o.works v e) refl);
-      outcome = outcome command image old.store work after new held o v o.works;
-      sound = o.sound usable;
-      wears = (cut_leaves image after old.store operation held n o.mirrors.log_is.whole (made image operation work after held.log_is.whole a)).wears;
-      cut = λ cut i t. cut_short image old.store operation command cut held n v i t;
+      step = record {
+        operation = operation;
+        usable = usable;
+        loses_nothing = loses_by old.store.job image old.store command operation refl held n v;
+        attempts = a;
+        advances = advances start before command old operation work after new s o v n (λ e. rw (works_for command image old.store work after new o.works v e) refl);
+        outcome = outcome command image old.store work after new held o v o.works;
+        sound = o.sound usable;
+        wears = (cut_leaves image after old.store operation held n o.mirrors.log_is.whole (made image operation work after held.log_is.whole a)).wears;
+        cut = λ cut i t. cut_short image old.store operation command cut held n v i t;
+      };
+      operation_is = refl;
     }
+
+-- by the operation that is next
+works_by : (next : Option Operation) (start : List ℕ) (before : List Call) (command : Command) (old : KeyboardValue) (work : WorkAnswer) (after : List ℕ) (new : StoreValue) → next_operation_of (image_after start before) old.store ≡ next → StandsFor start before old
+    → Operating (image_after start before) old.store work after new → at_work old ≡ Some command → work ≢ Idle → AttemptsNext next (image_after start before) work after → Works start before command (image_after start before) work after
+works_by None start before command old work after new n s o v some (idle, same) = absurd (some idle)
+works_by (Some operation) start before command old work after new n s o v some a = (works_of operation start before command old work after new n s o v some a).step
+
+-- what holds of the operation that is next holds of the step's
+such_by : (next : Option Operation) (start : List ℕ) (before : List Call) (command : Command) (old : KeyboardValue) (work : WorkAnswer) (after : List ℕ) (new : StoreValue) (such : Operation → Type 0) → next_operation_of (image_after start before) old.store ≡ next → StandsFor start before old
+    → Operating (image_after start before) old.store work after new → working start before ≡ Some command → work ≢ Idle → AttemptsNext next (image_after start before) work after
+    → ((operation : Operation) → next_operation_of (image_after start before) old.store ≡ Some operation → such operation) → MakesSuch start before work after such
+such_by None start before command old work after new such n s o w some (idle, same) h = absurd (some idle)
+such_by (Some operation) start before command old work after new such n s o w some a h =
+    let by : WorksBy start before command work after operation = works_of operation start before command old work after new n s o (s.now.works ∙ w) some a in
+    record { command = command; works_on = w; step = by.step; is_such = subst such (sym by.operation_is) (h operation n) }
 
 works : (start : List ℕ) (before : List Call) (command : Command) (old : KeyboardValue) (work : WorkAnswer) (after : List ℕ) (new : StoreValue) → StandsFor start before old
     → Operating (image_after start before) old.store work after new → at_work old ≡ Some command → Works start before command (image_after start before) work after
@@ -194,6 +216,18 @@ worked_by start before (Some command) old work after new s o v = works start bef
 pub worked_on : (start : List ℕ) (before : List Call) (old : KeyboardValue) (work : WorkAnswer) (after : List ℕ) (new : StoreValue) → StandsFor start before old
     → Operating (image_after start before) old.store work after new → IsAnswered start before (Worked work after)
 worked_on start before old work after new s o = worked_by start before (working start before) old work after new s o s.now.works
+
+such_in : (start : List ℕ) (before : List Call) (w : Option Command) (old : KeyboardValue) (work : WorkAnswer) (after : List ℕ) (new : StoreValue) (such : Operation → Type 0) → StandsFor start before old
+    → Operating (image_after start before) old.store work after new → working start before ≡ w → work ≢ Idle
+    → ((operation : Operation) → next_operation_of (image_after start before) old.store ≡ Some operation → such operation) → MakesSuch start before work after such
+such_in start before None old work after new such s o w some h = absurd (some (idle_same (image_after start before) old.store work after new (s.now.works ∙ w) o.works).0)
+such_in start before (Some command) old work after new such s o w some h = such_by (next_operation_of (image_after start before) old.store) start before command old work after new such refl s o w some o.attempts h
+
+-- the operation of a step of the flash work is the one that the store asks for
+pub makes_such : (start : List ℕ) (before : List Call) (old : KeyboardValue) (work : WorkAnswer) (after : List ℕ) (new : StoreValue) (such : Operation → Type 0) → StandsFor start before old
+    → Operating (image_after start before) old.store work after new → work ≢ Idle
+    → ((operation : Operation) → next_operation_of (image_after start before) old.store ≡ Some operation → such operation) → MakesSuch start before work after such
+makes_such start before old work after new such s o some h = such_in start before (working start before) old work after new such s o refl some h
 
 -- the keyboard after it, once it is known which command works
 stands_after : (start : List ℕ) (before : List Call) (work : WorkAnswer) (after : List ℕ) (ep : Stage) (new : StoreValue) (old : KeyboardValue) → StandsFor start before old

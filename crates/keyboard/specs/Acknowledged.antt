@@ -1,11 +1,12 @@
--- What the host was told is stored.
+-- Believed: what the host was told is stored.
 use Rattle.std.specs.Prelude.{◌≡◌, ℕ, ◌<◌, Option, None, Some, List, [], ◌∷◌, ◌++◌}
 use Rattle.layers.specs.Codes.{layers, keys}
 use Rattle.layers.specs.Entries.{written}
 use Rattle.layers.specs.declared.command.Command.{Command}
 use Rattle.control_ep.specs.declared.answer.EpAnswer.TheVariants.{Packet}
 use Rattle.keyboard.specs.Calls.{Call, SetUp, In, BusReset, image_after, keymap}
-use Rattle.keyboard.specs.Commands.{accepts}
+use Rattle.keyboard.specs.Fate.{settled}
+use Rattle.keyboard.specs.Commands.{Accepted, accepts, accepted, accepted_before}
 
 -- the calls, newest first, begin no other transfer
 abbrev pub SameTransfer : List Call → Type 0
@@ -26,7 +27,7 @@ NoneAcceptedWrites (call ∷ before) past layer key =
     Leaves layer key (accepts (before ++ past) call) × NoneAcceptedWrites before past layer key
 
 -- a command that gives the entry this code was accepted, an IN packet of its transfer was answered by the empty packet,
--- and no command since wrote the entry, whatever else came
+-- and no command was accepted since that would write the entry, not even one that failed; whatever else came
 pub record IsAcknowledged (past : List Call) (layer key code : ℕ) : Type 0 where
   pub in_layers : layer < layers
   pub in_keys : key < keys
@@ -45,3 +46,28 @@ pub record IsAcknowledged (past : List Call) (layer key code : ℕ) : Type 0 whe
 abbrev pub KeepsAcknowledged : List ℕ → List Call → Type 0
 KeepsAcknowledged start past =
     (layer key code : ℕ) → IsAcknowledged past layer key code → keymap (image_after start past) layer key ≡ code
+
+-- the empty packet, which ends the status stage: it tells the host that the command of its transfer is stored
+abbrev pub told : Call
+told = In (Packet (record { items = [] }))
+
+-- the command that was accepted on top of these calls is confirmed: an IN packet of its transfer was answered by the empty packet
+pub record IsConfirmed (past before : List Call) (command : Command) : Type 0 where
+  pub packet : Call
+  pub between : List Call
+  pub after : List Call
+  pub past_is : past ≡ after ++ told ∷ between ++ packet ∷ before
+  pub accepted : accepts before packet ≡ Some command
+  pub same_transfer : SameTransfer between
+
+-- of these commands, this one comes right after those before it, and is settled
+pub record SettledAfter (earlier : List Accepted) (command : Command) (all : List Accepted) : Type 0 where
+  pub later : List Accepted
+  pub all_are : all ≡ earlier ++ record { command = command; fate = settled } ∷ later
+
+-- of the commands accepted in a session, the one that was accepted on top of these calls is settled: it comes right after
+-- those that the calls before it accepted
+pub record IsSettled (start : List ℕ) (past before : List Call) (command : Command) : Type 0 where
+  pub since : List Call
+  pub past_is : past ≡ since ++ before
+  pub settled_at : SettledAfter (accepted_before start since before) command (accepted start past)

@@ -1,4 +1,4 @@
--- How many steps of the flash work a command takes.
+-- Believed: how many steps of the flash work a command takes.
 use Rattle.std.specs.Prelude.{ℕ, suc, ◌≤◌, IsSome, Option, Some, None, List, [], ◌∷◌}
 use Rattle.layers.specs.declared.command.Command.{Command}
 use Rattle.keyboard.specs.Calls.{Call, Worked, image_after}
@@ -13,15 +13,17 @@ abbrev pub counted : Call → ℕ → ℕ
 counted (Worked work image) count = suc count
 counted _ count = count
 
+-- a count that starts anew where a command is accepted
 abbrev pub unless_accepted : Option Command → ℕ → ℕ
 unless_accepted (Some command) count = 0
 unless_accepted None count = count
 
--- the steps of the flash work since the latest command was accepted
+-- the steps of the flash work since the latest command was accepted, also those that were idle
 unfoldable pub steps_since : List Call → ℕ
 steps_since [] = 0
 steps_since (call ∷ before) = unless_accepted (accepts before call) (counted call (steps_since before))
 
+-- the image where a command is accepted, else the one that was noted before
 abbrev pub image_if : Option Command → List ℕ → List ℕ → List ℕ
 image_if (Some command) image before = image
 image_if None image before = before

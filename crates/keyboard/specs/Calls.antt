@@ -1,10 +1,11 @@
--- What a keyboard was asked since its start, and what it answered.
+-- Believed: what a keyboard was asked since its start, and what it answered.
 use Rattle.std.specs.Prelude.{ℕ, Option, None, Some, List, [], ◌∷◌}
 use Rattle.debounce.specs.declared.Scan.{Scan}
 use Rattle.control_ep.specs.declared.answer.EpAnswer.{EpAnswer}
 use Rattle.keymap_store.specs.declared.store.Work.{Work}
 use Rattle.keymap_store.specs.Keymap.{entries_of}
 
+-- a call of a keyboard
 pub data Call : Type 0 where
   -- a scan of the matrix
   Scanned : (scan : Scan) → Call
@@ -18,6 +19,7 @@ pub data Call : Type 0 where
   Polled : (answer : Option (List ℕ)) → Call
   -- a step of the flash work: its answer, and the flash's image after it
   Worked : (work : Work) → (image : List ℕ) → Call
+  -- a reset of the bus
   BusReset : Call
 
 -- the flash's image after these calls, newest first: no call but a step of the flash work changes it

@@ -1,4 +1,4 @@
--- The commands of a session: which were accepted, in order, and what has become of each.
+-- Believed: the commands of a session: which were accepted, in order, and what has become of each.
 use Rattle.std.specs.Prelude.{ℕ, Option, None, Some, List, [], ◌∷◌, ◌++◌, drop}
 use Rattle.std.specs.Result.{result_ok}
 use Rattle.layers.specs.declared.command.Command.{Command}
@@ -18,6 +18,7 @@ abbrev pub command_of : HostReport → List ℕ → Option Command
 command_of FeatureData bytes = result_ok (command_in (drop 1 bytes))
 command_of _ bytes = None
 
+-- the command in the report that a call took, if it took one and there is a command in it
 abbrev pub command_in_report : Option Sent → Option Command
 command_in_report None = None
 command_in_report (Some sent) = command_of sent.report sent.bytes
@@ -42,39 +43,46 @@ accepted_before start after (call ∷ before) =
 unfoldable pub accepted : List ℕ → List Call → List Accepted
 accepted start past = accepted_before start [] past
 
+-- a command, where this became of it: that it works
 abbrev pub if_works : Fate → Command → Option Command
 if_works works command = Some command
 if_works _ command = None
 
+-- a command before later ones, where it is settled; else the later ones alone
 abbrev pub if_settled : Fate → Command → List Command → List Command
 if_settled settled command later = command ∷ later
 if_settled _ command later = later
 
+-- a command before later ones, where it did not fail; else the later ones alone
 abbrev pub unless_failed : Fate → Accepted → List Accepted → List Accepted
 unless_failed failed one later = later
 unless_failed _ one later = one ∷ later
 
--- the last of them that works: the keyboard is busy then
+-- the later command that works, if one does; else this one, if it works
 abbrev pub working_one : Accepted → Option Command → Option Command
 working_one one (Some later) = Some later
 working_one one None = if_works one.fate one.command
 
+-- the last of these commands that works, if one does
 abbrev pub working_of : List Accepted → Option Command
 working_of [] = None
 working_of (one ∷ later) = working_one one (working_of later)
 
+-- the command that works after these calls, if one does: the keyboard is busy then
 unfoldable pub working : List ℕ → List Call → Option Command
 working start past = working_of (accepted start past)
 
--- those that are settled, and those that did not fail
+-- those that are settled, in order
 abbrev pub settled_of : List Accepted → List Command
 settled_of [] = []
 settled_of (one ∷ later) = if_settled one.fate one.command (settled_of later)
 
+-- those that did not fail, in order, each with what became of it
 abbrev pub standing_of : List Accepted → List Accepted
 standing_of [] = []
 standing_of (one ∷ later) = unless_failed one.fate one (standing_of later)
 
+-- the commands, without what became of them
 abbrev pub commands_of : List Accepted → List Command
 commands_of [] = []
 commands_of (one ∷ later) = one.command ∷ commands_of later

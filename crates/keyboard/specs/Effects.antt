@@ -1,5 +1,5 @@
--- What the host has set: LEDs, the selected entry, the protocol and the idle values, read off the answers that were given
--- and the SETUP packets that they belong to.
+-- Believed: what the host has set: LEDs, the selected entry, the protocol and the idle values, read off the answers that
+-- were given and the SETUP packets that they belong to.
 use Rattle.std.specs.Prelude.{ℕ, ◌%◌, ◌/◌, ◌^◌, ◌==◌, ◌&&◌, if◌then◌else◌, Option, None, Some, unwrap_or, Result, Ok, List, [], ◌∷◌, slice_index}
 use Rattle.reports.specs.declared.Protocol.{Protocol}
 use Rattle.reports.specs.declared.Protocol.TheVariants.{Report}
@@ -28,6 +28,7 @@ abbrev pub report_of_request : SetupFields → Option HostReport
 report_of_request request =
     if (request.kind == 0x21) && (request.code == 0x09) then report_of_value request.value else None
 
+-- the report that a SETUP packet names by SET_REPORT, if there is such a packet and it names one
 unfoldable pub report_named : Option (List ℕ) → Option HostReport
 report_named None = None
 report_named (Some setup) = report_of_request (request_of setup)
@@ -37,6 +38,7 @@ pub record Sent : Type 0 where
   pub report : HostReport
   pub bytes : List ℕ
 
+-- a packet as the report that was named, if one was
 abbrev pub sent_as : List ℕ → Option HostReport → Option Sent
 sent_as packet None = None
 sent_as packet (Some report) = Some (record { report = report; bytes = packet })
@@ -52,6 +54,7 @@ leds_of LedsWithId bytes = Some (slice_index bytes 1 % 2 ^ 5)
 leds_of LedsAlone bytes = Some (slice_index bytes 0 % 2 ^ 5)
 leds_of FeatureData bytes = None
 
+-- the LEDs of the report that a call took, if it took one that has LEDs
 abbrev pub leds_in : Option Sent → Option ℕ
 leds_in None = None
 leds_in (Some sent) = leds_of sent.report sent.bytes
@@ -73,6 +76,7 @@ entry_of FeatureData bytes =
     if slice_index bytes 1 == 0 then Some (record { layer = slice_index bytes 2; key = slice_index bytes 3 }) else None
 entry_of _ bytes = None
 
+-- the entry that is selected by the report that a call took, if it took one that selects
 abbrev pub entry_in_report : Option Sent → Option Entry
 entry_in_report None = None
 entry_in_report (Some sent) = entry_of sent.report sent.bytes
@@ -95,6 +99,7 @@ effect_of_request request =
     else (if (request.kind == 0x21) && (request.code == 0x0B) then effect_set (named BadProtocol protocol_effects request.value)
     else Nothing)
 
+-- what a SETUP packet asks for by SET_IDLE or SET_PROTOCOL, if there is one
 unfoldable pub effect_asked : Option (List ℕ) → Effect
 effect_asked None = Nothing
 effect_asked (Some setup) = effect_of_request (request_of setup)
@@ -103,6 +108,7 @@ effect_asked (Some setup) = effect_of_request (request_of setup)
 abbrev pub effect_told : List Call → EpAnswer → Effect
 effect_told before answer = if is_empty_packet answer then effect_asked (setup_of before) else Nothing
 
+-- the protocol that an effect chooses, else the one before
 abbrev pub protocol_then : Effect → Protocol → Protocol
 protocol_then (SetProtocol chosen) protocol = chosen
 protocol_then _ protocol = protocol

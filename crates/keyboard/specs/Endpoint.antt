@@ -1,4 +1,4 @@
--- The calls of the control endpoint: what a SETUP packet is answered from, and the verdicts on feature reports.
+-- Believed: the calls of the control endpoint: what a SETUP packet is answered from, and the verdicts on feature reports.
 use Rattle.std.specs.Prelude.{ℕ, ◌%◌, ◌/◌, Bool, if◌then◌else◌, List, [], ◌∷◌}
 use Rattle.reports.specs.declared.Input.TheVariants.{Boot, One, Two}
 use Rattle.reports.specs.Poll.{idle_value}
@@ -52,6 +52,8 @@ with_out (Offer bytes) packet entries answer calls =
     Judged (verdict_told (changes_by entries (command_in bytes)) answer) answer ∷ EpOut packet (Offer bytes) ∷ calls
 with_out step packet entries answer calls = EpOut packet step ∷ calls
 
+-- the keyboard's calls as those of its control endpoint: a step of the flash work is one where it ends a command, and a
+-- scan or a poll is none
 unfoldable pub ep_calls : List ℕ → List Call → List EpCall
 ep_calls start [] = []
 ep_calls start (SetUp bytes ∷ before) = Setup bytes (view_after start before) ∷ ep_calls start before

@@ -1,4 +1,4 @@
--- What becomes of a command that was accepted.
+-- Believed: what becomes of a command that was accepted.
 use Rattle.std.specs.Prelude.{ℕ, ◌==◌, Bool, false, not, if◌then◌else◌, Result, Ok, Err, List, [], ◌∷◌}
 use Rattle.layers.specs.Codes.{layers, keys}
 use Rattle.layers.specs.Entries.{changed}
@@ -31,6 +31,7 @@ ended_by_work Settled works = settled
 ended_by_work Failed works = failed
 ended_by_work _ fate = fate
 
+-- a call that is such a step ends the command that works
 abbrev pub ended_by : Call → Fate → Fate
 ended_by (Worked work image) fate = ended_by_work work fate
 ended_by _ fate = fate

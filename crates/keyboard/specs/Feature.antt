@@ -1,4 +1,4 @@
--- The feature report and the checks that it has to pass.
+-- Believed: the feature report and the checks that it has to pass.
 use Rattle.std.specs.Prelude.{◌≡◌, ℕ, ◌+◌, ◌*◌, Bool, true, nat_lt, if◌then◌else◌, Result, Ok, Err, List, slice_index}
 use Rattle.layers.specs.Codes.{layers, keys}
 use Rattle.layers.specs.Commands.{command_read}
@@ -32,6 +32,7 @@ CommandAnswer image command answer =
     (Where (IsWorn image) (answer ≡ Stall Worn)
     (answer ≡ Ack)))
 
+-- the answer to what was read as a command: the first number that is none is refused for its reason
 abbrev pub ReadAnswer : List ℕ → Result Command KeymapError → EpAnswer → Type 0
 ReadAnswer image (Err error) answer = answer ≡ Stall (reason_of error)
 ReadAnswer image (Ok command) answer = CommandAnswer image command answer

@@ -1,4 +1,4 @@
--- The calls of the keys: scans with the keymap and the protocol of their moment, polls, and what the host sets of them.
+-- Believed: the calls of the keys: scans with keymap and protocol of their moment, polls, and what the host sets of them.
 use Rattle.std.specs.Prelude.{ℕ, List, [], ◌∷◌}
 use Rattle.control_ep.specs.declared.answer.Effect.{Effect}
 use Rattle.control_ep.specs.declared.answer.Effect.TheVariants.{Nothing, Idle, SetProtocol}
@@ -14,6 +14,8 @@ with_effect Nothing calls = calls
 with_effect (Idle id duration) calls = Asked (idle_set id duration) ∷ calls
 with_effect (SetProtocol chosen) calls = Asked forgot ∷ calls
 
+-- the keyboard's calls as those of its keys: an IN packet is one where it has an effect, and a SETUP packet, an OUT packet
+-- or a step of the flash work is none
 unfoldable pub key_calls : List ℕ → List Call → List KeyCall
 key_calls start [] = []
 key_calls start (Scanned scan ∷ before) =

@@ -1,6 +1,7 @@
--- What each call is answered, by the calls before it.
+-- Believed: what each call is answered, by the calls before it.
 use Rattle.std.specs.Prelude.{◌≡◌, ℕ, Bool, is_some, Option, None, Some, List}
 use Rattle.layers.specs.declared.command.Command.{Command}
+use Rattle.page_turnover.specs.declared.operation.Operation.{Operation}
 use Rattle.key_reports.specs.Past.{answer_after}
 use Rattle.keymap_store.specs.declared.store.Work.{Work as WorkAnswer}
 use Rattle.keymap_store.specs.declared.store.Work.TheVariants.{Idle}
@@ -18,7 +19,7 @@ use Rattle.keyboard.specs.Commands.{working}
 use Rattle.keyboard.specs.Operated.{Works}
 
 -- the answer to an OUT packet, by what it comes to in its stage: the endpoint's own; that LEDs are taken; or the one that
--- the checks of a feature report give on this image, while a command works or none does
+-- the checks of a feature report give, by this image and by whether the keyboard is busy with a command
 abbrev pub OutAnswer : OutStep → List ℕ → Bool → EpAnswer → Type 0
 OutAnswer (Answered answered) image busy answer = answer ≡ answered
 OutAnswer (Leds leds) image busy answer = answer ≡ Ack
@@ -39,3 +40,10 @@ IsAnswered start before (In answer) = answer ≡ in_answer (stage_after start be
 IsAnswered start before (Polled answer) = answer ≡ answer_after (protocol_after before) (key_calls start before)
 IsAnswered start before (Worked work image) = WorkedOn start before (working start before) work image
 IsAnswered start before BusReset = Unit {0}
+
+-- a step of the flash work while a command works, and this holds of the operation that it makes
+pub record MakesSuch (start : List ℕ) (before : List Call) (work : WorkAnswer) (new : List ℕ) (such : Operation → Type 0) : Type 0 where
+  pub command : Command
+  pub works_on : working start before ≡ Some command
+  pub step : Works start before command (image_after start before) work new
+  pub is_such : such step.operation

@@ -1,6 +1,6 @@
--- What a step of the flash work makes of the flash while a command works: one operation, whole or torn.
+-- Believed: what a step of the flash work makes of the flash while a command works: one operation, whole or torn.
 use Rattle.std.specs.Prelude.{◌≡◌, ◌⊎◌, ℕ, suc, ◌+◌, ◌^◌, ◌<◌, ◌≤◌, List, [], ◌∷◌, ◌++◌, length, slice_index, Some}
-use Rattle.records.specs.declared.Slot.TheVariants.{Free}
+use Rattle.records.specs.declared.Slot.TheVariants.{Free, Good}
 use Rattle.records.specs.Slots.{slot_of}
 use Rattle.flash_model.specs.Image.{IsImage, slot_at, page_count}
 use Rattle.layers.specs.Commands.{word_of}
@@ -14,7 +14,7 @@ use Rattle.page_turnover.specs.Next.{MayMake}
 use Rattle.page_turnover.specs.Steps.{Keeps}
 use Rattle.page_turnover.specs.Turn.{target_page, next_seq}
 use Rattle.page_turnover.specs.Usable.{IsUsable}
-use Rattle.page_turnover.specs.Words.{words, IsTail}
+use Rattle.page_turnover.specs.Words.{words, FreeFrom, IsBlank, IsTail, HasRoom}
 use Rattle.keymap_store.specs.declared.store.Work.{Work as WorkAnswer}
 use Rattle.keymap_store.specs.declared.store.Work.TheVariants.{Idle, Working, Settled, Failed}
 use Rattle.keymap_store.specs.Keymap.{SameEntries}
@@ -30,8 +30,9 @@ LosesNothing old (Program page slot word) =
     (page < page_count old) × (slot < 512) × (word < 2 ^ 32) × (slot_of (slot_at old page slot) ≡ Free)
 LosesNothing old (Erase page) = (page < page_count old) × ((seq : ℕ) → active old ≡ Some (page, seq) → ⊥)
 
--- the operation programs the command's record into the tail slot of the active page
+-- there is room in the active page, and the operation programs the command's record into its tail slot
 pub record IsRecord (command : Command) (old : List ℕ) (operation : Operation) : Type 0 where
+  pub room : HasRoom old
   pub page : ℕ
   pub seq : ℕ
   pub tail : ℕ
@@ -39,13 +40,22 @@ pub record IsRecord (command : Command) (old : List ℕ) (operation : Operation)
   pub is_tail : IsTail old page tail
   pub operation_is : operation ≡ Program page tail (word_of command)
 
--- the operation is one of a turn, on the page after the active one: the page is erased; of the words that set the entries that
--- differ from the default, the one at n is copied to slot n + 1; or the header with the next sequence number goes to slot 0
+-- the page after the active one holds the first n of the words that set the entries that differ from the default, one a slot
+-- from slot 1 on, and its other slots are Free
+pub record HoldsFirst (old : List ℕ) (n : ℕ) : Type 0 where
+  pub header : slot_of (slot_at old (target_page old) 0) ≡ Free
+  pub copied : (k : ℕ) → k < n → slot_of (slot_at old (target_page old) (k + 1)) ≡ Good (slice_index (all_copies (keymap old)) k)
+  pub rest : FreeFrom old (target_page old) (n + 1)
+
+-- the operation is one of a turn, on the page after the active one: the page is erased, where it is not blank; of the words
+-- that set the entries that differ from the default, the one at n is copied to slot n + 1, where the page holds those before
+-- it; or the header with the next sequence number goes to slot 0, where the page holds them all
 pub data IsOfTurn (old : List ℕ) (operation : Operation) : Type 0 where
-  erases : operation ≡ Erase (target_page old) → IsOfTurn old operation
+  erases : operation ≡ Erase (target_page old) → (IsBlank old (target_page old) → ⊥) → IsOfTurn old operation
   copies : (n : ℕ) → n < length (all_copies (keymap old))
-      → operation ≡ Program (target_page old) (n + 1) (slice_index (all_copies (keymap old)) n) → IsOfTurn old operation
-  heads : operation ≡ Program (target_page old) 0 (header_word 2 (next_seq old)) → IsOfTurn old operation
+      → operation ≡ Program (target_page old) (n + 1) (slice_index (all_copies (keymap old)) n) → HoldsFirst old n → IsOfTurn old operation
+  heads : operation ≡ Program (target_page old) 0 (header_word 2 (next_seq old)) → HoldsFirst old (length (all_copies (keymap old)))
+      → IsOfTurn old operation
 
 -- the command's record is the last one of the log now, and the keymap is changed by the command
 pub record AddsRecord (command : Command) (old new : List ℕ) : Type 0 where
@@ -60,13 +70,15 @@ WorksOn command old Failed new = SameEntries (keymap new) (keymap old)
 WorksOn command old Idle new = ⊥
 
 -- the command needs as many steps as the flash said when it was accepted. The operation of the last one is its record, and
--- each before is one of a turn; a step that fails leaves words and active page as they were
+-- each before is one of a turn, which is made where there is no room; a step that fails leaves words and active page as
+-- they were
 pub record Advances (accepted_at : List ℕ) (made : ℕ) (command : Command) (old : List ℕ) (operation : Operation) (work : WorkAnswer) (new : List ℕ) : Type 0 where
   pub needed : ℕ
   pub needs : Needs accepted_at needed
   pub within : suc made ≤ needed
   pub record_last : suc made ≡ needed → IsRecord command old operation
   pub turn_before : suc made < needed → IsOfTurn old operation
+  pub no_room : suc made < needed → HasRoom old → ⊥
   pub last : work ≡ Settled → suc made ≡ needed
   pub before_last : work ≡ Working → (suc made < needed) × Turns old new
   pub fails : work ≡ Failed → Keeps old new

@@ -1,4 +1,4 @@
--- What only ties the code to the definitions: contracts of the keyboard's private calls.
+-- Only ties code to its definitions: contracts of the keyboard's private calls.
 use Rattle.std.specs.Prelude.{◌≡◌, ◌≢◌, ◌≤◌, ℕ, is_some, IsSome, None, Some, Result, Ok, Err, List, slice_index, if◌then◌else◌}
 use Rattle.layers.specs.declared.command.Command.{Command}
 use Rattle.page_turnover.specs.Operates.{Operates, MayOperate}

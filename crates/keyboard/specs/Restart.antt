@@ -1,4 +1,4 @@
--- What a restart may find of the keymap.
+-- Believed: what a restart may find of the keymap.
 use Rattle.std.specs.Prelude.{◌≡◌, ℕ, Some, List, [], ◌∷◌, ◌++◌}
 use Rattle.flash_model.specs.Image.{IsImage}
 use Rattle.layers.specs.Entries.{changed}

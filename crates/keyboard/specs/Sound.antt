@@ -1,4 +1,4 @@
--- Slot 0 of each page.
+-- Believed: slot 0 of each page stays sound.
 use Rattle.std.specs.Prelude.{◌≡◌, ℕ, List, [], ◌∷◌}
 use Rattle.page_turnover.specs.Usable.{IsUsable}
 use Rattle.keymap_store.specs.declared.store.Work.TheVariants.{Idle}

@@ -1,4 +1,4 @@
--- A keyboard stands for the calls of its session, newest first, on the image of its start.
+-- Only ties code to its definitions: a keyboard stands for the calls of its session, newest first, on its first image.
 use Rattle.std.specs.Prelude.{◌≡◌, ◌+◌, ◌≤◌, ℕ, IsSome, List}
 use Rattle.control_ep.specs.Stands as control_ep
 use Rattle.key_reports.specs.Stands as key_reports

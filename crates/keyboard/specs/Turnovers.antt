@@ -1,4 +1,4 @@
--- How far apart the turnovers of a session are.
+-- Believed: how far apart the turnovers of a session are.
 use Rattle.std.specs.Prelude.{ℕ, suc, List, [], ◌∷◌, ◌++◌}
 use Rattle.keymap_store.specs.declared.store.Work.{Work}
 use Rattle.keymap_store.specs.declared.store.Work.TheVariants.{Idle}

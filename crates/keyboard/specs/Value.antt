@@ -1,4 +1,4 @@
--- What contracts see of a keyboard.
+-- Only ties code to its definitions: what contracts see of a keyboard.
 use Rattle.std.specs.Prelude.{ℕ, Option, List}
 use Rattle.layers.specs.declared.command.Command.{Command}
 use Rattle.reports.specs.declared.Protocol.{Protocol}

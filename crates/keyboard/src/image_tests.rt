@@ -105,13 +105,14 @@ fn a_cut_in_a_turn_keeps_the_keymap(rt: HostRuntime) -> Result<(), Fail> {
     ] {
         for before in ["", "work = working"] {
             let mut rig = Rig::start(rt.alloc(), flash_with(rt.alloc(), IMAGES[4].0)?)?;
-            let found = [
-                rig.first_wrong("setup 2109030300000600\nout 030100010600 = ack"),
-                rig.first_wrong(before),
-                rig.first_wrong(cut),
-                rig.first_wrong("entry 0 0 = 4192\nentry 0 1 = 0005"),
-            ];
-            assert_eq!(rt; found, [None; 4], "{cut}");
+            for lines in [
+                "setup 2109030300000600\nout 030100010600 = ack",
+                before,
+                cut,
+                "entry 0 0 = 4192\nentry 0 1 = 0005",
+            ] {
+                assert_eq!(rt; rig.first_wrong(lines), None, "{cut}");
+            }
         }
     }
     Ok(())

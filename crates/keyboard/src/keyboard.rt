@@ -10,6 +10,7 @@ ghost use Rattle.control_ep.specs.Requests.{SameBesideInputs};
 ghost use Rattle.control_ep.specs.Transfers.{Stalled};
 ghost use Rattle.control_ep.specs.declared.answer.EpAnswer.{EpAnswer};
 ghost use Rattle.key_reports.specs.Past.{keys_after, consumer_after, answer_after};
+ghost use Rattle.page_turnover.specs.Next.{on_flash};
 ghost use Rattle.keymap_store.specs.declared.store.Work.{Work};
 ghost use Rattle.keymap_store.specs.Works.{CountsAs};
 ghost use Rattle.keyboard.specs.Calls.{Call, Scanned, SetUp, Out, In, Polled, Worked, BusReset, image_after, keymap};
@@ -20,9 +21,10 @@ ghost use Rattle.keyboard.specs.Feature.{command_in, select_answer};
 ghost use Rattle.keyboard.specs.Endpoint.{feature_report, view_after, verdict_told, stage_after};
 ghost use Rattle.keyboard.specs.Private.{Judges};
 ghost use Rattle.keyboard.specs.Restart.{CutsLegally};
-ghost use Rattle.keyboard.specs.Lawful.{IsAnswered};
+ghost use Rattle.keyboard.specs.Lawful.{IsAnswered, MakesSuch};
 
 use crate::feature::{command_in, verdict_of};
+use crate::room::Room;
 use control_ep::{ControlEp, DeviceView, Effect, EpAnswer, OutStep, Verdict, Why, asks_for_input};
 use flash_model::NorFlash;
 use key_reports::{IdleId, KeyReports, Protocol, Report, Scan};
@@ -57,24 +59,35 @@ impl Keyboard {
     ghost use Rattle.keyboard.specs.Stands.{StandsFor};
 
     /// A keyboard as it starts on a flash, whose keymap it reads: report protocol, no LED on, every key
-    /// up, nothing sent, entry (0, 0) selected, and no transfer. `AllocError` where there was no memory
-    /// for the reports that wait; no other call takes memory.
+    /// up, nothing sent, entry (0, 0) selected, and no transfer. `AllocError` where there was no room for
+    /// the reports that wait (`Room::take`); no other call takes memory.
     pub fn start<F: NorFlash>(alloc: Global, flash: &F) -> Result<Keyboard, AllocError>
         // it stands for no call, on this image
         ensures stands { IfOk result (λ keyboard. StandsFor (F.image flash.now) [] keyboard) }
         // it runs on this flash
         ensures runs_on { IfOk result (λ keyboard. RunsOn (F.image flash.now) keyboard) }
     {
-        let keys = KeyReports::new(alloc)?;
-        Ok(Keyboard {
+        let room = Room::take(alloc)?;
+        Ok(Keyboard::start_in(room, flash))
+    }
+
+    /// A keyboard as `start` gives it, in room that was taken before. Takes no memory, and nothing
+    /// refuses it.
+    pub fn start_in<F: NorFlash>(room: Room, flash: &F) -> Keyboard
+        // it stands for no call, on this image
+        ensures stands { StandsFor (F.image flash.now) [] result }
+        // it runs on this flash
+        ensures runs_on { RunsOn (F.image flash.now) result }
+    {
+        Keyboard {
             ep: ControlEp::new(),
-            keys,
+            keys: room.into_keys(),
             store: Store::mount(flash),
             protocol: Protocol::Report,
             leds: 0,
             layer: LayerNo::known(0),
             key: KeyNo::known(0),
-        })
+        }
     }
 
     /// Leaves what `start` gives on this flash. Takes no memory.
@@ -211,8 +224,9 @@ impl Keyboard {
         ensures runs_on { RunsOn (F.image flash.new) self.new }
         // at most one operation is made, and none where the answer is Idle
         ensures counts { CountsAs result (F.operations flash.old) (F.operations flash.new) (F.faults flash.old) (F.faults flash.new) }
-        // what is made is an operation of the flash
-        ensures operated { result ≢ Work.Idle → F.operates flash.old flash.new }
+        // the operation is made on this flash
+        ensures operated { (start : List ℕ) (past : List Call) → StandsFor start past self.old → image_after start past ≡ F.image flash.old
+            → result ≢ Work.Idle → MakesSuch start past result (F.image flash.new) (λ operation. F.operates flash.old (on_flash operation) flash.new) }
         // without an operation the flash stays as it is
         ensures untouched { result ≡ Work.Idle → flash.new ≡ flash.old }
         // a flash that answers no fault lets no command fail

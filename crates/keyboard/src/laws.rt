@@ -1,6 +1,6 @@
 //! What follows for every session in which each call is answered as it has to be.
 
-ghost use Rattle.std.specs.Prelude.{◌≡◌, ◌≢◌, ◌<◌, ◌≤◌, ◌∷◌, ◌++◌, ℕ, suc, List, Some};
+ghost use Rattle.std.specs.Prelude.{◌≡◌, ◌≢◌, ◌<◌, ◌≤◌, ◌+◌, ◌∷◌, ◌++◌, ℕ, suc, List, Some, length, slice_index};
 ghost use Rattle.flash_model.specs.Image.{IsImage};
 ghost use Rattle.flash_model.specs.Operations.{OnePage};
 ghost use Rattle.layers.specs.Entries.{changed};
@@ -9,17 +9,18 @@ ghost use Rattle.page_turnover.specs.declared.operation.Operation.{Operation};
 ghost use Rattle.page_turnover.specs.Next.{MayMake};
 ghost use Rattle.page_turnover.specs.Operates.{Operates, MayOperate};
 ghost use Rattle.page_turnover.specs.Turn.{target_page};
+ghost use Rattle.page_turnover.specs.Words.{IsBlank, HasRoom};
 ghost use Rattle.keymap_store.specs.Keymap.{SameEntries};
-ghost use Rattle.keymap_store.specs.Next.{next_operation_of};
-ghost use Rattle.keymap_store.specs.Turnovers.{TurnsOver};
+ghost use Rattle.keymap_store.specs.Next.{next_operation_of, all_copies};
+ghost use Rattle.keymap_store.specs.Turnovers.{TurnsOver, Follows};
 ghost use Rattle.keymap_store.specs.Works.{IsPlacedAt, IsTornAt};
 ghost use Rattle.keymap_store.specs.declared.store.Work.{Work};
-ghost use Rattle.keyboard.specs.Acknowledged.{KeepsAcknowledged};
+ghost use Rattle.keyboard.specs.Acknowledged.{KeepsAcknowledged, IsConfirmed, IsSettled, SettledAfter};
 ghost use Rattle.keyboard.specs.Bounded.{IsInTime, steps_since};
 ghost use Rattle.keyboard.specs.Calls.{Call, Worked, EachCall, image_after, keymap};
-ghost use Rattle.keyboard.specs.Commands.{accepted, settled_of, working};
+ghost use Rattle.keyboard.specs.Commands.{accepted, accepted_before, settled_of, standing_of, working};
 ghost use Rattle.keyboard.specs.Lawful.{IsAnswered};
-ghost use Rattle.keyboard.specs.Operated.{Works};
+ghost use Rattle.keyboard.specs.Operated.{Works, HoldsFirst};
 ghost use Rattle.keyboard.specs.Restart.{RestartsLegally};
 ghost use Rattle.keyboard.specs.Sound.{KeepsSound};
 ghost use Rattle.keyboard.specs.Stands.{StandsFor};
@@ -49,8 +50,10 @@ pub fn a_cut_inside()
 
 /// What the one operation of a step of the flash work comes to. Where the answer is not Failed it was
 /// made as a whole: the command's record is programmed with Settled. Where it is Failed the record was
-/// torn at the last step, and at each before no page but the target of the turn was touched. And where
-/// the power is cut inside this operation, a restart is legal.
+/// torn at the last step, and at each before no page but the target of the turn was touched. The target
+/// is erased only where it is not blank; a copy is made where it holds those before, and the header
+/// where it holds them all; and none of this where there is room. Where the power is cut inside the
+/// operation, a restart is legal.
 pub fn a_step_is_one_operation()
     ensures whole { (start : List ℕ) (past : List Call) (command : Command) (work : Work) (new : List ℕ)
         → Works start past command (image_after start past) work new → work ≢ Work.Failed → Operates (image_after start past) new }
@@ -62,6 +65,15 @@ pub fn a_step_is_one_operation()
         → work ≡ Work.Failed → suc (steps_since past) ≡ works.advances.needed → IsTornAt (image_after start past) command new }
     ensures in_target { (start : List ℕ) (past : List Call) (command : Command) (work : Work) (new : List ℕ) (works : Works start past command (image_after start past) work new)
         → suc (steps_since past) < works.advances.needed → OnePage (image_after start past) (target_page (image_after start past)) new }
+    ensures erased { (start : List ℕ) (past : List Call) (command : Command) (work : Work) (new : List ℕ) (page : ℕ) (works : Works start past command (image_after start past) work new)
+        → works.operation ≡ Operation.Erase page
+        → (page ≡ target_page (image_after start past)) × (IsBlank (image_after start past) page → ⊥) × (HasRoom (image_after start past) → ⊥) }
+    ensures copied { (start : List ℕ) (past : List Call) (command : Command) (work : Work) (new : List ℕ) (n word : ℕ) (works : Works start past command (image_after start past) work new)
+        → suc (steps_since past) < works.advances.needed → works.operation ≡ Operation.Program (target_page (image_after start past)) (n + 1) word
+        → (word ≡ slice_index (all_copies (keymap (image_after start past))) n) × HoldsFirst (image_after start past) n × (HasRoom (image_after start past) → ⊥) }
+    ensures headed { (start : List ℕ) (past : List Call) (command : Command) (work : Work) (new : List ℕ) (word : ℕ) (works : Works start past command (image_after start past) work new)
+        → works.operation ≡ Operation.Program (target_page (image_after start past)) 0 word
+        → HoldsFirst (image_after start past) (length (all_copies (keymap (image_after start past)))) × (HasRoom (image_after start past) → ⊥) }
     ensures cut { (start : List ℕ) (past : List Call) (command : Command) (work : Work) (new image : List ℕ) (works : Works start past command (image_after start past) work new)
         → EachCall IsAnswered start past → working start past ≡ Some command → IsImage image
         → MayMake (image_after start past) works.operation image → RestartsLegally start past image }
@@ -73,9 +85,20 @@ pub fn headers_stay_sound()
 {}
 
 /// What the host was told is stored is stored: after the empty packet of a command's status stage the
-/// flash holds what the command wrote, whatever else came, until a later command writes the entry.
+/// flash holds what the command wrote, whatever else came, until a later command is accepted that would
+/// write the entry, even one that then fails.
 pub fn acknowledged_is_stored()
     ensures { (start : List ℕ) (past : List Call) → EachCall IsAnswered start past → KeepsAcknowledged start past }
+{}
+
+/// What the host was told is stored is settled: where the empty packet came in the transfer of a command
+/// that was accepted, that command is settled. And the prefix of the commands that a legal restart keeps
+/// has each settled command, at its place.
+pub fn confirmed_is_settled()
+    ensures settled { (start : List ℕ) (past before : List Call) (command : Command) → EachCall IsAnswered start past
+        → IsConfirmed past before command → IsSettled start past before command }
+    ensures kept { (start : List ℕ) (past before : List Call) (command : Command) (image : List ℕ) (settled : IsSettled start past before command)
+        (restart : RestartsLegally start past image) → SettledAfter (standing_of (accepted_before start settled.since before)) command restart.kept }
 {}
 
 /// While a command works, fewer than 387 steps of the flash work were made for it: so it is settled,
@@ -84,9 +107,11 @@ pub fn in_time()
     ensures { (start : List ℕ) (past : List Call) (keyboard : KeyboardValue) → StandsFor start past keyboard → IsInTime start past }
 {}
 
-/// Between two turnovers of a session, at least 127 flash operations are made.
+/// Between two turnovers of a session, at least 127 flash operations are made that touch the tail of the
+/// active page: attempts to append a record.
 pub fn turnovers_are_apart()
     ensures { (start : List ℕ) (before calls : List Call) (work : Work) (first last : List ℕ) → EachCall IsAnswered start (calls ++ Worked work first ∷ before)
         → TurnsOver (image_after start before) first → NoneTurnsOver start calls (Worked work first ∷ before)
-        → TurnsOver (image_after start (calls ++ Worked work first ∷ before)) last → 127 ≤ operations calls }
+        → TurnsOver (image_after start (calls ++ Worked work first ∷ before)) last
+        → (n : ℕ) × Follows first n (image_after start (calls ++ Worked work first ∷ before)) × (127 ≤ n) × (n ≤ operations calls) }
 {}

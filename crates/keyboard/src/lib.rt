@@ -6,7 +6,13 @@
 //! since the start, newest first, and by the image of the flash that the keyboard started on. The
 //! laws say what follows for the keymap at each moment, also where the power is cut.
 //!
-//! `Keyboard::start` takes the memory of the reports that wait, and no other call takes memory.
+//! `Room::take` takes the memory of the reports that wait, and no other call takes memory:
+//! `Keyboard::start_in` reads the flash in that room and can't be refused. `Keyboard::start` is both.
+//!
+//! A `Keyboard` keeps its three parts, the protocol, the LEDs and the selected entry. The one
+//! promise: an assignment that the host was told is stored outlives every cut, until a command is
+//! accepted that would write its entry. A firmware calls it, as `firmware_example` does; `world`
+//! does on a simulated flash.
 #![tactic(auto)]
 
 mod feature;
@@ -14,6 +20,7 @@ mod feature;
 mod image_tests;
 mod keyboard;
 pub mod laws;
+mod room;
 #[cfg(test)]
 mod tests;
 
@@ -22,3 +29,4 @@ pub use flash_model::NorFlash;
 pub use key_reports::{Protocol, Report, Scan};
 pub use keyboard::Keyboard;
 pub use keymap_store::Work;
+pub use room::Room;

@@ -1,6 +1,6 @@
 //! Sessions of a keyboard on a simulated flash, line by line.
 
-use crate::{EpAnswer, Keyboard, Scan, Work};
+use crate::{EpAnswer, Keyboard, Report, Room, Scan, Work};
 use arrayvec::ArrayVec;
 use flash_model::{Mask, NorFlash, SimFlash};
 use layers::{KeyNo, LayerNo};
@@ -33,56 +33,46 @@ impl Rig {
         Ok(Rig { keyboard, flash })
     }
 
-    /// The first of these lines that is not answered as it says.
-    pub fn first_wrong<'a>(&mut self, script: &'a str) -> Option<&'a str> {
+    pub fn start_in(room: Room, flash: SimFlash) -> Rig {
+        let keyboard = Keyboard::start_in(room, &flash);
+        Rig { keyboard, flash }
+    }
+
+    /// The first of these lines that is not answered as it says, and what it was answered: `None` where
+    /// it says nothing that there is.
+    pub fn first_wrong<'a>(&mut self, script: &'a str) -> Option<(&'a str, Option<Told<'a>>)> {
         for line in script.lines() {
-            if !self.answers(line.trim()) {
-                return Some(line);
+            let line = line.trim();
+            let (ask, wanted) = line.split_once(" = ").unwrap_or((line, ""));
+            let told = ask_of(ask).map(|ask| self.take(&ask));
+            if told.is_none() || told != wanted_of(wanted) {
+                return Some((line, told));
             }
         }
         None
     }
 
-    /// Takes a line, `ASK = ANSWER` or `ASK` where there is none.
-    fn answers(&mut self, line: &str) -> bool {
-        let (ask, told) = line.split_once(" = ").unwrap_or((line, ""));
-        let (word, rest) = ask.split_once(' ').unwrap_or((ask, ""));
-        match word {
-            "setup" => {
-                self.keyboard.setup(eight(rest));
-                true
-            }
-            "out" => is_answer(&self.keyboard.out(bytes(rest).as_slice()), told),
-            "in" => is_answer(&self.keyboard.in_packet(), told),
-            "scans" => {
-                self.scans(rest);
-                true
-            }
-            "poll" => match self.keyboard.poll() {
-                Some(report) => report.as_slice() == bytes(told).as_slice(),
-                None => told == "nak",
-            },
-            "work" => self.work(rest) == told,
-            "cut" => {
-                self.cut(rest);
-                true
-            }
-            "reset" => {
-                self.keyboard.bus_reset();
-                true
-            }
-            "leds" => [self.keyboard.leds()].as_slice() == bytes(told).as_slice(),
-            "entry" => self.entry(rest).to_be_bytes().as_slice() == bytes(told).as_slice(),
-            "slot" => self.slot(rest).as_slice() == bytes(told).as_slice(),
-            _ => line.is_empty(),
+    fn take(&mut self, ask: &Ask) -> Told<'static> {
+        match ask {
+            Ask::Nothing => {}
+            Ask::Setup(packet) => self.keyboard.setup(*packet),
+            Ask::Out(packet) => return answered(self.keyboard.out(packet.as_slice())),
+            Ask::In => return answered(self.keyboard.in_packet()),
+            Ask::Scans(count, scan) => self.scans(*count, *scan),
+            Ask::Poll => return polled(self.keyboard.poll()),
+            Ask::Work(mask) => return Told::Word(self.work(mask.as_slice())),
+            Ask::Cut => self.keyboard.restart(&self.flash),
+            Ask::CutInside(mask) => self.cut_inside(mask.as_slice()),
+            Ask::Reset => self.keyboard.bus_reset(),
+            Ask::Leds => return hex(&[self.keyboard.leds()]),
+            Ask::Entry(layer, key) => return hex(&self.entry(*layer, *key).to_be_bytes()),
+            Ask::Slot(page, slot) => return self.slot(*page as usize, *slot as usize),
         }
+        Told::Nothing
     }
 
-    /// So many scans with these keys.
-    fn scans(&mut self, rest: &str) {
-        let (times, keys) = rest.split_once(' ').unwrap_or((rest, ""));
-        let scan = pressed(keys);
-        for _ in 0..number(times) {
+    fn scans(&mut self, count: u16, scan: Scan) {
+        for _ in 0..count {
             self.scan(scan);
         }
     }
@@ -91,8 +81,8 @@ impl Rig {
         self.keyboard.scan(scan);
     }
 
-    /// A step of the flash work, whole or torn by a mask.
-    fn work(&mut self, mask: &str) -> &'static str {
+    /// A step of the flash work, whole where there is no mask, or torn.
+    fn work(&mut self, mask: &[u8]) -> &'static str {
         self.arm(mask);
         match self.keyboard.work(&mut self.flash) {
             Work::Idle => "idle",
@@ -102,106 +92,192 @@ impl Rig {
         }
     }
 
-    /// The power is cut, between two steps or inside one that a mask tears.
-    fn cut(&mut self, mask: &str) {
-        if !mask.is_empty() {
-            let _torn = self.work(mask);
-        }
+    /// The power is cut inside a step that the mask tears.
+    fn cut_inside(&mut self, mask: &[u8]) {
+        let _torn = self.work(mask);
         self.keyboard.restart(&self.flash);
     }
 
-    fn arm(&mut self, text: &str) {
+    fn arm(&mut self, bytes: &[u8]) {
         let mut mask = Mask::new();
-        let _full = mask.try_extend_from_slice(bytes(text).as_slice());
-        if !mask.is_empty() {
+        if !bytes.is_empty() && mask.try_extend_from_slice(bytes).is_ok() {
             self.flash.fault_next(mask);
         }
     }
 
-    fn entry(&self, rest: &str) -> u16 {
-        let (layer, key) = rest.split_once(' ').unwrap_or((rest, ""));
-        match (
-            LayerNo::read((number(layer) % 256) as u8),
-            KeyNo::read((number(key) % 256) as u8),
-        ) {
-            (Ok(layer), Ok(key)) => self.keyboard.keymap().get(layer, key).bits(),
-            _ => 0xffff,
-        }
+    fn entry(&self, layer: LayerNo, key: KeyNo) -> u16 {
+        self.keyboard.keymap().get(layer, key).bits()
     }
 
-    fn slot(&self, rest: &str) -> [u8; 8] {
-        let (page, slot) = rest.split_once(' ').unwrap_or((rest, ""));
-        let (page, slot) = (number(page) as usize, number(slot) as usize);
+    fn slot(&self, page: usize, slot: usize) -> Told<'static> {
         if page < self.flash.pages() && slot < 512 {
-            self.flash.read_slot(page, slot)
+            hex(&self.flash.read_slot(page, slot))
         } else {
-            [0; 8]
+            Told::Word("no slot")
         }
     }
 }
 
-fn number(text: &str) -> u16 {
-    text.parse::<u16>().unwrap_or(0)
+/// What a line asks.
+#[derive(Drop)]
+enum Ask {
+    Nothing,
+    Setup([u8; 8]),
+    Out(ArrayVec<u8, 32>),
+    In,
+    Scans(u16, Scan),
+    Poll,
+    Work(ArrayVec<u8, 32>),
+    Cut,
+    CutInside(ArrayVec<u8, 32>),
+    Reset,
+    Leds,
+    Entry(LayerNo, KeyNo),
+    Slot(u16, u16),
 }
 
-fn digit(byte: u8) -> u8 {
-    match byte {
-        b'0'..=b'9' => byte - b'0',
-        b'a'..=b'f' => byte - b'a' + 10,
-        _ => 0,
+/// What the words before ` = ` ask; `None` where that is nothing that there is.
+fn ask_of(text: &str) -> Option<Ask> {
+    let (word, rest) = text.split_once(' ').unwrap_or((text, ""));
+    let ask = match word {
+        "" => Ask::Nothing,
+        "setup" => Ask::Setup(eight(rest)?),
+        "out" => Ask::Out(bytes(rest)?),
+        "in" => Ask::In,
+        "scans" => return scans_of(rest),
+        "poll" => Ask::Poll,
+        "work" => Ask::Work(bytes(rest)?),
+        "cut" if rest.is_empty() => Ask::Cut,
+        "cut" => Ask::CutInside(bytes(rest)?),
+        "reset" => Ask::Reset,
+        "leds" => Ask::Leds,
+        "entry" => return entry_of(rest),
+        "slot" => return slot_of(rest),
+        _ => return None,
+    };
+    Some(ask)
+}
+
+/// So many scans with these keys.
+fn scans_of(rest: &str) -> Option<Ask> {
+    let (count, keys) = rest.split_once(' ').unwrap_or((rest, ""));
+    Some(Ask::Scans(number(count)?, pressed(keys)?))
+}
+
+fn entry_of(rest: &str) -> Option<Ask> {
+    let (layer, key) = two(rest)?;
+    let layer = LayerNo::read(u8::try_from(layer).ok()?).ok()?;
+    let key = KeyNo::read(u8::try_from(key).ok()?).ok()?;
+    Some(Ask::Entry(layer, key))
+}
+
+fn slot_of(rest: &str) -> Option<Ask> {
+    let (page, slot) = two(rest)?;
+    Some(Ask::Slot(page, slot))
+}
+
+/// What came of a line.
+#[derive(Debug, PartialEq, Eq, Drop)]
+pub enum Told<'a> {
+    Nothing,
+    Word(&'a str),
+    Stall(u16),
+    Bytes(ArrayVec<u8, 32>),
+}
+
+/// What a line says behind its ` = `; `None` where it is nothing that there is.
+fn wanted_of(text: &str) -> Option<Told<'_>> {
+    match text {
+        "" => Some(Told::Nothing),
+        "ack" | "nak" | "idle" | "working" | "settled" | "failed" => Some(Told::Word(text)),
+        _ => match text.strip_prefix("stall ") {
+            Some(reason) => Some(Told::Stall(number(reason)?)),
+            None => Some(Told::Bytes(bytes(text.strip_prefix("data ").unwrap_or(text))?)),
+        },
     }
 }
 
-/// The bytes of hex digits.
-fn bytes(text: &str) -> ArrayVec<u8, 32> {
+fn answered(answer: EpAnswer) -> Told<'static> {
+    match answer {
+        EpAnswer::Ack => Told::Word("ack"),
+        EpAnswer::Nak => Told::Word("nak"),
+        EpAnswer::Packet(packet) => hex(packet.as_slice()),
+        EpAnswer::Stall(why) => Told::Stall(why.number() as u16),
+    }
+}
+
+fn polled(sent: Option<Report>) -> Told<'static> {
+    match sent {
+        Some(report) => hex(report.as_slice()),
+        None => Told::Word("nak"),
+    }
+}
+
+/// Bytes, at most 32, which stand for an empty packet too.
+fn hex(from: &[u8]) -> Told<'static> {
+    let mut all = ArrayVec::new();
+    match all.try_extend_from_slice(from) {
+        Ok(()) => Told::Bytes(all),
+        Err(_) => Told::Word("too long"),
+    }
+}
+
+fn number(text: &str) -> Option<u16> {
+    text.parse::<u16>().ok()
+}
+
+/// Two numbers.
+fn two(text: &str) -> Option<(u16, u16)> {
+    let (first, second) = text.split_once(' ')?;
+    Some((number(first)?, number(second)?))
+}
+
+fn digit(byte: u8) -> Option<u8> {
+    match byte {
+        b'0'..=b'9' => Some(byte - b'0'),
+        b'a'..=b'f' => Some(byte - b'a' + 10),
+        _ => None,
+    }
+}
+
+/// The bytes of hex digits, two each; `-` stands for none.
+fn bytes(text: &str) -> Option<ArrayVec<u8, 32>> {
     let mut found = ArrayVec::new();
     let mut high = None;
-    for byte in text.bytes() {
+    let digits = if text == "-" { "" } else { text };
+    for byte in digits.bytes() {
+        let low = digit(byte)? % 16;
         match high {
-            None => high = Some(digit(byte) % 16),
+            None => high = Some(low),
             Some(first) => {
-                let _full = found.try_push(first % 16 * 16 + digit(byte) % 16);
+                found.try_push(first % 16 * 16 + low).ok()?;
                 high = None;
             }
         }
     }
-    found
+    if high.is_some() { None } else { Some(found) }
 }
 
 /// Eight bytes of hex digits.
-fn eight(text: &str) -> [u8; 8] {
-    match bytes(text).as_slice() {
-        [a, b, c, d, e, f, g, h] => [*a, *b, *c, *d, *e, *f, *g, *h],
-        _ => [0; 8],
+fn eight(text: &str) -> Option<[u8; 8]> {
+    match bytes(text)?.as_slice() {
+        [a, b, c, d, e, f, g, h] => Some([*a, *b, *c, *d, *e, *f, *g, *h]),
+        _ => None,
     }
 }
 
 /// The scan with these keys pressed.
-fn pressed(keys: &str) -> Scan {
+fn pressed(keys: &str) -> Option<Scan> {
     let mut rows = [0; 6];
     for word in keys.split_whitespace() {
-        let key = number(word);
+        let key = number(word)?;
         let row = (key / 16) as usize;
-        if row < 6 {
-            rows[row] |= 1 << (key % 16);
+        if row >= 6 {
+            return None;
         }
+        rows[row] |= 1 << (key % 16);
     }
-    Scan { rows }
-}
-
-fn is_answer(answer: &EpAnswer, told: &str) -> bool {
-    match answer {
-        EpAnswer::Ack => told == "ack",
-        EpAnswer::Nak => told == "nak",
-        EpAnswer::Packet(packet) => match told.strip_prefix("data ") {
-            Some(hex) => packet.as_slice() == bytes(hex).as_slice(),
-            None => false,
-        },
-        EpAnswer::Stall(why) => match told.strip_prefix("stall ") {
-            Some(reason) => why.number() as u16 == number(reason),
-            None => false,
-        },
-    }
+    Some(Scan { rows })
 }
 
 /// Commands: acknowledged, stored, refused, torn, cut.
@@ -409,6 +485,14 @@ fn sessions_are_answered(rt: HostRuntime) -> Result<(), Fail> {
     Ok(())
 }
 
+#[test]
+fn room_is_taken_before_the_start(rt: HostRuntime) -> Result<(), Fail> {
+    let room = Room::take(rt.alloc())?;
+    let mut rig = Rig::start_in(room, SimFlash::new(rt.alloc(), 2)?);
+    assert_eq!(rt; rig.first_wrong(KEYS), None);
+    Ok(())
+}
+
 /// A turnover that is cut inside its header, and the command again.
 const TURNOVER: &str = "
     setup 2109030300000600
@@ -437,17 +521,14 @@ fn a_full_page_turns_over(rt: HostRuntime) -> Result<(), Fail> {
         None
     );
     for n in 1..511u32 {
-        let (set, wrong) = if n % 2 == 0 {
-            ("out 030100000500 = ack", "even")
+        let set = if n % 2 == 0 {
+            "out 030100000500 = ack"
         } else {
-            ("out 030100000600 = ack", "odd")
+            "out 030100000600 = ack"
         };
-        let found = [
-            rig.first_wrong("setup 2109030300000600"),
-            rig.first_wrong(set),
-            rig.first_wrong("work = settled\nin = data -"),
-        ];
-        assert_eq!(rt; found, [None; 3], "{wrong}");
+        for lines in ["setup 2109030300000600", set, "work = settled\nin = data -"] {
+            assert_eq!(rt; rig.first_wrong(lines), None);
+        }
     }
     assert_eq!(rt; rig.first_wrong(TURNOVER), None);
     Ok(())

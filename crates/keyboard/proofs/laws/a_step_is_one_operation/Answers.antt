@@ -1,5 +1,5 @@
 use Rattle.keyboard.specs.Calls.{image_after}
-use Rattle.keyboard.proofs.Steps.{whole_step, torn_step, placed_step, record_torn, in_target, cut_step}
+use Rattle.keyboard.proofs.Steps.{whole_step, torn_step, placed_step, record_torn, in_target, erased_step, copied_step, headed_step, cut_step}
 use Rattle.keyboard.proofs.laws.a_step_is_one_operation.Goals as goal
 
 pub returns-clause-whole : goal.returns-clause-whole
@@ -16,6 +16,15 @@ returns-clause-record_torn c start past command work new w e n = record_torn sta
 
 pub returns-clause-in_target : goal.returns-clause-in_target
 returns-clause-in_target c start past command work new w l = in_target start past command (image_after start past) work new w l
+
+pub returns-clause-erased : goal.returns-clause-erased
+returns-clause-erased c start past command work new page w o = erased_step start past command (image_after start past) work new page w o
+
+pub returns-clause-copied : goal.returns-clause-copied
+returns-clause-copied c start past command work new n word w l o = copied_step start past command (image_after start past) work new n word w l o
+
+pub returns-clause-headed : goal.returns-clause-headed
+returns-clause-headed c start past command work new word w o = headed_step start past command (image_after start past) work new word w o
 
 pub returns-clause-cut : goal.returns-clause-cut
 returns-clause-cut c start past command work new image w h e i m = cut_step start past command work new image w h e i m

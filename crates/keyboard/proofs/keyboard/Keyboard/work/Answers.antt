@@ -1,6 +1,8 @@
 use Rattle.keyboard.specs.Calls.{image_after}
 use Rattle.keyboard.specs.Endpoint.{ep_calls}
-use Rattle.keyboard.proofs.Working.{cuts_legally, stands_settled, stands_failed, stands_other, operating_on}
+use Rattle.page_turnover.specs.declared.operation.Operation.{Operation}
+use Rattle.page_turnover.specs.Next.{on_flash}
+use Rattle.keyboard.proofs.Working.{makes_such, cuts_legally, stands_settled, stands_failed, stands_other, operating_on}
 use Rattle.keyboard.proofs.keyboard.Keyboard.work.Goals as goal
 
 pub returns-in-Settled-clause-stands : goal.returns-in-Settled-clause-stands
@@ -50,3 +52,30 @@ pub returns-in-Idle-clause-cut : goal.returns-in-Idle-clause-cut
 returns-in-Idle-clause-cut g c start past s e n =
     let after = returns-in-Idle-clause-stands g c start past s e in
     cuts_legally start past c.work-work.result _ s.answered after.answered.0 n
+
+pub returns-in-Settled-clause-operated : goal.returns-in-Settled-clause-operated
+returns-in-Settled-clause-operated g c start past s e n =
+    let t = rw (← c.self.view_is) at s in
+    let of = c.work-work.ensures in
+    let o = operating_on (image_after start past) _ _ c.work-work.result _ c.work-work.new.self e
+    (record { mirrors = of.mirrors; works = of.works; attempts = of.attempts; writes = of.writes; down = of.down; operates = of.operates; torn = of.torn; sound = of.sound }) in
+    makes_such start past _ c.work-work.result _ c.work-work.new.self (λ (operation : Operation). g.F.NorFlash.operates c.args.flash.now (on_flash operation) c.work-work.new.flash) t o n
+    (λ operation next. of.operated operation (rw e at next))
+
+pub returns-in-Failed-clause-operated : goal.returns-in-Failed-clause-operated
+returns-in-Failed-clause-operated g c start past s e n =
+    let t = rw (← c.self.view_is) at s in
+    let of = c.work-work.ensures in
+    let o = operating_on (image_after start past) _ _ c.work-work.result _ c.work-work.new.self e
+    (record { mirrors = of.mirrors; works = of.works; attempts = of.attempts; writes = of.writes; down = of.down; operates = of.operates; torn = of.torn; sound = of.sound }) in
+    makes_such start past _ c.work-work.result _ c.work-work.new.self (λ (operation : Operation). g.F.NorFlash.operates c.args.flash.now (on_flash operation) c.work-work.new.flash) t o n
+    (λ operation next. of.operated operation (rw e at next))
+
+pub returns-in-Idle-clause-operated : goal.returns-in-Idle-clause-operated
+returns-in-Idle-clause-operated g c start past s e n =
+    let t = rw (← c.self.view_is) at s in
+    let of = c.work-work.ensures in
+    let o = operating_on (image_after start past) _ _ c.work-work.result _ c.work-work.new.self e
+    (record { mirrors = of.mirrors; works = of.works; attempts = of.attempts; writes = of.writes; down = of.down; operates = of.operates; torn = of.torn; sound = of.sound }) in
+    makes_such start past _ c.work-work.result _ c.work-work.new.self (λ (operation : Operation). g.F.NorFlash.operates c.args.flash.now (on_flash operation) c.work-work.new.flash) t o n
+    (λ operation next. of.operated operation (rw e at next))
