@@ -10,6 +10,7 @@ use Rattle.keymap_store.specs.Keymap.{entries_of}
 use Rattle.reports.specs.Wanted.{members, number_of, byte_of, bytes_of, boot_bytes, bitmap_bytes, words_of, consumer_bytes}
 use Rattle.reports.specs.Queue.{pushed_by, pushed, waiting, queue}
 use Rattle.reports.specs.Poll.{rule_answer, poll_answer}
+use Rattle.reports.specs.declared.Input.TheVariants.{One}
 use Rattle.key_reports.specs.Past.{answer_after, scans_of, held_calls, those_below, keys_after, consumer_after, poller_calls}
 use Rattle.key_reports.specs.Tables.{table}
 use Rattle.control_ep.specs.Packets.{packet_at}
@@ -21,8 +22,10 @@ use Rattle.keyboard.specs.Effects.{protocol_after, effect_asked}
 use Rattle.keyboard.specs.Endpoint.{ep_calls}
 use Rattle.keyboard.specs.Keys.{key_calls}
 use Rattle.keyboard.specs.Lawful.{IsAnswered}
+use Rattle.session_law.specs.Due.{put, waits, due}
 use Rattle.session_law.specs.Heard.{Hears, at_start, one_more}
 use Rattle.session_law.specs.Fetched.{IsFetched}
+use Rattle.session_law.proofs.Following.{waits-poll}
 use Rattle.session_law.specs.Example.{get_descriptor, gave, fetch, came, fetched, key_down, no_key, pressed, session, letter_a}
 
 fetch_answered : EachCall IsAnswered [] fetch
@@ -75,3 +78,23 @@ was_down = refl
 pub is_up : keys_after (key_calls [] session) 4 ≡ false
 unfolding down debounced has any_below resolved code last_written changed commands_in entry_in newer newest active format words entries_of protocol_after effect_asked key_calls scans_of held_calls those_below keys_after table
 is_up = refl
+
+two_wait : waiting (poller_calls (key_calls [] session)) ≡ 2
+unfolding down debounced has any_below resolved code last_written changed commands_in entry_in newer newest active format words entries_of protocol_after effect_asked key_calls scans_of held_calls those_below keys_after table consumer_after poller_calls members number_of byte_of bytes_of boot_bytes bitmap_bytes words_of consumer_bytes pushed_by waiting
+two_wait = refl
+
+two_put : put [] session ≡ record { moment = pressed; input = One } ∷ record { moment = session; input = One } ∷ []
+unfolding down debounced has any_below resolved code last_written changed commands_in entry_in newer newest active format words entries_of protocol_after effect_asked key_calls scans_of held_calls those_below keys_after table consumer_after members number_of byte_of bytes_of boot_bytes bitmap_bytes words_of consumer_bytes put
+two_put = refl
+
+both_wait : waits [] session ≡ record { moment = pressed; input = One } ∷ record { moment = session; input = One } ∷ []
+unfolding waits
+both_wait = rw (two_wait, two_put) refl
+
+pub had_waited : due [] session ≡ Some (record { moment = pressed; input = One })
+unfolding due
+had_waited = rw both_wait refl
+
+pub is_next : due [] (Polled (Some letter_a) ∷ session) ≡ Some (record { moment = session; input = One })
+unfolding due
+is_next = rw (waits-poll [] session (Some letter_a), both_wait) refl

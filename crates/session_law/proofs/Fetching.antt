@@ -1,5 +1,5 @@
 -- What a host keeps after a session.
-use Rattle.std.proofs.Common.{◌≡◌, ℕ, Bool, true, false, if◌then◌else◌, List, [], ◌∷◌, Option, Some, None, length, refl, sym, ◌∙◌, ap, subst, inl, inr}
+use Rattle.std.proofs.Common.{◌≡◌, ℕ, Bool, true, false, if◌then◌else◌, List, [], ◌∷◌, Option, Some, None, length, take, refl, sym, ◌∙◌, ap, subst, inl, inr}
 use Rattle.std.specs.Prelude.{unwrap_or}
 use Rattle.descriptor_build.specs.Served.{report_bytes}
 use Rattle.control_ep.specs.declared.answer.EpAnswer.{EpAnswer}
@@ -38,7 +38,7 @@ same told old new host s h = record { gathers = same_read report_bytes old new (
 begins_by : (calls : List EpCall) (start : List ℕ) (before : List Call) (setup : List ℕ) (asks : Bool) → asks_for_report setup ≡ asks
     → IfGathers report_bytes (Setup setup (view_after start before) ∷ calls) (if asks then Some (record { wanted = wanted_length setup; bytes = [] }) else None)
 begins_by calls start before setup false e = tt
-begins_by calls start before setup true e = record { begins = rw (reads_report setup (view_after start before) e) refl; bytes_are = λ f. refl }
+begins_by calls start before setup true e = record { begins = rw (reads_report setup (view_after start before) e) refl; bytes_are = λ f. refl; so_far = refl }
 
 set_up : (told : List HostCall) (calls : List EpCall) (start : List ℕ) (before : List Call) (setup : List ℕ) (host : List HostCall) → Fetches told calls host
     → Fetches told (Setup setup (view_after start before) ∷ calls) (was_set_up setup ∷ host)
@@ -142,3 +142,12 @@ pub fetched_is_served : (start : List ℕ) (past : List Call) (told host : List 
     → NoneOrServed (kept host)
 fetched_is_served start past told host answered hears none k =
     from_sum (kept host) (fetches start told past host served_size hears answered (fetches_start told none k)).keeps
+
+gathered_of : (calls : List EpCall) (o : Option Fetch) (fetch : Fetch) → IfGathers report_bytes calls o → o ≡ Some fetch → fetch.bytes ≡ take (length fetch.bytes) report_bytes
+gathered_of calls None fetch h e = cc
+gathered_of calls (Some f) fetch h e = (let same : f ≡ fetch = cc in subst (λ (x : Fetch). x.bytes ≡ take (length x.bytes) report_bytes) same h.so_far)
+
+pub gathered_is_served : (start : List ℕ) (past : List Call) (told host : List HostCall) (fetch : Fetch) → EachCall IsAnswered start past → Hears told past host → gathering told ≡ None
+    → NoneOrServed (kept told) → gathering host ≡ Some fetch → fetch.bytes ≡ take (length fetch.bytes) report_bytes
+gathered_is_served start past told host fetch answered hears none k e =
+    gathered_of (ep_calls start past) (gathering host) fetch (fetches start told past host served_size hears answered (fetches_start told none k)).gathers e

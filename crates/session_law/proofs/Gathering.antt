@@ -1,8 +1,11 @@
 -- What a host has gathered of the report descriptor, and the read of it that is under way.
-use Rattle.std.proofs.Common.{◌≡◌, ◌⊎◌, ℕ, suc, ◌+◌, ◌==◌, ◌&&◌, not, Bool, true, false, if◌then◌else◌, List, [], ◌∷◌, ◌++◌, Option, Some, None, Ok, length, refl, sym, ◌∙◌, ap, arith}
+use Rattle.std.proofs.Common.{◌≡◌, ◌⊎◌, ℕ, suc, ◌+◌, ◌==◌, ◌&&◌, not, Bool, true, false, if◌then◌else◌, List, [], ◌∷◌, ◌++◌, Option, Some, None, Ok, length, take, min, ◌*◌, ◌≤◌, refl, sym, ◌∙◌, ap, arith, inl}
 use Rattle.std.specs.Prelude.{unwrap_or}
 use Rattle.std.proofs.lemmas.Bool.{eqb-true}
 use Rattle.std.proofs.Common.{inr}
+use Rattle.std.proofs.lemmas.Bool.{cases_lt}
+use Rattle.std.proofs.lemmas.List.{length-take, take_all, take_min, take-take}
+use Rattle.control_ep.proofs.Joined.{joined-is}
 use Rattle.control_ep.specs.declared.why.Why.{Why}
 use Rattle.control_ep.specs.declared.answer.EpAnswer.{EpAnswer}
 use Rattle.control_ep.specs.declared.answer.EpAnswer.TheVariants.{Packet, Stall}
@@ -18,10 +21,12 @@ use Rattle.host.specs.Kept.{Fetch, with_packet, is_end, goes_on, is_kept, kept_w
 use Rattle.keyboard.specs.Endpoint.{with_out}
 use Rattle.session_law.proofs.Giving.{all_came}
 
--- a host gathers what a read sends that is under way: unless a packet was stalled, it has those that came so far
+-- a host gathers what a read sends that is under way: the first bytes of the text; unless a packet was stalled, those that
+-- came so far
 pub record Gathers (text : List ℕ) (past : List EpCall) (fetch : Fetch) : Type 0 where
   pub begins : last_setup past ≡ Some (Ok (Reads text), fetch.wanted)
   pub bytes_are : first_stall (calls_since past) ≡ None → fetch.bytes ≡ joined_packets text fetch.wanted (count_in (calls_since past))
+  pub so_far : fetch.bytes ≡ take (length fetch.bytes) text
 
 abbrev pub IfGathers : List ℕ → List EpCall → Option Fetch → Type 0
 IfGathers text past None = Unit {0}
@@ -39,6 +44,7 @@ same_read text old new None s h = tt
 same_read text old new (Some fetch) s h = record {
   begins = s.setup ∙ h.begins;
   bytes_are = λ e. h.bytes_are (s.stalled e) ∙ ap (λ (n : ℕ). joined_packets text fetch.wanted n) (sym s.count);
+  so_far = h.so_far;
 }
 
 pub none_before : (a b : Option Why) → or_else a b ≡ None → a ≡ None
@@ -67,6 +73,7 @@ stalled_read text calls why effect None h = tt
 stalled_read text calls why effect (Some fetch) h = record {
   begins = h.begins;
   bytes_are = λ e. absurd (now_stalled (first_stall (calls_since calls)) e);
+  so_far = h.so_far;
 }
   where
     now_stalled : (before : Option Why) → or_else before (Some why) ≡ None → ⊥
@@ -79,6 +86,21 @@ pub joined_more : (text : List ℕ) (calls : List EpCall) (fetch : Fetch) (bytes
     → fetch.bytes ++ bytes ≡ joined_packets text fetch.wanted (suc (count_in (calls_since calls)))
 joined_more text calls fetch bytes h none p = rw (h.bytes_are none, ← p) refl
 
+first_of : (m : ℕ) (xs text : List ℕ) → xs ≡ take m text → xs ≡ take (length xs) text
+first_of m xs text e =
+    let size : length xs ≡ min m (length text) = ap length e ∙ length-take m text in
+    e ∙ sym (take_min m text) ∙ ap (λ (n : ℕ). take n text) (sym size)
+
+-- the first bytes of the first bytes
+first_of_first : (m n : ℕ) (text : List ℕ) → take m (take n text) ≡ take (min m n) text
+first_of_first m n text = elim (cases_lt m n) [
+  | inl l ↦ take-take m n text (omega (arith, l)) ∙ ap (λ (k : ℕ). take k text) (omega (arith, l))
+  | inr l ↦ (let all : length (take n text) ≤ m = omega (arith, l, length-take n text) in take_all m (take n text) all ∙ ap (λ (k : ℕ). take k text) (omega (arith, l)))
+]
+
+joined_first : (text : List ℕ) (wanted n : ℕ) (bytes : List ℕ) → bytes ≡ joined_packets text wanted n → bytes ≡ take (length bytes) text
+joined_first text wanted n bytes e = first_of (min (8 * n) wanted) bytes text (e ∙ joined-is text wanted n ∙ first_of_first (8 * n) wanted text)
+
 pub goes_on_read : (text : List ℕ) (calls : List EpCall) (fetch : Fetch) (bytes : List ℕ) (effect : Effect) (memory : Bool) → Gathers text calls fetch → first_stall (calls_since calls) ≡ None
     → unwrap_or (packet_at text fetch.wanted (count_in (calls_since calls))) [] ≡ bytes
     → IfGathers text (EpIn (Packet (record { items = bytes })) effect ∷ calls) (goes_on (Some fetch) bytes memory)
@@ -90,6 +112,7 @@ goes_on_read text calls fetch bytes effect memory h none p = by_test (memory && 
       begins = h.begins;
       bytes_are = λ e. (let more : count_in (calls_since calls) + 1 ≡ suc (count_in (calls_since calls)) = omega arith in
           joined_more text calls fetch bytes h none p ∙ ap (λ (n : ℕ). joined_packets text fetch.wanted n) (sym more));
+      so_far = joined_first text fetch.wanted (suc (count_in (calls_since calls))) (fetch.bytes ++ bytes) (joined_more text calls fetch bytes h none p);
     }
 
 -- ---- what is kept

@@ -1,5 +1,6 @@
 pub mod Waiting
 pub mod Sending
+pub mod Following
 pub mod Requesting
 pub mod Giving
 pub mod Gathering

@@ -1,17 +1,20 @@
 -- The usages of a report are those that the codes of the keys name that are down.
-use Rattle.std.proofs.Common.{◌≡◌, ◌⊎◌, ◌↔◌, ℕ, ◌+◌, ◌-◌, ◌<◌, ◌≤◌, ◌==◌, ◌&&◌, ◌||◌, nat_le, Bool, true, false, List, [], ◌∷◌, ◌++◌, length, take, map, slice_index_or, refl, sym, ◌∙◌, ap, subst, arith, inl, inr}
+use Rattle.std.proofs.Common.{◌≡◌, ◌⊎◌, ◌↔◌, ℕ, ◌+◌, ◌-◌, ◌<◌, ◌≤◌, ◌==◌, ◌&&◌, ◌||◌, nat_le, Bool, true, false, List, [], ◌∷◌, ◌++◌, length, take, map, min, get_or, slice_index_or, refl, sym, ◌∙◌, ap, subst, arith, inl, inr}
 use Rattle.std.specs.Prelude.{Contains}
 use Rattle.std.specs.List.{All}
-use Rattle.std.proofs.lemmas.Bool.{eqb-true}
+use Rattle.std.specs.List.Sorted.{IsStrictlyIncreasing}
+use Rattle.std.proofs.lemmas.Bool.{eqb-true, cases_lt}
 use Rattle.std.proofs.lemmas.Bool.Decides.{nat_tests}
-use Rattle.std.proofs.lemmas.List.{take_all, length-map, get_or-map}
+use Rattle.std.proofs.lemmas.Grind.{get_or_default_zero}
+use Rattle.std.proofs.lemmas.List.{take_all, length-map, length-take, get_or-map, get_or-take}
+use Rattle.std.proofs.lemmas.List.Kept.{AllPairs-from_increasing}
 use Rattle.std.proofs.lemmas.List.Elements.{Contains-append_left, Contains-append_right, Contains-append_cases, All-map, All-take, All-contains, All-contains_itself}
 use Rattle.layers.specs.Codes.{is_between, is_key_usage, is_modifier, is_consumer, names_consumer}
 use Rattle.reports.specs.declared.Input.{Input}
 use Rattle.reports.specs.declared.Input.TheVariants.{Boot, One, Two}
 use Rattle.reports.specs.Wanted.{listed, consumer_listed}
 use Rattle.reports.proofs.Members.{le_test, gt_test}
-use Rattle.reports.proofs.Rising.{members-sound, members-complete}
+use Rattle.reports.proofs.Rising.{members-rising, members-sound, members-complete}
 use Rattle.key_reports.specs.Calls.{KeyCall}
 use Rattle.key_reports.specs.Codes.{SomeKeyHas}
 use Rattle.key_reports.specs.Past.{keys_after, consumer_after}
@@ -168,3 +171,48 @@ consumer_names past keys input usages e i few usage n =
     e ∙ ap (λ (x : Input). wanted_usages keys (consumer_after past) x) i ∙ ap (λ (l : List ℕ). map (λ (u : ℕ). 0xC0000 + u) l) all in
     let there = contains_map (λ (u : ℕ). 0xC0000 + u) whole n.number (consumer_listed_of past n.number n.named) in
     rw (are, n.usage_is) there
+
+-- what is less than an item of the first of a rising list is among them
+less_in_front : (xs : List ℕ) (n u v : ℕ) → IsStrictlyIncreasing xs → Contains (take n xs) u → Contains xs v → v < u → Contains (take n xs) v
+less_in_front xs n u v r (k, l, e) (j, m, f) less =
+    let size = length-take n xs in
+    let front : k < n = omega (arith, l, size) in
+    let long : k < length xs = omega (arith, l, size) in
+    let at_k : get_or xs k 0 ≡ u = sym (get_or_default_zero xs k u long) ∙ sym (get_or-take n xs k u front) ∙ e in
+    let at_j : get_or xs j 0 ≡ v = sym (get_or_default_zero xs j v m) ∙ f in
+    elim (cases_lt j k) [
+      | inl before ↦ (let in_front : j < n = omega (arith, before, front) in (j, omega (arith, m, in_front, size), get_or-take n xs j v in_front ∙ f))
+      | inr after ↦ absurd (not_after k j after at_k at_j m)
+    ]
+  where
+    not_after : (k j : ℕ) → k ≤ j → get_or xs k 0 ≡ u → get_or xs j 0 ≡ v → j < length xs → ⊥
+    not_after k j l at_k at_j m = elim (cases_lt k j) [
+      | inl before ↦ omega (arith, AllPairs-from_increasing xs r k j 0 before m, at_k, at_j, less)
+      | inr same ↦ (let one : k ≡ j = omega (arith, l, same) in omega (arith, ap (λ (i : ℕ). get_or xs i 0) one, at_k, at_j, less))
+    ]
+
+least_named : (whole : List ℕ) → IsStrictlyIncreasing whole → All (λ usage. (number : ℕ) → Contains whole number → 0xC0000 + number < usage → Contains (map (λ (u : ℕ). 0xC0000 + u) (take 4 whole)) (0xC0000 + number)) (map (λ (u : ℕ). 0xC0000 + u) (take 4 whole))
+least_named whole r =
+    let front = take 4 whole in
+    let first = All-contains_itself front in
+    All-map (λ usage. (number : ℕ) → Contains whole number → 0xC0000 + number < usage → Contains (map (λ (u : ℕ). 0xC0000 + u) front) (0xC0000 + number)) (λ (u : ℕ). 0xC0000 + u) front
+    (λ k d l number c less. contains_map (λ (u : ℕ). 0xC0000 + u) front number
+    (less_in_front whole 4 (slice_index_or front k d) number r (first k d l) c (omega (arith, less))))
+
+-- the four least: with a usage that is read each lesser one is
+pub consumer_least : (past : List KeyCall) (keys : ℕ → Bool) (input : Input) (usages : List ℕ) → usages ≡ wanted_usages keys (consumer_after past) input → input ≡ Two
+    → (usage lesser : ℕ) → Contains usages usage → IsConsumerNamed past lesser → lesser < usage → Contains usages lesser
+consumer_least past keys input usages e i usage lesser c n less =
+    let whole = consumer_listed (consumer_after past) in
+    let are : usages ≡ consumer_usages (consumer_after past) = e ∙ ap (λ (x : Input). wanted_usages keys (consumer_after past) x) i in
+    let here : Contains (consumer_usages (consumer_after past)) usage = subst (λ (l : List ℕ). Contains l usage) are c in
+    let all = All-contains (λ usage. (number : ℕ) → Contains whole number → 0xC0000 + number < usage → Contains (consumer_usages (consumer_after past)) (0xC0000 + number))
+    (consumer_usages (consumer_after past)) usage (least_named whole (members-rising (consumer_after past) 1 1023)) here in
+    let there = all n.number (consumer_listed_of past n.number n.named) (omega (arith, less, n.usage_is)) in
+    rw (are, n.usage_is) there
+
+pub consumer_size : (consumer keys : ℕ → Bool) (input : Input) (usages : List ℕ) → usages ≡ wanted_usages keys consumer input → input ≡ Two
+    → length usages ≡ min 4 (length (consumer_listed consumer))
+consumer_size consumer keys input usages e i =
+    let front = take 4 (consumer_listed consumer) in
+    ap length (e ∙ ap (λ (x : Input). wanted_usages keys consumer x) i) ∙ length-map front (λ (u : ℕ). 0xC0000 + u) ∙ length-take 4 (consumer_listed consumer)

@@ -1,5 +1,5 @@
--- What a poll is answered is wanted now, or was at the scan since which it waits.
-use Rattle.std.proofs.Common.{◌≡◌, ℕ, ◌||◌, Bool, true, false, if◌then◌else◌, List, [], ◌∷◌, Option, Some, None, slice_get, refl, sym, subst, arith}
+-- What a poll is answered are the bytes of the report that is due.
+use Rattle.std.proofs.Common.{◌≡◌, ℕ, ◌||◌, Bool, true, false, if◌then◌else◌, List, [], ◌∷◌, Option, Some, None, slice_get, refl, ◌∙◌, ap, subst, arith}
 use Rattle.std.specs.Prelude.{Contains}
 use Rattle.std.specs.List.{All}
 use Rattle.std.specs.Option.{option_map, option_or}
@@ -9,13 +9,14 @@ use Rattle.reports.specs.declared.Protocol.{Protocol}
 use Rattle.reports.specs.declared.Protocol.TheVariants as protocol
 use Rattle.reports.specs.Calls.{PollerCall}
 use Rattle.reports.specs.Poll.{is_changed, is_elapsed, sent_last, one_of_two, chosen, rule_answer, poll_answer}
-use Rattle.reports.specs.Queue.{reports_of, queue}
+use Rattle.reports.specs.Queue.{reports_of}
 use Rattle.key_reports.specs.Past.{wanted_after, poller_calls, answer_after}
-use Rattle.keyboard.specs.Calls.{Call, Scanned}
+use Rattle.keyboard.specs.Calls.{Call}
 use Rattle.keyboard.specs.Effects.{protocol_after}
 use Rattle.keyboard.specs.Keys.{key_calls}
-use Rattle.session_law.specs.Sent.{now, at_scan, IsWantedAt}
-use Rattle.session_law.proofs.Waiting.{FromScan, all_waiting}
+use Rattle.session_law.specs.Due.{Due, due_bytes, waits, ruled, due}
+use Rattle.session_law.specs.Sent.{IsWantedAt}
+use Rattle.session_law.proofs.Waiting.{first_waiting, waits_of}
 
 -- ---- the report that the poll rule chooses is one of the protocol
 
@@ -55,46 +56,63 @@ chosen_of protocol.Boot bytes past input e = by_boot (is_changed bytes past Boot
 chosen_of protocol.Report bytes past input e =
     by_either (is_changed bytes past One || is_changed bytes past Two) (is_changed bytes past) (is_elapsed past) (sent_last past) input e
 
--- ---- either of the two
+-- ---- the report that is due
 
-pub record Chosen (p : Protocol) (wants : Input → List ℕ) (bytes : List ℕ) : Type 0 where
-  pub input : Input
-  pub of_protocol : Contains (reports_of p) input
-  pub bytes_are : bytes ≡ wants input
+due_map : (start : List ℕ) (past : List Call) (o : Option Input) → option_map (wanted_after (key_calls start past)) o ≡ option_map (due_bytes start) (option_map (λ input. record { moment = past; input = input }) o)
+due_map start past None = refl
+due_map start past (Some input) = refl
 
-from_chosen : (p : Protocol) (wants : Input → List ℕ) (bytes : List ℕ) (o : Option Input) → ((input : Input) → o ≡ Some input → Contains (reports_of p) input)
-    → option_map wants o ≡ Some bytes → Chosen p wants bytes
-from_chosen p wants bytes None h e = cc
-from_chosen p wants bytes (Some input) h e = record { input = input; of_protocol = h input refl; bytes_are = (let f : wants input ≡ bytes = cc in sym f) }
+by_rule : (start : List ℕ) (past : List Call) → rule_answer (protocol_after past) (wanted_after (key_calls start past)) (poller_calls (key_calls start past)) ≡ option_map (due_bytes start) (ruled start past)
+unfolding rule_answer ruled
+by_rule start past = due_map start past (chosen (protocol_after past) (wanted_after (key_calls start past)) (poller_calls (key_calls start past)))
 
-by_rule : (p : Protocol) (wants : Input → List ℕ) (past : List PollerCall) (bytes : List ℕ) → rule_answer p wants past ≡ Some bytes → Chosen p wants bytes
-unfolding rule_answer
-by_rule p wants past bytes e = from_chosen p wants bytes (chosen p wants past) (λ input c. chosen_of p wants past input c) e
+either_map : (f : Due → List ℕ) (a b : Option Due) → option_or (option_map f a) (option_map f b) ≡ option_map f (option_or a b)
+either_map f None b = refl
+either_map f (Some x) b = refl
 
-wanted_now : (start : List ℕ) (past : List Call) (bytes : List ℕ) → Chosen (protocol_after past) (wanted_after (key_calls start past)) bytes → IsWantedAt start past bytes
-wanted_now start past bytes h = record { moment = past; is_moment = now; input = h.input; of_protocol = h.of_protocol; bytes_are = h.bytes_are }
+-- a poll is answered the bytes of the report that is due
+pub answer_is_due : (start : List ℕ) (past : List Call) → answer_after (protocol_after past) (key_calls start past) ≡ option_map (due_bytes start) (due start past)
+unfolding answer_after poll_answer due
+answer_is_due start past =
+    ap (λ (o : Option (List ℕ)). option_or o (rule_answer (protocol_after past) (wanted_after (key_calls start past)) (poller_calls (key_calls start past)))) (first_waiting start past)
+    ∙ ap (λ (o : Option (List ℕ)). option_or (option_map (due_bytes start) (slice_get (waits start past) 0)) o) (by_rule start past)
+    ∙ either_map (due_bytes start) (slice_get (waits start past) 0) (ruled start past)
 
-wanted_then : (start : List ℕ) (past : List Call) (bytes : List ℕ) → FromScan start past bytes → IsWantedAt start past bytes
-wanted_then start past bytes h = record {
-  moment = Scanned h.scan ∷ h.before;
-  is_moment = at_scan h.later h.scan h.before h.split h.none_renews;
-  input = h.input;
-  of_protocol = h.of_protocol;
-  bytes_are = h.bytes_are;
+-- ---- it is one of the protocol in force
+
+first_of : (P : Due → Type 0) (xs : List Due) (report : Due) → All P xs → slice_get xs 0 ≡ Some report → P report
+first_of P [] report h e = cc
+first_of P (x ∷ xs) report h e = (let f : x ≡ report = cc in subst P f (h 0 x (omega arith)))
+
+ruled_of : (start : List ℕ) (past : List Call) (o : Option Input) (report : Due) → ((input : Input) → o ≡ Some input → Contains (reports_of (protocol_after past)) input)
+    → option_map (λ input. record { moment = past; input = input }) o ≡ Some report → Contains (reports_of (protocol_after past)) report.input
+ruled_of start past None report h e = cc
+ruled_of start past (Some input) report h e =
+    let f : record { moment = past; input = input } ≡ report = cc in
+    subst (λ (r : Due). Contains (reports_of (protocol_after past)) r.input) f (h input refl)
+
+either_of : (P : Due → Type 0) (a b : Option Due) (report : Due) → (a ≡ Some report → P report) → (b ≡ Some report → P report) → option_or a b ≡ Some report → P report
+either_of P (Some x) b report f g e = f e
+either_of P None b report f g e = g e
+
+due_of : (start : List ℕ) (past : List Call) (report : Due) → due start past ≡ Some report → Contains (reports_of (protocol_after past)) report.input
+unfolding due ruled
+due_of start past report e =
+    either_of (λ r. Contains (reports_of (protocol_after past)) r.input) (slice_get (waits start past) 0) (ruled start past) report
+    (λ f. first_of (λ r. Contains (reports_of (protocol_after past)) r.input) (waits start past) report (waits_of start past) f)
+    (λ f. ruled_of start past (chosen (protocol_after past) (wanted_after (key_calls start past)) (poller_calls (key_calls start past))) report
+    (λ input c. chosen_of (protocol_after past) (wanted_after (key_calls start past)) (poller_calls (key_calls start past)) input c) f)
+    e
+
+wanted_at : (start : List ℕ) (past : List Call) (bytes : List ℕ) (o : Option Due) → due start past ≡ o → Some bytes ≡ option_map (due_bytes start) o → IsWantedAt start past bytes
+wanted_at start past bytes None d e = cc
+wanted_at start past bytes (Some report) d e = record {
+  moment = report.moment;
+  input = report.input;
+  is_due = d;
+  of_protocol = due_of start past report d;
+  bytes_are = cc;
 }
 
-first_waits : (P : List ℕ → Type 0) (xs : List (List ℕ)) (bytes : List ℕ) → All P xs → slice_get xs 0 ≡ Some bytes → P bytes
-first_waits P [] bytes h e = cc
-first_waits P (x ∷ xs) bytes h e = (let f : x ≡ bytes = cc in subst P f (h 0 x (omega arith)))
-
-either : (start : List ℕ) (past : List Call) (bytes : List ℕ) (first : Option (List ℕ)) → ((x : List ℕ) → first ≡ Some x → FromScan start past x)
-    → option_or first (rule_answer (protocol_after past) (wanted_after (key_calls start past)) (poller_calls (key_calls start past))) ≡ Some bytes → IsWantedAt start past bytes
-either start past bytes (Some x) h e = wanted_then start past bytes (h bytes e)
-either start past bytes None h e =
-    wanted_now start past bytes (by_rule (protocol_after past) (wanted_after (key_calls start past)) (poller_calls (key_calls start past)) bytes e)
-
 pub sent_is_wanted : (start : List ℕ) (past : List Call) (bytes : List ℕ) → Some bytes ≡ answer_after (protocol_after past) (key_calls start past) → IsWantedAt start past bytes
-unfolding answer_after poll_answer
-sent_is_wanted start past bytes e =
-    let waits = queue (poller_calls (key_calls start past)) in
-    either start past bytes (slice_get waits 0) (λ x f. first_waits (FromScan start past) waits x (all_waiting start past) f) (sym e)
+sent_is_wanted start past bytes e = wanted_at start past bytes (due start past) refl (e ∙ answer_is_due start past)

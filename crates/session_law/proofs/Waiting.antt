@@ -1,136 +1,115 @@
--- What waits for a poll was wanted at a scan since which the protocol was not set and the bus not reset.
-use Rattle.std.proofs.Common.{◌≡◌, ℕ, ◌-◌, false, List, [], ◌∷◌, ◌++◌, length, slice_index_or, refl, ap, subst, arith, append-nil, inl, inr}
+-- What waits for a poll are the reports that the scans put into the queue.
+use Rattle.std.proofs.Common.{◌≡◌, ℕ, ◌-◌, Bool, true, false, not, if◌then◌else◌, List, [], ◌∷◌, ◌++◌, length, map, filter, flat_map, drop, slice_get, refl, sym, ◌∙◌, ap, append-nil}
 use Rattle.std.specs.Prelude.{Contains}
 use Rattle.std.specs.List.{All}
+use Rattle.std.specs.Option.{option_map}
 use Rattle.std.specs.Str.{bytes_eq}
-use Rattle.std.proofs.lemmas.Bool.{cases_Bool}
-use Rattle.std.proofs.lemmas.List.Elements.{All-append, All-cons, All-nil, All-drop}
+use Rattle.std.proofs.lemmas.List.{map-append, drop-map, length-map}
+use Rattle.std.proofs.lemmas.List.Concat.{flat_map-cons}
+use Rattle.std.proofs.lemmas.List.Elements.{All-append, All-nil, All-drop, All-map, All-filter, All-contains_itself}
+use Rattle.std.proofs.lemmas.Option.{slice_get-map}
+use Rattle.std.proofs.lemmas.Simd.{map-map}
+use Rattle.circular_buffer.specs.Buffer.{keep_last}
 use Rattle.debounce.specs.declared.Scan.{Scan}
 use Rattle.reports.specs.declared.Input.{Input}
-use Rattle.reports.specs.declared.Input.TheVariants.{Boot, One, Two}
 use Rattle.reports.specs.declared.Protocol.{Protocol}
-use Rattle.reports.specs.declared.Protocol.TheVariants as protocol
 use Rattle.reports.specs.Calls.{ticked}
 use Rattle.reports.specs.Queue.{reports_of, changed_bytes, pushed_by, pushed, waiting, queue}
-use Rattle.reports.specs.Wanted.{wanted}
 use Rattle.key_reports.specs.Calls.{KeyCall}
-use Rattle.key_reports.specs.Past.{keys_after, consumer_after, wanted_after, poller_calls}
+use Rattle.key_reports.specs.Past.{wanted_after, poller_calls}
 use Rattle.control_ep.specs.declared.answer.Effect.{Effect}
 use Rattle.control_ep.specs.declared.answer.Effect.TheVariants.{Nothing, Idle, SetProtocol}
 use Rattle.keyboard.specs.Calls.{Call, Scanned, SetUp, Out, In, Polled, Worked, BusReset}
 use Rattle.keyboard.specs.Effects.{effect_told, protocol_then, protocol_after}
 use Rattle.keyboard.specs.Keys.{with_effect, key_calls}
-use Rattle.session_law.specs.Sent.{is_choice, renews, NoneRenews}
-
--- a report of the protocol in force, at an earlier scan
-pub record FromScan (start : List ℕ) (past : List Call) (bytes : List ℕ) : Type 0 where
-  pub later : List Call
-  pub scan : Scan
-  pub before : List Call
-  pub split : past ≡ later ++ Scanned scan ∷ before
-  pub none_renews : NoneRenews later (Scanned scan ∷ before)
-  pub input : Input
-  pub of_protocol : Contains (reports_of (protocol_after past)) input
-  pub bytes_are : bytes ≡ wanted (keys_after (key_calls start (Scanned scan ∷ before))) (consumer_after (key_calls start (Scanned scan ∷ before))) input
-
--- ---- a call that keeps the protocol
-
-then_same : (effect : Effect) (protocol : Protocol) → is_choice effect ≡ false → protocol_then effect protocol ≡ protocol
-then_same Nothing protocol e = refl
-then_same (Idle id duration) protocol e = refl
-then_same (SetProtocol chosen) protocol e = cc
-
-pub same_protocol : (past : List Call) (call : Call) → renews past call ≡ false → protocol_after (call ∷ past) ≡ protocol_after past
-unfolding protocol_after
-same_protocol past (Scanned scan) e = refl
-same_protocol past (SetUp bytes) e = refl
-same_protocol past (Out packet answer) e = refl
-same_protocol past (In answer) e = then_same (effect_told past answer) (protocol_after past) e
-same_protocol past (Polled answer) e = refl
-same_protocol past (Worked work image) e = refl
-same_protocol past BusReset e = cc
-
-more : (start : List ℕ) (past : List Call) (call : Call) (bytes : List ℕ) → renews past call ≡ false → FromScan start past bytes → FromScan start (call ∷ past) bytes
-more start past call bytes e h = record {
-  later = call ∷ h.later;
-  scan = h.scan;
-  before = h.before;
-  split = ap (λ (l : List Call). call ∷ l) h.split;
-  none_renews = (subst (λ (l : List Call). renews l call ≡ false) h.split e, h.none_renews);
-  input = h.input;
-  of_protocol = rw (same_protocol past call e) h.of_protocol;
-  bytes_are = h.bytes_are;
-}
-
-abbrev Waits : List ℕ → List Call → List (List ℕ) → Type 0
-Waits start past xs = All (FromScan start past) xs
-
-all_more : (start : List ℕ) (past : List Call) (call : Call) (xs : List (List ℕ)) → renews past call ≡ false → Waits start past xs → Waits start (call ∷ past) xs
-all_more start past call xs e h = λ k d l. more start past call (slice_index_or xs k d) e (h k d l)
+use Rattle.session_law.specs.Due.{Due, due_bytes, changes, put_by, is_choice, put, waits}
 
 -- ---- what a scan pushes
 
-at_scan_now : (start : List ℕ) (past : List Call) (scan : Scan) (input : Input) → Contains (reports_of (protocol_after past)) input
-    → FromScan start (Scanned scan ∷ past) (wanted_after (key_calls start (Scanned scan ∷ past)) input)
-unfolding protocol_after
-at_scan_now start past scan input c = record {
-  later = [];
-  scan = scan;
-  before = past;
-  split = refl;
-  none_renews = tt;
-  input = input;
-  of_protocol = c;
-  bytes_are = refl;
-}
+kept_one : (same : Bool) (now : Input → List ℕ) (x : Input) (xs : List Input) → (if same then [] else now x ∷ []) ++ map now xs ≡ map now (if not same then x ∷ xs else xs)
+kept_one true now x xs = refl
+kept_one false now x xs = refl
 
-changed_all : (P : List ℕ → Type 0) (before now : List ℕ) → P now → All P (changed_bytes before now)
-changed_all P before now h = elim (cases_Bool (bytes_eq before now)) [
-  | inl same ↦ rw same (All-nil P)
-  | inr other ↦ rw other (All-cons P now [] h (All-nil P))
-]
+changed_all : (before now : Input → List ℕ) (xs : List Input) → flat_map (λ r. changed_bytes (before r) (now r)) xs ≡ map now (filter (λ r. not (bytes_eq (before r) (now r))) xs)
+changed_all before now [] = refl
+changed_all before now (x ∷ xs) =
+    flat_map-cons (λ r. changed_bytes (before r) (now r)) x xs ∙ ap (λ (l : List (List ℕ)). changed_bytes (before x) (now x) ++ l) (changed_all before now xs)
+    ∙ kept_one (bytes_eq (before x) (now x)) now x (filter (λ r. not (bytes_eq (before r) (now r))) xs)
 
-pushed_all : (P : List ℕ → Type 0) (p : Protocol) (before now : Input → List ℕ) → ((input : Input) → Contains (reports_of p) input → P (now input)) → All P (pushed_by (ticked p before now))
+pub pushed_put : (start : List ℕ) (before : List Call) (scan : Scan)
+    → pushed_by (ticked (protocol_after before) (wanted_after (key_calls start before)) (wanted_after (key_calls start (Scanned scan ∷ before)))) ≡ map (due_bytes start) (put_by start before scan)
 unfolding pushed_by
-pushed_all P protocol.Boot before now h =
-    All-append P (changed_bytes (before Boot) (now Boot)) [] (changed_all P (before Boot) (now Boot) (h Boot (0, omega arith, refl))) (All-nil P)
-pushed_all P protocol.Report before now h =
-    All-append P (changed_bytes (before One) (now One)) (changed_bytes (before Two) (now Two) ++ [])
-    (changed_all P (before One) (now One) (h One (0, omega arith, refl)))
-    (All-append P (changed_bytes (before Two) (now Two)) [] (changed_all P (before Two) (now Two) (h Two (1, omega arith, refl))) (All-nil P))
+pushed_put start before scan =
+    changed_all (wanted_after (key_calls start before)) (wanted_after (key_calls start (Scanned scan ∷ before))) (reports_of (protocol_after before))
+    ∙ sym (map-map (due_bytes start) (λ input. record { moment = Scanned scan ∷ before; input = input }) (filter (changes start before scan) (reports_of (protocol_after before))))
 
 -- ---- all that was pushed
 
-abbrev Pushed : List ℕ → List Call → List KeyCall → Type 0
-Pushed start past calls = Waits start past (pushed (poller_calls calls))
-
-told : (start : List ℕ) (past : List Call) (call : Call) (effect : Effect) → (is_choice effect ≡ false → renews past call ≡ false) → Pushed start past (key_calls start past)
-    → Pushed start (call ∷ past) (with_effect effect (key_calls start past))
+told : (start : List ℕ) (effect : Effect) (calls : List KeyCall) (dues : List Due) → pushed (poller_calls calls) ≡ map (due_bytes start) dues
+    → pushed (poller_calls (with_effect effect calls)) ≡ map (due_bytes start) (if is_choice effect then [] else dues)
 unfolding pushed pushed_by poller_calls
-told start past call Nothing e h = all_more start past call (pushed (poller_calls (key_calls start past))) (e refl) h
-told start past call (Idle id duration) e h =
-    rw (append-nil (pushed (poller_calls (key_calls start past)))) (all_more start past call (pushed (poller_calls (key_calls start past))) (e refl) h)
-told start past call (SetProtocol chosen) e h = All-nil (FromScan start (call ∷ past))
+told start Nothing calls dues e = e
+told start (Idle id duration) calls dues e = append-nil (pushed (poller_calls calls)) ∙ e
+told start (SetProtocol chosen) calls dues e = refl
 
-pub all_pushed : (start : List ℕ) (past : List Call) → Pushed start past (key_calls start past)
-unfolding pushed poller_calls key_calls pushed_by
-all_pushed start [] = All-nil (FromScan start [])
+pub all_pushed : (start : List ℕ) (past : List Call) → pushed (poller_calls (key_calls start past)) ≡ map (due_bytes start) (put start past)
+unfolding pushed poller_calls key_calls pushed_by put
+all_pushed start [] = refl
 all_pushed start (Scanned scan ∷ before) =
-    All-append (FromScan start (Scanned scan ∷ before)) (pushed (poller_calls (key_calls start before)))
-    (pushed_by (ticked (protocol_after before) (wanted_after (key_calls start before)) (wanted_after (key_calls start (Scanned scan ∷ before)))))
-    (all_more start before (Scanned scan) (pushed (poller_calls (key_calls start before))) refl (all_pushed start before))
-    (pushed_all (FromScan start (Scanned scan ∷ before)) (protocol_after before) (wanted_after (key_calls start before)) (wanted_after (key_calls start (Scanned scan ∷ before)))
-    (λ input c. at_scan_now start before scan input c))
-all_pushed start (SetUp bytes ∷ before) = all_more start before (SetUp bytes) (pushed (poller_calls (key_calls start before))) refl (all_pushed start before)
-all_pushed start (Out packet answer ∷ before) = all_more start before (Out packet answer) (pushed (poller_calls (key_calls start before))) refl (all_pushed start before)
-all_pushed start (In answer ∷ before) = told start before (In answer) (effect_told before answer) (λ e. e) (all_pushed start before)
-all_pushed start (Polled answer ∷ before) =
-    rw (append-nil (pushed (poller_calls (key_calls start before)))) (all_more start before (Polled answer) (pushed (poller_calls (key_calls start before))) refl (all_pushed start before))
-all_pushed start (Worked work image ∷ before) = all_more start before (Worked work image) (pushed (poller_calls (key_calls start before))) refl (all_pushed start before)
-all_pushed start (BusReset ∷ before) = All-nil (FromScan start (BusReset ∷ before))
+    ap (λ (l : List (List ℕ)). l ++ pushed_by (ticked (protocol_after before) (wanted_after (key_calls start before)) (wanted_after (key_calls start (Scanned scan ∷ before))))) (all_pushed start before)
+    ∙ ap (λ (l : List (List ℕ)). map (due_bytes start) (put start before) ++ l) (pushed_put start before scan)
+    ∙ sym (map-append (due_bytes start) (put start before) (put_by start before scan))
+all_pushed start (SetUp bytes ∷ before) = all_pushed start before
+all_pushed start (Out packet answer ∷ before) = all_pushed start before
+all_pushed start (In answer ∷ before) = told start (effect_told before answer) (key_calls start before) (put start before) (all_pushed start before)
+all_pushed start (Polled answer ∷ before) = append-nil (pushed (poller_calls (key_calls start before))) ∙ all_pushed start before
+all_pushed start (Worked work image ∷ before) = all_pushed start before
+all_pushed start (BusReset ∷ before) = refl
 
-pub all_waiting : (start : List ℕ) (past : List Call) → All (FromScan start past) (queue (poller_calls (key_calls start past)))
-unfolding queue
+-- ---- those that wait
+
+keep_last-map : (f : Due → List ℕ) (n : ℕ) (xs : List Due) → keep_last n (map f xs) ≡ map f (keep_last n xs)
+keep_last-map f n xs = ap (λ (k : ℕ). drop (k - n) (map f xs)) (length-map xs f) ∙ drop-map f (length xs - n) xs
+
+all_waiting : (start : List ℕ) (past : List Call) → queue (poller_calls (key_calls start past)) ≡ map (due_bytes start) (waits start past)
+unfolding queue waits
 all_waiting start past =
-    let calls = poller_calls (key_calls start past) in
-    All-drop (FromScan start past) (length (pushed calls) - waiting calls) (pushed calls) (all_pushed start past)
+    let n = waiting (poller_calls (key_calls start past)) in
+    ap (λ (l : List (List ℕ)). keep_last n l) (all_pushed start past) ∙ keep_last-map (due_bytes start) n (put start past)
+
+pub first_waiting : (start : List ℕ) (past : List Call) → slice_get (queue (poller_calls (key_calls start past))) 0 ≡ option_map (due_bytes start) (slice_get (waits start past) 0)
+first_waiting start past = ap (λ (l : List (List ℕ)). slice_get l 0) (all_waiting start past) ∙ slice_get-map (due_bytes start) (waits start past) 0
+
+-- ---- each is one of the protocol in force
+
+abbrev IsOf : Protocol → Due → Type 0
+IsOf protocol report = Contains (reports_of protocol) report.input
+
+put_of : (start : List ℕ) (before : List Call) (scan : Scan) → All (IsOf (protocol_after before)) (put_by start before scan)
+put_of start before scan =
+    let whole = reports_of (protocol_after before) in
+    All-map (IsOf (protocol_after before)) (λ input. record { moment = Scanned scan ∷ before; input = input }) (filter (changes start before scan) whole)
+    (All-filter (changes start before scan) (Contains whole) whole (All-contains_itself whole))
+
+told_of : (effect : Effect) (protocol : Protocol) (dues : List Due) → All (IsOf protocol) dues → All (IsOf (protocol_then effect protocol)) (if is_choice effect then [] else dues)
+told_of Nothing protocol dues h = h
+told_of (Idle id duration) protocol dues h = h
+told_of (SetProtocol chosen) protocol dues h = All-nil (IsOf chosen)
+
+all_put_of : (start : List ℕ) (past : List Call) → All (IsOf (protocol_after past)) (put start past)
+unfolding put protocol_after
+all_put_of start [] = All-nil (IsOf (protocol_after []))
+all_put_of start (Scanned scan ∷ before) =
+    All-append (IsOf (protocol_after before)) (put start before) (put_by start before scan) (all_put_of start before) (put_of start before scan)
+all_put_of start (SetUp bytes ∷ before) = all_put_of start before
+all_put_of start (Out packet answer ∷ before) = all_put_of start before
+all_put_of start (In answer ∷ before) = told_of (effect_told before answer) (protocol_after before) (put start before) (all_put_of start before)
+all_put_of start (Polled answer ∷ before) = all_put_of start before
+all_put_of start (Worked work image ∷ before) = all_put_of start before
+all_put_of start (BusReset ∷ before) = All-nil (IsOf (protocol_after (BusReset ∷ before)))
+
+pub waits_of : (start : List ℕ) (past : List Call) → All (IsOf (protocol_after past)) (waits start past)
+unfolding waits
+waits_of start past =
+    let n = waiting (poller_calls (key_calls start past)) in
+    All-drop (IsOf (protocol_after past)) (length (put start past) - n) (put start past) (all_put_of start past)

@@ -1,4 +1,4 @@
--- A fetch of the report descriptor that came through.
+-- Believed: a fetch of the report descriptor that came through.
 use Rattle.std.specs.Prelude.{◌≡◌, ℕ, ◌≤◌, true, List, [], ◌∷◌, ◌++◌, length}
 use Rattle.host.specs.Calls.{HostCall, was_set_up, got_packet}
 use Rattle.host.specs.Kept.{asks_for_report, wanted_length}

@@ -1,4 +1,4 @@
--- What a host hears of a session, and the descriptor that it then keeps.
+-- Believed: what a host hears of a session, and the descriptor that it then keeps.
 use Rattle.std.specs.Prelude.{◌≡◌, ℕ, Bool, Option, None, Some, List, [], ◌∷◌}
 use Rattle.descriptor_build.specs.Served.{report_bytes}
 use Rattle.control_ep.specs.declared.answer.EpAnswer.TheVariants.{Packet}
@@ -13,6 +13,7 @@ heard (In (Packet packet)) memory = Some (got_packet packet.items memory)
 heard BusReset memory = Some lost
 heard _ memory = None
 
+-- what a call lets the host hear, if anything, on top of what it heard before
 abbrev pub with_heard : Option HostCall → List HostCall → List HostCall
 with_heard None calls = calls
 with_heard (Some call) calls = call ∷ calls

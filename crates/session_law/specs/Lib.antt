@@ -1,3 +1,4 @@
+pub mod Due
 pub mod Sent
 pub mod Heard
 pub mod Read

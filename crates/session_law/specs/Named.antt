@@ -1,5 +1,5 @@
--- The usages that the codes of the keys name that are down by the debounced scans, as a host reads them: 32 bits, the page in
--- the high half.
+-- Believed: the usages that the codes of the keys name that are down by the debounced scans, as a host reads them: 32 bits,
+-- the page in the high half.
 use Rattle.std.specs.Prelude.{◌≡◌, ℕ, ◌+◌, List}
 use Rattle.layers.specs.Codes.{names_key_usage, names_consumer}
 use Rattle.key_reports.specs.Calls.{KeyCall}

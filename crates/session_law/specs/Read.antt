@@ -1,4 +1,4 @@
--- What a host reads in a report that a poll was answered.
+-- Believed: what a host reads in a report that a poll was answered.
 use Rattle.std.specs.Prelude.{◌≡◌, ℕ, None, IsSome, List}
 use Rattle.reports.specs.declared.Protocol.TheVariants.{Report}
 use Rattle.key_reports.specs.Past.{keys_after, consumer_after}
@@ -19,7 +19,8 @@ pub record NamesWanted (start : List ℕ) (past : List Call) (bytes usages : Lis
   pub sent : IsWantedAt start past bytes
   pub usages_are : usages ≡ wanted_usages (keys_after (key_calls start sent.moment)) (consumer_after (key_calls start sent.moment)) sent.input
 
--- A report is unread in report protocol without a descriptor alone. Otherwise memory was refused, or its usages are read.
+-- A report is unread only where report protocol is in force and no descriptor is kept. Otherwise memory was refused, or its
+-- usages are read.
 abbrev pub IsReadAs : List ℕ → List Call → List HostCall → List ℕ → Reading → Type 0
 IsReadAs start past host bytes Unread = (protocol_after past ≡ Report) × (kept host ≡ None)
 IsReadAs start past host bytes NoMemory = IsSome (text_by (protocol_after past) host)

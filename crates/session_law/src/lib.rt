@@ -1,11 +1,16 @@
 //! What a host reads in a session of the keyboard is what the keymap gives for the debounced keys: laws over the
 //! definitions of what the keyboard answers, of what a host hears of it, and of what a host reads.
+//!
+//! Nothing is kept, and nothing runs: the functions have empty bodies, and their contracts are the laws; `a_session` is an
+//! example of which they say something. `world` takes them for each session of a history.
 #![tactic(auto)]
 
-ghost use Rattle.std.specs.Prelude.{◌≡◌, ◌⊎◌, ◌↔◌, ◌∷◌, ◌≤◌, ◌<◌, ℕ, true, false, List, [], None, Some, Contains};
+ghost use Rattle.std.specs.Prelude.{◌≡◌, ◌≢◌, ◌⊎◌, ◌↔◌, ◌∷◌, ◌++◌, ◌≤◌, ◌<◌, ℕ, true, false, List, [], Option, None, Some, Contains, length, take, min};
+ghost use Rattle.std.specs.List.Sorted.{IsStrictlyIncreasing};
+ghost use Rattle.std.specs.Option.{option_map};
 ghost use Rattle.descriptor_build.specs.Served.{report_bytes};
 ghost use Rattle.host.specs.Calls.{HostCall};
-ghost use Rattle.host.specs.Kept.{gathering, kept};
+ghost use Rattle.host.specs.Kept.{Fetch, gathering, kept};
 ghost use Rattle.host.specs.Reads.{text_by, Reads};
 ghost use Rattle.host.specs.declared.reading.Reading.{Reading};
 ghost use Rattle.keyboard.specs.Calls.{Call, Polled, EachCall};
@@ -15,6 +20,7 @@ ghost use Rattle.keyboard.specs.Lawful.{IsAnswered};
 ghost use Rattle.key_reports.specs.Past.{keys_after, consumer_after};
 ghost use Rattle.reports.specs.Layouts.{listed_count, consumer_count};
 ghost use Rattle.reports.specs.declared.Input.TheVariants.{Boot, One, Two};
+ghost use Rattle.session_law.specs.Due.{Due, due_bytes, due};
 ghost use Rattle.session_law.specs.Example.{fetched, pressed, session, letter_a};
 ghost use Rattle.session_law.specs.Fetched.{IsFetched};
 ghost use Rattle.session_law.specs.Heard.{Hears, NoneOrServed};
@@ -23,10 +29,24 @@ ghost use Rattle.session_law.specs.Read.{IsReadAs, NamesWanted};
 ghost use Rattle.session_law.specs.Sent.{IsWantedAt};
 
 /// What a poll of endpoint 1 is answered is what a report of the protocol in force has to be, for the usages that the codes
-/// of the debounced keys name now, or at an earlier scan since which the protocol was not set and the bus not reset.
+/// of the debounced keys name at the moment that the report is of: if it waited, that of the very scan that put it into the
+/// queue; else that of the poll.
 pub fn sent_is_wanted()
-    ensures { (start : List ℕ) (past : List Call) (bytes : List ℕ) → IsAnswered start past (Polled (Some bytes))
+    ensures wanted { (start : List ℕ) (past : List Call) (bytes : List ℕ) → IsAnswered start past (Polled (Some bytes))
         → IsWantedAt start past bytes }
+    // it is NAK exactly where no report is due
+    ensures due { (start : List ℕ) (past : List Call) (answer : Option (List ℕ)) → IsAnswered start past (Polled answer)
+        ↔ (answer ≡ option_map (due_bytes start) (due start past)) }
+{}
+
+/// In a session the moments of the reports that polls send do not go back: a report that is due later, whatever came in
+/// between, is of the same moment or a later one.
+pub fn moments_go_on()
+    ensures onward { (start : List ℕ) (before since : List Call) (first last : Due) → due start before ≡ Some first → due start (since ++ before) ≡ Some last
+        → (between : List Call) × (last.moment ≡ between ++ first.moment) }
+    // and no report is due again after the poll that it was due at
+    ensures once { (start : List ℕ) (before since : List Call) (answer : Option (List ℕ)) (report : Due) → due start before ≡ Some report
+        → due start (since ++ Polled answer ∷ before) ≢ Some report }
 {}
 
 /// What a host fetches in a session is the keyboard's report descriptor: a host that kept that or nothing before, and was
@@ -34,6 +54,13 @@ pub fn sent_is_wanted()
 pub fn fetched_is_served()
     ensures { (start : List ℕ) (past : List Call) (told host : List HostCall) → EachCall IsAnswered start past → Hears told past host
         → gathering told ≡ None → NoneOrServed (kept told) → NoneOrServed (kept host) }
+{}
+
+/// What a host gathers of it in a session, also of a fetch that is cut short, are its first bytes.
+pub fn gathered_is_served()
+    ensures { (start : List ℕ) (past : List Call) (told host : List HostCall) (fetch : Fetch) → EachCall IsAnswered start past → Hears told past host
+        → gathering told ≡ None → NoneOrServed (kept told) → gathering host ≡ Some fetch
+        → fetch.bytes ≡ take (length fetch.bytes) report_bytes }
 {}
 
 /// A host keeps the report descriptor exactly where it kept it before the session, or a fetch of the session came through:
@@ -75,14 +102,23 @@ pub fn keys_are_read()
     ensures all_consumer { (start : List ℕ) (past : List Call) (bytes usages : List ℕ) (n : NamesWanted start past bytes usages) → n.sent.input ≡ Two
         → consumer_count (consumer_after (key_calls start n.sent.moment)) ≤ 4
         → (usage : ℕ) → IsConsumerNamed (key_calls start n.sent.moment) usage → Contains usages usage }
+    // and else the four least: as many as fit, and with each of them all that are less
+    ensures count_consumer { (start : List ℕ) (past : List Call) (bytes usages : List ℕ) (n : NamesWanted start past bytes usages) → n.sent.input ≡ Two
+        → length usages ≡ min 4 (consumer_count (consumer_after (key_calls start n.sent.moment))) }
+    ensures least_consumer { (start : List ℕ) (past : List Call) (bytes usages : List ℕ) (n : NamesWanted start past bytes usages) → n.sent.input ≡ Two
+        → (usage lesser : ℕ) → Contains usages usage → IsConsumerNamed (key_calls start n.sent.moment) lesser → lesser < usage → Contains usages lesser }
+    // rising, each once
+    ensures rising { (start : List ℕ) (past : List Call) (bytes usages : List ℕ) (n : NamesWanted start past bytes usages) → IsStrictlyIncreasing usages }
 {}
 
 /// A session of which the laws say something, computed from the definitions: on an empty flash a host fetches the report
-/// descriptor, key 0 is pressed and released, and a poll is answered the press, which waited.
+/// descriptor, key 0 is pressed and released, and a poll is answered the press, which waited; the release comes next.
 pub fn a_session()
     ensures answered { EachCall IsAnswered [] (Polled (Some letter_a) ∷ session) }
     ensures hears { Hears [] session fetched }
     ensures fetches { IsFetched [] fetched }
     ensures pressed { keys_after (key_calls [] pressed) 4 ≡ true }
     ensures released { keys_after (key_calls [] session) 4 ≡ false }
+    ensures waited { due [] session ≡ Some (record { moment = pressed; input = One }) }
+    ensures next { due [] (Polled (Some letter_a) ∷ session) ≡ Some (record { moment = session; input = One }) }
 {}

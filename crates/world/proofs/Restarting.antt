@@ -1,132 +1,71 @@
--- Restarts are legal, also inside an operation, and looks show the settled commands.
-use Rattle.std.proofs.Common.{◌≡◌, ◌<◌, ℕ, true, false, Option, Some, List, [], ◌∷◌, ◌++◌, refl, ap, sym, ◌∙◌, subst}
-use Rattle.std.proofs.lemmas.List.{append-nil}
+-- Each restart is legal, and each look shows the settled commands.
+use Rattle.std.proofs.Common.{◌≡◌, ◌≢◌, ℕ, ◌<◌, Bool, Option, Some, None, List, [], ◌∷◌, refl, sym, ◌∙◌, ap, subst}
 use Rattle.flash_model.specs.Sim.{SimValue}
 use Rattle.layers.specs.Codes.{layers, keys}
 use Rattle.layers.specs.Entries.{changed}
 use Rattle.layers.specs.declared.command.Command.{Command}
+use Rattle.keymap_store.specs.declared.store.Work.{Work as WorkAnswer}
+use Rattle.host.specs.Calls.{HostCall}
+use Rattle.keyboard.specs.Calls.{Call, Worked as KeyboardWorked, image_after, keymap, EachCall}
+use Rattle.keyboard.specs.Commands.{accepted, working, settled_of}
+use Rattle.keyboard.specs.Lawful.{WorkedOn, IsAnswered as IsCallAnswered}
+use Rattle.keyboard.specs.Restart.{RestartsLegally as RestartsIn}
+use Rattle.keyboard.proofs.Restarting.{restarts_legally as restarts_in}
+use Rattle.keyboard.proofs.Sessions.{orderly}
+use Rattle.keyboard.proofs.Working.{cuts_legally}
 use Rattle.world.specs.declared.event.Event.{Event}
+use Rattle.world.specs.declared.event.Event.TheVariants.{Scan, Setup, OutPacket, InPacket, Poll, Work, WorkFault, Cut, CutInWork, BusReset, Entry, SlotAt, Leds}
+use Rattle.world.specs.declared.event.Answer.{Answer}
 use Rattle.world.specs.declared.event.Answer.TheVariants.{EntryIs}
-use Rattle.world.specs.Kinds.{kind, is_start}
-use Rattle.world.specs.History.{Step, image_after, session, keymap, EachStep}
-use Rattle.world.specs.Fate.{Fate, works, settled, failed}
-use Rattle.world.specs.Commands.{Accepted, accepted, working, settled_of, standing_of, commands_of, unless_failed, if_settled}
-use Rattle.keymap_store.specs.Keymap.{SameEntries}
-use Rattle.world.specs.Restart.{AllButLastSettled, LegalRestart, RestartsIn, RestartsLegally, ShowsSettled}
-use Rattle.world.specs.Lawful.{IsAnswered, Answered}
-use Rattle.world.proofs.Effects.{Effect, stays, takes, settles, fails, starts, starts_with, effect}
-use Rattle.world.proofs.Sessions.{AllEnded, Shape, at_rest, at_work, Orderly, orderly, settled_of-append, AtWork, while_working, changed_by_working}
+use Rattle.world.specs.Kinds.{Step, starts, kind_of}
+use Rattle.world.specs.History.{Session, session, host_calls, flash_after, EachStep}
+use Rattle.world.specs.Lawful.{Answered, IsAnswered}
+use Rattle.world.specs.Restart.{RestartsLegally, ShowsSettled}
+use Rattle.world.proofs.Here.{Here, here}
 
--- each of these commands is settled
-abbrev AllSettled : List Accepted → Type 0
-AllSettled [] = Unit {0}
-AllSettled (one ∷ later) = (one.fate ≡ settled) × AllSettled later
+-- the power was cut inside a step of the flash work
+by_step : (first : List ℕ) (past : List Call) (w : Option Command) (work : WorkAnswer) (image : List ℕ) → EachCall IsCallAnswered first past
+    → IsCallAnswered first past (KeyboardWorked work image) → WorkedOn first past w work image → RestartsIn first past image
+by_step first past None work image h a (idle, same) = subst (λ (x : List ℕ). RestartsIn first past x) (sym same) (restarts_in first past h)
+by_step first past (Some command) work image h a on = (cuts_legally first past work image h a on.attempts.not_idle).left
 
-settled_here : (f : Fate) (one : Accepted) (later : List Accepted) → one.fate ≡ f → (f ≡ works → ⊥) → AllSettled later → AllSettled (unless_failed f one later)
-settled_here works one later e n h = absurd (n refl)
-settled_here settled one later e n h = (e, h)
-settled_here failed one later e n h = h
+legal_by : (now : Session) (heard : List HostCall) (old : SimValue) (event : Event) (answer : Answer) (refused : Bool) (new : SimValue) → Here now old
+    → Answered now heard old event answer refused new → kind_of event answer new.image ≡ starts → RestartsIn now.first now.past new.image
+legal_by now heard old (Scan scan) answer refused new h a e = cc
+legal_by now heard old (Setup bytes) answer refused new h a e = cc
+legal_by now heard old (OutPacket packet) answer refused new h a e = cc
+legal_by now heard old InPacket answer refused new h a e = cc
+legal_by now heard old Poll answer refused new h a e = cc
+legal_by now heard old Work answer refused new h a e = cc
+legal_by now heard old (WorkFault mask) answer refused new h a e = cc
+legal_by now heard old Cut answer refused new h a e =
+    subst (λ (x : List ℕ). RestartsIn now.first now.past x) (h.image ∙ sym (ap (λ (f : SimValue). f.image) a.1.0)) (restarts_in now.first now.past h.lawful)
+legal_by now heard old (CutInWork mask) answer refused new h (work, e, w, r) s =
+    by_step now.first now.past (working now.first now.past) work new.image h.lawful w.lawful w.lawful
+legal_by now heard old BusReset answer refused new h a e = cc
+legal_by now heard old (Entry layer key) answer refused new h a e = cc
+legal_by now heard old (SlotAt page slot) answer refused new h a e = cc
+legal_by now heard old Leds answer refused new h a e = cc
 
--- of the commands that have ended, those that did not fail are settled
-standing-ended : (all : List Accepted) → AllEnded all → AllSettled (standing_of all)
-standing-ended [] h = tt
-standing-ended (one ∷ later) h = settled_here one.fate one (standing_of later) refl h.0 (standing-ended later h.1)
-
-unless_failed-append : (f : Fate) (one : Accepted) (xs ys : List Accepted) → unless_failed f one (xs ++ ys) ≡ unless_failed f one xs ++ ys
-unless_failed-append works one xs ys = refl
-unless_failed-append settled one xs ys = refl
-unless_failed-append failed one xs ys = refl
-
-standing_of-append : (xs ys : List Accepted) → standing_of (xs ++ ys) ≡ standing_of xs ++ standing_of ys
-standing_of-append [] ys = refl
-standing_of-append (one ∷ xs) ys =
-    ap (λ (zs : List Accepted). unless_failed one.fate one zs) (standing_of-append xs ys) ∙ unless_failed-append one.fate one (standing_of xs) (standing_of ys)
-
-commands_here : (f : Fate) (one : Accepted) (later : List Accepted) (rest : List Command) → (f ≡ works → ⊥) → commands_of later ≡ rest → commands_of (unless_failed f one later) ≡ if_settled f one.command rest
-commands_here works one later rest n e = absurd (n refl)
-commands_here settled one later rest n e = ap (λ (cs : List Command). one.command ∷ cs) e
-commands_here failed one later rest n e = e
-
--- the commands that have ended and did not fail are the settled ones
-commands_of-standing : (all : List Accepted) → AllEnded all → commands_of (standing_of all) ≡ settled_of all
-commands_of-standing [] h = refl
-commands_of-standing (one ∷ later) h = commands_here one.fate one (standing_of later) (settled_of later) h.0 (commands_of-standing later h.1)
-
-all_but_last-settled : (all : List Accepted) (last : List Accepted) → AllSettled all → AllButLastSettled last → AllButLastSettled (all ++ last)
-all_but_last-settled [] last h k = k
-all_but_last-settled (one ∷ []) [] h k = tt
-all_but_last-settled (one ∷ []) (next ∷ later) h k = (h.0, k)
-all_but_last-settled (one ∷ next ∷ later) last h k = (h.0, all_but_last-settled (next ∷ later) last h.1 k)
-
-legal : (first next : ℕ → ℕ → ℕ) (all : List Accepted) (w : Option Command) → Shape all w → SameEntries next (changed first (settled_of all)) → LegalRestart first all next
-legal first next all w (at_rest ended) k = record {
-  kept = standing_of all;
-  lost = [];
-  prefix = append-nil (standing_of all);
-  holds_settled = refl;
-  at_most_last = subst (λ (xs : List Accepted). AllButLastSettled xs) (append-nil (standing_of all)) (all_but_last-settled (standing_of all) [] (standing-ended all ended) tt);
-  changed_by = subst (λ (cs : List Command). SameEntries next (changed first cs)) (sym (commands_of-standing all ended)) k;
-}
-legal first next all w (at_work front command e ended) k =
-    let one : Accepted = record { command = command; fate = works } in
-    let standing : standing_of all ≡ standing_of front ++ one ∷ [] = rw e (standing_of-append front (one ∷ [])) in
-    let settled_are : settled_of all ≡ settled_of front = rw e (settled_of-append front (one ∷ []) ∙ append-nil (settled_of front)) in
-    record {
-      kept = standing_of front;
-      lost = one ∷ [];
-      prefix = sym standing;
-      holds_settled = refl;
-      at_most_last = subst (λ (xs : List Accepted). AllButLastSettled xs) (sym standing) (all_but_last-settled (standing_of front) (one ∷ []) (standing-ended front ended) tt);
-      changed_by = subst (λ (cs : List Command). SameEntries next (changed first cs)) (settled_are ∙ sym (commands_of-standing front ended)) k;
-    }
-
-commands_of-append : (xs ys : List Accepted) → commands_of (xs ++ ys) ≡ commands_of xs ++ commands_of ys
-commands_of-append [] ys = refl
-commands_of-append (one ∷ xs) ys = ap (λ (cs : List Command). one.command ∷ cs) (commands_of-append xs ys)
-
--- the power was cut inside the operation that made the record of the working command whole
-legal_with : (first : SimValue) (before : List Step) (command : Command) (flash : SimValue) → AtWork first before command
-    → SameEntries (keymap flash.image) (changed (keymap (image_after first before)) (command ∷ [])) → LegalRestart (keymap first.image) (accepted first before) (keymap flash.image)
-legal_with first before command flash w e =
-    let one : Accepted = record { command = command; fate = works } in
-    let standing : standing_of (accepted first before) ≡ standing_of w.front ++ one ∷ [] = ap standing_of w.were ∙ standing_of-append w.front (one ∷ []) in
-    let commands : commands_of (standing_of w.front ++ one ∷ []) ≡ settled_of w.front ++ command ∷ [] =
-    commands_of-append (standing_of w.front) (one ∷ []) ∙ ap (λ (cs : List Command). cs ++ command ∷ []) (commands_of-standing w.front w.ended) in
-    record {
-      kept = standing_of w.front ++ one ∷ [];
-      lost = [];
-      prefix = append-nil (standing_of w.front ++ one ∷ []) ∙ sym standing;
-      holds_settled = refl;
-      at_most_last = subst (λ (xs : List Accepted). AllButLastSettled xs) (sym standing) (all_but_last-settled (standing_of w.front) (one ∷ []) (standing-ended w.front w.ended) tt);
-      changed_by = subst (λ (cs : List Command). SameEntries (keymap flash.image) (changed (keymap first.image) cs)) (sym commands) (changed_by_working first before command flash w e);
-    }
-
-no_start : (step : Step) → is_start (kind step.event) ≡ false → is_start (kind step.event) ≡ true → ⊥
-no_start step g h = cc
-
-restarts_by : (first : SimValue) (before : List Step) (step : Step) → Orderly first before → Effect first before step → RestartsIn first before step
-restarts_by first before step o (stays g k n e) s = absurd (no_start step g s)
-restarts_by first before step o (takes command g k a e n) s = absurd (no_start step g s)
-restarts_by first before step o (settles command g a n w e) s = absurd (no_start step g s)
-restarts_by first before step o (fails command g a n w e) s = absurd (no_start step g s)
-restarts_by first before step o (starts g e) s =
-    legal (keymap first.image) (keymap step.flash.image) (accepted first before) (working first before) o.shape (λ layer key l k. e layer key l k ∙ o.kept layer key l k)
-restarts_by first before step o (starts_with command g w e) s = legal_with first before command step.flash (while_working first before command o w) e
-
--- each restart is legal
 pub restarts_legally : (start : SimValue) (past : List Step) → EachStep IsAnswered start past → EachStep RestartsLegally start past
 restarts_legally start [] h = tt
 restarts_legally start (step ∷ before) h = (
-  restarts_by (session start before).first (session start before).steps step (orderly start before h.1) (effect (session start before).first (session start before).steps step h.0),
+  λ s. legal_by (session start before) (host_calls before) (flash_after start before) step.event step.answer step.refused step.flash (here start before h.1) h.0 s,
   restarts_legally start before h.1,
 )
 
--- each look at an entry shows the settled commands
+shows_by : (now : Session) (heard : List HostCall) (old : SimValue) (event : Event) (answer : Answer) (refused : Bool) (new : SimValue) (layer key : ℕ) → Here now old
+    → Answered now heard old event answer refused new → layer < layers → key < keys → event ≡ Entry layer key
+    → answer ≡ EntryIs (changed (keymap now.first) (settled_of (accepted now.first now.past)) layer key)
+shows_by now heard old event answer refused new layer key h a l k e =
+    let shown = subst (λ (x : Event). Answered now heard old x answer refused new) e a in
+    shown.0
+    ∙ ap (λ (x : List ℕ). EntryIs (keymap x layer key)) (sym h.image)
+    ∙ ap (λ (x : ℕ). EntryIs x) ((orderly now.first now.past h.lawful).kept layer key l k)
+
 pub shows_settled : (start : SimValue) (past : List Step) → EachStep IsAnswered start past → EachStep ShowsSettled start past
 shows_settled start [] h = tt
 shows_settled start (step ∷ before) h = (
-  λ layer key l k e.
-      let P : Event → Type 0 = λ x. Answered (session start before).first (session start before).steps x step.answer step.flash in
-      (subst P e h.0).0 ∙ ap EntryIs ((orderly start before h.1).kept layer key l k),
+  λ layer key l k e. shows_by (session start before) (host_calls before) (flash_after start before) step.event step.answer step.refused step.flash layer key (here start before h.1) h.0 l k e,
   shows_settled start before h.1,
 )

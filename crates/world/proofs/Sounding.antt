@@ -1,59 +1,60 @@
 -- Slots 0 stay sound, and with one that is not nothing is operated.
-use Rattle.std.proofs.Common.{◌≡◌, ◌⊎◌, inl, inr, Option, None, Some, List, [], ◌∷◌, ℕ, refl, sym, ◌∙◌, subst, ap}
+use Rattle.std.proofs.Common.{◌≡◌, ℕ, Bool, Option, None, Some, List, [], ◌∷◌, refl, sym, ◌∙◌, subst, ap}
 use Rattle.flash_model.specs.Sim.{SimValue}
 use Rattle.layers.specs.declared.command.Command.{Command}
-use Rattle.page_turnover.specs.Operates.{Operates, programs, erases}
+use Rattle.page_turnover.specs.Operates.{Operates, programs, erases, MayOperate, may_program, may_erase}
 use Rattle.page_turnover.specs.Usable.{IsUsable}
 use Rattle.keymap_store.specs.declared.store.Work.{Work as WorkAnswer}
 use Rattle.keymap_store.specs.declared.store.Work.TheVariants.{Idle, Working, Settled, Failed}
+use Rattle.host.specs.Calls.{HostCall}
+use Rattle.keyboard.specs.Calls.{Call, image_after}
+use Rattle.keyboard.specs.Commands.{working}
+use Rattle.keyboard.specs.Operated.{WorksOn}
+use Rattle.keyboard.specs.Lawful.{WorkedOn}
 use Rattle.world.specs.declared.event.Event.{Event}
-use Rattle.world.specs.declared.event.Event.TheVariants.{Scan, Setup, OutPacket, InPacket, Poll, Work, WorkFault, Cut, CutInWork, Entry, SlotAt}
+use Rattle.world.specs.declared.event.Event.TheVariants.{Scan, Setup, OutPacket, InPacket, Poll, Work, WorkFault, Cut, CutInWork, BusReset, Entry, SlotAt, Leds}
 use Rattle.world.specs.declared.event.Answer.{Answer}
-use Rattle.page_turnover.specs.Operates.{MayOperate, may_program, may_erase}
-use Rattle.world.specs.Operated.{armed_by}
-use Rattle.world.specs.History.{Step, flash_after, image_after, session, EachStep}
-use Rattle.world.specs.Commands.{working}
-use Rattle.world.specs.Operated.{WorksOn}
-use Rattle.world.specs.Lawful.{IsAnswered, Answered, WorkedOn}
+use Rattle.world.specs.Kinds.{Step}
+use Rattle.world.specs.History.{Session, session, host_calls, flash_after, EachStep}
+use Rattle.world.specs.Lawful.{Answered, IsAnswered, OperatedAs, WorksIn}
 use Rattle.world.specs.Sound.{KeepsSound}
-use Rattle.world.proofs.Here.{flash_here}
+use Rattle.world.proofs.Here.{Here, here}
 
 -- the flash is as it was, or was sound and is
 data Touches (old new : SimValue) : Type 0 where
   untouched : new ≡ old → Touches old new
   stays_sound : IsUsable old.image → IsUsable new.image → Touches old new
 
-was_usable : (old new : List ℕ) → Operates old new → IsUsable old
-was_usable old new (programs u page slot word p l f s g) = u
-was_usable old new (erases u page p n e) = u
+idle_same : (now : Session) (old armed : SimValue) (work : WorkAnswer) (new : SimValue) → work ≡ Idle → OperatedAs now old armed work new → new ≡ old
+idle_same now old armed Idle new e o = o
+idle_same now old armed Working new e o = cc
+idle_same now old armed Settled new e o = cc
+idle_same now old armed Failed new e o = cc
 
-was_usable_torn : (old new : List ℕ) → MayOperate old new → IsUsable old
-was_usable_torn old new (may_program u page slot word p l f s g) = u
-was_usable_torn old new (may_erase u page p n e) = u
+worked : (now : Session) (w : Option Command) (old armed : SimValue) (work : WorkAnswer) (new : SimValue) → image_after now.first now.past ≡ old.image
+    → WorkedOn now.first now.past w work new.image → OperatedAs now old armed work new → Touches old new
+worked now None old armed work new i (idle, same) o = untouched (idle_same now old armed work new idle o)
+worked now (Some command) old armed work new i on o =
+    stays_sound (subst IsUsable i on.usable) on.sound
 
-pub usable_on : (command : Command) (old : List ℕ) (work : WorkAnswer) (new : List ℕ) → WorksOn command old work new → IsUsable old
-usable_on command old Settled new w = was_usable old new w.1
-usable_on command old Working new w = was_usable old new w.1
-usable_on command old Failed new w = was_usable_torn old new w.1
-usable_on command old Idle new w = absurd w
+worked_in : (now : Session) (old armed : SimValue) (work : WorkAnswer) (new : SimValue) → Here now old → WorksIn now old armed work new → Touches old new
+worked_in now old armed work new h w = worked now (working now.first now.past) old armed work new h.image w.lawful w.operated
 
-worked : (first : SimValue) (before : List Step) (w : Option Command) (armed : SimValue) (work : WorkAnswer) (new : SimValue) → WorkedOn first before w armed work new
-    → armed.image ≡ image_after first before → Touches (flash_after first before) new
-worked first before None armed work new (idle, same) i = untouched same
-worked first before (Some command) armed work new h i = stays_sound (subst IsUsable i (usable_on command armed.image work new.image h.outcome)) h.sound
-
-touches : (first : SimValue) (before : List Step) (event : Event) (answer : Answer) (new : SimValue) → Answered first before event answer new → Touches (flash_after first before) new
-touches first before (Scan scan) answer new a = untouched a.1
-touches first before Poll answer new a = untouched a.1
-touches first before (Setup bytes) answer new a = untouched a.1
-touches first before (OutPacket packet) answer new a = untouched a.1
-touches first before InPacket answer new a = untouched a.1
-touches first before Work answer new (work, a, w) = worked first before (working first before) (flash_after first before) work new w refl
-touches first before (WorkFault mask) answer new (work, a, w) = worked first before (working first before) (armed_by mask.items (flash_after first before)) work new w refl
-touches first before Cut answer new a = untouched a.1
-touches first before (CutInWork mask) answer new (work, a, w) = worked first before (working first before) (armed_by mask.items (flash_after first before)) work new w refl
-touches first before (Entry layer key) answer new a = untouched a.1
-touches first before (SlotAt page slot) answer new a = untouched a.1
+touches : (now : Session) (heard : List HostCall) (old : SimValue) (event : Event) (answer : Answer) (refused : Bool) (new : SimValue) → Here now old
+    → Answered now heard old event answer refused new → Touches old new
+touches now heard old (Scan scan) answer refused new h a = untouched a.1.0
+touches now heard old (Setup bytes) answer refused new h a = untouched a.1.0
+touches now heard old (OutPacket packet) answer refused new h (by_ep, e, l, u) = untouched u.0
+touches now heard old InPacket answer refused new h (by_ep, e, l, f, m) = untouched f
+touches now heard old Poll answer refused new h (report, l, f, s) = untouched f
+touches now heard old Work answer refused new h (work, e, w, r) = worked_in now old _ work new h w
+touches now heard old (WorkFault mask) answer refused new h (work, e, w, r) = worked_in now old _ work new h w
+touches now heard old Cut answer refused new h a = untouched a.1.0
+touches now heard old (CutInWork mask) answer refused new h (work, e, w, r) = worked_in now old _ work new h w
+touches now heard old BusReset answer refused new h a = untouched a.1.0
+touches now heard old (Entry layer key) answer refused new h a = untouched a.1.0
+touches now heard old (SlotAt page slot) answer refused new h a = untouched a.1.0
+touches now heard old Leds answer refused new h a = untouched a.1.0
 
 one_more : (start : SimValue) (before : List Step) (step : Step) → Touches (flash_after start before) step.flash → KeepsSound start before → KeepsSound start (step ∷ before)
 one_more start before step (untouched e) k = record { sound = λ u. subst (λ (f : SimValue). IsUsable f.image) (sym e) (k.sound u); untouched = λ n. e ∙ k.untouched n }
@@ -66,5 +67,5 @@ pub keeps_sound : (start : SimValue) (past : List Step) → EachStep IsAnswered 
 keeps_sound start [] h = record { sound = λ u. u; untouched = λ n. refl }
 keeps_sound start (step ∷ before) h =
     one_more start before step
-    (subst (λ (f : SimValue). Touches f step.flash) (flash_here start before) (touches (session start before).first (session start before).steps step.event step.answer step.flash h.0))
+    (touches (session start before) (host_calls before) (flash_after start before) step.event step.answer step.refused step.flash (here start before h.1) h.0)
     (keeps_sound start before h.1)

@@ -1,314 +1,248 @@
--- What the host was told is stored stays stored.
-use Rattle.std.proofs.Common.{◌≡◌, ℕ, ◌<◌, Bool, true, false, Option, Some, None, Result, Ok, Err, List, [], ◌∷◌, ◌++◌, refl, sym, ◌∙◌, append_assoc, subst, ap}
+-- What the host was told is stored stays stored, over all sessions.
+use Rattle.std.proofs.Common.{◌≡◌, ℕ, ◌<◌, Bool, Option, Some, None, List, [], ◌∷◌, ◌++◌, refl, sym, ◌∙◌, append_assoc, subst, ap}
 use Rattle.flash_model.specs.Sim.{SimValue}
 use Rattle.layers.specs.Codes.{layers, keys}
-use Rattle.layers.specs.Entries.{written}
-use Rattle.layers.specs.declared.code.KeymapError.{KeymapError}
+use Rattle.layers.specs.Entries.{written, changed}
 use Rattle.layers.specs.declared.command.Command.{Command}
-use Rattle.layers.proofs.LastWriter.{changed-one}
+use Rattle.layers.proofs.LastWriter.{changed-nil, changed-one, changed-append}
+use Rattle.control_ep.specs.declared.answer.EpAnswer.TheVariants.{Packet as EpPacket}
+use Rattle.keymap_store.specs.declared.store.Work.{Work as WorkAnswer}
+use Rattle.host.specs.Calls.{HostCall}
+use Rattle.keyboard.specs.Acknowledged as keyboard
+use Rattle.keyboard.specs.Calls.{Call, Scanned, SetUp, Out, In, Polled, Worked as KeyboardWorked, BusReset as KeyboardReset, image_after, keymap, EachCall}
+use Rattle.keyboard.specs.Commands.{Accepted, accepts, accepted, accepted_before, accepted_with, if_settled, settled_of}
+use Rattle.keyboard.specs.Fate.{Fate, works, settled, failed}
+use Rattle.keyboard.specs.Lawful.{IsAnswered as IsCallAnswered}
+use Rattle.keyboard.proofs.Sessions.{orderly}
+use Rattle.keyboard.proofs.Telling.{acknowledged as told_in_session}
+use Rattle.world.specs.declared.event.Event.{Event}
+use Rattle.world.specs.declared.event.Event.TheVariants.{Scan, Setup, OutPacket, InPacket, Poll, Work, WorkFault, Cut, CutInWork, BusReset, Entry, SlotAt, Leds}
 use Rattle.world.specs.declared.event.Answer.{Answer}
-use Rattle.world.specs.declared.transfer.Stage.{Stage}
-use Rattle.world.specs.declared.transfer.Stage.TheVariants.{Rest, Taking, Waiting, Status, Stalled}
-use Rattle.world.specs.Kinds.{Kind, kind, start, setup, out, in_token, poll, scan, flash_step, look, is_start, opening_of}
-use Rattle.world.specs.History.{Step, flash_after, image_after, Session, session, keymap, EachStep}
-use Rattle.world.specs.Fate.{Fate, works, settled, failed, fate, ended_by}
-use Rattle.world.specs.Feature.{command_in}
-use Rattle.world.specs.Transfer.{stage, data_packet, DataPacket, fate_in, bytes_taken, setup_of, opens_boot}
-use Rattle.world.specs.Commands.{accepted, accepts, working, in_data_stage, command_of_bytes, command_of_read}
-use Rattle.world.specs.Lawful.{IsAnsweredIn, IsAnswered}
-use Rattle.world.specs.Acknowledged.{accepts_here, SameTransfer, Leaves, NoneAcceptedWrites, KeepsAcknowledged}
-use Rattle.world.proofs.Accepting.{fate-more, ended_by-failed}
-use Rattle.world.proofs.Stages.{no_packet, not_boot, packet_settled}
-use Rattle.world.proofs.Changing.{changes-false}
-use Rattle.world.proofs.Effects.{Effect, stays, takes, settles, fails, starts, starts_with, effect}
-use Rattle.world.proofs.Sessions.{Orderly, orderly, orderly_in, working_after, after_stays, after_takes, after_settles, after_fails, AfterTaken, now_works, changed_nothing}
-use Rattle.world.proofs.Here.{GoesOn, flash_here, answered_here, goes_on_here, session_since}
+use Rattle.world.specs.declared.event.Answer.TheVariants.{Packet}
+use Rattle.world.specs.Acknowledged.{accepts_by, accepts_here, GoesOn, SameTransfer, NoneAcceptedWrites, IsAcknowledged, KeepsAcknowledged}
+use Rattle.world.specs.Kinds.{Step, Kind, starts, calls, looks, kind, kind_of, ep_told, bytes_told, work_told}
+use Rattle.world.specs.History.{Session, session_with, session, host_calls, flash_after, EachStep}
+use Rattle.world.specs.Lawful.{Answered, IsAnswered}
+use Rattle.world.proofs.Here.{Here, here}
 
--- the entry has the code, and the command that works, if one does, leaves it
-pub record Stored (first : SimValue) (steps : List Step) (layer key code : ℕ) : Type 0 where
-  pub entry_is : keymap (image_after first steps) layer key ≡ code
-  pub left_alone : Leaves layer key (working first steps)
+-- none of a session's commands writes the entry
+abbrev NoneWrites : List Call → ℕ → ℕ → Type 0
+NoneWrites [] layer key = Unit {0}
+NoneWrites (call ∷ before) layer key = keyboard.Leaves layer key (accepts before call) × NoneWrites before layer key
 
--- and so in the session that a history ends in
-abbrev pub StoredNow : Session → ℕ → ℕ → ℕ → Type 0
-StoredNow now layer key code = Stored now.first now.steps layer key code
+abbrev AllLeave : List Accepted → ℕ → ℕ → Type 0
+AllLeave [] layer key = Unit {0}
+AllLeave (one ∷ later) layer key = (written one.command layer key ≡ None) × AllLeave later layer key
 
-on_goes : (first : SimValue) (before : List Step) (step : Step) (layer key code : ℕ) → is_start (kind step.event) ≡ false
-    → Stored (session first before).first (step ∷ (session first before).steps) layer key code → StoredNow (session first (step ∷ before)) layer key code
-on_goes first before step layer key code g s = rw g s
+AllLeave-append : (xs ys : List Accepted) (layer key : ℕ) → AllLeave xs layer key → AllLeave ys layer key → AllLeave (xs ++ ys) layer key
+AllLeave-append [] ys layer key h k = k
+AllLeave-append (one ∷ xs) ys layer key h k = (h.0, AllLeave-append xs ys layer key h.1 k)
 
-no_command : (first : SimValue) → working first [] ≡ None
-unfolding working accepted
-no_command first = refl
+with_left : (entries : ℕ → ℕ → ℕ) (after : List Call) (o : Option Command) (layer key : ℕ) → keyboard.Leaves layer key o → AllLeave (accepted_with entries after o) layer key
+with_left entries after None layer key l = tt
+with_left entries after (Some command) layer key l = (l, tt)
 
-new_start : (first : SimValue) (before : List Step) (step : Step) (layer key code : ℕ) → is_start (kind step.event) ≡ true → keymap step.flash.image layer key ≡ code
-    → StoredNow (session first (step ∷ before)) layer key code
-new_start first before step layer key code g e =
-    let s : Stored step.flash [] layer key code = record { entry_is = e; left_alone = rw (no_command step.flash) tt } in rw g s
+before_left : (first : List ℕ) (after past : List Call) (layer key : ℕ) → NoneWrites past layer key → AllLeave (accepted_before first after past) layer key
+before_left first after [] layer key n = tt
+before_left first after (call ∷ before) layer key n =
+    AllLeave-append (accepted_before first (after ++ call ∷ []) before) (accepted_with (keymap (image_after first before)) after (accepts before call)) layer key
+    (before_left first (after ++ call ∷ []) before layer key n.1) (with_left (keymap (image_after first before)) after (accepts before call) layer key n.0)
 
--- the working command leaves the entry
-left_by : (first : SimValue) (before : List Step) (layer key code : ℕ) (command : Command) → Stored first before layer key code → working first before ≡ Some command → written command layer key ≡ None
-left_by first before layer key code command s w = rw w at s.left_alone
+all_left : (first : List ℕ) (past : List Call) (layer key : ℕ) → NoneWrites past layer key → AllLeave (accepted first past) layer key
+unfolding accepted
+all_left first past layer key n = before_left first [] past layer key n
 
-not_both : (b : Bool) → b ≡ false → b ≡ true → ⊥
-not_both b f t = cc
+-- the settled ones among them, on top of any keymap that has the code
+settled_left : (f : Fate) (entries : ℕ → ℕ → ℕ) (command : Command) (later : List Command) (layer key code : ℕ) → written command layer key ≡ None → entries layer key ≡ code
+    → ((m : ℕ → ℕ → ℕ) → m layer key ≡ code → changed m later layer key ≡ code) → changed entries (if_settled f command later) layer key ≡ code
+settled_left works entries command later layer key code w e k = k entries e
+settled_left failed entries command later layer key code w e k = k entries e
+settled_left settled entries command later layer key code w e k =
+    changed-append entries (command ∷ []) later layer key ∙ k (changed entries (command ∷ [])) (changed-one entries command layer key ∙ rw w e)
 
--- a step more of the session keeps it, if the command that it accepts leaves the entry
-stored_in : (first : SimValue) (before : List Step) (step : Step) (layer key code : ℕ) → layer < layers → key < keys → Orderly first before → Effect first before step → is_start (kind step.event) ≡ false
-    → Leaves layer key (accepts first before step) → Stored first before layer key code → Stored first (step ∷ before) layer key code
-stored_in first before step layer key code l k o (stays g n a e) h leaves s =
-    let w : working first (step ∷ before) ≡ working first before = working_after first before step (working first before) (after_stays first before step o n a e) in
-    record { entry_is = e layer key l k ∙ s.entry_is; left_alone = rw w s.left_alone }
-stored_in first before step layer key code l k o (takes command g n a e free) h leaves s = by_taken (after_takes first before step command o n a e free)
-  where
-    entry : keymap step.flash.image layer key ≡ code
-    entry = rw e s.entry_is
+left_code : (all : List Accepted) (entries : ℕ → ℕ → ℕ) (layer key code : ℕ) → AllLeave all layer key → entries layer key ≡ code → changed entries (settled_of all) layer key ≡ code
+left_code [] entries layer key code h e = changed-nil entries layer key ∙ e
+left_code (one ∷ later) entries layer key code h e =
+    settled_left one.fate entries one.command (settled_of later) layer key code h.0 e (λ m i. left_code later m layer key code h.1 i)
 
-    by_taken : AfterTaken first before step command → Stored first (step ∷ before) layer key code
-    by_taken (now_works c x) = record { entry_is = entry; left_alone = (let w : working first (step ∷ before) ≡ Some command = working_after first before step (Some command) x in rw w (rw a at leaves)) }
-    by_taken (changed_nothing c x) = record { entry_is = entry; left_alone = (let w : working first (step ∷ before) ≡ None = working_after first before step None x in rw w tt) }
-stored_in first before step layer key code l k o (settles command g a n w e) h leaves s =
-    let left : written command layer key ≡ None = left_by first before layer key code command s w in
-    let now : working first (step ∷ before) ≡ None = working_after first before step None (after_settles first before step command o a n w e) in
-    record {
-      entry_is = e layer key l k ∙ changed-one (keymap (image_after first before)) command layer key ∙ rw left s.entry_is;
-      left_alone = rw now tt;
-    }
-stored_in first before step layer key code l k o (fails command g a n w e) h leaves s =
-    let now : working first (step ∷ before) ≡ None = working_after first before step None (after_fails first before step command o a n w e) in
-    record { entry_is = e layer key l k ∙ s.entry_is; left_alone = rw now tt }
-stored_in first before step layer key code l k o (starts g e) h leaves s = absurd (not_both (is_start (kind step.event)) h g)
-stored_in first before step layer key code l k o (starts_with command g w e) h leaves s = absurd (not_both (is_start (kind step.event)) h g)
+-- how the session that a history ends in knows of it: it was acknowledged in it; or the session's first keymap has the code,
+-- and none of its commands writes the entry
+data Knows (now : Session) (layer key code : ℕ) : Type 0 where
+  in_session : keyboard.IsAcknowledged now.past layer key code → Knows now layer key code
+  from_start : keymap now.first layer key ≡ code → NoneWrites now.past layer key → Knows now layer key code
 
--- and so does a start
-stored_start : (first : SimValue) (before : List Step) (step : Step) (layer key code : ℕ) → layer < layers → key < keys → Effect first before step → is_start (kind step.event) ≡ true
-    → Stored first before layer key code → keymap step.flash.image layer key ≡ code
-stored_start first before step layer key code l k (stays g n a e) h s = absurd (not_both (is_start (kind step.event)) g h)
-stored_start first before step layer key code l k (takes command g n a e free) h s = absurd (not_both (is_start (kind step.event)) g h)
-stored_start first before step layer key code l k (settles command g a n w e) h s = absurd (not_both (is_start (kind step.event)) g h)
-stored_start first before step layer key code l k (fails command g a n w e) h s = absurd (not_both (is_start (kind step.event)) g h)
-stored_start first before step layer key code l k (starts g e) h s = e layer key l k ∙ s.entry_is
-stored_start first before step layer key code l k (starts_with command g w e) h s =
-    let left : written command layer key ≡ None = left_by first before layer key code command s w in
-    e layer key l k ∙ changed-one (keymap (image_after first before)) command layer key ∙ rw left s.entry_is
+stored : (now : Session) (layer key code : ℕ) → layer < layers → key < keys → EachCall IsCallAnswered now.first now.past → Knows now layer key code
+    → keymap (image_after now.first now.past) layer key ≡ code
+stored now layer key code l k h (in_session a) = told_in_session now.first now.past h layer key code a
+stored now layer key code l k h (from_start e n) =
+    (orderly now.first now.past h).kept layer key l k ∙ left_code (accepted now.first now.past) (keymap now.first) layer key code (all_left now.first now.past layer key n) e
 
-stored_step : (first : SimValue) (before : List Step) (step : Step) (layer key code : ℕ) → layer < layers → key < keys → Orderly (session first before).first (session first before).steps
-    → Effect (session first before).first (session first before).steps step
-    → Leaves layer key (accepts_here first before step) → StoredNow (session first before) layer key code → StoredNow (session first (step ∷ before)) layer key code
-stored_step first before step layer key code l k o effect leaves s = by_start (is_start (kind step.event)) refl
-  where
-    by_start : (b : Bool) → is_start (kind step.event) ≡ b → StoredNow (session first (step ∷ before)) layer key code
-    by_start false g =
-        on_goes first before step layer key code g (stored_in (session first before).first (session first before).steps step layer key code l k o effect g leaves s)
-    by_start true g =
-        new_start first before step layer key code g (stored_start (session first before).first (session first before).steps step layer key code l k effect g s)
-
--- any steps more
-pub stored : (first : SimValue) (later past : List Step) (layer key code : ℕ) → layer < layers → key < keys → EachStep IsAnswered first (later ++ past) → NoneAcceptedWrites first later past layer key
-    → StoredNow (session first past) layer key code → StoredNow (session first (later ++ past)) layer key code
-stored first [] past layer key code l k h n s = s
-stored first (step ∷ later) past layer key code l k h n s =
-    stored_step first (later ++ past) step layer key code l k (orderly first (later ++ past) h.1) (effect _ _ step h.0) n.0
-    (stored first later past layer key code l k h.1 n.1 s)
-
--- a packet that was acknowledged is an OUT packet
-pub record IsOut (event : Kind) : Type 0 where
-  pub goes_on : is_start event ≡ false
-  pub opens_none : opening_of event ≡ None
-
-taken_is_out : (event : Kind) (answer : Answer) (bytes : List ℕ) → bytes_taken event answer ≡ Some bytes → IsOut event
-taken_is_out (out b) answer bytes e = record { goes_on = refl; opens_none = refl }
-taken_is_out start answer bytes e = cc
-taken_is_out (setup b) answer bytes e = cc
-taken_is_out in_token answer bytes e = cc
-taken_is_out poll answer bytes e = cc
-taken_is_out (scan samples) answer bytes e = cc
-taken_is_out flash_step answer bytes e = cc
-taken_is_out look answer bytes e = cc
-
--- what an acceptance says
-record Acceptance (first : SimValue) (before : List Step) (step : Step) (command : Command) : Type 0 where
-  bytes : List ℕ
-  taking : stage first before ≡ Taking
-  taken : bytes_taken (kind step.event) step.answer ≡ Some bytes
-  carried : command_in bytes ≡ Ok command
-
-acceptance_read : (read : Result Command KeymapError) (command : Command) → command_of_read read ≡ Some command → read ≡ Ok command
-acceptance_read (Ok c) command e = cc
-acceptance_read (Err error) command e = cc
-
-acceptance_bytes : (first : SimValue) (before : List Step) (step : Step) (command : Command) (o : Option (List ℕ)) → stage first before ≡ Taking → bytes_taken (kind step.event) step.answer ≡ o
-    → command_of_bytes o ≡ Some command → Acceptance first before step command
-acceptance_bytes first before step command None s b e = cc
-acceptance_bytes first before step command (Some bytes) s b e = record { bytes = bytes; taking = s; taken = b; carried = acceptance_read (command_in bytes) command e }
-
-acceptance_in : (first : SimValue) (before : List Step) (step : Step) (command : Command) (s : Stage) → stage first before ≡ s
-    → in_data_stage s (command_of_bytes (bytes_taken (kind step.event) step.answer)) ≡ Some command → Acceptance first before step command
-acceptance_in first before step command Taking s e = acceptance_bytes first before step command (bytes_taken (kind step.event) step.answer) s refl e
-acceptance_in first before step command Rest s e = cc
-acceptance_in first before step command Waiting s e = cc
-acceptance_in first before step command Status s e = cc
-acceptance_in first before step command (Stalled why) s e = cc
-
-acceptance : (first : SimValue) (before : List Step) (step : Step) (command : Command) → accepts first before step ≡ Some command → Acceptance first before step command
-unfolding accepts
-acceptance first before step command e = acceptance_in first before step command (stage first before) refl e
-
--- the data packet of the transfer after these steps of it
-packet_since : (first : SimValue) (between before : List Step) (step : Step) (bytes : List ℕ) → SameTransfer between → opening_of (kind step.event) ≡ None → data_packet first before ≡ None
-    → bytes_taken (kind step.event) step.answer ≡ Some bytes
-    → data_packet first (between ++ step ∷ before) ≡ Some (record { bytes = bytes; image = image_after first before; since = between })
-packet_since first [] before step bytes s o n b = rw (o, n, b) refl
-packet_since first (next ∷ between) before step bytes s o n b =
-    rw (s.1, packet_since first between before step bytes s.2 o n b) refl
-
-setup_since : (between before : List Step) (step : Step) → SameTransfer between → opening_of (kind step.event) ≡ None → setup_of (between ++ step ∷ before) ≡ setup_of before
-setup_since [] before step s o = rw o refl
-setup_since (next ∷ between) before step s o = rw s.1 (setup_since between before step s.2 o)
-
--- the command waits for its record, or is stored
-data Told (first : SimValue) (past : List Step) (before : List Step) (between : List Step) (layer key code : ℕ) (asked : Command) : Type 0 where
-  waits : fate (keymap (image_after first before)) asked between ≡ works → working first past ≡ Some asked → Told first past before between layer key code asked
-  is_stored : Stored first past layer key code → Told first past before between layer key code asked
-  -- it failed, so that the status stage is stalled
-  has_failed : fate (keymap (image_after first before)) asked between ≡ failed → Told first past before between layer key code asked
-
-not_accepted : (o : Option Command) (command : Command) → o ≡ None → o ≡ Some command → ⊥
-not_accepted o command n s = cc
-
-out_goes_on : (first : SimValue) (before : List Step) (step : Step) (command : Command) → accepts first before step ≡ Some command → IsOut (kind step.event)
-out_goes_on first before step command a = let took = acceptance first before step command a in taken_is_out (kind step.event) step.answer took.bytes took.taken
-
--- the step that accepts the command
-told_at_packet : (first : SimValue) (before : List Step) (step : Step) (layer key code : ℕ) (asked : Command) → layer < layers → key < keys → written asked layer key ≡ Some code → Orderly first before → Effect first before step
-    → accepts first before step ≡ Some asked → Told first (step ∷ before) before [] layer key code asked
-told_at_packet first before step layer key code asked l k gives o (stays g n a e) s = absurd (not_accepted (accepts first before step) asked a s)
-told_at_packet first before step layer key code asked l k gives o (starts g e) s = absurd (not_both (is_start (kind step.event)) (out_goes_on first before step asked s).goes_on g)
-told_at_packet first before step layer key code asked l k gives o (starts_with command g w e) s = absurd (not_both (is_start (kind step.event)) (out_goes_on first before step asked s).goes_on g)
-told_at_packet first before step layer key code asked l k gives o (settles command g a n w e) s = absurd (not_accepted (accepts first before step) asked n s)
-told_at_packet first before step layer key code asked l k gives o (fails command g a n w e) s = absurd (not_accepted (accepts first before step) asked n s)
-told_at_packet first before step layer key code asked l k gives o (takes command g n a e free) s =
-    by_taken (after_takes first before step asked o n s e free)
-  where
-    by_taken : AfterTaken first before step asked → Told first (step ∷ before) before [] layer key code asked
-    by_taken (now_works c h) = waits (rw c refl) (working_after first before step (Some asked) h)
-    by_taken (changed_nothing c h) =
-        is_stored (record {
-          entry_is = rw e (sym (changes-false (keymap (image_after first before)) asked c layer key l k)
-              ∙ changed-one (keymap (image_after first before)) asked layer key ∙ rw gives refl);
-          left_alone = (let w : working first (step ∷ before) ≡ None = working_after first before step None h in rw w tt);
-        })
-
--- a step of the same transfer
-told_step : (first : SimValue) (past : List Step) (step : Step) (before between : List Step) (layer key code : ℕ) (asked : Command) → layer < layers → key < keys → written asked layer key ≡ Some code → Orderly first past → Effect first past step
-    → is_start (kind step.event) ≡ false → Leaves layer key (accepts first past step) → Told first past before between layer key code asked → Told first (step ∷ past) before (step ∷ between) layer key code asked
-told_step first past step before between layer key code asked l k gives o effect g leaves (is_stored s) = is_stored (stored_in first past step layer key code l k o effect g leaves s)
-told_step first past step before between layer key code asked l k gives o effect g leaves (has_failed f) =
-    has_failed (fate-more (keymap (image_after first before)) asked step between ∙ ap (ended_by step.answer) f ∙ ended_by-failed step.answer)
-told_step first past step before between layer key code asked l k gives o (stays g n a e) h leaves (waits f w) =
-    waits (fate-more (keymap (image_after first before)) asked step between ∙ n.keeps (fate (keymap (image_after first before)) asked between) ∙ f)
-    (working_after first past step (working first past) (after_stays first past step o n a e) ∙ w)
-told_step first past step before between layer key code asked l k gives o (starts g e) h leaves (waits f w) = absurd (not_both (is_start (kind step.event)) h g)
-told_step first past step before between layer key code asked l k gives o (starts_with command g v e) h leaves (waits f w) = absurd (not_both (is_start (kind step.event)) h g)
-told_step first past step before between layer key code asked l k gives o (takes command g n a e free) h leaves (waits f w) = absurd (free (rw w refl))
-told_step first past step before between layer key code asked l k gives o (fails command g a n v e) h leaves (waits f w) =
-    has_failed (fate-more (keymap (image_after first before)) asked step between ∙ rw (a, f) refl)
-told_step first past step before between layer key code asked l k gives o (settles command g a n v e) h leaves (waits f w) =
-    let same : command ≡ asked = cc in
-    let now : working first (step ∷ past) ≡ None = working_after first past step None (after_settles first past step command o a n v e) in
-    is_stored (record {
-      entry_is = e layer key l k ∙ changed-one (keymap (image_after first past)) command layer key ∙ rw (same, gives) refl;
-      left_alone = rw now tt;
+-- a call more
+knows_call : (first : List ℕ) (past : List Call) (call : Call) (layer key code : ℕ) → keyboard.Leaves layer key (accepts past call) → Knows (record { first = first; past = past }) layer key code
+    → Knows (record { first = first; past = call ∷ past }) layer key code
+knows_call first past call layer key code n (from_start e m) = from_start e (n, m)
+knows_call first past call layer key code n (in_session a) =
+    in_session (record {
+      in_layers = a.in_layers;
+      in_keys = a.in_keys;
+      before = a.before;
+      packet = a.packet;
+      between = a.between;
+      after = call ∷ a.after;
+      past_is = ap (λ (xs : List Call). call ∷ xs) a.past_is;
+      command = a.command;
+      accepted = a.accepted;
+      writes = a.writes;
+      same_transfer = a.same_transfer;
+      not_since = (subst (λ (xs : List Call). keyboard.Leaves layer key (accepts xs call)) a.past_is n, a.not_since);
     })
 
--- none of these steps of a session accepts a command that writes the entry
-abbrev NoneIn : SimValue → List Step → List Step → ℕ → ℕ → Type 0
-NoneIn first [] past layer key = Unit {0}
-NoneIn first (step ∷ before) past layer key = Leaves layer key (accepts first (before ++ past) step) × NoneIn first before past layer key
+worked_leaves : (past : List Call) (work : WorkAnswer) (image : List ℕ) (layer key : ℕ) → keyboard.Leaves layer key (accepts past (KeyboardWorked work image))
+unfolding accepts
+worked_leaves past work image layer key = tt
 
-told_between : (first : SimValue) (between before : List Step) (step : Step) (layer key code : ℕ) (asked : Command) → layer < layers → key < keys → written asked layer key ≡ Some code → EachStep IsAnsweredIn first (between ++ step ∷ before)
-    → EachStep GoesOn first (between ++ step ∷ before)
-    → SameTransfer between → NoneIn first between (step ∷ before) layer key → accepts first before step ≡ Some asked
-    → Told first (between ++ step ∷ before) before between layer key code asked
-told_between first [] before step layer key code asked l k gives h o t n s = told_at_packet first before step layer key code asked l k gives (orderly_in first before h.1 o.1) (effect first before step h.0) s
-told_between first (next ∷ between) before step layer key code asked l k gives h o t n s =
-    told_step first (between ++ step ∷ before) next before between layer key code asked l k gives (orderly_in first (between ++ step ∷ before) h.1 o.1) (effect first (between ++ step ∷ before) next h.0)
-    t.0 n.0 (told_between first between before step layer key code asked l k gives h.1 o.1 t.2 n.1 s)
+in_leaves : (past : List Call) (layer key : ℕ) → keyboard.Leaves layer key (accepts past (In (EpPacket (record { items = [] }))))
+unfolding accepts
+in_leaves past layer key = tt
 
-fate_read : (image : List ℕ) (since : List Step) (read : Result Command KeymapError) (command : Command) → read ≡ Ok command → fate_in image since read ≡ fate (keymap image) command since
-fate_read image since read command e = rw e refl
+-- the keyboard starts on an image that has the code
+knows_start : (image : List ℕ) (layer key code : ℕ) → keymap image layer key ≡ code → Knows (record { first = image; past = [] }) layer key code
+knows_start image layer key code e = from_start e tt
 
-settled_not_works : (f : Fate) → f ≡ works → f ≡ settled → ⊥
-settled_not_works f w s = cc
+-- the power was cut inside a step of the flash work
+after_step : (now : Session) (work : WorkAnswer) (image : List ℕ) (layer key code : ℕ) → layer < layers → key < keys → EachCall IsCallAnswered now.first now.past
+    → IsCallAnswered now.first now.past (KeyboardWorked work image) → Knows now layer key code → keymap image layer key ≡ code
+after_step now work image layer key code l k h a s =
+    stored (record { first = now.first; past = KeyboardWorked work image ∷ now.past }) layer key code l k (a, h)
+    (knows_call now.first now.past (KeyboardWorked work image) layer key code (worked_leaves now.past work image layer key) s)
 
-settled_not_failed : (f : Fate) → f ≡ failed → f ≡ settled → ⊥
-settled_not_failed f w s = cc
+-- a step more
+knows_more : (now : Session) (heard : List HostCall) (old : SimValue) (event : Event) (answer : Answer) (refused : Bool) (new : SimValue) (layer key code : ℕ) → layer < layers → key < keys
+    → Here now old → Answered now heard old event answer refused new → keyboard.Leaves layer key (accepts_by (kind_of event answer new.image) now.past) → Knows now layer key code
+    → Knows (session_with (kind_of event answer new.image) new.image now) layer key code
+knows_more now heard old (Scan scan) answer refused new layer key code l k h a n s = knows_call now.first now.past (Scanned scan) layer key code n s
+knows_more now heard old (Setup bytes) answer refused new layer key code l k h a n s = knows_call now.first now.past (SetUp bytes) layer key code n s
+knows_more now heard old (OutPacket packet) answer refused new layer key code l k h a n s = knows_call now.first now.past (Out packet.items (ep_told answer)) layer key code n s
+knows_more now heard old InPacket answer refused new layer key code l k h a n s = knows_call now.first now.past (In (ep_told answer)) layer key code n s
+knows_more now heard old Poll answer refused new layer key code l k h a n s = knows_call now.first now.past (Polled (bytes_told answer)) layer key code n s
+knows_more now heard old Work answer refused new layer key code l k h a n s = knows_call now.first now.past (KeyboardWorked (work_told answer) new.image) layer key code n s
+knows_more now heard old (WorkFault mask) answer refused new layer key code l k h a n s = knows_call now.first now.past (KeyboardWorked (work_told answer) new.image) layer key code n s
+knows_more now heard old Cut answer refused new layer key code l k h a n s =
+    knows_start new.image layer key code
+    (ap (λ (image : List ℕ). keymap image layer key) (ap (λ (f : SimValue). f.image) a.1.0 ∙ sym h.image) ∙ stored now layer key code l k h.lawful s)
+knows_more now heard old (CutInWork mask) answer refused new layer key code l k h (work, e, w, r) n s =
+    knows_start new.image layer key code (after_step now work new.image layer key code l k h.lawful w.lawful s)
+knows_more now heard old BusReset answer refused new layer key code l k h a n s = knows_call now.first now.past KeyboardReset layer key code n s
+knows_more now heard old (Entry at_layer at_key) answer refused new layer key code l k h a n s = s
+knows_more now heard old (SlotAt page slot) answer refused new layer key code l k h a n s = s
+knows_more now heard old Leds answer refused new layer key code l k h a n s = s
 
--- in the status stage the command is settled
-told_settled : (first : SimValue) (between before : List Step) (step : Step) (asked : Command) → accepts first before step ≡ Some asked → SameTransfer between
-    → stage first (between ++ step ∷ before) ≡ Status → fate (keymap (image_after first before)) asked between ≡ settled
-told_settled first between before step asked a t e =
-    let took = acceptance first before step asked a in
-    let opens : opening_of (kind step.event) ≡ None = (taken_is_out (kind step.event) step.answer took.bytes took.taken).opens_none in
-    let packet : DataPacket = record { bytes = took.bytes; image = image_after first before; since = between } in
-    let d : data_packet first (between ++ step ∷ before) ≡ Some packet = packet_since first between before step took.bytes t opens (no_packet first before took.taking) took.taken in
-    let done : fate_in (image_after first before) between (command_in took.bytes) ≡ settled =
-    packet_settled first (between ++ step ∷ before) packet d (ap opens_boot (setup_since between before step t opens) ∙ not_boot first before took.taking) e in
-    sym (fate_read (image_after first before) between (command_in took.bytes) asked took.carried) ∙ done
+EachStep-later : (start : SimValue) (later past : List Step) → EachStep IsAnswered start (later ++ past) → EachStep IsAnswered start past
+EachStep-later start [] past h = h
+EachStep-later start (step ∷ later) past h = EachStep-later start later past h.1
 
--- so it is stored
-told_stored : (first : SimValue) (between before : List Step) (step : Step) (layer key code : ℕ) (asked : Command) → accepts first before step ≡ Some asked → SameTransfer between
-    → stage first (between ++ step ∷ before) ≡ Status → Told first (between ++ step ∷ before) before between layer key code asked → Stored first (between ++ step ∷ before) layer key code
-told_stored first between before step layer key code asked a t e (is_stored s) = s
-told_stored first between before step layer key code asked a t e (waits f w) =
-    absurd (settled_not_works (fate (keymap (image_after first before)) asked between) f (told_settled first between before step asked a t e))
-told_stored first between before step layer key code asked a t e (has_failed f) =
-    absurd (settled_not_failed (fate (keymap (image_after first before)) asked between) f (told_settled first between before step asked a t e))
+NoneAcceptedWrites-later : (start : SimValue) (later earlier past : List Step) (layer key : ℕ) → NoneAcceptedWrites start (later ++ earlier) past layer key → NoneAcceptedWrites start earlier past layer key
+NoneAcceptedWrites-later start [] earlier past layer key n = n
+NoneAcceptedWrites-later start (step ∷ later) earlier past layer key n = NoneAcceptedWrites-later start later earlier past layer key n.1
 
-EachStep-later : (P : SimValue → List Step → Step → Type 0) (first : SimValue) (later past : List Step) → EachStep P first (later ++ past) → EachStep P first past
-EachStep-later P first [] past h = h
-EachStep-later P first (step ∷ later) past h = EachStep-later P first later past h.1
+NoneAcceptedWrites-sooner : (start : SimValue) (later earlier past : List Step) (layer key : ℕ) → NoneAcceptedWrites start (later ++ earlier) past layer key
+    → NoneAcceptedWrites start later (earlier ++ past) layer key
+NoneAcceptedWrites-sooner start [] earlier past layer key n = tt
+NoneAcceptedWrites-sooner start (step ∷ later) earlier past layer key n =
+    (subst (λ (xs : List Step). keyboard.Leaves layer key (accepts_here start xs step)) (append_assoc later earlier past) n.0, NoneAcceptedWrites-sooner start later earlier past layer key n.1)
 
-NoneAcceptedWrites-later : (first : SimValue) (later earlier past : List Step) (layer key : ℕ) → NoneAcceptedWrites first (later ++ earlier) past layer key → NoneAcceptedWrites first earlier past layer key
-NoneAcceptedWrites-later first [] earlier past layer key n = n
-NoneAcceptedWrites-later first (step ∷ later) earlier past layer key n = NoneAcceptedWrites-later first later earlier past layer key n.1
+-- any steps more
+knows_after : (start : SimValue) (later past : List Step) (layer key code : ℕ) → layer < layers → key < keys → EachStep IsAnswered start (later ++ past) → NoneAcceptedWrites start later past layer key
+    → Knows (session start past) layer key code → Knows (session start (later ++ past)) layer key code
+knows_after start [] past layer key code l k h n s = s
+knows_after start (step ∷ later) past layer key code l k h n s =
+    let before : List Step = later ++ past in
+    knows_more (session start before) (host_calls before) (flash_after start before) step.event step.answer step.refused step.flash layer key code l k (here start before h.1) h.0 n.0
+    (knows_after start later past layer key code l k h.1 n.1 s)
 
-NoneAcceptedWrites-sooner : (first : SimValue) (later earlier past : List Step) (layer key : ℕ) → NoneAcceptedWrites first (later ++ earlier) past layer key → NoneAcceptedWrites first later (earlier ++ past) layer key
-NoneAcceptedWrites-sooner first [] earlier past layer key n = tt
-NoneAcceptedWrites-sooner first (step ∷ later) earlier past layer key n =
-    (subst (λ (xs : List Step). Leaves layer key (accepts_here first xs step)) (append_assoc later earlier past) n.0, NoneAcceptedWrites-sooner first later earlier past layer key n.1)
+-- the calls of the transfer since the packet that brought the command
+record Since (now : Session) (past : List Call) (packet : Call) (layer key : ℕ) : Type 0 where
+  between : List Call
+  past_is : now.past ≡ between ++ packet ∷ past
+  same : keyboard.SameTransfer between
+  none : keyboard.NoneAcceptedWrites between (packet ∷ past) layer key
 
--- said of the session
-none_here : (first : SimValue) (between before : List Step) (step : Step) (layer key : ℕ) → SameTransfer between → is_start (kind step.event) ≡ false
-    → NoneAcceptedWrites first between (step ∷ before) layer key → NoneIn (session first before).first between (step ∷ (session first before).steps) layer key
-none_here first [] before step layer key t g n = tt
-none_here first (next ∷ between) before step layer key t g n = (
-  subst (λ (now : Session). Leaves layer key (accepts now.first now.steps next)) (session_since first between before step t.2 g) n.0,
-  none_here first between before step layer key t.2 g n.1,
-)
+same_more : (call : Call) (between : List Call) → GoesOn (calls call) → keyboard.SameTransfer between → keyboard.SameTransfer (call ∷ between)
+same_more (Scanned scan) between g s = s
+same_more (SetUp bytes) between g s = absurd g
+same_more (Out packet answer) between g s = s
+same_more (In answer) between g s = s
+same_more (Polled answer) between g s = s
+same_more (KeyboardWorked work image) between g s = s
+same_more KeyboardReset between g s = absurd g
+
+since_more : (now : Session) (k : Kind) (image : List ℕ) (past : List Call) (packet : Call) (layer key : ℕ) → GoesOn k → keyboard.Leaves layer key (accepts_by k now.past) → Since now past packet layer key
+    → Since (session_with k image now) past packet layer key
+since_more now starts image past packet layer key g n s = absurd g
+since_more now looks image past packet layer key g n s = record { between = s.between; past_is = s.past_is; same = s.same; none = s.none }
+since_more now (calls call) image past packet layer key g n s = record {
+  between = call ∷ s.between;
+  past_is = ap (λ (xs : List Call). call ∷ xs) s.past_is;
+  same = same_more call s.between g s.same;
+  none = (subst (λ (xs : List Call). keyboard.Leaves layer key (accepts xs call)) s.past_is n, s.none);
+}
+
+since_between : (start : SimValue) (between rest : List Step) (past : List Call) (packet : Call) (layer key : ℕ) → SameTransfer between → NoneAcceptedWrites start between rest layer key
+    → Since (session start rest) past packet layer key → Since (session start (between ++ rest)) past packet layer key
+since_between start [] rest past packet layer key t n s = s
+since_between start (step ∷ between) rest past packet layer key t n s =
+    since_more (session start (between ++ rest)) (kind step) step.flash.image past packet layer key t.0 n.0 (since_between start between rest past packet layer key t.1 n.1 s)
+
+-- the packet that brings the command
+record Brings (now : Session) (past : List Call) (command : Command) : Type 0 where
+  packet : Call
+  past_is : now.past ≡ packet ∷ past
+  accepted : accepts past packet ≡ Some command
+
+brings : (before : Session) (k : Kind) (image : List ℕ) (command : Command) → accepts_by k before.past ≡ Some command → Brings (session_with k image before) before.past command
+brings before starts image command e = cc
+brings before looks image command e = cc
+brings before (calls call) image command e = record { packet = call; past_is = refl; accepted = e }
+
+-- the empty packet of its transfer
+told_now : (now : Session) (past : List Call) (packet : Call) (command : Command) (image : List ℕ) (k : Kind) (layer key code : ℕ) → layer < layers → key < keys → written command layer key ≡ Some code
+    → accepts past packet ≡ Some command → k ≡ calls (In (EpPacket (record { items = [] }))) → Since now past packet layer key → Knows (session_with k image now) layer key code
+told_now now past packet command image k layer key code l kk w a e s =
+    subst (λ (x : Kind). Knows (session_with x image now) layer key code) (sym e)
+    (in_session (record {
+      in_layers = l;
+      in_keys = kk;
+      before = past;
+      packet = packet;
+      between = s.between;
+      after = [];
+      past_is = ap (λ (xs : List Call). In (EpPacket (record { items = [] })) ∷ xs) s.past_is;
+      command = command;
+      accepted = a;
+      writes = w;
+      same_transfer = s.same;
+      not_since = (in_leaves (s.between ++ packet ∷ past) layer key, s.none);
+    }))
+
+kind_told : (status : Step) → (status.event ≡ InPacket) × (status.answer ≡ Packet (record { items = [] })) → kind status ≡ calls (In (EpPacket (record { items = [] })))
+kind_told status (e, a) = ap (λ (x : Event). kind_of x status.answer status.flash.image) e ∙ ap (λ (x : Answer). kind_of InPacket x status.flash.image) a
 
 -- what was acknowledged is what the flash says
-pub acknowledged : (first : SimValue) (history : List Step) → EachStep IsAnswered first history → KeepsAcknowledged first history
-acknowledged first history h layer key code a =
-    let told : List Step = a.after ++ a.status ∷ [] in
-    let past : List Step = a.between ++ a.packet ∷ a.before in
-    let is : history ≡ told ++ past =
-    a.history_is ∙ append_assoc a.after (a.status ∷ a.between) (a.packet ∷ a.before) ∙ sym (append_assoc a.after (a.status ∷ []) past) in
-    let all : EachStep IsAnswered first (told ++ past) = subst (λ (xs : List Step). EachStep IsAnswered first xs) is h in
-    let writes : NoneAcceptedWrites first (told ++ a.between) (a.packet ∷ a.before) layer key =
-    subst (λ (xs : List Step). NoneAcceptedWrites first xs (a.packet ∷ a.before) layer key) (sym (append_assoc a.after (a.status ∷ []) a.between)) a.not_since in
-    let now : Session = session first a.before in
-    let goes_on : is_start (kind a.packet.event) ≡ false = (out_goes_on now.first now.steps a.packet a.command a.accepted).goes_on in
-    let same : session first past ≡ record { first = now.first; steps = a.between ++ a.packet ∷ now.steps } = session_since first a.between a.before a.packet a.same_transfer goes_on in
-    let answered : EachStep IsAnsweredIn now.first (a.between ++ a.packet ∷ now.steps) =
-    subst (λ (s : Session). EachStep IsAnsweredIn s.first s.steps) same (answered_here first past (EachStep-later IsAnswered first told past all)) in
-    let there : Stored now.first (a.between ++ a.packet ∷ now.steps) layer key code =
-    told_stored now.first a.between now.steps a.packet layer key code a.command a.accepted a.same_transfer
-    (subst (λ (s : Session). stage s.first s.steps ≡ Status) same a.status_stage)
-    (told_between now.first a.between now.steps a.packet layer key code a.command a.in_layers a.in_keys a.writes answered (subst (λ (s : Session). EachStep GoesOn s.first s.steps) same (goes_on_here first past))
-    a.same_transfer (none_here first a.between a.before a.packet layer key a.same_transfer goes_on (NoneAcceptedWrites-later first told a.between (a.packet ∷ a.before) layer key writes)) a.accepted) in
-    let after : StoredNow (session first (told ++ past)) layer key code =
-    stored first told past layer key code a.in_layers a.in_keys all (NoneAcceptedWrites-sooner first told a.between (a.packet ∷ a.before) layer key writes)
-    (subst (λ (s : Session). StoredNow s layer key code) (sym same) there) in
-    subst (λ (xs : List Step). keymap (image_after first xs) layer key ≡ code) (sym is)
-    (ap (λ (flash : SimValue). keymap flash.image layer key) (sym (flash_here first (told ++ past))) ∙ after.entry_is)
+pub acknowledged : (start : SimValue) (history : List Step) → EachStep IsAnswered start history → KeepsAcknowledged start history
+acknowledged start history h layer key code a =
+    let rest : List Step = a.between ++ a.packet ∷ a.before in
+    let is : history ≡ a.after ++ a.status ∷ rest = a.history_is ∙ append_assoc a.after (a.status ∷ a.between) (a.packet ∷ a.before) in
+    let all : EachStep IsAnswered start (a.after ++ a.status ∷ rest) = subst (λ (xs : List Step). EachStep IsAnswered start xs) is h in
+    let since : NoneAcceptedWrites start (a.status ∷ a.between) (a.packet ∷ a.before) layer key = NoneAcceptedWrites-later start a.after (a.status ∷ a.between) (a.packet ∷ a.before) layer key a.not_since in
+    let by : Brings (session start (a.packet ∷ a.before)) (session start a.before).past a.command =
+    brings (session start a.before) (kind a.packet) a.packet.flash.image a.command a.accepted in
+    let first : Since (session start (a.packet ∷ a.before)) (session start a.before).past by.packet layer key = record { between = []; past_is = by.past_is; same = tt; none = tt } in
+    let there : Since (session start rest) (session start a.before).past by.packet layer key =
+    since_between start a.between (a.packet ∷ a.before) (session start a.before).past by.packet layer key a.same_transfer since.1 first in
+    let told : Knows (session start (a.status ∷ rest)) layer key code =
+    told_now (session start rest) (session start a.before).past by.packet a.command a.status.flash.image (kind a.status) layer key code a.in_layers a.in_keys a.writes by.accepted (kind_told a.status a.told) there in
+    let after : Knows (session start (a.after ++ a.status ∷ rest)) layer key code =
+    knows_after start a.after (a.status ∷ rest) layer key code a.in_layers a.in_keys all (NoneAcceptedWrites-sooner start a.after (a.status ∷ a.between) (a.packet ∷ a.before) layer key a.not_since) told in
+    let now = here start (a.after ++ a.status ∷ rest) all in
+    subst (λ (xs : List Step). keymap (flash_after start xs).image layer key ≡ code) (sym is)
+    (ap (λ (image : List ℕ). keymap image layer key) (sym now.image) ∙ stored (session start (a.after ++ a.status ∷ rest)) layer key code a.in_layers a.in_keys now.lawful after)

@@ -1,43 +1,74 @@
--- What kind each event is. The look-backs over a history ask for the kind and pass over all others, so that a new event
--- has to be placed here alone.
-use Rattle.std.specs.Prelude.{Bool, true, false, Option, None, Some, ℕ, List}
-use Rattle.debounce.specs.declared.Scan.{Scan as Samples}
+-- Believed: what kind each step is. The look-backs over a history ask for the kind, so that a new event has to be placed
+-- here alone.
+use Rattle.std.specs.Prelude.{ℕ, Bool, Option, None, Some, List}
+use Rattle.flash_model.specs.Sim.{SimValue}
+use Rattle.control_ep.specs.declared.answer.EpAnswer.{EpAnswer}
+use Rattle.control_ep.specs.declared.answer.EpAnswer.TheVariants as ep
+use Rattle.keymap_store.specs.declared.store.Work.{Work as WorkAnswer}
+use Rattle.keymap_store.specs.declared.store.Work.TheVariants.{Idle}
+use Rattle.keyboard.specs.Calls.{Call, Scanned, SetUp, Out, In, Polled, Worked as KeyboardWorked, BusReset as KeyboardReset}
 use Rattle.world.specs.declared.event.Event.{Event}
-use Rattle.world.specs.declared.event.Event.TheVariants.{Scan, Setup, OutPacket, InPacket, Poll, Work, WorkFault, Cut, CutInWork, Entry, SlotAt}
+use Rattle.world.specs.declared.event.Event.TheVariants.{Scan, Setup, OutPacket, InPacket, Poll, Work, WorkFault, Cut, CutInWork, BusReset, Entry, SlotAt, Leds}
+use Rattle.world.specs.declared.event.Answer.{Answer}
+use Rattle.world.specs.declared.event.Answer.TheVariants.{Ack, Nak, Packet, Stall, Sent, Worked}
 
+-- an event, its answer, the flash after it (its bytes, both counts, and what is armed), and whether a growth of the host
+-- was refused in it
+pub record Step : Type 0 where
+  pub event : Event
+  pub answer : Answer
+  pub flash : SimValue
+  pub refused : Bool
+
+-- an answer of endpoint 0, as it is told
+abbrev pub told : EpAnswer → Answer
+told ep.Ack = Ack
+told ep.Nak = Nak
+told (ep.Packet packet) = Packet packet
+told (ep.Stall why) = Stall why
+
+-- and back; an answer that is none of endpoint 0 comes of no packet
+abbrev pub ep_told : Answer → EpAnswer
+ep_told Ack = ep.Ack
+ep_told (Packet packet) = ep.Packet packet
+ep_told (Stall why) = ep.Stall why
+ep_told _ = ep.Nak
+
+-- the bytes of a report that was sent, if one was
+abbrev pub bytes_told : Answer → Option (List ℕ)
+bytes_told (Sent bytes reading) = Some bytes.items
+bytes_told _ = None
+
+-- what a step of the flash work came to
+abbrev pub work_told : Answer → WorkAnswer
+work_told (Worked work) = work
+work_told _ = Idle
+
+-- what a step is to the keyboard
 pub data Kind : Type 0 where
-  -- the power was cut, between two flash operations or inside one, and the device starts on its flash
-  start : Kind
-  -- a SETUP packet, an OUT packet with its bytes, an IN token, each on endpoint 0
-  setup : List ℕ → Kind
-  out : List ℕ → Kind
-  in_token : Kind
-  -- an IN token on endpoint 1
-  poll : Kind
-  scan : Samples → Kind
-  -- a step of the flash work, whole or torn
-  flash_step : Kind
+  -- the power was cut, between two flash operations or inside one, and the keyboard starts on its flash
+  starts : Kind
+  -- a call of the keyboard, with its answer
+  calls : Call → Kind
   -- a look, which changes nothing
-  look : Kind
+  looks : Kind
 
-abbrev pub kind : Event → Kind
-kind (Scan samples) = scan samples
-kind (Setup bytes) = setup bytes
-kind (OutPacket packet) = out packet.items
-kind InPacket = in_token
-kind Poll = poll
-kind Work = flash_step
-kind (WorkFault mask) = flash_step
-kind Cut = start
-kind (CutInWork mask) = start
-kind (Entry layer key) = look
-kind (SlotAt page slot) = look
+-- the kind of an event with its answer and the flash's image after it
+abbrev pub kind_of : Event → Answer → List ℕ → Kind
+kind_of (Scan scan) answer image = calls (Scanned scan)
+kind_of (Setup bytes) answer image = calls (SetUp bytes)
+kind_of (OutPacket packet) answer image = calls (Out packet.items (ep_told answer))
+kind_of InPacket answer image = calls (In (ep_told answer))
+kind_of Poll answer image = calls (Polled (bytes_told answer))
+kind_of Work answer image = calls (KeyboardWorked (work_told answer) image)
+kind_of (WorkFault mask) answer image = calls (KeyboardWorked (work_told answer) image)
+kind_of Cut answer image = starts
+kind_of (CutInWork mask) answer image = starts
+kind_of BusReset answer image = calls KeyboardReset
+kind_of (Entry layer key) answer image = looks
+kind_of (SlotAt page slot) answer image = looks
+kind_of Leds answer image = looks
 
-abbrev pub is_start : Kind → Bool
-is_start start = true
-is_start _ = false
-
--- the SETUP packet that ends the transfer in progress and begins the next one
-abbrev pub opening_of : Kind → Option (List ℕ)
-opening_of (setup bytes) = Some bytes
-opening_of _ = None
+-- the kind of a step
+abbrev pub kind : Step → Kind
+kind step = kind_of step.event step.answer step.flash.image

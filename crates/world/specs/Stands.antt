@@ -1,50 +1,54 @@
--- The world stands for a history.
-use Rattle.std.specs.Prelude.{◌≡◌, ◌+◌, ◌≤◌, IsSome, List, ◌++◌, map, reverse, length, take}
+-- Believed: how a run goes on from a history, and how it ends. StandsFor only ties code: the world stands for a history.
+use Rattle.std.specs.Prelude.{◌≡◌, ◌<◌, Bool, true, false, List, [], ◌∷◌, ◌++◌, map, reverse, length, take}
 use Rattle.flash_model.specs.Sim.{SimValue}
-use Rattle.key_reports.specs.Stands as key_reports
-use Rattle.keymap_store.specs.Store.{Mirrors}
-use Rattle.keymap_store.specs.Left.{left, Needs}
+use Rattle.keyboard.specs.Stands as keyboard_stands
+use Rattle.host.specs.StandsFor as host_stands
 use Rattle.world.specs.declared.event.Event.{Event}
 use Rattle.world.specs.declared.event.Answer.{Answer}
-use Rattle.world.specs.History.{Step, flash_after, image_after, session, EachStep}
-use Rattle.world.specs.Transfer.{stage, setup_of, opens_boot}
-use Rattle.world.specs.Keys.{protocol_of, calls_of}
-use Rattle.world.specs.Bounded.{most_steps, steps_since, StaysInTime}
-use Rattle.world.specs.Operated.{accepted_image}
-use Rattle.world.specs.Commands.{working}
+use Rattle.world.specs.Kinds.{Step}
+use Rattle.world.specs.History.{session, host_calls, flash_after, EachStep}
+use Rattle.world.specs.Bounded.{StaysInTime}
 use Rattle.world.specs.Lawful.{IsAnswered}
-use Rattle.world.specs.Value.{WorldValue, at_work}
+use Rattle.world.specs.Value.{WorldValue}
 
--- a clause for each field, by the session
-pub record StandsIn (first : SimValue) (steps : List Step) (world : WorldValue) : Type 0 where
-  pub flash : world.flash ≡ flash_after first steps
-  pub store : Mirrors (image_after first steps) world.store
-  pub works : at_work world ≡ working first steps
-  pub transfer : world.stage ≡ stage first steps
-  pub opened : world.opened_boot ≡ opens_boot (setup_of steps)
-  pub protocol : world.protocol ≡ protocol_of steps
-  pub keys : key_reports.StandsFor (calls_of first steps) world.keys
-  pub few : IsSome (at_work world) → left (image_after first steps) world.store + steps_since first steps ≤ most_steps
-  pub needs : IsSome (at_work world) → Needs (accepted_image first steps) (left (image_after first steps) world.store + steps_since first steps)
-
--- and each event so far was answered as it had to be
+-- the keyboard stands for the session's calls on the session's first image, the host for what it has heard, and the flash is
+-- the one after these steps; each event so far was answered as it had to be
 pub record StandsFor (start : SimValue) (past : List Step) (world : WorldValue) : Type 0 where
-  pub now : StandsIn (session start past).first (session start past).steps world
+  pub keyboard : keyboard_stands.StandsFor (session start past).first (session start past).past world.keyboard
+  pub host : host_stands.StandsFor (host_calls past) world.host
+  pub flash : world.flash ≡ flash_after start past
   pub answered : EachStep IsAnswered start past
   pub in_time : EachStep StaysInTime start past
+
+-- in none of these steps was the host refused memory
+abbrev pub NoneRefused : List Step → Type 0
+NoneRefused [] = Unit {0}
+NoneRefused (step ∷ before) = (step.refused ≡ false) × NoneRefused before
+
+-- a run that answers an error: there was no room for the answer of the next event, which was not taken, or the host was
+-- refused memory in the last one taken
+pub data StopsAfter (steps : List Step) (events : List Event) : Type 0 where
+  no_room : length steps < length events → NoneRefused steps → StopsAfter steps events
+  host_refused : (last : Step) → (before : List Step) → steps ≡ last ∷ before → last.refused ≡ true → NoneRefused before → StopsAfter steps events
+
+-- a run that answers Ok has taken all events
+abbrev pub EndsAfter : Bool → List Step → List Event → Type 0
+EndsAfter true steps events = (length steps ≡ length events) × NoneRefused steps
+EndsAfter false steps events = StopsAfter steps events
 
 -- on top of a history there are steps, newest first: they are the events that were taken, the answers appended are
 -- theirs, the flash is the one after them, the world stands for the longer history (so each step was answered as it had to
 -- be), and P holds of it
-pub record Goes (P : SimValue → List Step → Type 0) (start : SimValue) (past : List Step) (world : WorldValue) (events : List Event) (before after : List Answer) : Type 0 where
+pub record Goes (P : SimValue → List Step → Type 0) (start : SimValue) (past : List Step) (world : WorldValue) (events : List Event) (before after : List Answer) (ok : Bool) : Type 0 where
   pub steps : List Step
   pub stands : StandsFor start (steps ++ past) world
   pub flash_is : world.flash ≡ flash_after start (steps ++ past)
   pub events_are : map (λ (s : Step). s.event) (reverse steps) ≡ take (length steps) events
   pub answers_are : after ≡ before ++ map (λ (s : Step). s.answer) (reverse steps)
+  pub ends : EndsAfter ok steps events
   pub holds : P start (steps ++ past)
 
 -- so it goes on from each history that the world stood for
-abbrev pub Runs : (SimValue → List Step → Type 0) → WorldValue → WorldValue → List Event → List Answer → List Answer → Type 0
-Runs P old new events before after =
-    (start : SimValue) (past : List Step) → StandsFor start past old → Goes P start past new events before after
+abbrev pub Runs : (SimValue → List Step → Type 0) → WorldValue → WorldValue → List Event → List Answer → List Answer → Bool → Type 0
+Runs P old new events before after ok =
+    (start : SimValue) (past : List Step) → StandsFor start past old → Goes P start past new events before after ok

@@ -1,20 +1,25 @@
-//! An older simulator: a device of its own that serves two requests, on the simulated flash, and no
-//! host. The program runs on `system`; this one stays for `world_plain`, which judges its histories.
+//! A keyboard, its host and its flash, as keys, bus and power supply see them: a list of events, each
+//! with its answer.
 //!
-//! `World` is the device on its flash. `World::run` takes events one by one. Its contract
-//! says, for every list of events on every image, what each answer is by what came before it, and
-//! what a power cut may leave of the keymap.
+//! `World` holds a `Keyboard`, a `Host` and a `SimFlash`, and `World::run` hands events on, tears
+//! flash operations and cuts the power. The contract of `run` says, for every list of events on every
+//! image, what each answer is by what came before it, what the host reads in each report, and what a
+//! power cut may leave of the keymap. The laws say what follows for every history.
+//!
+//! A `World` keeps these three, and no history: that is the contract's. The promise is that of
+//! `run`, the theorem of this repository. `kbsim` calls it, and the tests of a host's driver can.
 #![tactic(auto)]
 
-mod device;
+mod bench;
 mod event;
 pub mod laws;
-mod transfer;
+mod world;
 
 pub use control_ep::Why;
 pub use debounce::Scan;
-pub use device::World;
-pub use event::{Answer, Event, Reading};
+pub use event::{Answer, Event};
 pub use flash_model::Mask;
+pub use host::{Reading, UsageList};
 pub use keymap_store::Work;
-pub use transfer::Stage;
+pub use reports::Report;
+pub use world::World;

@@ -1,4 +1,4 @@
-use Rattle.session_law.proofs.Example.{answered, hears, came_through, was_down, is_up}
+use Rattle.session_law.proofs.Example.{answered, hears, came_through, was_down, is_up, had_waited, is_next}
 use Rattle.session_law.proofs.a_session.Goals as goal
 
 pub returns-clause-answered : goal.returns-clause-answered
@@ -15,3 +15,9 @@ returns-clause-pressed c = was_down
 
 pub returns-clause-released : goal.returns-clause-released
 returns-clause-released c = is_up
+
+pub returns-clause-waited : goal.returns-clause-waited
+returns-clause-waited c = had_waited
+
+pub returns-clause-next : goal.returns-clause-next
+returns-clause-next c = is_next

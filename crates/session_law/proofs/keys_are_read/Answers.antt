@@ -1,6 +1,9 @@
 use Rattle.key_reports.specs.Past.{keys_after, consumer_after}
 use Rattle.keyboard.specs.Keys.{key_calls}
-use Rattle.session_law.proofs.Naming.{bitmap_names, boot_names, overflow_names, consumer_is_named, consumer_names}
+use Rattle.session_law.proofs.Naming.{bitmap_names, boot_names, overflow_names, consumer_is_named, consumer_names, consumer_least, consumer_size}
+use Rattle.reading_law.proofs.All.{usages-rising}
+use Rattle.std.specs.List.Sorted.{IsStrictlyIncreasing}
+use Rattle.std.proofs.Common.{sym, subst, ℕ, List}
 use Rattle.session_law.proofs.keys_are_read.Goals as goal
 
 pub returns-clause-bitmap : goal.returns-clause-bitmap
@@ -22,3 +25,16 @@ returns-clause-consumer c start past bytes usages n i usage named =
 pub returns-clause-all_consumer : goal.returns-clause-all_consumer
 returns-clause-all_consumer c start past bytes usages n i few usage named =
     consumer_names (key_calls start n.sent.moment) (keys_after (key_calls start n.sent.moment)) n.sent.input usages n.usages_are i few usage named
+
+pub returns-clause-least_consumer : goal.returns-clause-least_consumer
+returns-clause-least_consumer c start past bytes usages n i usage lesser read named less =
+    consumer_least (key_calls start n.sent.moment) (keys_after (key_calls start n.sent.moment)) n.sent.input usages n.usages_are i usage lesser read named less
+
+pub returns-clause-count_consumer : goal.returns-clause-count_consumer
+returns-clause-count_consumer c start past bytes usages n i =
+    consumer_size (consumer_after (key_calls start n.sent.moment)) (keys_after (key_calls start n.sent.moment)) n.sent.input usages n.usages_are i
+
+pub returns-clause-rising : goal.returns-clause-rising
+returns-clause-rising c start past bytes usages n =
+    subst (λ (l : List ℕ). IsStrictlyIncreasing l) (sym n.usages_are)
+    (usages-rising (keys_after (key_calls start n.sent.moment)) (consumer_after (key_calls start n.sent.moment)) n.sent.input)

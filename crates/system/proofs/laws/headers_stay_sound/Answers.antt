@@ -1,5 +1,0 @@
-use Rattle.system.proofs.Sounding.{keeps_sound}
-use Rattle.system.proofs.laws.headers_stay_sound.Goals as goal
-
-pub returns : goal.returns
-returns c start history h = keeps_sound start history h

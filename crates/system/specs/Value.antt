@@ -1,9 +1,0 @@
--- What contracts see of the world.
-use Rattle.flash_model.specs.Sim.{SimValue}
-use Rattle.keyboard.specs.Value.{KeyboardValue}
-use Rattle.host.specs.declared.gatherer.Host.{Host}
-
-pub record WorldValue : Type 0 where
-  pub keyboard : KeyboardValue
-  pub host : Host
-  pub flash : SimValue

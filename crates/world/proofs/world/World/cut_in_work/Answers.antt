@@ -1,0 +1,16 @@
+use Rattle.std.proofs.Common.{ap}
+use Rattle.world.specs.Flash.{armed_by}
+use Rattle.world.specs.History.{session}
+use Rattle.world.proofs.Standing.{same_flash, on_bench, works_in, cut_inside, arms}
+use Rattle.world.proofs.world.World.cut_in_work.Goals as goal
+
+pub returns : goal.returns
+returns c start past s =
+    let t = rw (← c.self.view_is) at s in
+    let image = same_flash start past _ t in
+    rw c.start_anew.ensures.told
+    (cut_inside start past _ c.args.mask.now c.work.result c.start_anew.new.keyboard c.start_anew.new.host c.work.new.flash.flash t
+    (works_in start past _ (armed_by c.copy_of.result.items c.self.inside.bench.flash) _ c.work.result c.work.new.flash.flash t
+    (c.work.ensures.answer _ _ t.keyboard image) (arms start past _ _ _ c.copy_of.ensures t)
+    (λ n. on_bench (session start past) (armed_by c.copy_of.result.items c.self.inside.bench.flash) c.work.result c.work.new.flash.flash _ (c.work.ensures.operated _ _ t.keyboard image n)) (λ i. ap (λ b. b.flash) (c.work.ensures.untouched i)) (λ n. (c.work.ensures.faultless n).1))
+    c.start_anew.ensures.stands (c.start_anew.ensures.host _ t.host))

@@ -1,0 +1,11 @@
+use Rattle.std.proofs.Common.{subst}
+use Rattle.keyboard.specs.Calls.{image_after}
+use Rattle.world.specs.History.{session}
+use Rattle.world.proofs.Standing.{entry_shown}
+use Rattle.world.proofs.world.World.entry.Goals as goal
+
+pub returns : goal.returns
+returns c start past s =
+    let t = rw (← c.self.view_is) at s in
+    rw c.just.ensures
+    (entry_shown start past _ c.args.layer c.args.key c.get.result s (c.get.ensures.entry _ (c.keymap.ensures.of_image _ _ t.keyboard)))

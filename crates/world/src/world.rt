@@ -1,0 +1,354 @@
+//! The keyboard with its host and its flash, and the events that they take.
+
+ghost use Rattle.std.specs.Prelude.{◌≡◌, ◌+◌, ◌≤◌, ℕ, List, [], ◌∷◌, None, Some, length, vec_len, is_ok, not, false, IfOk, OnOk};
+ghost use Rattle.host.specs.StandsFor as host_stands;
+ghost use Rattle.host.specs.Calls.{HostCall, lost};
+ghost use Rattle.keyboard.specs.Calls.{In};
+ghost use Rattle.keyboard.specs.Stands as keyboard_stands;
+ghost use Rattle.keyboard.specs.Value.{RunsOn};
+ghost use Rattle.world.specs.declared.event.Answer.TheVariants.{Restarted};
+ghost use Rattle.flash_model.specs.Sim.{SimValue};
+ghost use Rattle.world.specs.declared.event.Event.TheVariants.{Scan as ScanEvent, Setup, OutPacket, InPacket, Poll, Work as WorkEvent, WorkFault, Cut, CutInWork, BusReset, Entry, SlotAt, Leds};
+ghost use Rattle.world.specs.Kinds.{Step, told};
+ghost use Rattle.session_law.specs.Heard.{heard, with_heard};
+ghost use Rattle.world.specs.History.{EachStep};
+ghost use Rattle.world.specs.Lawful.{IsAnswered, MayRefuse, is_no_memory};
+ghost use Rattle.world.specs.Restart.{RestartsLegally, ShowsSettled};
+ghost use Rattle.world.specs.Acknowledged.{KeepsAcknowledged};
+ghost use Rattle.world.specs.Readings.{ReadsWanted, KeepsServed};
+ghost use Rattle.world.specs.Bounded.{StaysInTime};
+ghost use Rattle.world.specs.Sound.{KeepsSound};
+
+use crate::bench::Bench;
+use crate::event::{Answer, Event, Told};
+use arrayvec::ArrayVec;
+use debounce::Scan;
+use flash_model::{Mask, NorFlash, PAGE_SLOTS, SimFlash};
+use host::{Host, Reading};
+use keyboard::{EpAnswer, Keyboard};
+use keymap_store::Work;
+use layers::{KeyNo, LayerNo};
+use std::alloc::{AllocError, Global};
+use std::marker::Model;
+
+/// A keyboard on a simulated flash, and a host that reads its reports.
+#[derive(Drop)]
+pub struct World {
+    keyboard: Keyboard,
+    host: Host,
+    bench: Bench,
+}
+
+impl Model for World {
+    ghost use Rattle.std.specs.Prelude.{◌≡◌, None};
+    ghost use Rattle.keyboard.specs.Value.{RunsOn};
+    ghost use Rattle.world.specs.Value.{WorldValue};
+
+    ghost Value = { WorldValue };
+
+    ghost view = { λ w. record { keyboard = w.keyboard; host = w.host; flash = w.bench.flash } };
+
+    ghost invariant = { λ w. RunsOn w.bench.flash.image w.keyboard × (w.bench.tear ≡ None) };
+}
+
+impl World {
+    ghost use Rattle.host.specs.StandsFor as host_stands;
+    ghost use Rattle.world.specs.History.{host_calls};
+    ghost use Rattle.world.specs.Stands.{StandsFor, Runs};
+    ghost use Rattle.world.specs.Private.{Takes, Went};
+
+    /// The keyboard as it starts on a flash, whose keymap it reads, and a host that keeps no
+    /// descriptor. `AllocError` where there was no memory for the reports that wait; the flash is then
+    /// dropped.
+    pub fn new(alloc: Global, flash: SimFlash) -> Result<World, AllocError>
+        // it stands for no event, on this flash
+        ensures starts { IfOk result (λ world. StandsFor flash [] world) }
+        // the flash is as it was
+        ensures untouched { IfOk result (λ world. world.flash ≡ flash) }
+    {
+        let keyboard = Keyboard::start(alloc, &flash)?;
+        Ok(World {
+            keyboard,
+            host: Host::new(alloc),
+            bench: Bench { flash, tear: None },
+        })
+    }
+
+    /// The flash.
+    pub fn flash(&self) -> &SimFlash
+        ensures { result.now ≡ self.now.flash }
+    {
+        &self.bench.flash
+    }
+
+    /// The host.
+    pub fn host(&self) -> &Host
+        // it stands for all that it was told: the SETUP packets, the packets of data that IN packets were answered by, and
+        // that the keyboard was cut off or reset
+        ensures { (start : SimValue) (past : List Step) → StandsFor start past self.now → host_stands.StandsFor (host_calls past) result.now }
+    {
+        &self.host
+    }
+
+    /// Takes the events in order, and appends the answer of each.
+    ///
+    /// `AllocError` where there was no memory: for an answer, whose event and those after it were then
+    /// not taken; or for the host, which drops what it gathers or reads `NoMemory`: that event was
+    /// taken, its answer is appended, and those after it were not taken. A keyboard takes no memory
+    /// once it is there.
+    pub fn run(&mut self, events: &[Event], answers: &mut Vec<Answer>) -> Result<(), AllocError>
+        // Each event is answered as it has to be, what is operated on the flash is lawful, and the host reads each report
+        // by what it has heard.
+        ensures answered { Runs (EachStep IsAnswered) self.old self.new events.now answers.old.items answers.new.items (is_ok result) }
+        // Each restart finds the keymap of the restart before, changed by a prefix of the commands accepted since that did
+        // not fail, with each settled one among them; also where the power was cut inside a program or an erase.
+        ensures restarts { Runs (EachStep RestartsLegally) self.old self.new events.now answers.old.items answers.new.items (is_ok result) }
+        // What the host was told is stored is in the flash until a later command is accepted that would write the entry, even
+        // one that then fails.
+        ensures acknowledged { Runs KeepsAcknowledged self.old self.new events.now answers.old.items answers.new.items (is_ok result) }
+        // Each look at an entry shows the session's first keymap changed by the settled commands.
+        ensures looks { Runs (EachStep ShowsSettled) self.old self.new events.now answers.old.items answers.new.items (is_ok result) }
+        // What the host reads in each report is what the keymap gives for the debounced keys, at the moment that the report is
+        // of. The report is unread only where report protocol is in force and the host keeps no descriptor.
+        ensures reads { Runs (EachStep ReadsWanted) self.old self.new events.now answers.old.items answers.new.items (is_ok result) }
+        // The host keeps the keyboard's report descriptor where a fetch of it came through, in whichever session; else none.
+        ensures keeps { Runs KeepsServed self.old self.new events.now answers.old.items answers.new.items (is_ok result) }
+        // A command is settled or fails within 387 steps of the flash work.
+        ensures in_time { Runs (EachStep StaysInTime) self.old self.new events.now answers.old.items answers.new.items (is_ok result) }
+        // Headers that are sound stay so, and with one that is not nothing is ever written.
+        ensures sound { Runs KeepsSound self.old self.new events.now answers.old.items answers.new.items (is_ok result) }
+        // Ok says that all events were taken, and there is at most one answer for each.
+        ensures all { OnOk result (vec_len answers.new ≡ vec_len answers.old + length events.now) }
+        ensures at_most { vec_len answers.new ≤ vec_len answers.old + length events.now }
+    {
+        self.take_all(events, answers)
+    }
+
+    /// Takes the events in order.
+    fn take_all(&mut self, events: &[Event], answers: &mut Vec<Answer>) -> Result<(), AllocError>
+        ensures went { (start : SimValue) (past : List Step) → StandsFor start past self.old
+            → Went start past self.new events.now answers.old.items answers.new.items (is_ok result) }
+        ensures all { OnOk result (vec_len answers.new ≡ vec_len answers.old + length events.now) }
+        ensures at_most { vec_len answers.new ≤ vec_len answers.old + length events.now }
+    {
+        for event in events {
+            // Room comes first: without it the event has not happened.
+            answers.reserve(1)?;
+            let told = self.step(event);
+            answers.push(told.answer)?;
+            if told.refused {
+                return Err(AllocError);
+            }
+        }
+        Ok(())
+    }
+
+    /// Takes one event.
+    fn step(&mut self, event: &Event) -> Told
+        ensures { Takes event.now self.old result self.new }
+    {
+        match event {
+            Event::Scan(scan) => self.scan(*scan),
+            Event::Setup(bytes) => self.setup(*bytes),
+            Event::OutPacket(packet) => self.out_packet(packet),
+            Event::InPacket => self.in_packet(),
+            Event::Poll => self.poll(),
+            Event::Work => self.work(),
+            Event::WorkFault(mask) => self.work_fault(mask),
+            Event::Cut => self.cut(),
+            Event::CutInWork(mask) => self.cut_in_work(mask),
+            Event::BusReset => self.bus_reset(),
+            Event::Entry(layer, key) => self.entry(*layer, *key),
+            Event::SlotAt { page, slot } => self.slot_at(*page, *slot),
+            Event::Leds => self.leds(),
+        }
+    }
+
+    /// The keyboard takes a scan.
+    fn scan(&mut self, scan: Scan) -> Told
+        ensures { Takes (ScanEvent scan) self.old result self.new }
+    {
+        self.keyboard.scan(scan);
+        just(Answer::Done)
+    }
+
+    /// A SETUP packet, of which the host knows.
+    fn setup(&mut self, packet: [u8; 8]) -> Told
+        ensures { Takes (Setup packet) self.old result self.new }
+    {
+        self.keyboard.setup(packet);
+        self.host.setup(packet);
+        just(Answer::Ack)
+    }
+
+    /// An OUT packet.
+    fn out_packet(&mut self, packet: &ArrayVec<u8, 8>) -> Told
+        ensures { Takes (OutPacket packet.now) self.old result self.new }
+    {
+        just(told(self.keyboard.out(packet.as_slice())))
+    }
+
+    /// An IN token: a packet of data goes to the host.
+    fn in_packet(&mut self) -> Told
+        ensures { Takes InPacket self.old result self.new }
+    {
+        let answer = self.keyboard.in_packet();
+        let refused = hears(&mut self.host, &answer);
+        Told {
+            answer: told(answer),
+            refused,
+        }
+    }
+
+    /// A poll: the host reads the report, in the protocol in force.
+    fn poll(&mut self) -> Told
+        ensures { Takes Poll self.old result self.new }
+    {
+        let protocol = self.keyboard.protocol();
+        let Some(bytes) = self.keyboard.poll() else {
+            return just(Answer::Nak);
+        };
+        let reading = self.host.read(protocol, bytes.as_slice());
+        let refused = is_no_memory(&reading);
+        Told {
+            answer: Answer::Sent { bytes, reading },
+            refused,
+        }
+    }
+
+    /// A step of the flash work.
+    fn work(&mut self) -> Told
+        ensures { Takes WorkEvent self.old result self.new }
+    {
+        let work = self.keyboard.work(&mut self.bench);
+        self.bench.tear = None;
+        just(Answer::Worked(work))
+    }
+
+    /// A step of the flash work, whose operation the mask tears.
+    fn work_fault(&mut self, tear: &Mask) -> Told
+        ensures { Takes (WorkFault tear.now) self.old result self.new }
+    {
+        self.bench.tear = Some(copy_of(tear));
+        let work = self.keyboard.work(&mut self.bench);
+        self.bench.tear = None;
+        just(Answer::Worked(work))
+    }
+
+    /// All RAM of the keyboard is lost, and it starts on its flash.
+    fn cut(&mut self) -> Told
+        ensures { Takes Cut self.old result self.new }
+    {
+        start_anew(&mut self.keyboard, &mut self.host, &self.bench.flash)
+    }
+
+    /// The same in the middle of a step of the flash work, whose operation the mask tears.
+    fn cut_in_work(&mut self, mask: &Mask) -> Told
+        ensures { Takes (CutInWork mask.now) self.old result self.new }
+    {
+        self.bench.tear = Some(copy_of(mask));
+        let _ = self.keyboard.work(&mut self.bench);
+        self.bench.tear = None;
+        start_anew(&mut self.keyboard, &mut self.host, &self.bench.flash)
+    }
+
+    /// A bus reset, of which the host knows.
+    fn bus_reset(&mut self) -> Told
+        ensures { Takes BusReset self.old result self.new }
+    {
+        self.keyboard.bus_reset();
+        self.host.lose();
+        just(Answer::Done)
+    }
+
+    /// The code of an entry.
+    fn entry(&mut self, layer: LayerNo, key: KeyNo) -> Told
+        ensures { Takes (Entry layer key) self.old result self.new }
+    {
+        just(Answer::EntryIs(self.keyboard.keymap().get(layer, key)))
+    }
+
+    /// The bytes of a slot.
+    fn slot_at(&mut self, page: u8, slot: u16) -> Told
+        ensures { Takes (SlotAt page slot) self.old result self.new }
+    {
+        let pages = self.bench.flash.pages();
+        if page as usize >= pages {
+            return just(Answer::NoSlot);
+        }
+        if slot as usize >= PAGE_SLOTS {
+            return just(Answer::NoSlot);
+        }
+        just(Answer::SlotIs(self.bench.flash.read_slot(page as usize, slot as usize)))
+    }
+
+    /// The LEDs.
+    fn leds(&mut self) -> Told
+        ensures { Takes Leds self.old result self.new }
+    {
+        just(Answer::LedsAre(self.keyboard.leds()))
+    }
+}
+
+/// The keyboard loses all RAM and starts on its flash, and the host loses the keyboard.
+fn start_anew(keyboard: &mut Keyboard, host: &mut Host, flash: &SimFlash) -> Told
+    ensures stands { keyboard_stands.StandsFor flash.now.image [] keyboard.new }
+    ensures runs_on { RunsOn flash.now.image keyboard.new }
+    ensures host { (past : List HostCall) → host_stands.StandsFor past host.old → host_stands.StandsFor (lost ∷ past) host.new }
+    ensures told { result ≡ record { answer = Restarted; refused = false } }
+{
+    keyboard.restart(flash);
+    host.lose();
+    just(Answer::Restarted)
+}
+
+/// The host takes what an IN packet is answered by: a packet of data, for which it may be refused
+/// memory.
+fn hears(host: &mut Host, answer: &EpAnswer) -> bool
+    ensures stands { (past : List HostCall) → host_stands.StandsFor past host.old
+        → host_stands.StandsFor (with_heard (heard (In answer.now) (not result)) past) host.new }
+    ensures refused { (past : List HostCall) → host_stands.StandsFor past host.old → MayRefuse past answer.now result }
+{
+    match answer {
+        EpAnswer::Packet(packet) => host.packet(packet.as_slice()).is_err(),
+        EpAnswer::Ack | EpAnswer::Nak | EpAnswer::Stall(_) => false,
+    }
+}
+
+/// An answer to an event in which the host took no memory.
+fn just(answer: Answer) -> Told
+    ensures { result ≡ record { answer = answer; refused = false } }
+{
+    Told {
+        answer,
+        refused: false,
+    }
+}
+
+/// The answer of endpoint 0.
+fn told(answer: EpAnswer) -> Answer
+    ensures { result ≡ told answer }
+{
+    match answer {
+        EpAnswer::Ack => Answer::Ack,
+        EpAnswer::Nak => Answer::Nak,
+        EpAnswer::Packet(packet) => Answer::Packet(packet),
+        EpAnswer::Stall(why) => Answer::Stall(why),
+    }
+}
+
+/// Whether a growth was refused in a reading.
+fn is_no_memory(reading: &Reading) -> bool
+    ensures { result ≡ is_no_memory reading.now }
+{
+    matches!(reading, Reading::NoMemory)
+}
+
+/// The same mask once more.
+fn copy_of(mask: &Mask) -> Mask
+    ensures { result.items ≡ mask.now.items }
+{
+    let mut copy = Mask::new();
+    let _ = copy.try_extend_from_slice(mask.as_slice());
+    copy
+}
