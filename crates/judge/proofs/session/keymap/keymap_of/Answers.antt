@@ -1,0 +1,30 @@
+use Rattle.std.proofs.Common.{◌≡◌, ◌∙◌, ℕ, List, [], rules, sym, subst, unwrap_or}
+use Rattle.std.proofs.lemmas.List.{append-nil}
+use Rattle.layers.specs.Keymaps.{StandsFor}
+use Rattle.page_turnover.specs.Words.{words}
+use Rattle.keymap_store.proofs.Keymaps.{together_more, stands_other, entries_of-is}
+use Rattle.judge.proofs.session.keymap.keymap_of.Goals as goal
+
+pub loop-word-preserved-in-Some-command_in : goal.loop-word-preserved-in-Some-command_in
+loop-word-preserved-in-Some-command_in c = record {
+  stands = c.apply.ensures.stands _ c.loop-word.yielded c.in-Some.word c.loop-word.invariant.stands (sym c.command_in.ensures ∙ c.in-Some-command_in.is);
+  together = together_more c.loop-word.yielded c.loop-word.word-iterator c.next.new.self (words c.args.flash.now.image) c.in-Some.word c.in-Some.ensures.steps c.loop-word.invariant.together;
+}
+
+pub loop-word-preserved : goal.loop-word-preserved
+loop-word-preserved c = record {
+  stands = stands_other _ c.loop-word.yielded c.in-Some.word c.loop-word.keymap (sym c.command_in.ensures ∙ c.in_default.is) c.loop-word.invariant.stands;
+  together = together_more c.loop-word.yielded c.loop-word.word-iterator c.next.new.self (words c.args.flash.now.image) c.in-Some.word c.in-Some.ensures.steps c.loop-word.invariant.together;
+}
+
+pub loop-word-init : goal.loop-word-init
+loop-word-init c = record { stands = c.standard-keymap.ensures.stands _; together = search rules }
+
+pub returns : goal.returns
+returns c =
+    let image = c.args.flash.now.image in
+    let f = c.format-format.ensures image c.mount-log.ensures.describes in
+    let none : c.loop-word.word-iterator ≡ [] = search rules in
+    let all : c.loop-word.yielded ≡ words image = sym (append-nil c.loop-word.yielded) ∙ rw none at c.loop-word.invariant.together in
+    let P : List ℕ → Type 0 = λ ws. StandsFor (unwrap_or c.format-format.result 2) ws c.loop-word.keymap in
+    rw (entries_of-is image, ← f) (subst P all c.loop-word.invariant.stands)

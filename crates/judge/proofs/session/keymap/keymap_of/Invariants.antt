@@ -1,0 +1,12 @@
+use Rattle.std.proofs.Common.{◌≡◌, ◌++◌, List, ℕ, unwrap_or}
+use Rattle.layers.specs.Keymaps.{StandsFor}
+use Rattle.page_turnover.specs.Words.{words}
+use Rattle.judge.proofs.session.keymap.keymap_of.Given as goal
+
+-- the keymap is that of the words so far
+pub record SoFar (number : ℕ) (keymap yielded left all : List ℕ) : Type 0 where
+  pub stands : StandsFor number yielded keymap
+  pub together : yielded ++ left ≡ all
+
+abbrev pub invariant-loop-word : goal.invariant-loop-word
+invariant-loop-word l = SoFar (unwrap_or l.format 2) l.keymap l.yielded l.word-iterator (words l.flash.image)

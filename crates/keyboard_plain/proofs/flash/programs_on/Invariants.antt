@@ -1,6 +1,0 @@
-use Rattle.std.proofs.Common.{ℕ, ◌<◌}
-use Rattle.keyboard_plain.specs.Decides.{ProgramsAt}
-use Rattle.keyboard_plain.proofs.flash.programs_on.Given as goal
-
-abbrev pub invariant-loop-slot : goal.invariant-loop-slot
-invariant-loop-slot l = (s : ℕ) → s < l.slot → ProgramsAt l.old.image l.new.image l.page s → ⊥

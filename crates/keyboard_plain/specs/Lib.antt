@@ -1,6 +1,0 @@
-pub mod Records
-pub mod Decides
-pub mod Keys
-pub mod Commands
-pub mod Endpoint
-pub mod Judged

@@ -1,5 +1,0 @@
-use Rattle.std.proofs.Common.{length}
-use Rattle.world_plain.proofs.stage.+is_ended.Given as goal
-
-abbrev pub decreases-is_ended : goal.decreases-is_ended
-decreases-is_ended l = length l.past.now

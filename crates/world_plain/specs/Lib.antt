@@ -1,5 +1,0 @@
-pub mod Records
-pub mod Decides
-pub mod Sessions
-pub mod Polls
-pub mod Rests
