@@ -1,12 +1,12 @@
 -- Fetching the report descriptor, packet by packet.
 use Rattle.std.proofs.Common.{◌≡◌, ◌≢◌, false, ℕ, ◌+◌, ◌*◌, ◌<◌, ◌⊎◌, inl, inr, List, [], ◌∷◌, ◌++◌, length, refl, ap, sym, subst, ◌∙◌, arith, append_assoc}
 use Rattle.flash_model.specs.Sim.{SimValue}
-use Rattle.system.specs.declared.event.Event.TheVariants as event
-use Rattle.system.specs.declared.event.Answer.{Answer}
-use Rattle.system.specs.declared.event.Answer.TheVariants.{Ack, Packet}
-use Rattle.system.specs.Kinds.{Step}
-use Rattle.system.specs.Stands.{StandsFor}
-use Rattle.system.specs.Value.{WorldValue}
+use Rattle.world.specs.declared.event.Event.TheVariants as event
+use Rattle.world.specs.declared.event.Answer.{Answer}
+use Rattle.world.specs.declared.event.Answer.TheVariants.{Ack, Packet}
+use Rattle.world.specs.Kinds.{Step}
+use Rattle.world.specs.Stands.{StandsFor}
+use Rattle.world.specs.Value.{WorldValue}
 use Rattle.kbsim.specs.Fetches.{get_report_descriptor, Gives, AllFull, Gathers, IsGathered, IsFetched, IsUnclosed, IsCutShort, IsUnfetched}
 use Rattle.kbsim.specs.Outputs.{GoesOn, Takes}
 use Rattle.kbsim.proofs.PacketLemmas.{few_full}

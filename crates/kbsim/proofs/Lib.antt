@@ -2,5 +2,4 @@ pub mod FetchLemmas
 pub mod OutputLemmas
 pub mod PacketLemmas
 pub mod PrintLemmas
-pub mod ReaderLemmas
 pub mod WorkLemmas

@@ -10,20 +10,20 @@ use Rattle.std.proofs.lemmas.List.Elements.{All-nil, All-cons}
 use Rattle.std.specs.List.{All}
 use Rattle.std.specs.Io.KnownBytes.{Appends}
 use Rattle.std.proofs.KnownBytes.{Appends-nil, Appends-trans}
-use Rattle.system.specs.declared.event.Event.{Event}
-use Rattle.system.specs.declared.event.Event.TheVariants as event
-use Rattle.system.specs.declared.event.Answer.{Answer}
-use Rattle.system.specs.declared.event.Answer.TheVariants.{Ack, Worked}
+use Rattle.world.specs.declared.event.Event.{Event}
+use Rattle.world.specs.declared.event.Event.TheVariants as event
+use Rattle.world.specs.declared.event.Answer.{Answer}
+use Rattle.world.specs.declared.event.Answer.TheVariants.{Ack, Worked}
 use Rattle.keymap_store.specs.declared.store.Work.TheVariants.{Working}
 use Rattle.flash_model.specs.Image.{page_count}
 use Rattle.flash_model.specs.Sim.{SimValue}
-use Rattle.system.specs.Kinds.{Step}
-use Rattle.system.specs.History.{flash_after}
-use Rattle.system.specs.Stands.{StandsFor, NoneRefused, Goes, Runs}
-use Rattle.system.specs.Value.{WorldValue}
+use Rattle.world.specs.Kinds.{Step}
+use Rattle.world.specs.History.{flash_after}
+use Rattle.world.specs.Stands.{StandsFor, NoneRefused, Goes, Runs}
+use Rattle.world.specs.Value.{WorldValue}
 use Rattle.keyboard.specs.Bounded.{most_steps}
 use Rattle.kbsim.proofs.WorkLemmas.{working_few}
-use Rattle.kbsim.specs.Outputs.{set_feature, set_report, AllWorking, IsFlashWork, ShowsStatus, IsRepeated, IsRefusedSet, IsTakenSet, LineRuns, Prints, GoesOn, Takes, IsRun, IsBegun}
+use Rattle.kbsim.specs.Outputs.{set_feature, set_report, AllWorking, IsFlashWork, ShowsStatus, IsRepeated, IsRefusedSet, IsTakenSet, LineRuns, Prints, GoesOn, Takes, IsPassed, IsRun, IsBegun}
 use Rattle.kbsim.specs.Prints.{printed_line}
 use Rattle.kbsim.specs.Actions.{IsEventOf}
 use Rattle.kbsim.specs.declared.outcome.Outcome.{Outcome}
@@ -94,13 +94,25 @@ took_one P old new e before after rest answer runs none one last start past stan
     let answer_same : s.answer ≡ answer = cc in
     subst (λ (x : Step). StandsFor start (x ∷ past) new) (step_is s e answer new.flash event_same answer_same (sym flash_is) none_refused) stood
 
--- the same of what popping the answer gave
-pub taken_one : (P : SimValue → List Step → Type 0) (old new : WorldValue) (e : Event) (before after rest : List Answer) (popped : Option Answer) (result : Result Answer AllocError)
-    → Runs P old new (e ∷ []) before after true → before ≡ [] → length after ≡ length before + 1 → after ≡ rest ++ option_to_list popped
-    → result ≡ ok_or popped alloc_error → IfOk result (λ answer. Takes e answer old new)
-taken_one P old new e before after rest None result runs none one last is = rw is tt
-taken_one P old new e before after rest (Some answer) result runs none one last is =
-    rw is (took_one P old new e before after rest answer runs none (omega (arith, one, ap length none)) last)
+-- the same, where all that is known of the answers is that there is one
+pub passed_one : (P : SimValue → List Step → Type 0) (old new : WorldValue) (e : Event) (before after : List Answer)
+    → Runs P old new (e ∷ []) before after true → before ≡ [] → length after ≡ length before + 1 → IsPassed e after old new
+passed_one P old new e before after runs none one =
+    let only : length after ≡ 1 = omega (arith, one, ap length none) in
+    let (answer, is) = one_of after only in
+    (answer, is, took_one P old new e before after [] answer runs none only is)
+
+-- the answer is what popping it gives
+pub popped_one : (old new : WorldValue) (e : Event) (after rest : List Answer) (popped : Option Answer) (result : Result Answer AllocError)
+    → IsPassed e after old new → after ≡ rest ++ option_to_list popped → result ≡ ok_or popped alloc_error
+    → IfOk result (λ answer. Takes e answer old new)
+popped_one old new e after rest None result passed last is = rw is tt
+popped_one old new e after rest (Some answer) result (told, one, takes) last is =
+    let whole : told ∷ [] ≡ rest ++ answer ∷ [] = sym one ∙ last in
+    let no_more : rest ≡ [] = none_of rest (omega (arith, ap length whole, length-append rest (answer ∷ []))) in
+    let same : told ∷ [] ≡ answer ∷ [] = whole ∙ ap (λ (xs : List Answer). xs ++ answer ∷ []) no_more in
+    let answer_same : told ≡ answer = cc in
+    rw is (subst (λ (a : Answer). Takes e a old new) answer_same takes)
 
 -- a line of one event
 pub one_runs : (e : Event) (answer : Answer) (old new : WorldValue) (P : List Step → Type 0) → Takes e answer old new

@@ -19,14 +19,14 @@ use Rattle.control_ep.proofs.Moves.{in_sent}
 use Rattle.keyboard.specs.Calls.{Call, SetUp, In}
 use Rattle.keyboard.specs.Effects.{effect_told}
 use Rattle.keyboard.specs.Endpoint.{ep_calls, view_after}
-use Rattle.system.specs.declared.event.Event.{Event}
-use Rattle.system.specs.declared.event.Event.TheVariants.{Setup, InPacket}
-use Rattle.system.specs.declared.event.Answer.{Answer}
-use Rattle.system.specs.declared.event.Answer.TheVariants.{Packet}
-use Rattle.system.specs.Kinds.{Step, Kind, calls, kind_of, ep_told}
-use Rattle.system.specs.History.{Session, session, session_with}
-use Rattle.system.specs.Stands.{StandsFor}
-use Rattle.system.specs.Value.{WorldValue}
+use Rattle.world.specs.declared.event.Event.{Event}
+use Rattle.world.specs.declared.event.Event.TheVariants.{Setup, InPacket}
+use Rattle.world.specs.declared.event.Answer.{Answer}
+use Rattle.world.specs.declared.event.Answer.TheVariants.{Packet}
+use Rattle.world.specs.Kinds.{Step, Kind, calls, kind_of, ep_told}
+use Rattle.world.specs.History.{Session, session, session_with}
+use Rattle.world.specs.Stands.{StandsFor}
+use Rattle.world.specs.Value.{WorldValue}
 use Rattle.kbsim.specs.Fetches.{get_report_descriptor, AllFull}
 
 -- a packet of eight bytes has all of them from the bytes that are sent

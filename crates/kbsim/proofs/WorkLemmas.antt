@@ -13,15 +13,15 @@ use Rattle.keyboard.proofs.Accepting.{ended_by-working}
 use Rattle.keyboard.proofs.Bounding.{steps_since-more}
 use Rattle.keyboard.proofs.Effects.{accepts-work}
 use Rattle.keyboard.proofs.Sessions.{orderly, working_after, after_stays}
-use Rattle.system.specs.declared.event.Event.{Event}
-use Rattle.system.specs.declared.event.Event.TheVariants.{Work}
-use Rattle.system.specs.declared.event.Answer.{Answer}
-use Rattle.system.specs.declared.event.Answer.TheVariants.{Worked}
-use Rattle.system.specs.Kinds.{Step, Kind, calls, kind_of}
-use Rattle.system.specs.History.{Session, session, session_with, host_calls, flash_after, EachStep}
-use Rattle.system.specs.Bounded.{StaysInTime}
-use Rattle.system.specs.Lawful.{IsAnswered, Answered}
-use Rattle.system.proofs.Here.{here}
+use Rattle.world.specs.declared.event.Event.{Event}
+use Rattle.world.specs.declared.event.Event.TheVariants.{Work}
+use Rattle.world.specs.declared.event.Answer.{Answer}
+use Rattle.world.specs.declared.event.Answer.TheVariants.{Worked}
+use Rattle.world.specs.Kinds.{Step, Kind, calls, kind_of}
+use Rattle.world.specs.History.{Session, session, session_with, host_calls, flash_after, EachStep}
+use Rattle.world.specs.Bounded.{StaysInTime}
+use Rattle.world.specs.Lawful.{IsAnswered, Answered}
+use Rattle.world.proofs.Here.{here}
 use Rattle.kbsim.specs.Outputs.{AllWorking}
 
 -- the calls of the keyboard that such steps are

@@ -1,10 +1,10 @@
--- The event of a line.
+-- Believed: the event of a line.
 use Rattle.std.specs.Prelude.{◌≡◌}
 use Rattle.script.specs.Masks.{WritesMask}
 use Rattle.script.specs.declared.statement.Action.{Action}
 use Rattle.script.specs.declared.statement.Action.TheVariants as action
-use Rattle.system.specs.declared.event.Event.{Event}
-use Rattle.system.specs.declared.event.Event.TheVariants as event
+use Rattle.world.specs.declared.event.Event.{Event}
+use Rattle.world.specs.declared.event.Event.TheVariants as event
 
 -- the event that a line of one event stands for
 abbrev pub IsEventOf : Action → Event → Type 0

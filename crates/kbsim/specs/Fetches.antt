@@ -1,9 +1,9 @@
--- A whole transfer of the report descriptor (USB 2.0 section 8.5.3).
+-- Believed: a whole transfer of the report descriptor (USB 2.0 section 8.5.3).
 use Rattle.std.specs.Prelude.{◌≡◌, ◌≢◌, ℕ, ◌+◌, ◌*◌, ◌<◌, ◌⊎◌, List, [], ◌∷◌, ◌++◌, length}
-use Rattle.system.specs.declared.event.Event.TheVariants as event
-use Rattle.system.specs.declared.event.Answer.{Answer}
-use Rattle.system.specs.declared.event.Answer.TheVariants.{Ack, Packet}
-use Rattle.system.specs.Kinds.{Step}
+use Rattle.world.specs.declared.event.Event.TheVariants as event
+use Rattle.world.specs.declared.event.Answer.{Answer}
+use Rattle.world.specs.declared.event.Answer.TheVariants.{Ack, Packet}
+use Rattle.world.specs.Kinds.{Step}
 
 -- the SETUP packet that asks for 255 bytes of the report descriptor (HID 1.11 section 7.1.1)
 abbrev pub get_report_descriptor : List ℕ

@@ -1,21 +1,21 @@
--- What the lines of a script do to the device, and what they print.
+-- Believed: what the lines of a script do to the device, and what they print.
 use Rattle.std.specs.Prelude.{◌≡◌, ◌≢◌, ℕ, ◌*◌, ◌<◌, ◌/◌, ◌%◌, ◌⊎◌, List, [], ◌∷◌, ◌++◌, length, replicate, take, None, false}
 use Rattle.std.specs.Int.NonZero.{non_zero_u16_get}
 use Rattle.std.specs.List.{All}
 use Rattle.std.specs.Str.Lines.{lines}
 use Rattle.flash_model.specs.Image.{page_count}
 use Rattle.flash_model.specs.Sim.{SimValue}
-use Rattle.system.specs.declared.event.Event.{Event}
-use Rattle.system.specs.declared.event.Event.TheVariants as event
-use Rattle.system.specs.declared.event.Answer.{Answer}
-use Rattle.system.specs.declared.event.Answer.TheVariants.{Ack, Packet, Worked}
+use Rattle.world.specs.declared.event.Event.{Event}
+use Rattle.world.specs.declared.event.Event.TheVariants as event
+use Rattle.world.specs.declared.event.Answer.{Answer}
+use Rattle.world.specs.declared.event.Answer.TheVariants.{Ack, Packet, Worked}
 use Rattle.keymap_store.specs.declared.store.Work.TheVariants.{Working}
-use Rattle.system.specs.Kinds.{Step}
-use Rattle.system.specs.History.{EachStep, flash_after}
-use Rattle.system.specs.Lawful.{IsAnswered}
-use Rattle.system.specs.Bounded.{StaysInTime}
-use Rattle.system.specs.Stands.{StandsFor, NoneRefused}
-use Rattle.system.specs.Value.{WorldValue}
+use Rattle.world.specs.Kinds.{Step}
+use Rattle.world.specs.History.{EachStep, flash_after}
+use Rattle.world.specs.Lawful.{IsAnswered}
+use Rattle.world.specs.Bounded.{StaysInTime}
+use Rattle.world.specs.Stands.{StandsFor, NoneRefused}
+use Rattle.world.specs.Value.{WorldValue}
 use Rattle.kbsim.specs.Actions.{IsEventOf}
 use Rattle.kbsim.specs.Fetches.{IsFetched, IsUnfetched}
 use Rattle.kbsim.specs.Prints.{printed_line}
@@ -154,3 +154,7 @@ abbrev pub Takes : Event → Answer → WorldValue → WorldValue → Type 0
 Takes event answer old new =
     (start : SimValue) (past : List Step) → StandsFor start past old
     → StandsFor start (record { event = event; answer = answer; flash = new.flash; refused = false } ∷ past) new
+
+-- the same, and these answers are that event's alone
+abbrev pub IsPassed : Event → List Answer → WorldValue → WorldValue → Type 0
+IsPassed event answers old new = (answer : Answer) × (answers ≡ answer ∷ []) × Takes event answer old new

@@ -1,9 +1,10 @@
--- What is printed of an answer, and of a fault.
-use Rattle.std.specs.Prelude.{ℕ, ◌/◌, ◌%◌, ◌^◌, false, List, [], ◌∷◌, ◌++◌, codes}
+-- Believed: what is printed of an answer, and of a fault.
+use Rattle.std.specs.Prelude.{ℕ, ◌/◌, ◌%◌, List, [], ◌∷◌, ◌++◌, codes}
 use Rattle.std.specs.List.{flat_map}
-use Rattle.std.specs.Fmt.{decimal, digit_glyph}
-use Rattle.system.specs.declared.event.Answer.{Answer}
-use Rattle.system.specs.declared.event.Answer.TheVariants.{Done, Sent, Ack, Nak, Packet, Stall, Worked, Restarted, EntryIs, SlotIs, NoSlot, LedsAre}
+use Rattle.std.specs.Fmt.{decimal}
+use Rattle.text_io.specs.Digits.{in_hex, word_in_hex}
+use Rattle.world.specs.declared.event.Answer.{Answer}
+use Rattle.world.specs.declared.event.Answer.TheVariants.{Done, Sent, Ack, Nak, Packet, Stall, Worked, Restarted, EntryIs, SlotIs, NoSlot, LedsAre}
 use Rattle.host.specs.declared.reading.Reading.{Reading}
 use Rattle.host.specs.declared.reading.Reading.TheVariants.{Unread, NoMemory, Usages}
 use Rattle.kbsim.specs.declared.outcome.Outcome.{Outcome}
@@ -15,13 +16,6 @@ use Rattle.script.specs.declared.fault.LineFault.{LineFault}
 use Rattle.script.specs.declared.fault.LineFault.TheVariants.{UnknownWord, WrongWords, BadNumber, BadHex}
 use Rattle.kbsim.specs.declared.fault.RunError.{RunError}
 use Rattle.kbsim.specs.declared.fault.RunError.TheVariants as error
-
--- a byte in hex: two digits in lower case
-abbrev pub byte_in_hex : ℕ → List ℕ
-byte_in_hex b = digit_glyph false (b / 16) ∷ digit_glyph false (b % 16) ∷ []
-
-unfoldable pub in_hex : List ℕ → List ℕ
-in_hex bytes = flat_map byte_in_hex bytes
 
 -- a step of the flash work
 abbrev pub outcome_name : Work → List ℕ
@@ -35,13 +29,9 @@ abbrev pub shown_packet : List ℕ → List ℕ
 shown_packet [] = codes "-"
 shown_packet (byte ∷ bytes) = in_hex (byte ∷ bytes)
 
--- a usage in hex, eight digits: its page and its number on that page
-abbrev pub usage_in_hex : ℕ → List ℕ
-usage_in_hex usage = in_hex (usage / 2 ^ 24 ∷ usage / 2 ^ 16 % 256 ∷ usage / 2 ^ 8 % 256 ∷ usage % 256 ∷ [])
-
--- each after a space
+-- usages, each after a space: its page and its number on that page
 unfoldable pub shown_usages : List ℕ → List ℕ
-shown_usages usages = flat_map (λ usage. 32 ∷ usage_in_hex usage) usages
+shown_usages usages = flat_map (λ usage. 32 ∷ word_in_hex usage) usages
 
 -- the usages that the host reads in a report, or that there are none
 abbrev pub shown_read : List ℕ → List ℕ

@@ -1,4 +1,4 @@
--- What comes of reading a whole text, or an image.
+-- Believed: what comes of reading a whole text, or an image.
 use Rattle.std.specs.Prelude.{ℕ, ◌<◌, List, length, Option, IfSome, ⊤}
 use Rattle.flash_model.specs.Image.{IsImage}
 use Rattle.kbsim.specs.declared.fault.RunError.{RunError}

@@ -1,4 +1,4 @@
--- Why a script is not run to its end.
+-- Believed: why a script is not run to its end.
 use Rattle.std.specs.Prelude.{ℕ, ◌<◌, ◌≤◌, ◌⊎◌, List, length, Option, IfSome, ⊤}
 use Rattle.std.specs.Str.Lines.{lines}
 use Rattle.script.specs.Scripts.{Script, IsFirstFault}

@@ -5,7 +5,7 @@ ghost use Rattle.kbsim.specs.Fetches.{get_report_descriptor, IsGathered, IsFetch
 ghost use Rattle.kbsim.specs.Outputs.{FetchRuns, GoesOn};
 
 use crate::outcome::Outcome;
-use crate::run::{is_ack, take};
+use crate::run::{is_ack, send, take};
 use crate::{Answer, Event, World};
 use arrayvec::ArrayVec;
 use std::alloc::AllocError;
@@ -26,7 +26,7 @@ pub(crate) fn fetch(world: &mut World, answers: &mut Vec<Answer>) -> Result<Outc
         Ok(count) => count,
         Err(answer) => return Ok(Outcome::Answered(answer)),
     };
-    let told = take(world, &Event::OutPacket(ArrayVec::new()), answers)?;
+    let told = send(world, ArrayVec::new(), answers)?;
     if is_ack(&told) {
         return Ok(Outcome::Fetched(count));
     }
@@ -42,8 +42,9 @@ fn gather(world: &mut World, answers: &mut Vec<Answer>) -> Result<Result<u16, An
 {
     // A SETUP packet is always acknowledged.
     take(world, &Event::Setup(GET_REPORT_DESCRIPTOR), answers)?;
+    let event = Event::InPacket;
     for full in 0..MOST_PACKETS {
-        let answer = take(world, &Event::InPacket, answers)?;
+        let answer = take(world, &event, answers)?;
         let Some(length) = packet_length(&answer) else {
             return Ok(Err(answer));
         };

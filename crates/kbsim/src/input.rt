@@ -2,11 +2,12 @@
 
 ghost use Rattle.std.specs.Prelude.{◌≡◌, ◌+◌, ◌≤◌, ℕ, List, length, IfOk, IfErr, IfSome, vec_len};
 ghost use Rattle.std.specs.Io.KnownBytes.{Consumes};
-ghost use Rattle.kbsim.specs.Readers.{longest, IsReadingFault};
+ghost use Rattle.kbsim.specs.Readers.{IsReadingFault};
 
 use crate::RunError;
 use std::alloc::Global;
 use std::io::Read;
+use text_io::ReadError;
 
 /// The length of the longest script in bytes.
 pub(crate) const LONGEST: usize = 1_048_576;
@@ -19,28 +20,15 @@ pub(crate) fn read_whole<R: Read>(
     reader: &mut R,
     most: usize,
 ) -> Result<Vec<u8>, RunError>
-    requires { most ≤ longest }
     ensures read { IfOk result (λ text. IfSome (R.remaining reader.old) (λ all. text.items ≡ all)) }
     ensures short { IfOk result (λ text. vec_len text ≤ most) }
     ensures refused { IfErr result (λ e. IsReadingFault most (R.remaining reader.old) e) }
     ensures few { (taken : List ℕ) × Consumes (R.remaining reader.old) (R.remaining reader.new) taken × (length taken ≤ most + 1) }
 {
-    let mut text = Vec::new(alloc);
-    let mut piece = [0u8; 4096];
-    loop {
-        let left = most - text.len();
-        let place = &mut piece[..4096.min(left + 1)];
-        let Ok(count) = reader.read(place) else {
-            return Err(RunError::Input);
-        };
-        if count == 0 {
-            return Ok(text);
-        }
-        if count > left {
-            return Err(RunError::TooLong);
-        }
-        if text.extend_from_slice(&place[..count]).is_err() {
-            return Err(RunError::Memory);
-        }
+    match text_io::read_whole(alloc, reader, most) {
+        Ok(text) => Ok(text),
+        Err(ReadError::TooLong) => Err(RunError::TooLong),
+        Err(ReadError::Input) => Err(RunError::Input),
+        Err(ReadError::Memory) => Err(RunError::Memory),
     }
 }

@@ -1,126 +1,50 @@
-//! Printing answers and faults.
+//! Answers and faults as lines.
 
-ghost use Rattle.std.specs.Prelude.{◌≡◌, [], Some, IsOk, OnOk};
-ghost use Rattle.std.specs.Io.KnownBytes.{Appends, Keeps, append_known};
-ghost use Rattle.kbsim.specs.Prints.{fault_line, fault_name, in_hex, outcome_name, printed_line, shown, shown_outcome, shown_reading, shown_usages, usage_in_hex};
+ghost use Rattle.std.specs.Prelude.{◌≡◌, Some};
+ghost use Rattle.kbsim.specs.Prints.{fault_line, fault_name, outcome_name, printed_line, shown, shown_outcome, shown_reading, shown_usages};
 
 use crate::outcome::Outcome;
 use crate::{Answer, LineFault, Reading, RunError, Work};
-use arrayvec::ArrayString;
 use std::fmt;
-use std::fmt::Write as _;
-use std::io::Write;
+use text_io::{HexDigits, HexWord};
 
-/// Printed lines on their way to a writer, which gets them in pieces of at most 4,096 bytes.
+/// The line of an outcome: the number of the script's line, and the outcome.
 #[derive(Drop)]
-pub(crate) struct Printer<'w, W> {
-    writer: &'w mut W,
-    waiting: ArrayString<4096>,
+pub(crate) struct PrintedLine<'a> {
+    pub(crate) number: usize,
+    pub(crate) outcome: &'a Outcome,
 }
 
-/// The writer failed, or took no byte.
-#[derive(Clone, Copy, Debug, PartialEq, Eq)]
-pub(crate) struct WriterFault;
+impl fmt::Display for PrintedLine<'_> {
+    ghost output = { λ l. Some (printed_line l.number l.outcome.now) };
 
-impl<'w, W: Write> Printer<'w, W> {
-    pub(crate) fn new(writer: &'w mut W) -> Printer<'w, W>
-        ensures writer { result.writer ≡ writer.entry }
-        ensures empty { result.waiting.bytes ≡ [] }
-    {
-        Printer {
-            writer,
-            waiting: ArrayString::new(),
-        }
+    fn fmt<W: fmt::Write>(&self, f: &mut fmt::Formatter<W>) -> fmt::Result {
+        let number = self.number;
+        let shown = ShownOutcome(self.outcome);
+        writeln!(f, "{number} {shown}")
     }
+}
 
-    /// Prints what a script's line came to.
-    pub(crate) fn show(&mut self, line: usize, outcome: &Outcome) -> fmt::Result
-        ensures printed { OnOk result (Appends
-            (append_known (W.contents self.old.writer.now) self.old.waiting.bytes)
-            (append_known (W.contents self.new.writer.now) self.new.waiting.bytes)
-            (printed_line line outcome.now)) }
-        ensures same_writer { OnOk result (self.new.writer.ghost_name ≡ self.old.writer.ghost_name) }
-    {
-        let shown = ShownOutcome(outcome);
-        writeln!(self, "{line} {shown}")
-    }
+/// The line of a fault; nothing where it has none.
+#[derive(Drop)]
+pub(crate) struct FaultLine(pub(crate) RunError);
 
-    /// Prints the line of a fault, if it has one.
-    pub(crate) fn fault(&mut self, error: RunError) -> fmt::Result
-        ensures printed { OnOk result (Appends
-            (append_known (W.contents self.old.writer.now) self.old.waiting.bytes)
-            (append_known (W.contents self.new.writer.now) self.new.waiting.bytes)
-            (fault_line error)) }
-        ensures same_writer { OnOk result (self.new.writer.ghost_name ≡ self.old.writer.ghost_name) }
-    {
-        match error {
+impl fmt::Display for FaultLine {
+    ghost output = { λ l. Some (fault_line l.0) };
+
+    fn fmt<W: fmt::Write>(&self, f: &mut fmt::Formatter<W>) -> fmt::Result {
+        match self.0 {
             RunError::PageCount | RunError::Output => Ok(()),
             RunError::Line { line, fault } => {
                 let name = name_of(fault);
-                writeln!(self, "fault line {line}: {name}")
+                writeln!(f, "fault line {line}: {name}")
             }
-            RunError::TooLong => writeln!(self, "fault too long"),
-            RunError::Input => writeln!(self, "fault input"),
-            RunError::Image => writeln!(self, "fault image"),
-            RunError::Memory => writeln!(self, "fault memory"),
+            RunError::TooLong => writeln!(f, "fault too long"),
+            RunError::Input => writeln!(f, "fault input"),
+            RunError::Image => writeln!(f, "fault image"),
+            RunError::Memory => writeln!(f, "fault memory"),
         }
     }
-
-    /// Gives the writer all that was printed.
-    pub(crate) fn finish(&mut self) -> Result<(), WriterFault>
-        ensures given { OnOk result (Keeps
-            (append_known (W.contents self.old.writer.now) self.old.waiting.bytes)
-            (W.contents self.new.writer.now)) }
-        ensures same_writer { OnOk result (self.new.writer.ghost_name ≡ self.old.writer.ghost_name) }
-    {
-        self.send()?;
-        self.writer.flush().map_err(|_| WriterFault)
-    }
-
-    fn send(&mut self) -> Result<(), WriterFault>
-        ensures given { OnOk result (Keeps
-            (append_known (W.contents self.old.writer.now) self.old.waiting.bytes)
-            (W.contents self.new.writer.now)) }
-        ensures empty { OnOk result (self.new.waiting.bytes ≡ []) }
-        ensures nothing { self.old.waiting.bytes ≡ [] → IsOk result }
-        ensures same_writer { self.new.writer.ghost_name ≡ self.old.writer.ghost_name }
-    {
-        write_whole(self.writer, self.waiting.as_str().as_bytes())?;
-        self.waiting.clear();
-        Ok(())
-    }
-}
-
-impl<W: Write> fmt::Write for Printer<'_, W> {
-    ghost write_str_gives = { λ s bs t. (t.writer.ghost_name ≡ s.writer.ghost_name)
-        × Appends (append_known (W.contents s.writer.now) s.waiting.bytes)
-        (append_known (W.contents t.writer.now) t.waiting.bytes) bs };
-
-    fn write_str(&mut self, text: &str) -> fmt::Result {
-        if self.waiting.try_push_str(text).is_ok() {
-            return Ok(());
-        }
-        self.send().map_err(|_| fmt::Error)?;
-        if self.waiting.try_push_str(text).is_ok() {
-            return Ok(());
-        }
-        write_whole(self.writer, text.as_bytes()).map_err(|_| fmt::Error)
-    }
-}
-
-/// Writes all these bytes. Any fault of the writer ends it, an interruption too.
-fn write_whole<W: Write>(writer: &mut W, bytes: &[u8]) -> Result<(), WriterFault>
-    ensures given { OnOk result (Appends (W.contents writer.old) (W.contents writer.new) bytes.now) }
-    ensures nothing { bytes.now ≡ [] → IsOk result }
-{
-    let mut rest = bytes;
-    while !rest.is_empty() {
-        match writer.write(rest) {
-            Ok(taken) if taken > 0 => rest = &rest[taken..],
-            _ => return Err(WriterFault),
-        }
-    }
-    Ok(())
 }
 
 fn name_of(fault: LineFault) -> &'static str
@@ -167,7 +91,7 @@ impl fmt::Display for Shown<'_> {
         match self.0 {
             Answer::Done => write!(f, "ok"),
             Answer::Sent { bytes, reading } => {
-                let digits = Digits(bytes.as_slice());
+                let digits = HexDigits(bytes.as_slice());
                 let read = Read(reading);
                 write!(f, "report {digits} {read}")
             }
@@ -175,7 +99,7 @@ impl fmt::Display for Shown<'_> {
             Answer::Nak => write!(f, "nak"),
             Answer::Packet(bytes) if bytes.is_empty() => write!(f, "data -"),
             Answer::Packet(bytes) => {
-                let digits = Digits(bytes.as_slice());
+                let digits = HexDigits(bytes.as_slice());
                 write!(f, "data {digits}")
             }
             Answer::Stall(why) => {
@@ -186,17 +110,17 @@ impl fmt::Display for Shown<'_> {
             Answer::Restarted => write!(f, "restart"),
             Answer::EntryIs(code) => {
                 let bytes = code.bits().to_be_bytes();
-                let digits = Digits(bytes.as_slice());
+                let digits = HexDigits(bytes.as_slice());
                 write!(f, "{digits}")
             }
             Answer::SlotIs(bytes) => {
-                let digits = Digits(bytes.as_slice());
+                let digits = HexDigits(bytes.as_slice());
                 write!(f, "{digits}")
             }
             Answer::NoSlot => write!(f, "no slot"),
             Answer::LedsAre(leds) => {
                 let bytes = [*leds];
-                let digits = Digits(bytes.as_slice());
+                let digits = HexDigits(bytes.as_slice());
                 write!(f, "{digits}")
             }
         }
@@ -233,24 +157,10 @@ impl fmt::Display for Usages<'_> {
 
     fn fmt<W: fmt::Write>(&self, f: &mut fmt::Formatter<W>) -> fmt::Result {
         for usage in self.0 {
-            let usage = Usage(*usage);
+            let usage = HexWord(*usage);
             write!(f, " {usage}")?;
         }
         Ok(())
-    }
-}
-
-/// A usage as eight hex digits: its page, and its number on that page.
-#[derive(Drop)]
-struct Usage(u32);
-
-impl fmt::Display for Usage {
-    ghost output = { λ u. Some (usage_in_hex u.0) };
-
-    fn fmt<W: fmt::Write>(&self, f: &mut fmt::Formatter<W>) -> fmt::Result {
-        let bytes = self.0.to_be_bytes();
-        let digits = Digits(bytes.as_slice());
-        write!(f, "{digits}")
     }
 }
 
@@ -262,22 +172,5 @@ fn outcome_of(work: Work) -> &'static str
         Work::Working => "working",
         Work::Settled => "settled",
         Work::Failed => "failed",
-    }
-}
-
-/// Bytes as hex digits.
-#[derive(Drop)]
-struct Digits<'a>(&'a [u8]);
-
-impl fmt::Display for Digits<'_> {
-    ghost output = { λ d. Some (in_hex d.0.now) };
-
-    fn fmt<W: fmt::Write>(&self, f: &mut fmt::Formatter<W>) -> fmt::Result {
-        let bytes = self.0;
-        for byte in bytes {
-            let byte = *byte;
-            write!(f, "{byte:02x}")?;
-        }
-        Ok(())
     }
 }

@@ -3,11 +3,12 @@
 ghost use Rattle.std.specs.Prelude.{◌≡◌, ◌≢◌, ◌<◌, ◌≤◌, ℕ, List, [], ◌++◌, slice_index, length, take, Some, ◌↔◌, ◌⊎◌, IfOk, IfErr, IfSome, OnOk, IsTrue};
 ghost use Rattle.std.specs.Int.NonZero.{non_zero_u16_get};
 ghost use Rattle.std.specs.Str.Lines.{lines};
-ghost use Rattle.std.specs.Io.KnownBytes.{Appends, append_known};
+ghost use Rattle.std.specs.Io.KnownBytes.{Appends};
+ghost use Rattle.text_io.specs.Printers.{Prints, given, printed, printer_writer};
 ghost use Rattle.flash_model.specs.Image.{page_count};
 ghost use Rattle.flash_model.specs.Sim.{SimValue};
-ghost use Rattle.system.specs.Stands.{StandsFor};
-ghost use Rattle.kbsim.specs.Outputs.{set_report, blank, IsFlashWork, LineRuns, IsRepeated, IsRefusedSet, IsTakenSet, IsRun, IsOutput, IsBegun, GoesOn, Takes};
+ghost use Rattle.world.specs.Stands.{StandsFor};
+ghost use Rattle.kbsim.specs.Outputs.{set_report, blank, IsFlashWork, LineRuns, IsRepeated, IsRefusedSet, IsTakenSet, IsRun, IsOutput, IsBegun, GoesOn, Takes, IsPassed};
 ghost use Rattle.kbsim.specs.Prints.{fault_line};
 ghost use Rattle.kbsim.specs.Readers.{longest};
 ghost use Rattle.kbsim.specs.Scripts.{IsEarly, IsSound, IsRunFault};
@@ -18,15 +19,17 @@ use crate::fetch::fetch;
 use crate::flash::blank_flash;
 use crate::input::{LONGEST, read_whole};
 use crate::outcome::Outcome;
-use crate::print::Printer;
+use crate::print::{FaultLine, PrintedLine};
 use crate::{Answer, Event, RunError, Work, World};
 use arrayvec::ArrayVec;
 use flash_model::{NorFlash, SimFlash};
-use script::{Line, ScriptError, Statement, read_lines};
+use script::{Action, Line, ScriptError, Statement, read_lines};
 use std::alloc::{AllocError, Global};
 use std::io::{Read, Write};
 use std::num::NonZeroU16;
 use std::slice;
+use text_io::Printer;
+use world::Scan;
 
 /// The most steps that a command's flash work takes: an erase, a copy of each of the 384 entries,
 /// a header and a record.
@@ -143,12 +146,12 @@ fn run_lines<W: Write>(
 fn tell<W: Write>(printer: &mut Printer<'_, W>, error: RunError) -> RunError
     ensures outcome { (result ≡ error) ⊎ (result ≡ RunError.Output) }
     ensures printed { result ≢ RunError.Output → Appends
-        (append_known (W.contents printer.old.writer.now) printer.old.waiting.bytes)
-        (W.contents printer.new.writer.now)
+        (printed W.contents printer.old)
+        (given W.contents printer.new)
         (fault_line error) }
-    ensures same_writer { result ≢ RunError.Output → printer.new.writer.ghost_name ≡ printer.old.writer.ghost_name }
+    ensures same_writer { result ≢ RunError.Output → printer_writer printer.new ≡ printer_writer printer.old }
 {
-    if error == RunError::Output || printer.fault(error).is_err() {
+    if error == RunError::Output || printer.print(&FaultLine(error)).is_err() {
         return RunError::Output;
     }
     if printer.finish().is_err() {
@@ -179,18 +182,13 @@ fn perform<W: Write>(
     lines: &[Line<'_>],
     printer: &mut Printer<'_, W>,
 ) -> Result<World, RunError>
-    ensures printed { IfOk result (λ world. (text : List ℕ) × IsRun flash lines.now text world.flash × Appends
-        (append_known (W.contents printer.old.writer.now) printer.old.waiting.bytes)
-        (append_known (W.contents printer.new.writer.now) printer.new.waiting.bytes)
-        text) }
-    ensures same_writer { OnOk result (printer.new.writer.ghost_name ≡ printer.old.writer.ghost_name) }
+    ensures printed { IfOk result (λ world. (text : List ℕ) × IsRun flash lines.now text world.flash × Prints W.contents printer.old printer.new text) }
+    ensures same_writer { OnOk result (printer_writer printer.new ≡ printer_writer printer.old) }
     ensures late { IfErr result (λ e. (e ≡ RunError.Memory) ⊎ ((e ≡ RunError.Output) × (lines.now ≢ []))) }
     ensures stopped { result ≡ Err RunError.Memory → (count : ℕ) × (text : List ℕ) × (after : SimValue)
         × ((text ≡ []) ⊎ (count < length lines.now)) × IsRun flash (take count lines.now) text after
-        × Appends (append_known (W.contents printer.old.writer.now) printer.old.waiting.bytes)
-        (append_known (W.contents printer.new.writer.now) printer.new.waiting.bytes)
-        text }
-    ensures same_writer_stopped { result ≡ Err RunError.Memory → printer.new.writer.ghost_name ≡ printer.old.writer.ghost_name }
+        × Prints W.contents printer.old printer.new text }
+    ensures same_writer_stopped { result ≡ Err RunError.Memory → printer_writer printer.new ≡ printer_writer printer.old }
 {
     let mut world = world_on(alloc, flash)?;
     let mut answers = Vec::new(alloc);
@@ -198,7 +196,11 @@ fn perform<W: Write>(
         let Ok(outcome) = run_line(&mut world, &line.statement, &mut answers) else {
             return Err(RunError::Memory);
         };
-        let Ok(()) = printer.show(line.number, &outcome) else {
+        let shown = PrintedLine {
+            number: line.number,
+            outcome: &outcome,
+        };
+        let Ok(()) = printer.print(&shown) else {
             return Err(RunError::Output);
         };
     }
@@ -222,12 +224,9 @@ fn run_line(
     ensures { IfOk result (λ outcome. GoesOn (λ steps. LineRuns statement.now steps outcome) world.old world.new) }
 {
     match statement {
-        Statement::One(action) => {
-            let answer = take(world, &event_of(action), answers)?;
-            Ok(Outcome::Answered(answer))
-        }
+        Statement::One(action) => act(world, action, answers),
         Statement::Scans { count, scan } => {
-            let answer = repeat(world, &Event::Scan(*scan), *count, answers)?;
+            let answer = repeat(world, *scan, *count, answers)?;
             Ok(Outcome::Answered(answer))
         }
         Statement::Set { layer, key, code } => {
@@ -236,6 +235,19 @@ fn run_line(
         }
         Statement::Fetch => fetch(world, answers),
     }
+}
+
+/// Runs a line of one event. Each place where an `Event` is made is in a function of its own, or outside a loop: all of
+/// an `Event` is filled with zeros where a function that has one begins, with the mask of 4,096 bytes that it may hold.
+fn act(
+    world: &mut World,
+    action: &Action<'_>,
+    answers: &mut Vec<Answer>,
+) -> Result<Outcome, AllocError>
+    ensures { IfOk result (λ outcome. GoesOn (λ steps. LineRuns (Statement.One action.now) steps outcome) world.old world.new) }
+{
+    let answer = take(world, &event_of(action), answers)?;
+    Ok(Outcome::Answered(answer))
 }
 
 /// Takes one event. `AllocError` where there was no memory for its answer, or for the host, which
@@ -247,26 +259,35 @@ pub(crate) fn take(
 ) -> Result<Answer, AllocError>
     ensures { IfOk result (λ answer. Takes event.now answer world.old world.new) }
 {
-    answers.clear();
-    world.run(slice::from_ref(event), answers)?;
+    pass(world, event, answers)?;
     answers.pop().ok_or(AllocError)
 }
 
-/// Takes an event `count` times. It is built once, however often it is taken. The answer is the
+/// Takes one event, and leaves its answer alone in the list.
+fn pass(world: &mut World, event: &Event, answers: &mut Vec<Answer>) -> Result<(), AllocError>
+    ensures { OnOk result (IsPassed event.now answers.new.items world.old world.new) }
+{
+    answers.clear();
+    world.run(slice::from_ref(event), answers)?;
+    Ok(())
+}
+
+/// Takes a scan `count` times. Its event is built once, however often it is taken. The answer is the
 /// last one.
 fn repeat(
     world: &mut World,
-    event: &Event,
+    scan: Scan,
     count: NonZeroU16,
     answers: &mut Vec<Answer>,
 ) -> Result<Answer, AllocError>
     ensures { IfOk result (λ answer. GoesOn (λ steps.
-        IsRepeated event.now (non_zero_u16_get count) steps answer) world.old world.new) }
+        IsRepeated (Event.Scan scan) (non_zero_u16_get count) steps answer) world.old world.new) }
 {
+    let event = Event::Scan(scan);
     for _again in 1..count.get() {
-        take(world, event, answers)?;
+        pass(world, &event, answers)?;
     }
-    take(world, event, answers)
+    take(world, &event, answers)
 }
 
 /// Sets an entry by a feature report, and takes the steps of its flash work. The answer is that
@@ -283,16 +304,34 @@ fn set(
 {
     // A SETUP packet is always acknowledged.
     take(world, &Event::Setup(SET_FEATURE), answers)?;
-    let told = take(world, &Event::OutPacket(command(place, code)), answers)?;
+    let told = send(world, command(place, code), answers)?;
     if !is_ack(&told) {
         return Ok(told);
     }
     work_off(world, answers)?;
-    let status = take(world, &Event::InPacket, answers)?;
+    let status = ask(world, answers)?;
     if is_success(&status) {
         return Ok(Answer::Ack);
     }
     Ok(status)
+}
+
+/// Takes an OUT packet.
+pub(crate) fn send(
+    world: &mut World,
+    packet: ArrayVec<u8, 8>,
+    answers: &mut Vec<Answer>,
+) -> Result<Answer, AllocError>
+    ensures { IfOk result (λ answer. Takes (Event.OutPacket packet) answer world.old world.new) }
+{
+    take(world, &Event::OutPacket(packet), answers)
+}
+
+/// Takes an IN packet.
+fn ask(world: &mut World, answers: &mut Vec<Answer>) -> Result<Answer, AllocError>
+    ensures { IfOk result (λ answer. Takes Event.InPacket answer world.old world.new) }
+{
+    take(world, &Event::InPacket, answers)
 }
 
 pub(crate) fn is_ack(answer: &Answer) -> bool
@@ -322,8 +361,9 @@ fn needs_more(answer: &Answer) -> bool
 fn work_off(world: &mut World, answers: &mut Vec<Answer>) -> Result<(), AllocError>
     ensures { OnOk result (GoesOn IsFlashWork world.old world.new) }
 {
+    let event = Event::Work;
     for _step in 0..MOST_STEPS {
-        let answer = take(world, &Event::Work, answers)?;
+        let answer = take(world, &event, answers)?;
         if !needs_more(&answer) {
             return Ok(());
         }

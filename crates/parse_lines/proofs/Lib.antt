@@ -3,6 +3,5 @@ pub mod FieldLemmas
 pub mod HexLemmas
 pub mod ListingLemmas
 pub mod PrintLemmas
-pub mod ReaderLemmas
 pub mod UsageLemmas
 pub mod WalkLemmas

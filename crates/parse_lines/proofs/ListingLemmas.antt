@@ -4,7 +4,7 @@ use Rattle.std.specs.Prelude.{replicate}
 use Rattle.std.proofs.lemmas.Fmt.{hex_byte}
 use Rattle.std.proofs.lemmas.List.{take_more, flat_map_more}
 use Rattle.std.specs.Fmt.{digits, format_spec, padded_integral}
-use Rattle.parse_lines.specs.Prints.{byte_in_hex}
+use Rattle.text_io.specs.Digits.{byte_in_hex}
 use Rattle.parse_lines.specs.Listings.{spaces, spaced_hex}
 
 pub spaces-none : spaces 0 ≡ []

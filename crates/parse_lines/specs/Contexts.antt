@@ -1,4 +1,4 @@
--- What ties the context that the code keeps to the items before.
+-- Only ties code to its definitions: what ties the context that the code keeps to the items before.
 use Rattle.std.specs.Prelude.{◌≡◌, ℕ, ◌≤◌, ◌^◌, ◌%◌, if◌then◌else◌, List, [], ◌∷◌, ◌++◌, length, filter, pos, int_lt, IsTrue, Option, None, Some, ⊤}
 use Rattle.descriptor_parse.specs.declared.fault.ParseFault.{ParseFault}
 use Rattle.descriptor_parse.specs.Items.{ItemValue}

@@ -1,7 +1,7 @@
--- What is printed of the keyboard's own descriptors.
+-- Believed: what is printed of the keyboard's own descriptors.
 use Rattle.std.specs.Prelude.{ℕ, List, [], ◌∷◌, ◌++◌, codes}
 use Rattle.descriptor_build.specs.Served.{device_bytes, configuration_bytes, report_bytes}
-use Rattle.parse_lines.specs.Prints.{in_hex}
+use Rattle.text_io.specs.Digits.{in_hex}
 
 -- the line of a descriptor: its name and its bytes in hex
 abbrev pub hex_line : List ℕ → List ℕ → List ℕ

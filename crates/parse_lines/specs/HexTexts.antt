@@ -1,4 +1,4 @@
--- What a text of hex digits says.
+-- Believed: what a text of hex digits says.
 use Rattle.std.specs.Prelude.{◌≡◌, ℕ, ◌%◌, ◌<◌, ◌==◌, ◌||◌, ◌⊎◌, not, Bool, false, List, length, filter, slice_index, Ok}
 use Rattle.hex.specs.Hex.{decode_of, is_hex_digit}
 use Rattle.parse_lines.specs.declared.fault.LinesError.{LinesError}

@@ -1,4 +1,4 @@
--- What is printed of the items of a report descriptor, and of the first fault among them.
+-- Believed: what is printed of the items of a report descriptor, and of the first fault among them.
 use Rattle.std.specs.Prelude.{◌≡◌, ℕ, ◌+◌, ◌-◌, ◌*◌, ◌==◌, if◌then◌else◌, nat_le, nat_lt, Bool, false, List, [], ◌∷◌, ◌++◌, length, take, drop, replicate, codes, Option, None, Some, Result, Ok, Err, IfSome, ⊤}
 use Rattle.std.specs.List.{flat_map}
 use Rattle.std.specs.Fmt.{decimal}
@@ -10,7 +10,8 @@ use Rattle.descriptor_parse.specs.Items.{ItemValue, head_size, items_at}
 use Rattle.descriptor_parse.specs.Tags.{tag, is_end_collection}
 use Rattle.descriptor_parse.specs.Fields.{open_collections}
 use Rattle.parse_lines.specs.HexTexts.{SaysBytes}
-use Rattle.parse_lines.specs.Prints.{byte_in_hex, fault_line}
+use Rattle.text_io.specs.Digits.{byte_in_hex}
+use Rattle.parse_lines.specs.Prints.{fault_line}
 use Rattle.parse_lines.specs.Words.{item_words}
 use Rattle.parse_lines.specs.declared.fault.LinesError.{LinesError}
 use Rattle.parse_lines.specs.declared.fault.LinesError.TheVariants as error

@@ -1,4 +1,5 @@
--- Names of the HID Usage Tables (HUT sections 3, 4, 11, 15 and 16) and of HID 1.11. A list without letters says that none is known.
+-- Believed: names of the HID Usage Tables (HUT sections 3, 4, 11, 15 and 16) and of HID 1.11. A list without letters says
+-- that none is known.
 use Rattle.std.specs.Prelude.{ℕ, ◌==◌, if◌then◌else◌, List, [], codes}
 
 abbrev pub page_name : ℕ → List ℕ

@@ -1,7 +1,8 @@
--- What is printed of a field, of a descriptor's bytes, and of a fault.
-use Rattle.std.specs.Prelude.{ℕ, ◌/◌, ◌%◌, ◌^◌, ◌==◌, if◌then◌else◌, Bool, true, false, List, [], ◌∷◌, ◌++◌, codes, zip}
+-- Believed: what is printed of a field, of a descriptor's bytes, and of a fault.
+use Rattle.std.specs.Prelude.{ℕ, ◌==◌, if◌then◌else◌, Bool, true, false, List, [], ◌∷◌, ◌++◌, codes, zip}
 use Rattle.std.specs.List.{flat_map}
-use Rattle.std.specs.Fmt.{decimal, signed_decimal, digit_glyph}
+use Rattle.std.specs.Fmt.{decimal, signed_decimal}
+use Rattle.text_io.specs.Digits.{word_in_hex}
 use Rattle.descriptor_parse.specs.Fault.{number_of}
 use Rattle.descriptor_parse.specs.declared.field.Field.{Field}
 use Rattle.descriptor_parse.specs.declared.field.Kind.{Kind}
@@ -9,21 +10,10 @@ use Rattle.descriptor_parse.specs.declared.field.Kind.TheVariants.{Input, Output
 use Rattle.parse_lines.specs.declared.fault.LinesError.{LinesError}
 use Rattle.parse_lines.specs.declared.fault.LinesError.TheVariants as error
 
--- a byte in hex: two digits in lower case
-abbrev pub byte_in_hex : ℕ → List ℕ
-byte_in_hex b = digit_glyph false (b / 16) ∷ digit_glyph false (b % 16) ∷ []
-
-unfoldable pub in_hex : List ℕ → List ℕ
-in_hex bytes = flat_map byte_in_hex bytes
-
--- a usage in hex, eight digits: its page and its number on that page
-abbrev pub usage_in_hex : ℕ → List ℕ
-usage_in_hex usage = in_hex (usage / 2 ^ 24 ∷ usage / 2 ^ 16 % 256 ∷ usage / 2 ^ 8 % 256 ∷ usage % 256 ∷ [])
-
 -- the usages of a range: the first and the last, or the only one
 abbrev pub shown_range : ℕ × ℕ → List ℕ
 shown_range range =
-    if range.0 == range.1 then usage_in_hex range.0 else usage_in_hex range.0 ++ (45 ∷ usage_in_hex range.1)
+    if range.0 == range.1 then word_in_hex range.0 else word_in_hex range.0 ++ (45 ∷ word_in_hex range.1)
 
 -- the usages of a field, with commas between its ranges
 unfoldable pub shown_usages : List (ℕ × ℕ) → List ℕ

@@ -1,4 +1,4 @@
--- What comes of reading a whole text.
+-- Believed: what comes of reading a whole text.
 use Rattle.std.specs.Prelude.{ℕ, ◌<◌, List, length, Option, IfSome, ⊤}
 use Rattle.parse_lines.specs.declared.fault.LinesError.{LinesError}
 use Rattle.parse_lines.specs.declared.fault.LinesError.TheVariants as error

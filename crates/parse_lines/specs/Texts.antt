@@ -1,4 +1,4 @@
--- What a text in hex declares, and why it is refused.
+-- Believed: what a text in hex declares, and why it is refused.
 use Rattle.std.specs.Prelude.{◌≡◌, ◌≢◌, ℕ, ◌<◌, ◌≤◌, List, length, Option, IfSome, ⊤}
 use Rattle.descriptor_parse.specs.declared.fault.ParseFault.TheVariants as fault
 use Rattle.descriptor_parse.specs.Descriptor.{DescriptorValue, Describes}

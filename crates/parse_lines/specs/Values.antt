@@ -1,4 +1,4 @@
--- How the values that the code holds read.
+-- Only ties code to its definitions: how the values that the code holds read.
 use Rattle.std.specs.Prelude.{ℕ, List, [], ◌++◌, codes}
 use Rattle.parse_lines.specs.Listings.{columns, spaces, mark}
 use Rattle.parse_lines.specs.Words.{hex_number, in_parentheses, number, flags_text}

@@ -1,4 +1,4 @@
--- What is printed of an item behind its bytes: its name, and in parentheses what its data say.
+-- Believed: what is printed of an item behind its bytes: its name, and in parentheses what its data say.
 use Rattle.std.specs.Prelude.{ℕ, ◌/◌, ◌%◌, ◌^◌, ◌==◌, if◌then◌else◌, nat_le, nat_lt, Bool, true, false, not, ◌&&◌, List, [], ◌∷◌, ◌++◌, length, codes, ℤ, pos, ◌-ℤ◌, int_lt}
 use Rattle.std.specs.Fmt.{digits, signed_decimal}
 use Rattle.descriptor_parse.specs.declared.field.Kind.{Kind}

@@ -6,9 +6,10 @@ ghost use Rattle.parse_lines.specs.Readers.{longest, IsReadingFault};
 use crate::LinesError;
 use std::alloc::Global;
 use std::io::Read;
+use text_io::{ReadError, read_whole};
 
 /// The length of the longest text in bytes.
-pub(crate) const LONGEST: usize = 1_048_576;
+const LONGEST: usize = 1_048_576;
 
 /// All that the reader gives, at most `LONGEST` bytes: `TooLong` where there are more, `Input` at the first fault of
 /// the reader, `Memory` where the text finds no room.
@@ -17,20 +18,10 @@ pub(crate) fn read_text<R: Read>(alloc: Global, reader: &mut R) -> Result<Vec<u8
     ensures short { IfOk result (λ text. vec_len text ≤ longest) }
     ensures refused { IfErr result (λ e. IsReadingFault (R.remaining reader.old) e) }
 {
-    let mut text = Vec::new(alloc);
-    let mut piece = [0u8; 4096];
-    loop {
-        let Ok(count) = reader.read(&mut piece) else {
-            return Err(LinesError::Input);
-        };
-        if count == 0 {
-            return Ok(text);
-        }
-        if count > LONGEST - text.len() {
-            return Err(LinesError::TooLong);
-        }
-        if text.extend_from_slice(&piece[..count]).is_err() {
-            return Err(LinesError::Memory);
-        }
+    match read_whole(alloc, reader, LONGEST) {
+        Ok(text) => Ok(text),
+        Err(ReadError::TooLong) => Err(LinesError::TooLong),
+        Err(ReadError::Input) => Err(LinesError::Input),
+        Err(ReadError::Memory) => Err(LinesError::Memory),
     }
 }

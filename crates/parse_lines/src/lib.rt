@@ -3,7 +3,8 @@
 //!
 //! [`parse_text`] reads hex digits and prints a line for each field that they declare (HID 1.11, section 6.2.2), and
 //! [`items_text`] a line for each item, up to the first fault. [`describe`] prints the descriptors of the keyboard. They
-//! go from any reader to any writer.
+//! go from any reader to any writer, and keep nothing. The promise is that the lines are exactly those of the text, and
+//! that a text which is refused is told by its first fault. The program `kbsim_cli` calls them.
 #![tactic(auto)]
 
 mod context;
@@ -16,8 +17,6 @@ mod names;
 mod number;
 mod print;
 mod served;
-#[cfg(test)]
-mod tests;
 mod text;
 mod words;
 

@@ -1,16 +1,12 @@
 //! The lines of items.
 
-ghost use Rattle.std.specs.Prelude.{◌≡◌, ◌-◌, ◌*◌, Some, OnOk};
-ghost use Rattle.std.specs.Io.KnownBytes.{Appends, append_known};
+ghost use Rattle.std.specs.Prelude.{◌≡◌, ◌-◌, ◌*◌, Some};
 ghost use Rattle.parse_lines.specs.Listings.{columns, fault_words, line, mark, offset_gap, spaced_hex, spaces};
 ghost use Rattle.parse_lines.specs.Values.{columns_text, line_text, told_text};
 
-use crate::print::Printer;
 use crate::words::Words;
 use descriptor_parse::ParseFault;
 use std::fmt;
-use std::fmt::Write as _;
-use std::io::Write;
 
 /// The columns on the left of a line: an offset, and bytes of the text.
 #[derive(Clone, Copy)]
@@ -39,32 +35,19 @@ pub(crate) enum Line<'a> {
     Fault(Columns<'a>, ParseFault),
 }
 
-impl<W: Write> Printer<'_, W> {
-    /// Prints a line of the listing.
-    pub(crate) fn listed(&mut self, told: Line<'_>) -> fmt::Result
-        ensures printed { OnOk result (Appends
-            (append_known (W.contents self.old.writer.now) self.old.waiting.bytes)
-            (append_known (W.contents self.new.writer.now) self.new.waiting.bytes)
-            (line (line_text told.entry))) }
-        ensures same_writer { OnOk result (self.new.writer.ghost_name ≡ self.old.writer.ghost_name) }
-    {
-        writeln!(self, "{told}")
-    }
-}
-
 impl fmt::Display for Line<'_> {
-    ghost output = { λ l. Some (line_text l) };
+    ghost output = { λ l. Some (line (line_text l)) };
 
     fn fmt<W: fmt::Write>(&self, f: &mut fmt::Formatter<W>) -> fmt::Result {
         match *self {
-            Line::Item(item) => write!(f, "{item}"),
+            Line::Item(item) => writeln!(f, "{item}"),
             Line::FaultAtItem(item, fault) => {
                 let mark = Mark(fault);
-                write!(f, "{item}  {mark}")
+                writeln!(f, "{item}  {mark}")
             }
             Line::Fault(columns, fault) => {
                 let mark = Mark(fault);
-                write!(f, "{columns}{mark}")
+                writeln!(f, "{columns}{mark}")
             }
         }
     }

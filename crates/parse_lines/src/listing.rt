@@ -1,7 +1,8 @@
 //! The items of a report descriptor as lines.
 
 ghost use Rattle.std.specs.Prelude.{◌≡◌, ◌≢◌, ◌≤◌, ℕ, List, length, drop, Option, None, Some, IfOk, IfErr, IfSome, OnOk};
-ghost use Rattle.std.specs.Io.KnownBytes.{Appends, append_known};
+ghost use Rattle.std.specs.Io.KnownBytes.{Appends};
+ghost use Rattle.text_io.specs.Printers.{Prints, printer_writer};
 ghost use Rattle.descriptor_parse.specs.declared.fault.ParseError.{ParseError};
 ghost use Rattle.descriptor_parse.specs.Faults.{IsFaultless};
 ghost use Rattle.descriptor_parse.specs.Items.{ItemValue};
@@ -18,13 +19,12 @@ use crate::context::Context;
 use crate::hex_text::bytes_of;
 use crate::input::read_text;
 use crate::lines::{Columns, ItemText, Line};
-use crate::print::Printer;
 use crate::text::{parsed, print_fault};
 use crate::words::words_of;
 use descriptor_parse::{Item, Items, ParseError};
 use std::alloc::Global;
-use std::fmt;
 use std::io::{Read, Write};
+use text_io::{Printer, WriteError};
 
 /// Reads a report descriptor in hex, and prints a line for each of its items (HID 1.11, section 6.2.2).
 ///
@@ -108,13 +108,10 @@ fn put_items<W: Write>(
     text: &[u8],
     fault: Option<ParseError>,
     printer: &mut Printer<'_, W>,
-) -> fmt::Result
+) -> Result<(), WriteError>
     requires { NoneBefore text.now fault }
-    ensures printed { OnOk result (Appends
-        (append_known (W.contents printer.old.writer.now) printer.old.waiting.bytes)
-        (append_known (W.contents printer.new.writer.now) printer.new.waiting.bytes)
-        (item_lines text.now fault)) }
-    ensures same_writer { OnOk result (printer.new.writer.ghost_name ≡ printer.old.writer.ghost_name) }
+    ensures printed { OnOk result (Prints W.contents printer.old printer.new (item_lines text.now fault)) }
+    ensures same_writer { OnOk result (printer_writer printer.new ≡ printer_writer printer.old) }
 {
     let mut context = Context::new();
     for each in Items::new(text) {
@@ -124,7 +121,7 @@ fn put_items<W: Write>(
                 if has_come(fault, item.offset) {
                     return put_fault(told, fault, printer);
                 }
-                printer.listed(Line::Item(told))?;
+                printer.print(&Line::Item(told))?;
                 context.take(&item);
             }
             Err(cut) => return put_end(text, fault, Some(cut.offset), printer),
@@ -183,16 +180,13 @@ fn put_fault<W: Write>(
     told: ItemText<'_>,
     fault: Option<ParseError>,
     printer: &mut Printer<'_, W>,
-) -> fmt::Result
-    ensures printed { OnOk result (Appends
-        (append_known (W.contents printer.old.writer.now) printer.old.waiting.bytes)
-        (append_known (W.contents printer.new.writer.now) printer.new.waiting.bytes)
-        (fault_item_line (told_text told.entry) told.entry.columns.offset fault)) }
-    ensures same_writer { OnOk result (printer.new.writer.ghost_name ≡ printer.old.writer.ghost_name) }
+) -> Result<(), WriteError>
+    ensures printed { OnOk result (Prints W.contents printer.old printer.new (fault_item_line (told_text told.entry) told.entry.columns.offset fault)) }
+    ensures same_writer { OnOk result (printer_writer printer.new ≡ printer_writer printer.old) }
 {
     match fault {
         Some(error) if error.offset == told.columns.offset => {
-            printer.listed(Line::FaultAtItem(told, error.fault))
+            printer.print(&Line::FaultAtItem(told, error.fault))
         }
         Some(error) => put_bare(error, &[], printer),
         None => Ok(()),
@@ -205,12 +199,9 @@ fn put_end<W: Write>(
     fault: Option<ParseError>,
     cut: Option<usize>,
     printer: &mut Printer<'_, W>,
-) -> fmt::Result
-    ensures printed { OnOk result (Appends
-        (append_known (W.contents printer.old.writer.now) printer.old.waiting.bytes)
-        (append_known (W.contents printer.new.writer.now) printer.new.waiting.bytes)
-        (end_lines text.now fault cut)) }
-    ensures same_writer { OnOk result (printer.new.writer.ghost_name ≡ printer.old.writer.ghost_name) }
+) -> Result<(), WriteError>
+    ensures printed { OnOk result (Prints W.contents printer.old printer.new (end_lines text.now fault cut)) }
+    ensures same_writer { OnOk result (printer_writer printer.new ≡ printer_writer printer.old) }
 {
     match (fault, cut) {
         (Some(error), Some(offset)) if error.offset == offset => put_bare(
@@ -224,17 +215,18 @@ fn put_end<W: Write>(
 }
 
 /// Prints a fault that no item has, and the bytes that are left.
-fn put_bare<W: Write>(error: ParseError, bytes: &[u8], printer: &mut Printer<'_, W>) -> fmt::Result
-    ensures printed { OnOk result (Appends
-        (append_known (W.contents printer.old.writer.now) printer.old.waiting.bytes)
-        (append_known (W.contents printer.new.writer.now) printer.new.waiting.bytes)
-        (bare_fault_line error bytes.now)) }
-    ensures same_writer { OnOk result (printer.new.writer.ghost_name ≡ printer.old.writer.ghost_name) }
+fn put_bare<W: Write>(
+    error: ParseError,
+    bytes: &[u8],
+    printer: &mut Printer<'_, W>,
+) -> Result<(), WriteError>
+    ensures printed { OnOk result (Prints W.contents printer.old printer.new (bare_fault_line error bytes.now)) }
+    ensures same_writer { OnOk result (printer_writer printer.new ≡ printer_writer printer.old) }
 {
     let columns = Columns {
         offset: error.offset,
         head: &[],
         data: bytes,
     };
-    printer.listed(Line::Fault(columns, error.fault))
+    printer.print(&Line::Fault(columns, error.fault))
 }

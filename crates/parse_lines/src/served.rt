@@ -1,14 +1,15 @@
 //! The descriptors that the keyboard serves, as lines.
 
 ghost use Rattle.std.specs.Prelude.{◌≡◌, ◌++◌, IfErr, OnOk};
-ghost use Rattle.std.specs.Io.KnownBytes.{Appends, append_known};
+ghost use Rattle.std.specs.Io.KnownBytes.{Appends};
+ghost use Rattle.text_io.specs.Printers.{Prints, printer_writer};
 ghost use Rattle.parse_lines.specs.Described.{described};
 
 use crate::LinesError;
-use crate::print::Printer;
+use crate::print::HexLine;
 use descriptor_build::{CONFIGURATION, DEVICE, served_report};
-use std::fmt;
 use std::io::Write;
+use text_io::{Printer, WriteError};
 
 /// Prints the descriptors that the keyboard serves: `device HEX`, `configuration HEX` and `report HEX`, each on a line
 /// of its own, in lower case (USB 2.0, section 9.6; HID 1.11, section 6.2.2).
@@ -27,14 +28,12 @@ pub fn describe<W: Write>(writer: &mut W) -> Result<(), LinesError>
 }
 
 /// Prints the three lines.
-fn print_descriptors<W: Write>(printer: &mut Printer<'_, W>) -> fmt::Result
-    ensures printed { OnOk result (Appends
-        (append_known (W.contents printer.old.writer.now) printer.old.waiting.bytes)
-        (append_known (W.contents printer.new.writer.now) printer.new.waiting.bytes)
-        described) }
-    ensures same_writer { OnOk result (printer.new.writer.ghost_name ≡ printer.old.writer.ghost_name) }
+fn print_descriptors<W: Write>(printer: &mut Printer<'_, W>) -> Result<(), WriteError>
+    ensures printed { OnOk result (Prints W.contents printer.old printer.new described) }
+    ensures same_writer { OnOk result (printer_writer printer.new ≡ printer_writer printer.old) }
 {
-    printer.bytes("device", &DEVICE)?;
-    printer.bytes("configuration", &CONFIGURATION)?;
-    printer.bytes("report", served_report().as_slice())
+    printer.print(&HexLine("device", &DEVICE))?;
+    printer.print(&HexLine("configuration", &CONFIGURATION))?;
+    let report = served_report();
+    printer.print(&HexLine("report", report.as_slice()))
 }

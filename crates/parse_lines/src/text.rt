@@ -1,7 +1,8 @@
 //! The fields of a report descriptor as lines.
 
 ghost use Rattle.std.specs.Prelude.{◌≡◌, ◌≢◌, ℕ, List, ◌⊎◌, IfOk, IfErr, IfSome, OnOk};
-ghost use Rattle.std.specs.Io.KnownBytes.{Appends, append_known};
+ghost use Rattle.std.specs.Io.KnownBytes.{Appends};
+ghost use Rattle.text_io.specs.Printers.{Prints, printer_writer};
 ghost use Rattle.descriptor_parse.specs.Faults.{IsFaultless, all_items};
 ghost use Rattle.descriptor_parse.specs.Descriptor.{Describes};
 ghost use Rattle.parse_lines.specs.Texts.{IsSound, Declares, IsOutput, IsTextFault, IsRefusal};
@@ -10,11 +11,11 @@ ghost use Rattle.parse_lines.specs.Prints.{fault_line, field_lines};
 use crate::LinesError;
 use crate::hex_text::bytes_of;
 use crate::input::read_text;
-use crate::print::Printer;
+use crate::print::{FaultLine, FieldLine};
 use descriptor_parse::{Descriptor, ParseFault, parse};
 use std::alloc::Global;
-use std::fmt;
 use std::io::{Read, Write};
+use text_io::{Printer, WriteError};
 
 /// Reads a report descriptor in hex, and prints a line for each of its fields (HID 1.11, section 6.2.2).
 ///
@@ -91,15 +92,16 @@ fn print_fields<W: Write>(descriptor: &Descriptor, writer: &mut W) -> Result<(),
     Ok(())
 }
 
-fn put_fields<W: Write>(descriptor: &Descriptor, printer: &mut Printer<'_, W>) -> fmt::Result
-    ensures printed { OnOk result (Appends
-        (append_known (W.contents printer.old.writer.now) printer.old.waiting.bytes)
-        (append_known (W.contents printer.new.writer.now) printer.new.waiting.bytes)
-        (field_lines descriptor.now.fields descriptor.now.ranges)) }
-    ensures same_writer { OnOk result (printer.new.writer.ghost_name ≡ printer.old.writer.ghost_name) }
+fn put_fields<W: Write>(
+    descriptor: &Descriptor,
+    printer: &mut Printer<'_, W>,
+) -> Result<(), WriteError>
+    ensures printed { OnOk result (Prints W.contents printer.old printer.new (field_lines descriptor.now.fields descriptor.now.ranges)) }
+    ensures same_writer { OnOk result (printer_writer printer.new ≡ printer_writer printer.old) }
 {
     for (place, field) in descriptor.fields().iter().enumerate() {
-        printer.field(field, descriptor.ranges(place))?;
+        let ranges = descriptor.ranges(place);
+        printer.print(&FieldLine { field, ranges })?;
     }
     Ok(())
 }
@@ -111,7 +113,7 @@ pub(crate) fn print_fault<W: Write>(error: LinesError, writer: &mut W) -> Result
         → Appends (W.contents writer.old) (W.contents writer.new) (fault_line error) }
 {
     let mut printer = Printer::new(writer);
-    if printer.fault(error).is_err() || printer.finish().is_err() {
+    if printer.print(&FaultLine(error)).is_err() || printer.finish().is_err() {
         return Err(LinesError::Output);
     }
     Err(error)

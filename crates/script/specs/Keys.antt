@@ -1,4 +1,4 @@
--- The keys that a scan names.
+-- Believed: the keys that a scan names.
 use Rattle.std.specs.Prelude.{◌≡◌, ◌==◌, ℕ, ◌<◌, Bool, List}
 use Rattle.std.specs.List.{All, list_any}
 use Rattle.std.specs.Str.Parse.{digits_value}

@@ -1,4 +1,4 @@
--- The masks of torn operations, as words write them.
+-- Believed: the masks of torn operations, as words write them.
 use Rattle.std.specs.Prelude.{◌≡◌, ℕ, ◌<◌, ◌⊎◌, List, [], length, codes}
 use Rattle.script.specs.Numbers.{WritesBytes, IsHexOf}
 

@@ -1,4 +1,4 @@
--- What a word of digits writes.
+-- Believed: what a word of digits writes.
 use Rattle.std.specs.Prelude.{◌≡◌, ℕ, ◌*◌, ◌<◌, ◌≤◌, List, length, Ok}
 use Rattle.std.specs.List.{AllPass}
 use Rattle.std.specs.Str.Parse.{IsNumeral, digits_value}

@@ -1,4 +1,4 @@
--- A whole script.
+-- Believed: a whole script.
 use Rattle.std.specs.Prelude.{◌≡◌, ℕ, ◌+◌, ◌==◌, ◌⊎◌, if◌then◌else◌, List, [], ◌∷◌, ◌++◌, length, slice_index}
 use Rattle.script.specs.Statements.{Says, IsFault}
 use Rattle.script.specs.Words.{words}

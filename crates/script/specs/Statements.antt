@@ -1,4 +1,4 @@
--- The lines of a script: what each one says, and which fault it has.
+-- Believed: the lines of a script: what each one says, and which fault it has; Reads only ties code.
 use Rattle.std.specs.Prelude.{◌≡◌, ◌≢◌, ℕ, ◌<◌, ◌≤◌, ◌⊎◌, List, [], ◌∷◌, length, map, codes, ◌+◌, ◌*◌, Result, MatchResult}
 use Rattle.std.specs.Int.NonZero.{non_zero_u16_get}
 use Rattle.script.specs.Keys.{WritesScan}

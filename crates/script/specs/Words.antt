@@ -1,4 +1,4 @@
--- The words of a line.
+-- Believed: the words of a line.
 use Rattle.std.specs.Prelude.{ℕ, ◌==◌, ◌||◌, nat_lt, Bool, List, length, filter}
 use Rattle.std.specs.List.{slice_split}
 

@@ -1,6 +1,9 @@
 //! The language of scripts: what each line of a text says, or which fault it has.
 //!
 //! [`read_lines`] checks a whole script. Nothing is run here.
+//!
+//! Nothing is kept. The promise is that a script is read as just what its lines say, or refused for its first fault.
+//! `kbsim` calls it.
 #![tactic(auto)]
 
 mod fault;

@@ -1,6 +1,8 @@
 //! The masks of torn operations, as lines write them.
 
-ghost use Rattle.std.specs.Prelude.{◌≡◌, ◌≤◌, MatchResult, length};
+ghost use Rattle.std.specs.Prelude.{◌≡◌, ◌≤◌, MatchResult, length, nat_eq};
+ghost use Rattle.std.specs.Cmp.{partial_equiv_from_equiv};
+ghost use Rattle.std.specs.Cmp.Lexicographic.{pointwise, nat_list_eq_equiv};
 ghost use Rattle.script.specs.Masks.{IsMaskWord, WritesMask};
 
 use crate::LineFault;
@@ -10,7 +12,8 @@ use flash_model::Mask;
 use std::marker::Model;
 
 /// The word of a mask: 1 to 4,096 bytes in hex, two digits a byte, or `-` for none. Its bytes are read
-/// where they are used, so that a script takes no memory for its masks beside its text.
+/// where they are used, so that a script takes no memory for its masks beside its text. Two are equal
+/// where they are written alike.
 #[derive(Debug, Drop)]
 pub struct MaskWord<'t> {
     word: &'t [u8],
@@ -47,6 +50,20 @@ impl<'t> MaskWord<'t> {
             Err(_) => unreachable!(),
         }
     }
+}
+
+impl<'t> PartialEq for MaskWord<'t> {
+    ghost eq = { pointwise nat_eq };
+
+    ghost laws = { partial_equiv_from_equiv nat_list_eq_equiv };
+
+    fn eq(&self, other: &MaskWord<'t>) -> bool {
+        self.word == other.word
+    }
+}
+
+impl<'t> Eq for MaskWord<'t> {
+    ghost laws = { nat_list_eq_equiv };
 }
 
 /// The mask that a word writes; `BadHex` where it writes none.

@@ -12,7 +12,7 @@ use crate::{LineFault, ScriptError};
 use std::alloc::Global;
 
 /// A line of a script that says something.
-#[derive(Debug, Drop)]
+#[derive(Debug, Drop, PartialEq, Eq)]
 pub struct Line<'t> {
     /// The place of the line in its script, counted from 1.
     pub number: usize,

@@ -68,7 +68,7 @@ impl Keyword {
 }
 
 /// What a line says, ready to be run.
-#[derive(Debug, Drop)]
+#[derive(Debug, Drop, PartialEq, Eq)]
 pub enum Statement<'t> {
     /// One event.
     One(Action<'t>),
@@ -81,7 +81,7 @@ pub enum Statement<'t> {
 }
 
 /// A line of one event.
-#[derive(Debug, Drop)]
+#[derive(Debug, Drop, PartialEq, Eq)]
 pub enum Action<'t> {
     /// A scan of the matrix.
     Scan(Scan),

@@ -42,45 +42,6 @@ fn closed(keys: &[u8]) -> Scan {
     scan
 }
 
-/// Whether two statements without masks say the same.
-fn is_same(one: &Statement<'_>, other: &Statement<'_>) -> bool {
-    match (one, other) {
-        (Statement::One(Action::Scan(a)), Statement::One(Action::Scan(b))) => a == b,
-        (Statement::Scans { count: n, scan: a }, Statement::Scans { count: m, scan: b }) => {
-            n == m && a == b
-        }
-        (Statement::One(Action::Setup(a)), Statement::One(Action::Setup(b))) => a == b,
-        (Statement::One(Action::Out(a)), Statement::One(Action::Out(b))) => a == b,
-        (Statement::One(Action::Entry(l, k)), Statement::One(Action::Entry(m, n))) => {
-            l == m && k == n
-        }
-        (
-            Statement::One(Action::Slot { page: p, slot: s }),
-            Statement::One(Action::Slot { page: q, slot: t }),
-        ) => p == q && s == t,
-        (
-            Statement::Set {
-                layer: l,
-                key: k,
-                code: c,
-            },
-            Statement::Set {
-                layer: m,
-                key: n,
-                code: d,
-            },
-        ) => l == m && k == n && c == d,
-        (Statement::One(Action::Poll), Statement::One(Action::Poll))
-        | (Statement::One(Action::In), Statement::One(Action::In))
-        | (Statement::One(Action::Work), Statement::One(Action::Work))
-        | (Statement::One(Action::Cut), Statement::One(Action::Cut))
-        | (Statement::One(Action::Reset), Statement::One(Action::Reset))
-        | (Statement::One(Action::Leds), Statement::One(Action::Leds))
-        | (Statement::Fetch, Statement::Fetch) => true,
-        _ => false,
-    }
-}
-
 /// The fault of a script.
 fn fault_of(rt: &impl Abort, alloc: Global, text: &[u8]) -> Option<ScriptError> {
     assert!(rt; text.len() <= 1_048_576);
@@ -141,7 +102,7 @@ fn each_line(rt: HostRuntime) -> Result<(), Fail> {
         } else {
             let (number, statement) = wanted.next().expect(&rt, "a line");
             assert_eq!(rt; line.number, *number);
-            assert!(rt; is_same(&line.statement, statement), "{line:?}");
+            assert_eq!(rt; line.statement, *statement);
         }
     }
     Ok(())

@@ -1,5 +1,5 @@
 use Rattle.std.proofs.Common.{◌≡◌, ◌≢◌, rules}
-use Rattle.system.specs.declared.event.Answer.TheVariants.{Ack}
+use Rattle.world.specs.declared.event.Answer.TheVariants.{Ack}
 use Rattle.kbsim.proofs.FetchLemmas.{fetched, unclosed, unfetched}
 use Rattle.kbsim.proofs.fetch.fetch.Goals as goal
 

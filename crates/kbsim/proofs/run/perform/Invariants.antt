@@ -1,5 +1,5 @@
 use Rattle.std.proofs.Common.{◌≡◌, take}
-use Rattle.std.specs.Io.KnownBytes.{append_known}
+use Rattle.text_io.specs.Printers.{printed, printer_writer}
 use Rattle.kbsim.proofs.OutputLemmas.{RunSoFar}
 use Rattle.kbsim.proofs.run.perform.Given as goal
 
@@ -11,6 +11,6 @@ pub record SoFar (run same : Type 0) : Type 0 where
 abbrev pub invariant-loop-line : goal.invariant-loop-line
 invariant-loop-line g l = SoFar
     (RunSoFar l.fn.flash (take l.line-index l.lines) l.world
-    (append_known (g.W.Write.contents l.fn.printer.writer.now) l.fn.printer.waiting.bytes)
-    (append_known (g.W.Write.contents l.printer.writer.now) l.printer.waiting.bytes))
-    (l.printer.writer.ghost_name ≡ l.fn.printer.writer.ghost_name)
+    (printed g.W.Write.contents l.fn.printer)
+    (printed g.W.Write.contents l.printer))
+    (printer_writer l.printer ≡ printer_writer l.fn.printer)

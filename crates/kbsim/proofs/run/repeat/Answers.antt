@@ -6,7 +6,9 @@ pub loop-again-init : goal.loop-again-init
 loop-again-init c = repeated_none _ _
 
 pub loop-again-preserved : goal.loop-again-preserved
-loop-again-preserved c = repeated_more _ _ _ _ _ _ c.loop-again.invariant c.in_ok-take.ensures
+loop-again-preserved c =
+    let (answer, is, takes) = c.in_ok-pass.ensures in
+    repeated_more _ _ _ _ _ _ c.loop-again.invariant takes
 
 pub returns : goal.returns
-returns c = repeated _ _ _ _ _ _ _ c.loop-again.invariant (search rules) c.take-2.ensures
+returns c = repeated _ _ _ _ _ _ _ c.loop-again.invariant (search rules) c.take.ensures

@@ -1,5 +1,6 @@
 use Rattle.kbsim.proofs.OutputLemmas.{RepeatedSoFar}
+use Rattle.world.specs.declared.event.Event.TheVariants.{Scan}
 use Rattle.kbsim.proofs.run.repeat.Given as goal
 
 abbrev pub invariant-loop-again : goal.invariant-loop-again
-invariant-loop-again l = RepeatedSoFar l.event l._again l.fn.world l.world
+invariant-loop-again l = RepeatedSoFar (Scan l.fn.scan) l._again l.fn.world l.world

@@ -1,5 +1,5 @@
 use Rattle.std.proofs.Common.{rules, ◌≡◌, ◌≢◌, [], refl, inl, inr}
-use Rattle.system.specs.declared.event.Answer.TheVariants.{Ack, Packet}
+use Rattle.world.specs.declared.event.Answer.TheVariants.{Ack, Packet}
 use Rattle.kbsim.proofs.OutputLemmas.{set_refused, set_taken}
 use Rattle.kbsim.proofs.run.set.Goals as goal
 

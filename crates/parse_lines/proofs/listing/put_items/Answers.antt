@@ -23,8 +23,8 @@ loop-each-preserved g c =
     let split : c.loop-each.each-iterator ≡ Ok (item_view c.in-Ok.item) ∷ c.next.new.self = c.in-Some.ensures.steps ∙ ap (λ e. result_view e ∷ c.next.new.self) c.in-Ok.is in
     record {
       walked = walked_more _ _ (item_view c.in-Ok.item) c.next.new.self _ _ _ _ _ (told_text c.item_text-told.result) c.requires (sym c.has_come.ensures ∙ c.if-has_come.false)
-          (rw split at c.loop-each.invariant.walked) c.item_text-told.ensures.told c.in_ok-listed-in-Ok.ensures.printed c.take.ensures;
-      same_writer = c.in_ok-listed-in-Ok.ensures.same_writer ∙ c.loop-each.invariant.same_writer;
+          (rw split at c.loop-each.invariant.walked) c.item_text-told.ensures.told c.in_ok-print-in-Ok.ensures.printed c.take.ensures;
+      same_writer = c.in_ok-print-in-Ok.ensures.same_writer ∙ c.loop-each.invariant.same_writer;
     }
 
 pub returns-in-Err-clause-printed : goal.returns-in-Err-clause-printed

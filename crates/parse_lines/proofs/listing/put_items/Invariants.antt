@@ -1,5 +1,5 @@
 use Rattle.std.proofs.Common.{◌≡◌}
-use Rattle.std.specs.Io.KnownBytes.{append_known}
+use Rattle.text_io.specs.Printers.{printed, printer_writer}
 use Rattle.parse_lines.proofs.WalkLemmas.{Walked}
 use Rattle.parse_lines.proofs.listing.put_items.Given as goal
 
@@ -11,6 +11,6 @@ pub record SoFar (items same : Type 0) : Type 0 where
 abbrev pub invariant-loop-each : goal.invariant-loop-each
 invariant-loop-each g l = SoFar
     (Walked l.fn.text l.fn.fault l.each-iterator l.context
-    (append_known (g.W.Write.contents l.fn.printer.writer.now) l.fn.printer.waiting.bytes)
-    (append_known (g.W.Write.contents l.printer.writer.now) l.printer.waiting.bytes))
-    (l.printer.writer.ghost_name ≡ l.fn.printer.writer.ghost_name)
+    (printed g.W.Write.contents l.fn.printer)
+    (printed g.W.Write.contents l.printer))
+    (printer_writer l.printer ≡ printer_writer l.fn.printer)

@@ -8,8 +8,8 @@ loop-place-init g c = record { printed = rw field_lines-none (Appends-nil _); sa
 
 pub loop-place-preserved : goal.loop-place-preserved
 loop-place-preserved g c = record {
-  printed = printed_more _ _ _ c.fields-field-items.result.now c.args.descriptor.now.fields c.args.descriptor.now.ranges c.loop-place.place _ c.ranges-in-loop-place.result.now
-      c.fields-field-items.ensures.all c.fields-field-items.ensures.well_formed.as_many c.loop-place-test.true c.ranges-in-loop-place.ensures
-      c.loop-place.invariant.printed c.in_ok-field.ensures.printed;
-  same_writer = c.in_ok-field.ensures.same_writer ∙ c.loop-place.invariant.same_writer;
+  printed = printed_more _ _ _ c.fields-field-items.result.now c.args.descriptor.now.fields c.args.descriptor.now.ranges c.loop-place.place _ c.ranges-ranges.result.now
+      c.fields-field-items.ensures.all c.fields-field-items.ensures.well_formed.as_many c.loop-place-test.true c.ranges-ranges.ensures
+      c.loop-place.invariant.printed c.in_ok-print.ensures.printed;
+  same_writer = c.in_ok-print.ensures.same_writer ∙ c.loop-place.invariant.same_writer;
 }

@@ -1,5 +1,6 @@
 use Rattle.std.proofs.Common.{◌≡◌, take}
-use Rattle.std.specs.Io.KnownBytes.{Appends, append_known}
+use Rattle.std.specs.Io.KnownBytes.{Appends}
+use Rattle.text_io.specs.Printers.{printed, printer_writer}
 use Rattle.parse_lines.specs.Prints.{field_lines}
 use Rattle.parse_lines.proofs.text.put_fields.Given as goal
 
@@ -10,7 +11,7 @@ pub record SoFar (lines same : Type 0) : Type 0 where
 
 abbrev pub invariant-loop-place : goal.invariant-loop-place
 invariant-loop-place g l = SoFar
-    (Appends (append_known (g.W.Write.contents l.fn.printer.writer.now) l.fn.printer.waiting.bytes)
-    (append_known (g.W.Write.contents l.printer.writer.now) l.printer.waiting.bytes)
+    (Appends (printed g.W.Write.contents l.fn.printer)
+    (printed g.W.Write.contents l.printer)
     (field_lines (take l.place l.descriptor.fields) l.descriptor.ranges))
-    (l.printer.writer.ghost_name ≡ l.fn.printer.writer.ghost_name)
+    (printer_writer l.printer ≡ printer_writer l.fn.printer)

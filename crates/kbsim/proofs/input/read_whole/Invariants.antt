@@ -1,9 +1,0 @@
-use Rattle.std.proofs.Common.{vec_len, ◌-◌}
-use Rattle.kbsim.proofs.ReaderLemmas.{ReadSoFar}
-use Rattle.kbsim.proofs.input.read_whole.Given as goal
-
-abbrev pub invariant-loop-count : goal.invariant-loop-count
-invariant-loop-count g l = ReadSoFar l.most (g.R.Read.remaining l.fn.reader) (g.R.Read.remaining l.reader) l.text.items
-
-abbrev pub decreases-loop-count : goal.decreases-loop-count
-decreases-loop-count g l = l.most - vec_len l.text

@@ -1,0 +1,43 @@
+//! Requests for memory that are refused. In a plain run none is; the test command can refuse one.
+
+use super::{same, so_ended, text_of};
+use arrayvec::ArrayVec;
+use parse_lines::{LinesError, items_text, parse_text};
+use std::process::Abort;
+
+/// An ID, a range and a single usage, and two fields.
+const TEXT: &[u8] = b"85 01 05 07 19 04 29 08 09 0A 75 01 95 06 81 02 A4 91 02 B4";
+
+const PRINTED: &str =
+    "input 1 0 1 6 0 0 variable 00070004-00070008,0007000a\noutput 1 0 1 6 0 0 variable -\n";
+
+const ITEMS: &str = "   0  09 0a           Usage (0Ah)
+   2  a4              Push
+   3  b4              Pop
+";
+
+/// All is printed, or the fault alone where a request was refused.
+fn is_told<R: Abort>(rt: &R, ended: Result<(), LinesError>, printed: &[u8], expected: &str) {
+    let (ends, expected) = match ended {
+        Ok(()) => (Ok(()), expected),
+        Err(_) => (Err(LinesError::Memory), "fault memory\n"),
+    };
+    same(rt, text_of(printed), expected, "the fault alone");
+    so_ended(rt, ended, ends, "the fault alone");
+}
+
+#[test]
+fn the_fault_alone(rt: HostRuntime) {
+    let mut reader = TEXT;
+    let mut printed: ArrayVec<u8, 128> = ArrayVec::new();
+    let ended = parse_text(rt.alloc(), &mut reader, &mut printed);
+    is_told(&rt, ended, printed.as_slice(), PRINTED);
+}
+
+#[test]
+fn the_fault_alone_of_items(rt: HostRuntime) {
+    let mut reader = b"09 0A A4 B4".as_slice();
+    let mut printed: ArrayVec<u8, 128> = ArrayVec::new();
+    let ended = items_text(rt.alloc(), &mut reader, &mut printed);
+    is_told(&rt, ended, printed.as_slice(), ITEMS);
+}

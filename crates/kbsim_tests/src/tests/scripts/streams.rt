@@ -1,0 +1,181 @@
+//! Readers and writers that fail, and the longest script.
+
+use super::{end_of, prints, same, so_ended, text_of};
+use crate::tests::streams::{
+    FailingReader, FailingWriter, KINDS, NeverFlushed, Repeated, before_it_fails,
+};
+use kbsim::{LineFault, RunError, blank_flash, print_fault, run_on, run_script};
+use std::alloc::Global;
+use std::io::{ErrorKind, Read, Write};
+use std::process::Abort;
+use std::test::Fail;
+
+const SCRIPT: &str = "entry 0 0\nset 0 0 0005\nslot 0 1\n";
+
+const PRINTED: &str = "1 0004\n2 ack\n3 05000010faffffef\n";
+
+/// Runs a script on a blank flash of two pages, or on one that is given.
+fn run<R: Read, W: Write>(
+    alloc: Global,
+    is_given: bool,
+    reader: &mut R,
+    writer: &mut W,
+) -> Result<(), RunError> {
+    if !is_given {
+        return run_script(alloc, 2, reader, writer);
+    }
+    let flash = blank_flash(alloc, 2)?;
+    end_of(run_on(alloc, flash, reader, writer))
+}
+
+#[test]
+fn a_reader_that_fails(rt: HostRuntime) {
+    // Seven reads give the script, and one more its end.
+    for reads_left in 0..9 {
+        let (ends, expected) = match reads_left {
+            8 => (Ok(()), PRINTED),
+            _ => (Err(RunError::Input), "fault input\n"),
+        };
+        for kind in [ErrorKind::Other, ErrorKind::Interrupted] {
+            for is_given in [false, true] {
+                let mut reader = FailingReader {
+                    text: SCRIPT.as_bytes(),
+                    reads_left,
+                    kind,
+                };
+                let mut printed = Vec::new(rt.alloc());
+                let ended = run(rt.alloc(), is_given, &mut reader, &mut printed);
+                same(&rt, text_of(printed.as_slice()), expected, expected);
+                so_ended(&rt, ended, ends, expected);
+            }
+        }
+    }
+}
+
+/// Compares how a call ended with this writer, which fails at this write, and all that it took.
+fn is_stopped<R: Abort>(
+    rt: &R,
+    writer: &FailingWriter,
+    writes: usize,
+    ended: Result<(), RunError>,
+    ends: Result<(), RunError>,
+    printed: &str,
+) {
+    let front = before_it_fails(printed, writes);
+    same(rt, text_of(writer.taken()), front, printed);
+    let is_whole = front.len() == printed.len();
+    let ends = if is_whole {
+        ends
+    } else {
+        Err(RunError::Output)
+    };
+    so_ended(rt, ended, ends, printed);
+}
+
+#[test]
+fn nothing_is_printed_after_a_write_that_failed(rt: HostRuntime) {
+    let fault = LineFault::WrongWords;
+    let wrong_words = Err(RunError::Line { line: 1, fault });
+    // Eleven writes, and ten for the line of a fault.
+    for (script, printed, ends) in [
+        (SCRIPT, PRINTED, Ok(())),
+        ("in x", "fault line 1: wrong words\n", wrong_words),
+    ] {
+        for writes in 0..13 {
+            for then in KINDS {
+                for is_given in [false, true] {
+                    let mut writer = FailingWriter::new(writes, then);
+                    let mut reader = script.as_bytes();
+                    let ended = run(rt.alloc(), is_given, &mut reader, &mut writer);
+                    is_stopped(&rt, &writer, writes, ended, ends, printed);
+                }
+            }
+        }
+    }
+}
+
+#[test]
+fn the_line_of_a_fault_that_can_not_be_written(rt: HostRuntime) {
+    for writes in 0..6 {
+        for then in KINDS {
+            let mut writer = FailingWriter::new(writes, then);
+            let ended = Err(print_fault(RunError::Image, &mut writer));
+            is_stopped(
+                &rt,
+                &writer,
+                writes,
+                ended,
+                Err(RunError::Image),
+                "fault image\n",
+            );
+        }
+    }
+}
+
+#[test]
+fn a_writer_that_does_not_flush(rt: HostRuntime) {
+    let refused = Err(RunError::Output);
+    for is_given in [false, true] {
+        let mut reader = SCRIPT.as_bytes();
+        let ended = run(rt.alloc(), is_given, &mut reader, &mut NeverFlushed);
+        so_ended(&rt, ended, refused, SCRIPT);
+    }
+    let ended = Err(print_fault(RunError::Image, &mut NeverFlushed));
+    so_ended(&rt, ended, refused, "a fault");
+}
+
+#[test]
+fn the_longest_script(rt: HostRuntime) {
+    let too_long = (Err(RunError::TooLong), "fault too long\n");
+    for (left, fails, (ends, expected)) in [
+        (1_048_576, false, (Ok(()), "")),
+        (1_048_577, false, too_long),
+        (2_000_000, false, too_long),
+        (1_048_576, true, (Err(RunError::Input), "fault input\n")),
+    ] {
+        // A comment.
+        let mut reader = Repeated {
+            byte: b'#',
+            left,
+            most: usize::MAX,
+            fails,
+        };
+        let mut printed = Vec::new(rt.alloc());
+        let ended = run_script(rt.alloc(), 2, &mut reader, &mut printed);
+        same(&rt, text_of(printed.as_slice()), expected, expected);
+        so_ended(&rt, ended, ends, expected);
+    }
+}
+
+#[test]
+fn more_than_the_buffer_holds(rt: HostRuntime) -> Result<(), Fail> {
+    let mut script = String::new(rt.alloc());
+    let mut expected = String::new(rt.alloc());
+    for number in 1u32..2000 {
+        script.push_str("slot 0 0\n")?;
+        let line = format!(in rt.alloc(); "{number} ffffffffffffffff\n")?;
+        expected.push_str(line.as_str())?;
+    }
+    prints(&rt, 2, script.as_bytes(), Ok(()), expected.as_str());
+    Ok(())
+}
+
+#[test]
+fn page_counts(rt: HostRuntime) {
+    for pages in [0, 1, 9, usize::MAX] {
+        prints(&rt, pages, b"in x\n", Err(RunError::PageCount), "");
+    }
+    for (pages, script, expected) in [
+        (2, "slot 1 511", "1 ffffffffffffffff\n"),
+        (8, "slot 1 511", "1 ffffffffffffffff\n"),
+        (8, "slot 7 0", "1 ffffffffffffffff\n"),
+        // A slot of the last of eight pages.
+        (
+            8,
+            "slot 7 511\nset 0 0 0005\n",
+            "1 ffffffffffffffff\n2 ack\n",
+        ),
+    ] {
+        prints(&rt, pages, script.as_bytes(), Ok(()), expected);
+    }
+}

@@ -1,0 +1,42 @@
+//! Reading all that a reader gives.
+
+ghost use Rattle.std.specs.Prelude.{◌≡◌, ◌+◌, ◌≤◌, ℕ, List, length, IfOk, IfErr, IfSome, vec_len};
+ghost use Rattle.std.specs.Io.KnownBytes.{Consumes};
+ghost use Rattle.text_io.specs.Readers.{IsReadError};
+
+use crate::ReadError;
+use std::alloc::Global;
+use std::io::Read;
+
+/// The most bytes that are asked of a reader at once.
+const PIECE: usize = 4096;
+
+/// All that the reader gives, at most `most` bytes.
+///
+/// `TooLong` comes where there are more, `Input` at the first fault of the reader, an interruption too, and `Memory`
+/// where the bytes find no room. At most one byte more than `most` is taken from the reader.
+pub fn read_whole<R: Read>(alloc: Global, reader: &mut R, most: usize) -> Result<Vec<u8>, ReadError>
+    ensures read { IfOk result (λ text. IfSome (R.remaining reader.old) (λ all. text.items ≡ all)) }
+    ensures short { IfOk result (λ text. vec_len text ≤ most) }
+    ensures refused { IfErr result (λ e. IsReadError most (R.remaining reader.old) e) }
+    ensures few { (taken : List ℕ) × Consumes (R.remaining reader.old) (R.remaining reader.new) taken × (length taken ≤ most + 1) }
+{
+    let mut text = Vec::new(alloc);
+    let mut piece = [0u8; PIECE];
+    loop {
+        let left = most - text.len();
+        let place = &mut piece[..PIECE.min(left.saturating_add(1))];
+        let Ok(count) = reader.read(place) else {
+            return Err(ReadError::Input);
+        };
+        if count == 0 {
+            return Ok(text);
+        }
+        if count > left {
+            return Err(ReadError::TooLong);
+        }
+        if text.extend_from_slice(&place[..count]).is_err() {
+            return Err(ReadError::Memory);
+        }
+    }
+}
