@@ -37,8 +37,9 @@ impl<F: NorFlash> Board<F> {
         self.keyboard.scan(scan);
     }
 
-    /// A step of the flash work, at most one program or erase, and whether endpoint 0 has to be armed again: the
-    /// status stage that was answered NAK is due.
+    /// A step of the flash work, at most one program or erase, and whether a command has ended: if the last answer of
+    /// endpoint 0 was NAK, it has to be armed again, since the status stage is due. (Where the answer comes at the
+    /// token, as here, to arm it in any other case does no harm.)
     pub fn idle(&mut self) -> bool {
         match self.keyboard.work(&mut self.flash) {
             Work::Idle | Work::Working => false,
