@@ -14,7 +14,7 @@ use std::marker::Model;
 pub(crate) const LONG: u8 = 0xFE;
 
 /// An item of a report descriptor: the offset of its prefix in the text, the prefix, and the data.
-#[derive(Clone, Copy, Debug)]
+#[derive(Clone, Copy, Debug, PartialEq, Eq)]
 pub struct Item<'a> {
     pub offset: usize,
     pub prefix: u8,

@@ -7,7 +7,7 @@ ghost use Rattle.descriptor_parse.specs.TagTable.{tag_by};
 use crate::field::Kind;
 
 /// What an item is, by its type and its tag (HID 1.11, 6.2.2.4, 6.2.2.7 and 6.2.2.8).
-#[derive(Clone, Copy)]
+#[derive(Clone, Copy, Debug, PartialEq, Eq)]
 pub enum Tag {
     Main(MainTag),
     Global(GlobalTag),
@@ -17,7 +17,7 @@ pub enum Tag {
 }
 
 /// The Main items (HID 1.11, 6.2.2.4).
-#[derive(Clone, Copy)]
+#[derive(Clone, Copy, Debug, PartialEq, Eq)]
 pub enum MainTag {
     Data(Kind),
     Collection,
@@ -25,7 +25,7 @@ pub enum MainTag {
 }
 
 /// The Global items (6.2.2.7).
-#[derive(Clone, Copy)]
+#[derive(Clone, Copy, Debug, PartialEq, Eq)]
 pub enum GlobalTag {
     UsagePage,
     LogicalMinimum,
@@ -38,7 +38,7 @@ pub enum GlobalTag {
 }
 
 /// The Local items that are read (6.2.2.8).
-#[derive(Clone, Copy)]
+#[derive(Clone, Copy, Debug, PartialEq, Eq)]
 pub enum LocalTag {
     Usage,
     UsageMinimum,

@@ -1,7 +1,7 @@
 //! Reading the command line.
 
-use clap::{Arg, ArgAction, Command, Error, value_parser};
-use std::alloc::Global;
+use clap::{Arg, ArgAction, ArgMatches, Command, Error, value_parser};
+use std::alloc::{AllocError, Global};
 use std::convert::AsStr;
 
 /// The number of pages where the command line names none, and as a word.
@@ -117,56 +117,19 @@ pub enum Request<'a> {
 /// What the words of a command line ask for, the program's name first. The error has the text of
 /// the refusal, or of the help or version that was asked for.
 pub fn read<'a, S: AsStr>(alloc: Global, words: &'a [S]) -> Result<Request<'a>, Error> {
-    let pages = Arg::new(alloc, "pages")
-        .long("pages")
-        .value_name("N")
-        .help("How many pages the flash has")
-        .value_parser(value_parser!(usize).range(2..=8))
-        .default_value(PAGES_WORD);
-    let image = Arg::new(alloc, "image")
-        .long("image")
-        .value_name("FILE")
-        .help("Starts on a flash that holds the bytes of FILE")
-        .conflicts_with("pages")?;
-    let save = Arg::new(alloc, "save").long("save").value_name("FILE").help(
-        "Writes the flash's bytes to FILE after a run without a fault",
-    );
-    let run = Command::new(alloc, "run")
-        .about("Runs the script on standard input")
-        .long_about(RUN_HELP)
-        .after_long_help(STATUS_HELP)
-        .arg(pages)?
-        .arg(image)?
-        .arg(save)?;
-    let describe = Command::new(alloc, "describe")
-        .about("Prints the keyboard's descriptors")
-        .long_about(DESCRIBE_HELP)
-        .after_long_help(STATUS_HELP);
-    let items = Arg::new(alloc, "items")
-        .long("items")
-        .help("Prints each item, up to the first fault, in place of the fields")
-        .action(ArgAction::SetTrue);
-    let parse = Command::new(alloc, "parse")
-        .about("Prints the fields, or the items, of the report descriptor on standard input")
-        .long_about(PARSE_HELP)
-        .after_long_help(STATUS_HELP)
-        .arg(items)?;
-    let command = Command::new(alloc, "kbsim")
-        .bin_name("kbsim")?
-        .version(VERSION)
-        .about("A simulated keyboard whose keymap is kept in flash")
-        .after_long_help(STATUS_HELP)
-        .subcommand_required(true)
-        .subcommand(run)?
-        .subcommand(describe)?
-        .subcommand(parse)?;
-    let matches = command.try_get_matches_from(words)?;
+    let matches = kbsim(alloc)?.try_get_matches_from(words)?;
+    Ok(asked(&matches))
+}
+
+/// What was asked for, by what was found on the command line.
+fn asked<'a>(matches: &ArgMatches<'a>) -> Request<'a> {
     if matches.subcommand_matches("describe").is_some() {
-        return Ok(Request::Describe);
+        return Request::Describe;
     }
     if let Some(parse) = matches.subcommand_matches("parse") {
-        let items = parse.get_flag("items");
-        return Ok(Request::Parse { items });
+        return Request::Parse {
+            items: parse.get_flag("items"),
+        };
     }
     let run = matches.subcommand_matches("run");
     let pages = run.and_then(|run| run.get_one::<usize>("pages"));
@@ -177,167 +140,78 @@ pub fn read<'a, S: AsStr>(alloc: Global, words: &'a [S]) -> Result<Request<'a>, 
         },
     };
     let save = run.and_then(|run| run.get_str("save"));
-    Ok(Request::Run { start, save })
+    Request::Run { start, save }
 }
 
-#[cfg(test)]
-mod tests {
-    use super::{Request, Start, read};
-    use clap::error::ErrorKind;
-    use std::test::Fail;
+fn kbsim<'a>(alloc: Global) -> Result<Command<'a>, AllocError> {
+    let run = run(alloc)?;
+    let first = program(alloc)?
+        .subcommand(run)?
+        .subcommand(describe(alloc))?;
+    let parse = parse(alloc)?;
+    first.subcommand(parse)
+}
 
-    fn on_blank(pages: usize, save: Option<&'static str>) -> Request<'static> {
-        Request::Run {
-            start: Start::Blank { pages },
-            save,
-        }
-    }
+fn program<'a>(alloc: Global) -> Result<Command<'a>, AllocError> {
+    let command = Command::new(alloc, "kbsim").bin_name("kbsim")?;
+    Ok(
+        command
+            .version(VERSION)
+            .about("A simulated keyboard whose keymap is kept in flash")
+            .after_long_help(STATUS_HELP)
+            .subcommand_required(true),
+    )
+}
 
-    fn on_image(path: &'static str, save: Option<&'static str>) -> Request<'static> {
-        Request::Run {
-            start: Start::Image(path),
-            save,
-        }
-    }
+fn run<'a>(alloc: Global) -> Result<Command<'a>, AllocError> {
+    let image = image(alloc)?;
+    Command::new(alloc, "run")
+        .about("Runs the script on standard input")
+        .long_about(RUN_HELP)
+        .after_long_help(STATUS_HELP)
+        .arg(pages(alloc))?
+        .arg(image)?
+        .arg(save(alloc))
+}
 
-    #[test]
-    fn requests(rt: HostRuntime) -> Result<(), Fail> {
-        let lines = [
-            (["kbsim", "run"].as_slice(), on_blank(2, None)),
-            (
-                ["kbsim", "run", "--pages", "2"].as_slice(),
-                on_blank(2, None),
-            ),
-            (
-                ["kbsim", "run", "--pages", "8"].as_slice(),
-                on_blank(8, None),
-            ),
-            (["kbsim", "run", "--pages=3"].as_slice(), on_blank(3, None)),
-            (
-                ["kbsim", "run", "--save", "a", "--pages", "3"].as_slice(),
-                on_blank(3, Some("a")),
-            ),
-            (
-                ["kbsim", "run", "--image", "b"].as_slice(),
-                on_image("b", None),
-            ),
-            (
-                ["kbsim", "run", "--image=b", "--save=a"].as_slice(),
-                on_image("b", Some("a")),
-            ),
-            (["kbsim", "describe"].as_slice(), Request::Describe),
-            (
-                ["kbsim", "parse"].as_slice(),
-                Request::Parse { items: false },
-            ),
-            (
-                ["kbsim", "parse", "--items"].as_slice(),
-                Request::Parse { items: true },
-            ),
-        ];
-        for (words, wanted) in lines {
-            let request = read(rt.alloc(), words).map_err(|_| "refused")?;
-            assert_eq!(rt; request, wanted);
-        }
-        Ok(())
-    }
+fn pages<'a>(alloc: Global) -> Arg<'a> {
+    Arg::new(alloc, "pages")
+        .long("pages")
+        .value_name("N")
+        .help("How many pages the flash has")
+        .value_parser(value_parser!(usize).range(2..=8))
+        .default_value(PAGES_WORD)
+}
 
-    #[test]
-    fn refusals(rt: HostRuntime) -> Result<(), Fail> {
-        let lines = [
-            (["kbsim"].as_slice(), ErrorKind::MissingSubcommand),
-            (["kbsim", "play"].as_slice(), ErrorKind::InvalidSubcommand),
-            (
-                ["kbsim", "--pages", "3"].as_slice(),
-                ErrorKind::UnknownArgument,
-            ),
-            (
-                ["kbsim", "run", "--pages", "1"].as_slice(),
-                ErrorKind::ValueValidation,
-            ),
-            (
-                ["kbsim", "run", "--pages", "9"].as_slice(),
-                ErrorKind::ValueValidation,
-            ),
-            (
-                ["kbsim", "run", "--pages", "x"].as_slice(),
-                ErrorKind::ValueValidation,
-            ),
-            (
-                ["kbsim", "run", "--pages", ""].as_slice(),
-                ErrorKind::ValueValidation,
-            ),
-            (
-                ["kbsim", "run", "--pages"].as_slice(),
-                ErrorKind::InvalidValue,
-            ),
-            (
-                ["kbsim", "run", "--image", "a", "--pages", "2"].as_slice(),
-                ErrorKind::ArgumentConflict,
-            ),
-            (
-                ["kbsim", "run", "--image"].as_slice(),
-                ErrorKind::InvalidValue,
-            ),
-            (
-                ["kbsim", "parse", "--save", "a"].as_slice(),
-                ErrorKind::UnknownArgument,
-            ),
-            (
-                ["kbsim", "run", "script"].as_slice(),
-                ErrorKind::UnknownArgument,
-            ),
-            (
-                ["kbsim", "parse", "text"].as_slice(),
-                ErrorKind::UnknownArgument,
-            ),
-            (
-                ["kbsim", "parse", "--items=x"].as_slice(),
-                ErrorKind::TooManyValues,
-            ),
-            (
-                ["kbsim", "run", "--items"].as_slice(),
-                ErrorKind::UnknownArgument,
-            ),
-            (
-                ["kbsim", "describe", "--pages", "3"].as_slice(),
-                ErrorKind::UnknownArgument,
-            ),
-        ];
-        for (words, kind) in lines {
-            let error = read(rt.alloc(), words).err().ok_or("read")?;
-            assert_eq!(rt; error.kind(), kind);
-            assert!(rt; error.use_stderr());
-            assert_eq!(rt; error.exit_code(), 2);
-        }
-        Ok(())
-    }
+fn image<'a>(alloc: Global) -> Result<Arg<'a>, AllocError> {
+    Arg::new(alloc, "image")
+        .long("image")
+        .value_name("FILE")
+        .help("Starts on a flash that holds the bytes of FILE")
+        .conflicts_with("pages")
+}
 
-    #[test]
-    fn help_and_version(rt: HostRuntime) -> Result<(), Fail> {
-        let lines = [
-            (["kbsim", "--help"].as_slice(), ErrorKind::DisplayHelp),
-            (["kbsim", "help"].as_slice(), ErrorKind::DisplayHelp),
-            (
-                ["kbsim", "run", "--help"].as_slice(),
-                ErrorKind::DisplayHelp,
-            ),
-            (
-                ["kbsim", "help", "parse"].as_slice(),
-                ErrorKind::DisplayHelp,
-            ),
-            (
-                ["kbsim", "describe", "--help"].as_slice(),
-                ErrorKind::DisplayHelp,
-            ),
-            (["kbsim", "--version"].as_slice(), ErrorKind::DisplayVersion),
-        ];
-        for (words, kind) in lines {
-            let error = read(rt.alloc(), words).err().ok_or("read")?;
-            assert_eq!(rt; error.kind(), kind);
-            assert!(rt; !error.use_stderr());
-            assert_eq!(rt; error.exit_code(), 0);
-        }
-        Ok(())
-    }
+fn save<'a>(alloc: Global) -> Arg<'a> {
+    Arg::new(alloc, "save").long("save").value_name("FILE").help(
+        "Writes the flash's bytes to FILE after a run without a fault",
+    )
+}
+
+fn describe<'a>(alloc: Global) -> Command<'a> {
+    Command::new(alloc, "describe")
+        .about("Prints the keyboard's descriptors")
+        .long_about(DESCRIBE_HELP)
+        .after_long_help(STATUS_HELP)
+}
+
+fn parse<'a>(alloc: Global) -> Result<Command<'a>, AllocError> {
+    let items = Arg::new(alloc, "items")
+        .long("items")
+        .help("Prints each item, up to the first fault, in place of the fields")
+        .action(ArgAction::SetTrue);
+    Command::new(alloc, "parse")
+        .about("Prints the fields, or the items, of the report descriptor on standard input")
+        .long_about(PARSE_HELP)
+        .after_long_help(STATUS_HELP)
+        .arg(items)
 }

@@ -43,16 +43,12 @@ pub fn read_headers<F: NorFlash>(flash: &F) -> Headers
 fn newer(best: Option<(usize, u32)>, page: usize, seq: Option<u32>) -> Option<(usize, u32)>
     ensures { result ≡ newer best page seq }
 {
-    match (best, seq) {
-        (_, None) => best,
-        (None, Some(seq)) => Some((page, seq)),
-        (Some((_, greatest)), Some(seq)) => {
-            if greatest < seq {
-                Some((page, seq))
-            } else {
-                best
-            }
-        }
+    let Some(seq) = seq else {
+        return best;
+    };
+    match best {
+        Some((_, greatest)) if greatest >= seq => best,
+        _ => Some((page, seq)),
     }
 }
 
