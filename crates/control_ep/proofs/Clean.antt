@@ -10,15 +10,15 @@ use Rattle.control_ep.specs.declared.answer.Verdict.{Verdict}
 use Rattle.control_ep.specs.declared.answer.Verdict.TheVariants.{Done, Working, Busy, Refused}
 use Rattle.control_ep.specs.Transfers.{HostReport, LedsWithId, LedsAlone, FeatureData, Transfer, Takes, Stage, Rest, Sending, Taking, Waiting, Status, Stalled}
 use Rattle.control_ep.specs.Calls.{EpCall, Setup, Out, Judged, In, Settle, Fail, Reset}
-use Rattle.control_ep.specs.Stage.{calls_since, last_setup, first_stall, is_empty_packet, is_ack, acknowledges, is_taken, CommandState, NoCommand, Works, Settled, Failed, state_after, command_of, is_confirmed, Progress, progress_of, after_command, unless_stalled, stage}
+use Rattle.control_ep.specs.Stage.{LastSetup, Begins, calls_since, last_setup, first_stall, is_empty_packet, is_ack, acknowledges, is_taken, CommandState, NoCommand, Works, Settled, Failed, state_after, command_state, is_confirmed, Progress, progress_of, after_command, unless_stalled, stage}
 use Rattle.control_ep.specs.Answers.{in_answer, has_id, content, received_report, report_step, out_step, judged_answer}
 use Rattle.control_ep.specs.Stands.{is_offered, AllAnswered}
 use Rattle.control_ep.proofs.Stages.{stage_by, stage-is, taking_is, IsTaking, IsWaiting}
 
 -- no command without a report that was taken; no status packet before it was, nor while its command works
-pub record IsClean (start : Option (Result Transfer Why × ℕ)) (taken : Bool) (state : CommandState) (confirmed : Bool) : Type 0 where
+pub record IsClean (start : LastSetup) (taken : Bool) (state : CommandState) (confirmed : Bool) : Type 0 where
   pub idle : taken ≡ false → state ≡ NoCommand
-  pub confirmed_after : (kind : HostReport) (length : ℕ) → start ≡ Some (Ok (Takes kind), length) → confirmed ≡ true → (taken ≡ true) × (state ≢ Works)
+  pub confirmed_after : (kind : HostReport) (length : ℕ) → start ≡ Begins (Takes kind) length → confirmed ≡ true → (taken ≡ true) × (state ≢ Works)
 
 or_false : (a b : Bool) → (a || b) ≡ false → (a ≡ false) × (b ≡ false)
 or_false true b e = cc
@@ -39,19 +39,19 @@ empty_packet None kind true Failed confirmed answer e empty = (refl, λ w. cc)
 empty_packet None kind true NoCommand confirmed answer e empty = (refl, λ w. cc)
 empty_packet None kind true Settled confirmed answer e empty = (refl, λ w. cc)
 
-empty_packet_in : (stalled : Option Why) (start : Option (Result Transfer Why × ℕ)) (progress : Progress) (answer : EpAnswer) (kind : HostReport) (length : ℕ)
-    → start ≡ Some (Ok (Takes kind), length) → answer ≡ in_answer (stage_by stalled start progress) → is_empty_packet answer ≡ true
+empty_packet_in : (stalled : Option Why) (start : LastSetup) (progress : Progress) (answer : EpAnswer) (kind : HostReport) (length : ℕ)
+    → start ≡ Begins (Takes kind) length → answer ≡ in_answer (stage_by stalled start progress) → is_empty_packet answer ≡ true
     → (progress.taken ≡ true) × (progress.command ≢ Works)
 empty_packet_in stalled start progress answer kind length s e empty =
     let f = rw s at e in empty_packet stalled kind progress.taken progress.command progress.confirmed answer f empty
 
-clean_in : (empty : Bool) (start : Option (Result Transfer Why × ℕ)) (taken : Bool) (state : CommandState) (confirmed : Bool)
-    → ((kind : HostReport) (length : ℕ) → start ≡ Some (Ok (Takes kind), length) → empty ≡ true → (taken ≡ true) × (state ≢ Works))
+clean_in : (empty : Bool) (start : LastSetup) (taken : Bool) (state : CommandState) (confirmed : Bool)
+    → ((kind : HostReport) (length : ℕ) → start ≡ Begins (Takes kind) length → empty ≡ true → (taken ≡ true) × (state ≢ Works))
     → IsClean start taken state confirmed → IsClean start taken state (empty || confirmed)
 clean_in true start taken state confirmed h c = record { idle = c.idle; confirmed_after = λ kind length s _. h kind length s refl }
 clean_in false start taken state confirmed h c = c
 
-clean_out : (acked : Bool) (start : Option (Result Transfer Why × ℕ)) (taken : Bool) (state : CommandState) (confirmed : Bool)
+clean_out : (acked : Bool) (start : LastSetup) (taken : Bool) (state : CommandState) (confirmed : Bool)
     → IsClean start taken state confirmed → IsClean start (acked || taken) state confirmed
 clean_out acked start taken state confirmed c = record {
   idle = λ e. c.idle (or_false acked taken e).1;
@@ -72,7 +72,7 @@ ended_none NoCommand end e = refl
 ended_none Settled end e = cc
 ended_none Failed end e = cc
 
-clean_end : (end : CommandState) (start : Option (Result Transfer Why × ℕ)) (taken : Bool) (state : CommandState) (confirmed : Bool)
+clean_end : (end : CommandState) (start : LastSetup) (taken : Bool) (state : CommandState) (confirmed : Bool)
     → end ≢ Works → IsClean start taken state confirmed → IsClean start taken (state_after state end) confirmed
 clean_end end start taken state confirmed n c = record {
   idle = λ e. ended_none state end (c.idle e);
@@ -82,8 +82,8 @@ clean_end end start taken state confirmed n c = record {
 }
 
 -- before a report is taken there was no status packet
-unconfirmed : (start : Option (Result Transfer Why × ℕ)) (taken : Bool) (state : CommandState) (confirmed : Bool) (kind : HostReport) (length : ℕ)
-    → start ≡ Some (Ok (Takes kind), length) → taken ≡ false → IsClean start taken state confirmed → confirmed ≡ false
+unconfirmed : (start : LastSetup) (taken : Bool) (state : CommandState) (confirmed : Bool) (kind : HostReport) (length : ℕ)
+    → start ≡ Begins (Takes kind) length → taken ≡ false → IsClean start taken state confirmed → confirmed ≡ false
 unconfirmed start taken state true kind length s t c = let both = c.confirmed_after kind length s refl in let yes : taken ≡ true = both.0 in cc
 unconfirmed start taken state false kind length s t c = refl
 
@@ -145,7 +145,7 @@ offered_feature past all o =
     let t = offered_taking past all o in
     stage-is past ∙ rw (t.unstalled, t.begins, t.not_taken) refl
 
-clean_working : (acked : Bool) (start : Option (Result Transfer Why × ℕ)) (taken : Bool) (state : CommandState) (confirmed : Bool)
+clean_working : (acked : Bool) (start : LastSetup) (taken : Bool) (state : CommandState) (confirmed : Bool)
     → acked ≡ true → taken ≡ false → IsClean start taken state confirmed → IsClean start (acked || taken) Works confirmed
 clean_working acked start taken state confirmed a t c = record {
   idle = λ e. let f = (or_false acked taken e).0 in cc;
@@ -153,36 +153,36 @@ clean_working acked start taken state confirmed a t c = record {
 }
 
 clean_judged : (verdict : Verdict) (answer : EpAnswer) (past : List EpCall) → answer ≡ judged_answer verdict → is_taken (calls_since past) ≡ false
-    → IsClean (last_setup past) (is_taken (calls_since past)) (command_of (calls_since past)) (is_confirmed (calls_since past))
-    → IsClean (last_setup past) (is_ack answer || is_taken (calls_since past)) (command_of (Judged verdict answer ∷ calls_since past)) (is_confirmed (calls_since past))
-clean_judged Done answer past a t c = clean_out (is_ack answer) (last_setup past) (is_taken (calls_since past)) (command_of (calls_since past)) (is_confirmed (calls_since past)) c
+    → IsClean (last_setup past) (is_taken (calls_since past)) (command_state (calls_since past)) (is_confirmed (calls_since past))
+    → IsClean (last_setup past) (is_ack answer || is_taken (calls_since past)) (command_state (Judged verdict answer ∷ calls_since past)) (is_confirmed (calls_since past))
+clean_judged Done answer past a t c = clean_out (is_ack answer) (last_setup past) (is_taken (calls_since past)) (command_state (calls_since past)) (is_confirmed (calls_since past)) c
 clean_judged Working answer past a t c =
-    clean_working (is_ack answer) (last_setup past) (is_taken (calls_since past)) (command_of (calls_since past)) (is_confirmed (calls_since past)) (ap is_ack a) t c
-clean_judged Busy answer past a t c = clean_out (is_ack answer) (last_setup past) (is_taken (calls_since past)) (command_of (calls_since past)) (is_confirmed (calls_since past)) c
+    clean_working (is_ack answer) (last_setup past) (is_taken (calls_since past)) (command_state (calls_since past)) (is_confirmed (calls_since past)) (ap is_ack a) t c
+clean_judged Busy answer past a t c = clean_out (is_ack answer) (last_setup past) (is_taken (calls_since past)) (command_state (calls_since past)) (is_confirmed (calls_since past)) c
 clean_judged (Refused why) answer past a t c =
-    clean_out (is_ack answer) (last_setup past) (is_taken (calls_since past)) (command_of (calls_since past)) (is_confirmed (calls_since past)) c
+    clean_out (is_ack answer) (last_setup past) (is_taken (calls_since past)) (command_state (calls_since past)) (is_confirmed (calls_since past)) c
 
-pub clean : (past : List EpCall) → AllAnswered past → IsClean (last_setup past) (is_taken (calls_since past)) (command_of (calls_since past)) (is_confirmed (calls_since past))
+pub clean : (past : List EpCall) → AllAnswered past → IsClean (last_setup past) (is_taken (calls_since past)) (command_state (calls_since past)) (is_confirmed (calls_since past))
 clean [] all = record { idle = λ _. refl; confirmed_after = λ kind length s e. cc }
 clean (Setup setup view ∷ past) all = record { idle = λ _. refl; confirmed_after = λ kind length s e. cc }
 clean (Reset ∷ past) all = record { idle = λ _. refl; confirmed_after = λ kind length s e. cc }
 clean (Out packet step ∷ past) all =
-    clean_out (acknowledges (Out packet step)) (last_setup past) (is_taken (calls_since past)) (command_of (calls_since past)) (is_confirmed (calls_since past)) (clean past all.1)
+    clean_out (acknowledges (Out packet step)) (last_setup past) (is_taken (calls_since past)) (command_state (calls_since past)) (is_confirmed (calls_since past)) (clean past all.1)
 clean (Judged verdict answer ∷ past) all =
     clean_judged verdict answer past all.0.1 (offered_taking past all.1 all.0.0).not_taken (clean past all.1)
 clean (In answer effect ∷ past) all =
-    clean_in (is_empty_packet answer) (last_setup past) (is_taken (calls_since past)) (command_of (calls_since past)) (is_confirmed (calls_since past))
+    clean_in (is_empty_packet answer) (last_setup past) (is_taken (calls_since past)) (command_state (calls_since past)) (is_confirmed (calls_since past))
     (λ kind length s e. empty_packet_in (first_stall (calls_since past)) (last_setup past) (progress_of (calls_since past)) answer kind length s (all.0.0 ∙ ap in_answer (stage-is past)) e)
     (clean past all.1)
 clean (Settle ∷ past) all =
-    clean_end Settled (last_setup past) (is_taken (calls_since past)) (command_of (calls_since past)) (is_confirmed (calls_since past)) (λ e. cc) (clean past all.1)
+    clean_end Settled (last_setup past) (is_taken (calls_since past)) (command_state (calls_since past)) (is_confirmed (calls_since past)) (λ e. cc) (clean past all.1)
 clean (Fail ∷ past) all =
-    clean_end Failed (last_setup past) (is_taken (calls_since past)) (command_of (calls_since past)) (is_confirmed (calls_since past)) (λ e. cc) (clean past all.1)
+    clean_end Failed (last_setup past) (is_taken (calls_since past)) (command_state (calls_since past)) (is_confirmed (calls_since past)) (λ e. cc) (clean past all.1)
 
 -- a report that is still to be taken was not confirmed
 pub taking_unconfirmed : (past : List EpCall) (kind : HostReport) → AllAnswered past → LookedBack kind past → is_confirmed (calls_since past) ≡ false
 taking_unconfirmed past kind all t =
-    unconfirmed (last_setup past) (is_taken (calls_since past)) (command_of (calls_since past)) (is_confirmed (calls_since past)) kind t.length t.begins t.not_taken (clean past all)
+    unconfirmed (last_setup past) (is_taken (calls_since past)) (command_state (calls_since past)) (is_confirmed (calls_since past)) kind t.length t.begins t.not_taken (clean past all)
 
 not_confirmed : (confirmed : Bool) → (confirmed ≡ true → ⊥) → confirmed ≡ false
 not_confirmed true n = absurd (n refl)

@@ -10,7 +10,7 @@ use Rattle.control_ep.specs.declared.answer.DeviceView.{DeviceView}
 use Rattle.control_ep.specs.Transfers.{SetupFields, Transfer, Stage}
 use Rattle.control_ep.specs.Calls.{EpCall, Setup}
 use Rattle.control_ep.specs.Requests.{request_of, reports_read, named, asks_for_input, SameBesideInputs, checked, transfer_of}
-use Rattle.control_ep.specs.Stage.{progress_of, stage_after, stage}
+use Rattle.control_ep.specs.Stage.{outcome_of, progress_of, stage_with, stage}
 use Rattle.control_ep.specs.Moves.{begun}
 use Rattle.control_ep.specs.Stands.{StandsFor}
 
@@ -53,7 +53,7 @@ transfer_same request a b n s = rw (s.protocol, s.idle_one, s.idle_two) (ap (λ 
     (λ t. reports_same b.protocol a b request.value s (not_input (request.kind == 0xA1) (request.code == 0x01) (request.value / 256 == 1) n t))))
 
 pub begun_same : (setup : List ℕ) (a b : DeviceView) → asks_for_input (request_of setup) ≡ false → SameBesideInputs a b → begun setup a ≡ begun setup b
-begun_same setup a b n s = ap (λ transfer. stage_after (Some (transfer, (request_of setup).length)) (progress_of [])) (transfer_same (request_of setup) a b n s)
+begun_same setup a b n s = ap (λ transfer. stage_with (outcome_of transfer (request_of setup).length) (progress_of [])) (transfer_same (request_of setup) a b n s)
 
 pub stands_same : (past : List EpCall) (setup : List ℕ) (a b : DeviceView) (now : Stage) → asks_for_input (request_of setup) ≡ false → SameBesideInputs a b
     → StandsFor (Setup setup a ∷ past) now → StandsFor (Setup setup b ∷ past) now

@@ -14,7 +14,7 @@ use Rattle.control_ep.specs.Transfers.{HostReport, LedsWithId, LedsAlone, Featur
 use Rattle.control_ep.specs.Requests.{request_of, transfer_of}
 use Rattle.control_ep.specs.Calls.{EpCall, Setup, Out, Judged, In, Settle, Fail, Reset}
 use Rattle.control_ep.specs.Packets.{packet_at}
-use Rattle.control_ep.specs.Stage.{progress_of, stage_after, stage}
+use Rattle.control_ep.specs.Stage.{outcome_of, progress_of, stage_with, stage}
 use Rattle.control_ep.specs.Answers.{in_answer, in_effect, received_report, report_step, out_step, judged_answer, packet_or_stall}
 use Rattle.control_ep.specs.Moves.{begun, after_in, after_out, after_verdict, stage_then}
 use Rattle.control_ep.specs.Stands.{is_offered, IsAnswered, AllAnswered, StandsFor}
@@ -28,7 +28,7 @@ next_setup past s setup view h = record { answered = (tt, h.answered); stage = r
 
 -- the stage that a request's transfer begins in, or stalled
 pub begun_by : (setup : List ℕ) (view : DeviceView) (transfer : Result Transfer Why) → transfer_of (request_of setup) view ≡ transfer
-    → stage_after (Some (transfer, (request_of setup).length)) (progress_of []) ≡ begun setup view
+    → stage_with (outcome_of transfer (request_of setup).length) (progress_of []) ≡ begun setup view
 begun_by setup view transfer e = rw (← e) refl
 
 -- an IN packet of a read

@@ -1,4 +1,5 @@
 -- How one more call changes the stage.
+use Rattle.std.specs.Option.{option_or}
 use Rattle.std.proofs.Common.{◌≡◌, ℕ, ◌==◌, Bool, true, false, cond, List, Option, Some, None, Result, Ok, Err, refl}
 use Rattle.control_ep.specs.declared.why.Why.{Why}
 use Rattle.control_ep.specs.declared.answer.EpAnswer.TheVariants.{Stall}
@@ -7,12 +8,12 @@ use Rattle.control_ep.specs.declared.answer.Effect.{Effect}
 use Rattle.control_ep.specs.declared.answer.Effect.TheVariants.{Nothing}
 use Rattle.control_ep.specs.Transfers.{HostReport, Transfer, Reads, Takes, Sets, Stage, Rest, Sending, Taking, Waiting, Status}
 use Rattle.control_ep.specs.Calls.{EpCall}
-use Rattle.control_ep.specs.Stage.{calls_since, last_setup, first_stall, or_else, CommandState, NoCommand, Works, Settled, Failed, state_after, Progress, progress_of, stage_after, until_confirmed, after_command, unless_stalled, stage}
+use Rattle.control_ep.specs.Stage.{LastSetup, NoSetup, RefusedFor, Begins, calls_since, last_setup, first_stall, CommandState, NoCommand, Works, Settled, Failed, state_after, Progress, progress_of, stage_with, until_confirmed, after_command, unless_stalled, stage}
 use Rattle.control_ep.specs.Answers.{in_answer, out_step}
 
 -- the stage of these look-backs
-abbrev pub stage_by : Option Why → Option (Result Transfer Why × ℕ) → Progress → Stage
-stage_by stalled start progress = unless_stalled stalled (stage_after start progress)
+abbrev pub stage_by : Option Why → LastSetup → Progress → Stage
+stage_by stalled start progress = unless_stalled stalled (stage_with start progress)
 
 abbrev pub progress_with : Bool → ℕ → Bool → CommandState → Bool → Progress
 progress_with closed sent taken state confirmed =
@@ -23,36 +24,36 @@ unfolding stage
 stage-is past = refl
 
 -- one more STALL of a stalled transfer has the same reason
-pub stalled_again : (stalled : Option Why) (start : Option (Result Transfer Why × ℕ)) (progress : Progress) (why : Why)
-    → in_answer (stage_by stalled start progress) ≡ Stall why → or_else stalled (Some why) ≡ Some why
+pub stalled_again : (stalled : Option Why) (start : LastSetup) (progress : Progress) (why : Why)
+    → in_answer (stage_by stalled start progress) ≡ Stall why → option_or stalled (Some why) ≡ Some why
 stalled_again None start progress why e = refl
 stalled_again (Some w) start progress why e = cc
 
-pub stalled_again_out : (stalled : Option Why) (start : Option (Result Transfer Why × ℕ)) (progress : Progress) (packet : List ℕ) (why : Why)
-    → out_step (stage_by stalled start progress) packet ≡ Answered (Stall why) → or_else stalled (Some why) ≡ Some why
+pub stalled_again_out : (stalled : Option Why) (start : LastSetup) (progress : Progress) (packet : List ℕ) (why : Why)
+    → out_step (stage_by stalled start progress) packet ≡ Answered (Stall why) → option_or stalled (Some why) ≡ Some why
 stalled_again_out None start progress packet why e = refl
 stalled_again_out (Some w) start progress packet why e = cc
 
 -- what a stage tells of the look-backs
 
-pub record IsSending (x : List ℕ) (asked n : ℕ) (stalled : Option Why) (start : Option (Result Transfer Why × ℕ)) (progress : Progress) : Type 0 where
+pub record IsSending (x : List ℕ) (asked n : ℕ) (stalled : Option Why) (start : LastSetup) (progress : Progress) : Type 0 where
   pub unstalled : stalled ≡ None
-  pub begins : start ≡ Some (Ok (Reads x), asked)
+  pub begins : start ≡ Begins (Reads x) asked
   pub some : (asked == 0) ≡ false
   pub open_still : progress.closed ≡ false
   pub count : progress.sent ≡ n
 
-pub record IsTaking (taken : HostReport) (stalled : Option Why) (start : Option (Result Transfer Why × ℕ)) (progress : Progress) : Type 0 where
+pub record IsTaking (taken : HostReport) (stalled : Option Why) (start : LastSetup) (progress : Progress) : Type 0 where
   pub length : ℕ
   pub unstalled : stalled ≡ None
-  pub begins : start ≡ Some (Ok (Takes taken), length)
+  pub begins : start ≡ Begins (Takes taken) length
   pub not_taken : progress.taken ≡ false
 
-pub record IsWaiting (stalled : Option Why) (start : Option (Result Transfer Why × ℕ)) (progress : Progress) : Type 0 where
+pub record IsWaiting (stalled : Option Why) (start : LastSetup) (progress : Progress) : Type 0 where
   pub taken : HostReport
   pub length : ℕ
   pub unstalled : stalled ≡ None
-  pub begins : start ≡ Some (Ok (Takes taken), length)
+  pub begins : start ≡ Begins (Takes taken) length
   pub is_taken : progress.taken ≡ true
   pub works : progress.command ≡ Works
 
@@ -105,12 +106,12 @@ not_sending_takes : (taken : Bool) (state : CommandState) (confirmed : Bool) (ki
 not_sending_takes true state confirmed kind x asked n e = not_sending_after state confirmed x asked n e
 not_sending_takes false state confirmed kind x asked n e = cc
 
-pub sending_is : (x : List ℕ) (asked n : ℕ) (stalled : Option Why) (start : Option (Result Transfer Why × ℕ)) (progress : Progress)
+pub sending_is : (x : List ℕ) (asked n : ℕ) (stalled : Option Why) (start : LastSetup) (progress : Progress)
     → Sending x asked n ≡ stage_by stalled start progress → IsSending x asked n stalled start progress
 sending_is x asked n (Some why) start progress e = cc
-sending_is x asked n None None progress e = cc
-sending_is x asked n None (Some (Err why, length)) progress e = cc
-sending_is x asked n None (Some (Ok (Reads bytes), length)) progress e =
+sending_is x asked n None NoSetup progress e = cc
+sending_is x asked n None (RefusedFor why) progress e = cc
+sending_is x asked n None (Begins (Reads bytes) length) progress e =
     let r = reading (length == 0) progress.closed progress.confirmed bytes x length asked progress.sent n e in
     record {
       unstalled = refl;
@@ -119,9 +120,9 @@ sending_is x asked n None (Some (Ok (Reads bytes), length)) progress e =
       open_still = r.1;
       count = r.4;
     }
-sending_is x asked n None (Some (Ok (Takes kind), length)) progress e =
+sending_is x asked n None (Begins (Takes kind) length) progress e =
     absurd (not_sending_takes progress.taken progress.command progress.confirmed kind x asked n e)
-sending_is x asked n None (Some (Ok (Sets effect), length)) progress e = absurd (not_sending_until progress.confirmed effect x asked n e)
+sending_is x asked n None (Begins (Sets effect) length) progress e = absurd (not_sending_until progress.confirmed effect x asked n e)
 
 not_taking_reads : (none closed confirmed : Bool) (bytes : List ℕ) (length sent : ℕ) (kind : HostReport)
     → Taking kind ≡ reading_by none closed confirmed bytes length sent → ⊥
@@ -134,17 +135,17 @@ taking_takes : (taken : Bool) (state : CommandState) (confirmed : Bool) (kind ot
 taking_takes true state confirmed kind other e = absurd (not_taking_after state confirmed other e)
 taking_takes false state confirmed kind other e = (refl, cc)
 
-pub taking_is : (kind : HostReport) (stalled : Option Why) (start : Option (Result Transfer Why × ℕ)) (progress : Progress)
+pub taking_is : (kind : HostReport) (stalled : Option Why) (start : LastSetup) (progress : Progress)
     → Taking kind ≡ stage_by stalled start progress → IsTaking kind stalled start progress
 taking_is kind (Some why) start progress e = cc
-taking_is kind None None progress e = cc
-taking_is kind None (Some (Err why, length)) progress e = cc
-taking_is kind None (Some (Ok (Reads bytes), length)) progress e =
+taking_is kind None NoSetup progress e = cc
+taking_is kind None (RefusedFor why) progress e = cc
+taking_is kind None (Begins (Reads bytes) length) progress e =
     absurd (not_taking_reads (length == 0) progress.closed progress.confirmed bytes length progress.sent kind e)
-taking_is kind None (Some (Ok (Takes other), length)) progress e =
+taking_is kind None (Begins (Takes other) length) progress e =
     let t = taking_takes progress.taken progress.command progress.confirmed other kind e in
     record { length = length; unstalled = refl; begins = cc; not_taken = t.0 }
-taking_is kind None (Some (Ok (Sets effect), length)) progress e = absurd (not_taking_until progress.confirmed effect kind e)
+taking_is kind None (Begins (Sets effect) length) progress e = absurd (not_taking_until progress.confirmed effect kind e)
 
 not_waiting_reads : (none closed confirmed : Bool) (bytes : List ℕ) (length sent : ℕ)
     → Waiting ≡ reading_by none closed confirmed bytes length sent → ⊥
@@ -157,17 +158,17 @@ waiting_takes : (taken : Bool) (state : CommandState) (confirmed : Bool) (kind :
 waiting_takes true state confirmed kind e = (refl, waiting_after state confirmed e)
 waiting_takes false state confirmed kind e = cc
 
-pub waiting_is : (stalled : Option Why) (start : Option (Result Transfer Why × ℕ)) (progress : Progress)
+pub waiting_is : (stalled : Option Why) (start : LastSetup) (progress : Progress)
     → Waiting ≡ stage_by stalled start progress → IsWaiting stalled start progress
 waiting_is (Some why) start progress e = cc
-waiting_is None None progress e = cc
-waiting_is None (Some (Err why, length)) progress e = cc
-waiting_is None (Some (Ok (Reads bytes), length)) progress e =
+waiting_is None NoSetup progress e = cc
+waiting_is None (RefusedFor why) progress e = cc
+waiting_is None (Begins (Reads bytes) length) progress e =
     absurd (not_waiting_reads (length == 0) progress.closed progress.confirmed bytes length progress.sent e)
-waiting_is None (Some (Ok (Takes kind), length)) progress e =
+waiting_is None (Begins (Takes kind) length) progress e =
     let w = waiting_takes progress.taken progress.command progress.confirmed kind e in
     record { taken = kind; length = length; unstalled = refl; begins = refl; is_taken = w.0; works = w.1 }
-waiting_is None (Some (Ok (Sets effect), length)) progress e = absurd (not_waiting_until progress.confirmed effect e)
+waiting_is None (Begins (Sets effect) length) progress e = absurd (not_waiting_until progress.confirmed effect e)
 
 -- the status packet ends the transfer
 status_reads : (none closed confirmed : Bool) (bytes : List ℕ) (length sent more : ℕ) (effect : Effect)
@@ -184,17 +185,17 @@ status_takes true Failed confirmed kind effect e = cc
 status_takes true NoCommand confirmed kind effect e = refl
 status_takes true Settled confirmed kind effect e = refl
 
-pub status_confirmed : (effect : Effect) (stalled : Option Why) (start : Option (Result Transfer Why × ℕ)) (progress : Progress) (more : ℕ)
+pub status_confirmed : (effect : Effect) (stalled : Option Why) (start : LastSetup) (progress : Progress) (more : ℕ)
     → Status effect ≡ stage_by stalled start progress
-    → stage_by (or_else stalled None) start (progress_with progress.closed more progress.taken progress.command true) ≡ Rest
+    → stage_by (option_or stalled None) start (progress_with progress.closed more progress.taken progress.command true) ≡ Rest
 status_confirmed effect (Some why) start progress more e = cc
-status_confirmed effect None None progress more e = refl
-status_confirmed effect None (Some (Err why, length)) progress more e = cc
-status_confirmed effect None (Some (Ok (Reads bytes), length)) progress more e =
+status_confirmed effect None NoSetup progress more e = refl
+status_confirmed effect None (RefusedFor why) progress more e = cc
+status_confirmed effect None (Begins (Reads bytes) length) progress more e =
     status_reads (length == 0) progress.closed progress.confirmed bytes length progress.sent more effect e
-status_confirmed effect None (Some (Ok (Takes kind), length)) progress more e =
+status_confirmed effect None (Begins (Takes kind) length) progress more e =
     status_takes progress.taken progress.command progress.confirmed kind effect e
-status_confirmed effect None (Some (Ok (Sets other), length)) progress more e = refl
+status_confirmed effect None (Begins (Sets other) length) progress more e = refl
 
 -- where no command works, an end of one changes nothing
 ended_takes : (taken : Bool) (state end : CommandState) (confirmed : Bool) (kind : HostReport)
@@ -205,13 +206,13 @@ ended_takes true NoCommand end confirmed kind n = refl
 ended_takes true Settled end confirmed kind n = refl
 ended_takes true Failed end confirmed kind n = refl
 
-pub ended_others : (stalled : Option Why) (start : Option (Result Transfer Why × ℕ)) (progress : Progress) (end : CommandState)
+pub ended_others : (stalled : Option Why) (start : LastSetup) (progress : Progress) (end : CommandState)
     → (Waiting ≡ stage_by stalled start progress → ⊥)
-    → stage_by (or_else stalled None) start (progress_with progress.closed progress.sent progress.taken (state_after progress.command end) progress.confirmed) ≡ stage_by stalled start progress
+    → stage_by (option_or stalled None) start (progress_with progress.closed progress.sent progress.taken (state_after progress.command end) progress.confirmed) ≡ stage_by stalled start progress
 ended_others (Some why) start progress end n = refl
-ended_others None None progress end n = refl
-ended_others None (Some (Err why, length)) progress end n = refl
-ended_others None (Some (Ok (Reads bytes), length)) progress end n = refl
-ended_others None (Some (Ok (Takes kind), length)) progress end n =
+ended_others None NoSetup progress end n = refl
+ended_others None (RefusedFor why) progress end n = refl
+ended_others None (Begins (Reads bytes) length) progress end n = refl
+ended_others None (Begins (Takes kind) length) progress end n =
     ended_takes progress.taken progress.command end progress.confirmed kind n
-ended_others None (Some (Ok (Sets effect), length)) progress end n = refl
+ended_others None (Begins (Sets effect) length) progress end n = refl

@@ -1,5 +1,5 @@
 -- Believed where this crate is called: what each call does to the stage, the look-back of `stage` one call at a time.
-use Rattle.std.specs.Prelude.{ℕ, ◌+◌, List, [], Some}
+use Rattle.std.specs.Prelude.{ℕ, ◌+◌, List, []}
 use Rattle.control_ep.specs.declared.why.Why.TheVariants.{FlashFault, WrongStage}
 use Rattle.control_ep.specs.declared.answer.EpAnswer.{EpAnswer}
 use Rattle.control_ep.specs.declared.answer.EpAnswer.TheVariants.{Stall}
@@ -12,7 +12,7 @@ use Rattle.control_ep.specs.declared.answer.DeviceView.{DeviceView}
 use Rattle.control_ep.specs.Transfers.{FeatureData, Stage, Rest, Sending, Taking, Waiting, Status, Stalled}
 use Rattle.control_ep.specs.Calls.{EpCall, Setup, Out, Judged, In, Settle, Fail, Reset}
 use Rattle.control_ep.specs.Requests.{request_of, transfer_of}
-use Rattle.control_ep.specs.Stage.{progress_of, stage_after}
+use Rattle.control_ep.specs.Stage.{outcome_of, progress_of, stage_with}
 
 -- an IN packet: a data packet counts, the status packet ends the transfer, a STALL stays
 abbrev pub after_in : Stage → EpAnswer → Stage
@@ -44,7 +44,7 @@ after_end stage next = stage
 
 -- a SETUP packet: the first stage of the transfer that it begins, or stalled where it is refused
 abbrev pub begun : List ℕ → DeviceView → Stage
-begun setup view = stage_after (Some (transfer_of (request_of setup) view, (request_of setup).length)) (progress_of [])
+begun setup view = stage_with (outcome_of (transfer_of (request_of setup) view) (request_of setup).length) (progress_of [])
 
 -- the stage after one more call
 abbrev pub stage_then : Stage → EpCall → Stage

@@ -1,5 +1,6 @@
 -- Believed: the stage of the transfer under way, by looking back over the calls, newest first.
 use Rattle.std.specs.Prelude.{ℕ, ◌+◌, ◌==◌, ◌||◌, Bool, true, false, List, [], ◌∷◌, if◌then◌else◌, Option, Some, None, Result, Ok, Err}
+use Rattle.std.specs.Option.{option_or}
 use Rattle.control_ep.specs.declared.why.Why.{Why}
 use Rattle.control_ep.specs.declared.why.Why.TheVariants.{FlashFault}
 use Rattle.control_ep.specs.declared.answer.EpAnswer.{EpAnswer}
@@ -15,25 +16,30 @@ use Rattle.control_ep.specs.Requests.{request_of, transfer_of}
 -- the calls after the last SETUP or reset
 abbrev pub calls_since : List EpCall → List EpCall
 calls_since [] = []
-calls_since (Setup _ _ ∷ past) = []
+calls_since (Setup setup view ∷ past) = []
 calls_since (Reset ∷ past) = []
-calls_since (Out packet step ∷ past) = Out packet step ∷ calls_since past
-calls_since (Judged verdict answer ∷ past) = Judged verdict answer ∷ calls_since past
-calls_since (In answer effect ∷ past) = In answer effect ∷ calls_since past
-calls_since (Settle ∷ past) = Settle ∷ calls_since past
-calls_since (Fail ∷ past) = Fail ∷ calls_since past
+calls_since (call ∷ past) = call ∷ calls_since past
 
--- the transfer that the last SETUP began, or why it was refused, and its wLength; none after a reset
--- and at the start
-abbrev pub last_setup : List EpCall → Option (Result Transfer Why × ℕ)
-last_setup [] = None
-last_setup (Setup setup view ∷ past) = Some (transfer_of (request_of setup) view, (request_of setup).length)
-last_setup (Reset ∷ past) = None
-last_setup (Out _ _ ∷ past) = last_setup past
-last_setup (Judged _ _ ∷ past) = last_setup past
-last_setup (In _ _ ∷ past) = last_setup past
-last_setup (Settle ∷ past) = last_setup past
-last_setup (Fail ∷ past) = last_setup past
+-- what the last SETUP packet came to
+pub data LastSetup : Type 0 where
+  -- there is none: none came since the start or the last reset
+  NoSetup : LastSetup
+  -- it was refused, for this reason
+  RefusedFor : Why → LastSetup
+  -- it began this transfer, and asks for so many bytes (wLength)
+  Begins : Transfer → ℕ → LastSetup
+
+-- a SETUP packet that asks for so many bytes, by whether its request is served
+abbrev pub outcome_of : Result Transfer Why → ℕ → LastSetup
+outcome_of (Ok transfer) length = Begins transfer length
+outcome_of (Err why) length = RefusedFor why
+
+-- the last SETUP packet of these calls
+abbrev pub last_setup : List EpCall → LastSetup
+last_setup [] = NoSetup
+last_setup (Setup setup view ∷ past) = outcome_of (transfer_of (request_of setup) view) (request_of setup).length
+last_setup (Reset ∷ past) = NoSetup
+last_setup (_ ∷ past) = last_setup past
 
 -- the reason of an answer that is a STALL
 abbrev pub reason_in : EpAnswer → Option Why
@@ -47,15 +53,10 @@ stall_of (Judged _ answer) = reason_in answer
 stall_of (In answer _) = reason_in answer
 stall_of _ = None
 
--- the first, if there is one, else the second
-abbrev pub or_else : {A : Type 0} → Option A → Option A → Option A
-or_else (Some a) b = Some a
-or_else None b = b
-
 -- why the first packet of these that was stalled was
 abbrev pub first_stall : List EpCall → Option Why
 first_stall [] = None
-first_stall (call ∷ before) = or_else (first_stall before) (stall_of call)
+first_stall (call ∷ before) = option_or (first_stall before) (stall_of call)
 
 -- the call is an empty OUT packet
 abbrev pub is_empty_out : EpCall → Bool
@@ -103,12 +104,12 @@ state_after Works end = end
 state_after state end = state
 
 -- what became of the command that these calls began
-abbrev pub command_of : List EpCall → CommandState
-command_of [] = NoCommand
-command_of (Judged Verdicts.Working _ ∷ before) = Works
-command_of (Settle ∷ before) = state_after (command_of before) Settled
-command_of (Fail ∷ before) = state_after (command_of before) Failed
-command_of (_ ∷ before) = command_of before
+abbrev pub command_state : List EpCall → CommandState
+command_state [] = NoCommand
+command_state (Judged Verdicts.Working _ ∷ before) = Works
+command_state (Settle ∷ before) = state_after (command_state before) Settled
+command_state (Fail ∷ before) = state_after (command_state before) Failed
+command_state (_ ∷ before) = command_state before
 
 -- there is no byte
 abbrev pub is_nil : List ℕ → Bool
@@ -156,7 +157,7 @@ progress_of calls = record {
   closed = is_closed calls;
   sent = count_in calls;
   taken = is_taken calls;
-  command = command_of calls;
+  command = command_state calls;
   confirmed = is_confirmed calls;
 }
 
@@ -168,11 +169,11 @@ stage_in (Reads bytes) length progress =
 stage_in (Takes report) length progress = if progress.taken then after_command progress.command progress.confirmed else Taking report
 stage_in (Sets effect) length progress = until_confirmed progress.confirmed effect
 
--- no transfer, a refused one, or one that goes on
-abbrev pub stage_after : Option (Result Transfer Why × ℕ) → Progress → Stage
-stage_after None progress = Rest
-stage_after (Some (Err why, length)) progress = Stalled why
-stage_after (Some (Ok transfer, length)) progress = stage_in transfer length progress
+-- the stage after the last SETUP packet, none of whose packets was stalled
+abbrev pub stage_with : LastSetup → Progress → Stage
+stage_with NoSetup progress = Rest
+stage_with (RefusedFor why) progress = Stalled why
+stage_with (Begins transfer length) progress = stage_in transfer length progress
 
 -- stalled for this reason, if there is one
 abbrev pub unless_stalled : Option Why → Stage → Stage
@@ -182,4 +183,4 @@ unless_stalled None stage = stage
 -- the stage: stalled from the first packet on that was; else as the SETUP and the calls since say
 unfoldable pub stage : List EpCall → Stage
 stage past =
-    unless_stalled (first_stall (calls_since past)) (stage_after (last_setup past) (progress_of (calls_since past)))
+    unless_stalled (first_stall (calls_since past)) (stage_with (last_setup past) (progress_of (calls_since past)))

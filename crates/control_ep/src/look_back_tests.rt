@@ -1,7 +1,7 @@
 //! Each request, each length and random calls against a plain program, which keeps all calls and looks
 //! back over them at each packet.
 
-use crate::tests::{Call, Told, answers};
+use crate::tests::{Call, EMPTY, Told, data, told_by};
 use crate::*;
 use arrayvec::ArrayVec;
 use reports::{IdleId, Protocol};
@@ -30,7 +30,7 @@ use Where::{Both, InBoot, InReport};
 
 /// The requests: bmRequestType, bRequest, wValue, the protocol, and what is asked for, of the devices
 /// `STARTED` and `BOOTED`. wValue is 0 in GET_PROTOCOL, and the Report ID alone in SET_IDLE.
-const REQUESTS: [(u8, u8, u16, Where, Asked); 27] = [
+static REQUESTS: [(u8, u8, u16, Where, Asked); 27] = [
     (
         0x80,
         0x06,
@@ -254,8 +254,8 @@ enum Made {
 fn since_setup(calls: &[Made]) -> &[Made] {
     let mut since = calls;
     for i in 0..calls.len() {
-        if let Made::Setup(_, _) | Made::Reset = calls[i] {
-            since = &calls[i..];
+        if let Some(Made::Setup(_, _) | Made::Reset) = calls.get(i) {
+            since = calls.get(i..calls.len()).unwrap_or(since);
         }
     }
     since
@@ -379,9 +379,8 @@ fn place_of(calls: &[Made]) -> Place {
 fn data_wanted(bytes: &'static [u8], asked: u16, sent: usize) -> Told {
     let whole = &bytes[..bytes.len().min(usize::from(asked))];
     match whole.chunks(8).nth(sent) {
-        Some(packet) => Told::Data(packet),
-        None if sent.wrapping_mul(8) == whole.len() && whole.len() < usize::from(asked) =>
-            Told::Data(&[]),
+        Some(packet) => data(packet),
+        None if sent.wrapping_mul(8) == whole.len() && whole.len() < usize::from(asked) => EMPTY,
         None => Told::Stall(Why::WrongStage),
     }
 }
@@ -434,8 +433,8 @@ fn verdict_wanted(place: Place, verdict: Verdict) -> Told {
 /// A call after others, with the answer that it is to have.
 fn made_of(calls: &[Made], call: Call<'_>) -> (Made, Told) {
     match call {
-        Call::Setup(bytes) => (Made::Setup(bytes.to_be_bytes(), false), Told::Nothing),
-        Call::Boot(bytes) => (Made::Setup(bytes.to_be_bytes(), true), Told::Nothing),
+        Call::Setup(bytes) => (Made::Setup(bytes, false), Told::Nothing),
+        Call::Boot(bytes) => (Made::Setup(bytes, true), Told::Nothing),
         Call::In => {
             let told = in_wanted(place_of(calls));
             (Made::In(told), told)
@@ -472,18 +471,22 @@ impl Watched {
     /// Makes a call; whether it is answered as the plain program says.
     fn answers(&mut self, call: Call<'_>) -> bool {
         let (made, told) = made_of(self.calls.as_slice(), call);
-        answers(&mut self.ep, call, told) && self.calls.try_push(made).is_ok()
+        let wanted = if told == Told::Brings(Effect::Nothing) {
+            EMPTY
+        } else {
+            told
+        };
+        told_by(&mut self.ep, call) == wanted && self.calls.try_push(made).is_ok()
     }
 }
 
 /// Whether a SETUP packet, so many IN packets and an OUT packet are answered so.
 fn answers_transfer(setup: [u8; 8], booted: bool, packets: usize, out: &[u8]) -> bool {
-    let bytes = u64::from_be_bytes(setup);
     let mut watched = Watched::new();
     let mut right = watched.answers(if booted {
-        Call::Boot(bytes)
+        Call::Boot(setup)
     } else {
-        Call::Setup(bytes)
+        Call::Setup(setup)
     });
     for _ in 0..packets {
         right = watched.answers(Call::In) && right;
@@ -575,7 +578,8 @@ fn answers_each_packet_of_a_read(rt: HostRuntime) {
 /// A number that looks random, from the one before it.
 fn next(seed: &mut u32) -> u8 {
     *seed = seed.wrapping_mul(1_664_525).wrapping_add(1_013_904_223);
-    (*seed >> 24) as u8
+    let [top, ..] = seed.to_be_bytes();
+    top
 }
 
 /// One of these.
@@ -584,7 +588,7 @@ fn pick<T: Copy, const N: usize>(seed: &mut u32, from: [T; N]) -> Option<T> {
 }
 
 /// Mostly a request that is served.
-fn random_setup(seed: &mut u32) -> u64 {
+fn random_setup(seed: &mut u32) -> [u8; 8] {
     let (kind, code, value, _, _) = request(usize::from(next(seed)));
     let [low, high] = value.to_le_bytes();
     let length = pick(seed, [0, 1, 2, 6, 6, 8, 9, 255]).unwrap_or(0);
@@ -592,7 +596,7 @@ fn random_setup(seed: &mut u32) -> u64 {
     if next(seed) % 8 == 0 {
         setup[usize::from(next(seed) % 8)] = next(seed) % 8;
     }
-    u64::from_be_bytes(setup)
+    setup
 }
 
 /// Mostly a report, or the empty packet.

@@ -37,6 +37,3 @@ pub use parser::Parser;
 pub use readers::{ReportFields, Usages};
 pub use tag::{GlobalTag, LocalTag, MainTag, Tag};
 pub use text::parse;
-
-#[cfg(test)]
-mod tests;

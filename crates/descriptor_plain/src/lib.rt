@@ -4,7 +4,7 @@
 //! Items are held in a list, the newest first. The functions here look back over the whole of it at every question,
 //! as the definitions do, and keep nothing. They run on a host, on small texts, beside the parser that keeps a state.
 //!
-//! The promise is that each answer is exactly what the definition says, for every text. Nothing calls it but its tests,
+//! The promise is that each answer is exactly what the definition says, for every text. Nothing calls it but the tests,
 //! which compare it with the parser.
 #![tactic(auto)]
 
@@ -29,6 +29,3 @@ pub use first::first_fault;
 pub use item::Plain;
 pub use main_items::has_report_id;
 pub use text::{PlainText, cut};
-
-#[cfg(test)]
-mod tests;

@@ -17,6 +17,8 @@ ghost use Rattle.flash_model.specs.Operations.{Programs, MayProgram, Erases, May
 
 pub mod laws;
 pub mod masks;
+#[cfg(test)]
+mod rows;
 pub mod sim;
 #[cfg(test)]
 mod tests;

@@ -7,4 +7,5 @@ pub data HostCall : Type 0 where
   was_set_up : List ℕ → HostCall
   -- a packet of data, and whether memory for it was there
   got_packet : List ℕ → Bool → HostCall
+  -- the bus was reset, or the keyboard was cut off
   lost : HostCall

@@ -14,6 +14,3 @@ mod reading;
 
 pub use gatherer::Host;
 pub use reading::{Reading, UsageList};
-
-#[cfg(test)]
-mod tests;

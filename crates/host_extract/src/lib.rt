@@ -31,6 +31,3 @@ pub use error::ExtractError;
 pub use press::pressed;
 pub use read::extract;
 pub use reading::Found;
-
-#[cfg(test)]
-mod tests;

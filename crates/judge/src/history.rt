@@ -16,8 +16,6 @@ mod lawful;
 mod recorded;
 pub mod restart;
 pub mod sessions;
-#[cfg(test)]
-mod tests;
 pub mod time;
 pub mod usages;
 

@@ -10,5 +10,3 @@
 
 pub mod history;
 pub mod session;
-#[cfg(test)]
-mod tests;

@@ -31,8 +31,6 @@ pub mod laws;
 pub mod record;
 pub mod recorded;
 pub mod steps;
-#[cfg(test)]
-mod tests;
 mod torn;
 pub mod work;
 

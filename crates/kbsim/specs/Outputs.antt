@@ -12,7 +12,7 @@ use Rattle.world.specs.declared.event.Answer.TheVariants.{Ack, Packet, Worked}
 use Rattle.keymap_store.specs.declared.store.Work.TheVariants.{Working}
 use Rattle.world.specs.Kinds.{Step}
 use Rattle.world.specs.History.{EachStep, flash_after}
-use Rattle.world.specs.Lawful.{IsAnswered}
+use Rattle.world.specs.Lawful.{IsLawful}
 use Rattle.world.specs.Bounded.{StaysInTime}
 use Rattle.world.specs.Stands.{StandsFor, NoneRefused}
 use Rattle.world.specs.Value.{WorldValue}
@@ -122,7 +122,7 @@ blank pages = holding (replicate (4096 * pages) 255)
 -- steps than are allowed
 pub record IsRun (start : SimValue) (lines : List Line) (text : List ℕ) (after : SimValue) : Type 0 where
   pub steps : List Step
-  pub answered : EachStep IsAnswered start steps
+  pub answered : IsLawful start steps
   pub none_refused : NoneRefused steps
   pub in_time : EachStep StaysInTime start steps
   pub prints : Prints lines steps text

@@ -1,51 +1,35 @@
-//! Scans and polls, and the reports that they send.
+//! Scans and polls, and the reports that they send: texts of rows, each a call and what it answers.
+//!
+//! ```text
+//! protocol boot               the protocol of the scans and polls from here on, or `report`
+//! entry LAYER KEY CODE        changes an entry of the keymap
+//! scans COUNT KEYS            so many equal scans; `-` stands for no keys
+//! poll = BYTES, nothing       as many polls as answers
+//! boot = BYTES                the wanted report; so `bitmap` and `consumer`
+//! usage USAGE = 01            whether a usage of page 07h is held; so `consumes` of page 0Ch
+//! idle ID = BYTE              an idle value
+//! set ID BYTE                 sets it
+//! forget                      forgets what was sent; `reset` is a bus reset, `restart` a restart
+//! ```
+//!
+//! Codes, usages and bytes are hex digits, all else is decimal. `#` begins a comment. Each part between blank lines has
+//! keys of its own, and the default keymap.
 
 use crate::{IdleId, KeyReports, Protocol, Report};
 use debounce::Scan;
 use layers::{Command, Keymap};
+use std::alloc::{AllocError, Global};
 use std::process::Abort;
 
-/// A scan of these keys.
-fn scan_of(rt: &impl Abort, keys: &[u8]) -> Scan {
-    let mut scan = Scan::NONE;
-    for key in keys {
-        assert!(rt; *key < 96);
-        scan.rows[*key as usize / 16] |= 1 << (*key % 16);
-    }
-    scan
+/// What a row's call answers.
+#[derive(Debug, PartialEq, Eq, Drop)]
+enum Told {
+    /// The call has no answer.
+    Done,
+    /// No report is sent.
+    Nothing,
+    Bytes(Report),
 }
-
-/// The default keymap, with these entries set.
-fn keymap_with(rt: &impl Abort, entries: &[(u8, u8, u16)]) -> Keymap {
-    let mut keymap = Keymap::standard();
-    for (layer, key, code) in entries {
-        keymap.apply(
-            Command::read(1, *layer, *key, *code)
-                .ok()
-                .expect(rt, "a command"),
-        );
-    }
-    keymap
-}
-
-fn assert_sent(rt: &impl Abort, answer: Option<Report>, bytes: &[u8]) {
-    let report = answer.expect(rt, "a report");
-    assert_eq!(rt; report.as_slice(), bytes);
-}
-
-/// The boot report of no usages, and of usage 04h.
-const BOOT_NONE: [u8; 8] = [0; 8];
-
-const BOOT_A: [u8; 8] = [0, 0, 0x04, 0, 0, 0, 0, 0];
-
-/// The report of ID 1 with no usages, and with usage 04h.
-const ONE_NONE: [u8; 23] = [
-    1, 0, 0, 0, 0, 0, 0, 0, 0, 0, 0, 0, 0, 0, 0, 0, 0, 0, 0, 0, 0, 0, 0,
-];
-
-const ONE_A: [u8; 23] = [
-    1, 0, 1, 0, 0, 0, 0, 0, 0, 0, 0, 0, 0, 0, 0, 0, 0, 0, 0, 0, 0, 0, 0,
-];
 
 /// The keys, the keymap that their scans have, and the protocol in force.
 #[derive(Drop)]
@@ -56,278 +40,475 @@ struct Device {
 }
 
 impl Device {
-    fn new<R: AllocGlobal + Abort>(
-        rt: &R,
-        protocol: Protocol,
-        entries: &[(u8, u8, u16)],
-    ) -> Device {
-        Device {
-            keys: KeyReports::new(rt.alloc()).ok().expect(rt, "memory"),
-            keymap: keymap_with(rt, entries),
-            protocol,
-        }
+    fn start(alloc: Global) -> Result<Device, AllocError> {
+        Ok(Device {
+            keys: KeyReports::new(alloc)?,
+            keymap: Keymap::standard(),
+            protocol: Protocol::Report,
+        })
     }
 
-    /// So many equal scans.
-    fn scans(&mut self, rt: &impl Abort, count: u32, keys: &[u8]) {
-        let scan = scan_of(rt, keys);
-        for _ in 0..count {
+    /// The first of these rows whose call doesn't answer as it says, and what it answers: `None` where the row can't be
+    /// read.
+    fn first_wrong<'a>(&mut self, rows: &'a str) -> Option<(&'a str, Option<Told>)> {
+        for row in rows.lines() {
+            let row = row.trim();
+            let (call, answers) = row.split_once(" = ").unwrap_or((row, ""));
+            for answer in answers.split(", ") {
+                let told = self.call(call);
+                if told.is_none() || told != answer_of(answer) {
+                    return Some((row, told));
+                }
+            }
+        }
+        None
+    }
+
+    fn call(&mut self, call: &str) -> Option<Told> {
+        let (word, rest) = call.split_once(' ').unwrap_or((call, ""));
+        match word {
+            "" | "#" => {},
+            "protocol" => self.protocol = protocol(rest)?,
+            "entry" => self.keymap.apply(command(rest)?),
+            "scans" => return self.scans(rest),
+            "poll" => return Some(self.poll()),
+            "boot" => return Some(bytes(&self.keys.boot())),
+            "bitmap" => return Some(bytes(&self.keys.bitmap())),
+            "consumer" => return Some(bytes(&self.keys.consumer())),
+            "usage" => return Some(yes(self.keys.usages().has_key(byte(rest)?))),
+            "consumes" => return Some(yes(self.keys.usages().has_consumer(hex(rest)?))),
+            "idle" => return Some(bytes(&[self.keys.idle(id(rest)?)])),
+            "set" => return self.set(rest),
+            "forget" => self.keys.forget_sent(),
+            "reset" => self.keys.bus_reset(),
+            "restart" => self.keys.restart(),
+            _ => return None,
+        }
+        Some(Told::Done)
+    }
+
+    fn scans(&mut self, rest: &str) -> Option<Told> {
+        let (count, pressed) = rest.split_once(' ')?;
+        let scan = scan(pressed)?;
+        for _ in 0..number(count)? {
             self.keys.scan(scan, &self.keymap, self.protocol);
         }
+        Some(Told::Done)
     }
 
-    fn poll(&mut self) -> Option<Report> {
-        self.keys.poll(self.protocol)
+    fn poll(&mut self) -> Told {
+        match self.keys.poll(self.protocol) {
+            Some(report) => Told::Bytes(report),
+            None => Told::Nothing,
+        }
+    }
+
+    fn set(&mut self, rest: &str) -> Option<Told> {
+        let (name, value) = rest.split_once(' ')?;
+        self.keys.set_idle(id(name)?, byte(value)?);
+        Some(Told::Done)
+    }
+}
+
+fn protocol(text: &str) -> Option<Protocol> {
+    match text {
+        "boot" => Some(Protocol::Boot),
+        "report" => Some(Protocol::Report),
+        _ => None,
+    }
+}
+
+fn id(text: &str) -> Option<IdleId> {
+    match text {
+        "0" => Some(IdleId::All),
+        "1" => Some(IdleId::One),
+        "2" => Some(IdleId::Two),
+        _ => None,
+    }
+}
+
+fn number(text: &str) -> Option<u16> {
+    text.parse::<u16>().ok()
+}
+
+/// The number of one to four hex digits.
+fn hex(text: &str) -> Option<u16> {
+    if text.is_empty() || text.len() > 4 {
+        return None;
+    }
+    let mut number = 0u32;
+    for c in text.chars() {
+        number = number.wrapping_mul(16) | c.to_digit(16)?;
+    }
+    u16::try_from(number).ok()
+}
+
+fn byte(text: &str) -> Option<u8> {
+    u8::try_from(hex(text)?).ok()
+}
+
+/// The command that sets an entry: its layer, its key, its code.
+fn command(text: &str) -> Option<Command> {
+    let (layer, rest) = text.split_once(' ')?;
+    let (key, code) = rest.split_once(' ')?;
+    let layer = u8::try_from(number(layer)?).ok()?;
+    let key = u8::try_from(number(key)?).ok()?;
+    Command::read(1, layer, key, hex(code)?).ok()
+}
+
+/// The scan with these keys pressed.
+fn scan(text: &str) -> Option<Scan> {
+    let mut rows = [0; 6];
+    let pressed = if text == "-" { "" } else { text };
+    for word in pressed.split_whitespace() {
+        let key = number(word)?;
+        let row = (key / 16) as usize;
+        if row >= 6 {
+            return None;
+        }
+        rows[row] |= 1 << (key % 16);
+    }
+    Some(Scan { rows })
+}
+
+fn bytes(from: &[u8]) -> Told {
+    match Report::try_from(from) {
+        Ok(report) => Told::Bytes(report),
+        Err(_) => Told::Nothing,
+    }
+}
+
+fn yes(is: bool) -> Told {
+    bytes(&[u8::from(is)])
+}
+
+/// The answer that a row wants; `None` where it can't be read.
+fn answer_of(text: &str) -> Option<Told> {
+    match text {
+        "" => Some(Told::Done),
+        "nothing" => Some(Told::Nothing),
+        _ => Some(Told::Bytes(bytes_of(text)?)),
+    }
+}
+
+/// The bytes of hex digits, two each.
+fn bytes_of(text: &str) -> Option<Report> {
+    let mut report = Report::new();
+    let mut high = None;
+    for c in text.chars() {
+        let low = c.to_digit(16)?;
+        match high {
+            None => high = Some(low),
+            Some(first) => {
+                let byte = u8::try_from(first.wrapping_mul(16) | low).ok()?;
+                report.try_push(byte).ok()?;
+                high = None;
+            }
+        }
+    }
+    if high.is_some() { None } else { Some(report) }
+}
+
+/// Makes the calls of these rows, and compares what they answer.
+fn rows<R: AllocGlobal + Abort>(rt: &R, rows: &str) {
+    for part in rows.split("\n\n") {
+        let mut device = Device::start(rt.alloc()).ok().expect(rt, "memory");
+        assert_eq!(rt; device.first_wrong(part), None, "in {part}");
     }
 }
 
 #[test]
 fn one_key(rt: HostRuntime) {
-    let mut device = Device::new(&rt, Protocol::Boot, &[]);
-    device.scans(&rt, 4, &[0]);
-    device.scans(&rt, 1, &[]);
-    device.scans(&rt, 4, &[0]);
-    assert!(rt; device.poll().is_none());
-    device.scans(&rt, 1, &[0]);
-    assert_sent(&rt, device.poll(), &BOOT_A);
-    assert!(rt; device.poll().is_none());
-    // The same usages again after 500 ms.
-    device.scans(&rt, 499, &[0]);
-    assert!(rt; device.poll().is_none());
-    device.scans(&rt, 1, &[0]);
-    assert_sent(&rt, device.poll(), &BOOT_A);
-    assert!(rt; device.poll().is_none());
-    // What was sent is forgotten; the keys stay.
-    device.keys.forget_sent();
-    assert_sent(&rt, device.poll(), &BOOT_A);
-    device.keys.bus_reset();
-    assert_sent(&rt, device.poll(), &BOOT_A);
-    assert!(rt; device.keys.usages().has_key(0x04));
-    device.scans(&rt, 5, &[]);
-    assert!(rt; !device.keys.usages().has_key(0x04));
-    assert_sent(&rt, device.poll(), &BOOT_NONE);
+    rows(
+        &rt,
+        "protocol boot
+        scans 4 0
+        scans 1 -
+        scans 4 0
+        poll = nothing
+        scans 1 0
+        poll = 0000040000000000, nothing
+        # The same usages again after 500 ms.
+        scans 499 0
+        poll = nothing
+        scans 1 0
+        poll = 0000040000000000, nothing
+        # What was sent is forgotten; the keys stay.
+        forget
+        poll = 0000040000000000
+        reset
+        poll = 0000040000000000
+        usage 04 = 01
+        scans 5 -
+        usage 04 = 00
+        poll = 0000000000000000",
+    );
 }
 
 #[test]
 fn seven_keys_and_a_modifier(rt: HostRuntime) {
-    let mut device = Device::new(&rt, Protocol::Boot, &[]);
-    device.scans(&rt, 5, &[0, 1, 2, 3, 4, 5, 6, 88]);
-    assert_sent(&rt, device.poll(), &[1, 0, 1, 1, 1, 1, 1, 1]);
-    // Seven keys of one usage are one usage.
-    let mut device = Device::new(
+    rows(
         &rt,
-        Protocol::Boot,
-        &[
-            (0, 0, 4),
-            (0, 1, 4),
-            (0, 2, 4),
-            (0, 3, 4),
-            (0, 4, 4),
-            (0, 5, 4),
-            (0, 6, 4),
-        ],
+        "protocol boot
+        scans 5 0 1 2 3 4 5 6 88
+        poll = 0100010101010101
+
+        # Seven keys of one usage are one usage.
+        protocol boot
+        entry 0 0 04
+        entry 0 1 04
+        entry 0 2 04
+        entry 0 3 04
+        entry 0 4 04
+        entry 0 5 04
+        entry 0 6 04
+        scans 5 0 1 2 3 4 5 6
+        poll = 0000040000000000",
     );
-    device.scans(&rt, 5, &[0, 1, 2, 3, 4, 5, 6]);
-    assert_sent(&rt, device.poll(), &BOOT_A);
 }
 
 #[test]
 fn a_momentary_layer(rt: HostRuntime) {
-    let entries = [(0, 10, 0x5001), (1, 0, 0x001E)];
-    let digit = [0, 0, 0x1E, 0, 0, 0, 0, 0];
-    // The key keeps the code of its press when the layer's key is released.
-    let mut device = Device::new(&rt, Protocol::Boot, &entries);
-    device.scans(&rt, 5, &[10]);
-    device.scans(&rt, 5, &[0, 10]);
-    device.scans(&rt, 5, &[0]);
-    assert_sent(&rt, device.poll(), &digit);
-    // Pressed in one scan, the lesser number comes first.
-    let mut device = Device::new(&rt, Protocol::Boot, &entries);
-    device.scans(&rt, 5, &[0, 10]);
-    assert_sent(&rt, device.poll(), &BOOT_A);
-    let mut device = Device::new(&rt, Protocol::Boot, &[(0, 0, 0x5001), (1, 10, 0x001E)]);
-    device.scans(&rt, 5, &[0, 10]);
-    assert_sent(&rt, device.poll(), &digit);
-    // One scan releases the layer's key and presses the other: the layer is not active any more.
-    let mut device = Device::new(&rt, Protocol::Boot, &entries);
-    device.scans(&rt, 5, &[10]);
-    device.scans(&rt, 5, &[0]);
-    assert_sent(&rt, device.poll(), &BOOT_A);
+    rows(
+        &rt,
+        "# The key keeps the code of its press when the layer's key is released.
+        protocol boot
+        entry 0 10 5001
+        entry 1 0 001e
+        scans 5 10
+        scans 5 0 10
+        scans 5 0
+        poll = 00001e0000000000
+
+        # Pressed in one scan, the lesser number comes first.
+        protocol boot
+        entry 0 10 5001
+        entry 1 0 001e
+        scans 5 0 10
+        poll = 0000040000000000
+
+        protocol boot
+        entry 0 0 5001
+        entry 1 10 001e
+        scans 5 0 10
+        poll = 00001e0000000000
+
+        # One scan releases the layer's key and presses the other: the layer is not active any more.
+        protocol boot
+        entry 0 10 5001
+        entry 1 0 001e
+        scans 5 10
+        scans 5 0
+        poll = 0000040000000000",
+    );
 }
 
 // A key that is held keeps its code when the keymap changes, and is released all the same.
 #[test]
 fn a_keymap_changes_under_a_key(rt: HostRuntime) {
-    let mut device = Device::new(&rt, Protocol::Boot, &[]);
-    device.scans(&rt, 5, &[0]);
-    assert_sent(&rt, device.poll(), &BOOT_A);
-    device.keymap = keymap_with(&rt, &[(0, 0, 0x1E)]);
-    device.scans(&rt, 5, &[0, 1]);
-    assert_sent(&rt, device.poll(), &[0, 0, 0x04, 0x05, 0, 0, 0, 0]);
-    device.scans(&rt, 5, &[1]);
-    assert_sent(&rt, device.poll(), &[0, 0, 0x05, 0, 0, 0, 0, 0]);
-    device.scans(&rt, 5, &[0, 1]);
-    assert_sent(&rt, device.poll(), &[0, 0, 0x05, 0x1E, 0, 0, 0, 0]);
+    rows(
+        &rt,
+        "protocol boot
+        scans 5 0
+        poll = 0000040000000000
+        entry 0 0 1e
+        scans 5 0 1
+        poll = 0000040500000000
+        scans 5 1
+        poll = 0000050000000000
+        scans 5 0 1
+        poll = 0000051e00000000",
+    );
 }
 
 // A key that is transparent on every layer names no usage.
 #[test]
 fn a_transparent_key(rt: HostRuntime) {
-    let mut device = Device::new(&rt, Protocol::Boot, &[(0, 0, 0x0001)]);
-    device.scans(&rt, 5, &[0]);
-    assert!(rt; device.poll().is_none());
-    assert_eq!(rt; device.keys.boot(), BOOT_NONE);
+    rows(
+        &rt,
+        "protocol boot
+        entry 0 0 0001
+        scans 5 0
+        poll = nothing
+        boot = 0000000000000000",
+    );
 }
 
 // Both reports are sent, ID 1 first, and ID 1 again after 500 ms.
 #[test]
 fn the_reports_of_report_protocol(rt: HostRuntime) {
-    let mut device = Device::new(&rt, Protocol::Report, &[(0, 1, 0x40B0)]);
-    device.scans(&rt, 5, &[0, 1]);
-    assert_sent(&rt, device.poll(), &ONE_A);
-    assert_sent(&rt, device.poll(), &[2, 0xB0, 0, 0, 0, 0, 0, 0, 0]);
-    assert!(rt; device.poll().is_none());
-    device.scans(&rt, 499, &[0, 1]);
-    assert!(rt; device.poll().is_none());
-    device.scans(&rt, 1, &[0, 1]);
-    assert_sent(&rt, device.poll(), &ONE_A);
-    assert!(rt; device.poll().is_none());
+    rows(
+        &rt,
+        "entry 0 1 40b0
+        scans 5 0 1
+        poll = 0100010000000000000000000000000000000000000000, 02b000000000000000, nothing
+        scans 499 0 1
+        poll = nothing
+        scans 1 0 1
+        poll = 0100010000000000000000000000000000000000000000, nothing",
+    );
 }
 
 // Of five consumer usages the four least are sent; each release shows what is left.
 #[test]
 fn five_consumer_keys(rt: HostRuntime) {
-    let entries = [
-        (0, 0, 0x4005),
-        (0, 1, 0x4004),
-        (0, 2, 0x4003),
-        (0, 3, 0x4002),
-        (0, 4, 0x4001),
-    ];
-    let four = [2, 1, 0, 2, 0, 3, 0, 4, 0];
-    let mut device = Device::new(&rt, Protocol::Report, &entries);
-    device.scans(&rt, 5, &[0, 1, 2, 3, 4]);
-    assert_sent(&rt, device.poll(), &four);
-    assert!(rt; device.poll().is_none());
-    assert!(rt; device.keys.usages().has_consumer(5));
-    // The release of the greatest changes no wanted byte, that of another one shows it.
-    device.scans(&rt, 5, &[1, 2, 3, 4]);
-    assert!(rt; device.poll().is_none());
-    device.scans(&rt, 5, &[0, 1, 2, 3, 4]);
-    assert!(rt; device.poll().is_none());
-    let left: [([u8; 4], [u8; 9]); 4] = [
-        ([0, 2, 3, 4], [2, 1, 0, 2, 0, 3, 0, 5, 0]),
-        ([0, 1, 3, 4], [2, 1, 0, 2, 0, 4, 0, 5, 0]),
-        ([0, 1, 2, 4], [2, 1, 0, 3, 0, 4, 0, 5, 0]),
-        ([0, 1, 2, 3], [2, 2, 0, 3, 0, 4, 0, 5, 0]),
-    ];
-    for (keys, bytes) in left.iter() {
-        device.scans(&rt, 5, keys.as_slice());
-        assert_eq!(rt; device.keys.consumer(), *bytes);
-        assert_sent(&rt, device.poll(), bytes.as_slice());
-        device.scans(&rt, 5, &[0, 1, 2, 3, 4]);
-        assert_sent(&rt, device.poll(), &four);
-    }
+    rows(
+        &rt,
+        "entry 0 0 4005
+        entry 0 1 4004
+        entry 0 2 4003
+        entry 0 3 4002
+        entry 0 4 4001
+        scans 5 0 1 2 3 4
+        poll = 020100020003000400, nothing
+        consumes 05 = 01
+        # The release of the greatest changes no wanted byte, that of another one shows it.
+        scans 5 1 2 3 4
+        poll = nothing
+        scans 5 0 1 2 3 4
+        poll = nothing
+        scans 5 0 2 3 4
+        consumer = 020100020003000500
+        poll = 020100020003000500
+        scans 5 0 1 2 3 4
+        poll = 020100020003000400
+        scans 5 0 1 3 4
+        consumer = 020100020004000500
+        poll = 020100020004000500
+        scans 5 0 1 2 3 4
+        poll = 020100020003000400
+        scans 5 0 1 2 4
+        consumer = 020100030004000500
+        poll = 020100030004000500
+        scans 5 0 1 2 3 4
+        poll = 020100020003000400
+        scans 5 0 1 2 3
+        consumer = 020200030004000500
+        poll = 020200030004000500
+        scans 5 0 1 2 3 4
+        poll = 020100020003000400",
+    );
 }
 
 // A key that is pressed and released between two polls reaches the host.
 #[test]
 fn a_press_and_its_release_wait(rt: HostRuntime) {
-    let mut device = Device::new(&rt, Protocol::Boot, &[]);
-    device.scans(&rt, 5, &[0]);
-    device.scans(&rt, 5, &[]);
-    assert_sent(&rt, device.poll(), &BOOT_A);
-    assert_sent(&rt, device.poll(), &BOOT_NONE);
-    assert!(rt; device.poll().is_none());
+    rows(
+        &rt,
+        "protocol boot
+        scans 5 0
+        scans 5 -
+        poll = 0000040000000000, 0000000000000000, nothing",
+    );
 }
 
 // Of nine reports the first is dropped.
 #[test]
 fn eight_reports_wait(rt: HostRuntime) {
-    let mut device = Device::new(&rt, Protocol::Boot, &[]);
-    for _ in 0..4u8 {
-        device.scans(&rt, 5, &[0]);
-        device.scans(&rt, 5, &[]);
-    }
-    device.scans(&rt, 5, &[0]);
-    for _ in 0..4u8 {
-        assert_sent(&rt, device.poll(), &BOOT_NONE);
-        assert_sent(&rt, device.poll(), &BOOT_A);
-    }
-    assert!(rt; device.poll().is_none());
+    rows(
+        &rt,
+        "protocol boot
+        scans 5 0
+        scans 5 -
+        scans 5 0
+        scans 5 -
+        scans 5 0
+        scans 5 -
+        scans 5 0
+        scans 5 -
+        scans 5 0
+        poll = 0000000000000000, 0000040000000000, 0000000000000000, 0000040000000000
+        poll = 0000000000000000, 0000040000000000, 0000000000000000, 0000040000000000, nothing",
+    );
 }
 
 // A report that was dropped is found changed once nothing waits.
 #[test]
 fn a_dropped_report_is_still_changed(rt: HostRuntime) {
-    let mut device = Device::new(&rt, Protocol::Report, &[(0, 1, 0x40E9)]);
-    device.scans(&rt, 5, &[1]);
-    for _ in 0..4u8 {
-        device.scans(&rt, 5, &[0, 1]);
-        device.scans(&rt, 5, &[1]);
-    }
-    for _ in 0..4u8 {
-        assert_sent(&rt, device.poll(), &ONE_A);
-        assert_sent(&rt, device.poll(), &ONE_NONE);
-    }
-    assert_sent(&rt, device.poll(), &[2, 0xE9, 0, 0, 0, 0, 0, 0, 0]);
-    assert!(rt; device.poll().is_none());
+    rows(
+        &rt,
+        "entry 0 1 40e9
+        scans 5 1
+        scans 5 0 1
+        scans 5 1
+        scans 5 0 1
+        scans 5 1
+        scans 5 0 1
+        scans 5 1
+        scans 5 0 1
+        scans 5 1
+        poll = 0100010000000000000000000000000000000000000000, 0100000000000000000000000000000000000000000000
+        poll = 0100010000000000000000000000000000000000000000, 0100000000000000000000000000000000000000000000
+        poll = 0100010000000000000000000000000000000000000000, 0100000000000000000000000000000000000000000000
+        poll = 0100010000000000000000000000000000000000000000, 0100000000000000000000000000000000000000000000
+        poll = 02e900000000000000, nothing",
+    );
 }
 
 // What waits is dropped when the protocol changes.
 #[test]
 fn a_change_of_protocol_empties_the_queue(rt: HostRuntime) {
-    let mut device = Device::new(&rt, Protocol::Report, &[]);
-    device.scans(&rt, 5, &[0]);
-    device.protocol = Protocol::Boot;
-    device.keys.forget_sent();
-    assert_sent(&rt, device.poll(), &BOOT_A);
-    assert!(rt; device.poll().is_none());
+    rows(
+        &rt,
+        "scans 5 0
+        protocol boot
+        forget
+        poll = 0000040000000000, nothing",
+    );
 }
 
 // To ask for the bytes of a report sends nothing.
 #[test]
 fn wanted_bytes(rt: HostRuntime) {
-    let mut device = Device::new(&rt, Protocol::Boot, &[(0, 1, 0x4001)]);
-    device.scans(&rt, 5, &[0, 1]);
-    assert_eq!(rt; device.keys.boot(), BOOT_A);
-    assert_eq!(rt; device.keys.bitmap(), ONE_A);
-    assert_eq!(rt; device.keys.consumer(), [2, 1, 0, 0, 0, 0, 0, 0, 0]);
-    assert_sent(&rt, device.poll(), &BOOT_A);
-    assert!(rt; device.poll().is_none());
+    rows(
+        &rt,
+        "protocol boot
+        entry 0 1 4001
+        scans 5 0 1
+        boot = 0000040000000000
+        bitmap = 0100010000000000000000000000000000000000000000
+        consumer = 020100000000000000
+        poll = 0000040000000000, nothing",
+    );
 }
 
 #[test]
 fn idle_values(rt: HostRuntime) {
-    let mut device = Device::new(&rt, Protocol::Boot, &[]);
-    assert_eq!(rt; device.keys.idle(IdleId::One), 125);
-    assert_eq!(rt; device.keys.idle(IdleId::Two), 0);
-    device.keys.set_idle(IdleId::All, 1);
-    assert_eq!(rt; device.keys.idle(IdleId::All), 1);
-    assert_eq!(rt; device.keys.idle(IdleId::Two), 1);
-    device.scans(&rt, 3, &[]);
-    assert!(rt; device.poll().is_none());
-    device.scans(&rt, 1, &[]);
-    assert_sent(&rt, device.poll(), &BOOT_NONE);
-    device.keys.forget_sent();
-    assert_eq!(rt; device.keys.idle(IdleId::One), 1);
-    device.keys.bus_reset();
-    assert_eq!(rt; device.keys.idle(IdleId::One), 125);
-    assert_eq!(rt; device.keys.idle(IdleId::Two), 0);
+    rows(
+        &rt,
+        "protocol boot
+        idle 1 = 7d
+        idle 2 = 00
+        set 0 01
+        idle 0 = 01
+        idle 2 = 01
+        scans 3 -
+        poll = nothing
+        scans 1 -
+        poll = 0000000000000000
+        forget
+        idle 1 = 01
+        reset
+        idle 1 = 7d
+        idle 2 = 00",
+    );
 }
 
 // A restart leaves no key down, nothing that waits, and the idle values of the start.
 #[test]
 fn a_restart_is_a_start(rt: HostRuntime) {
-    let mut device = Device::new(&rt, Protocol::Boot, &[]);
-    device.keys.set_idle(IdleId::All, 1);
-    device.scans(&rt, 9, &[0]);
-    device.keys.restart();
-    assert!(rt; device.poll().is_none());
-    assert_eq!(rt; device.keys.boot(), BOOT_NONE);
-    assert_eq!(rt; device.keys.idle(IdleId::All), 125);
-    device.scans(&rt, 4, &[0]);
-    assert!(rt; device.poll().is_none());
-    device.scans(&rt, 1, &[0]);
-    assert_sent(&rt, device.poll(), &BOOT_A);
+    rows(
+        &rt,
+        "protocol boot
+        set 0 01
+        scans 9 0
+        restart
+        poll = nothing
+        boot = 0000000000000000
+        idle 0 = 7d
+        scans 4 0
+        poll = nothing
+        scans 1 0
+        poll = 0000040000000000",
+    );
 }

@@ -6,7 +6,7 @@ use Rattle.keyboard.specs.Calls.{Call, image_after, keymap, EachCall}
 use Rattle.keyboard.specs.Fate.{Fate, works, settled, failed, fate, ended_by}
 use Rattle.keyboard.specs.Commands.{Accepted, accepted, accepted_before, accepted_with, accepts, if_settled, settled_of, standing_of, unless_failed}
 use Rattle.keyboard.specs.Lawful.{IsAnswered}
-use Rattle.keyboard.specs.Acknowledged.{told, IsConfirmed, SettledAfter, IsSettled}
+use Rattle.keyboard.specs.Acknowledged.{confirmation, IsConfirmed, SettledAfter, IsSettled}
 use Rattle.keyboard.specs.Restart.{RestartsLegally}
 use Rattle.keyboard.proofs.Accepting.{ended_by-settled, fate-more}
 use Rattle.keyboard.proofs.Sessions.{settled_of-append}
@@ -40,12 +40,12 @@ pub confirmed : (start : List ℕ) (past before : List Call) (command : Command)
 unfolding accepted
 confirmed start past before command h c =
     let rest : List Call = c.between ++ c.packet ∷ before in
-    let all : EachCall IsAnswered start (c.after ++ told ∷ rest) = subst (λ (xs : List Call). EachCall IsAnswered start xs) (c.past_is ∙ append_assoc c.after (told ∷ c.between) (c.packet ∷ before)) h in
-    let here : EachCall IsAnswered start (told ∷ rest) = EachCall-later IsAnswered start c.after (told ∷ rest) all in
+    let all : EachCall IsAnswered start (c.after ++ confirmation ∷ rest) = subst (λ (xs : List Call). EachCall IsAnswered start xs) (c.past_is ∙ append_assoc c.after (confirmation ∷ c.between) (c.packet ∷ before)) h in
+    let here : EachCall IsAnswered start (confirmation ∷ rest) = EachCall-later IsAnswered start c.after (confirmation ∷ rest) all in
     let entries : ℕ → ℕ → ℕ = keymap (image_after start before) in
-    let since : List Call = c.after ++ told ∷ c.between in
-    let done : fate entries command since ≡ settled = fate-settled entries command c.after (told ∷ c.between)
-    (fate-settled entries command (told ∷ []) c.between (settled_here start c.between before c.packet command c.same_transfer c.accepted here.1 here.0)) in
+    let since : List Call = c.after ++ confirmation ∷ c.between in
+    let done : fate entries command since ≡ settled = fate-settled entries command c.after (confirmation ∷ c.between)
+    (fate-settled entries command (confirmation ∷ []) c.between (settled_here start c.between before c.packet command c.same_transfer c.accepted here.1 here.0)) in
     let parts : past ≡ since ++ c.packet ∷ before = c.past_is in
     let b : Begins (accepted_before start since (c.packet ∷ before)) (accepted_before start [] (since ++ c.packet ∷ before)) = begins start [] since (c.packet ∷ before) in
     let earlier : List Accepted = accepted_before start (since ++ c.packet ∷ []) before in

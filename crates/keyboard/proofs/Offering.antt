@@ -31,7 +31,7 @@ use Rattle.control_ep.specs.Calls.{EpCall, Out as EpOut, Judged}
 use Rattle.control_ep.specs.Answers.{out_step, received_report, report_step, closing_step, judged_answer, verdict_answer}
 use Rattle.control_ep.specs.Stands as control_ep
 use Rattle.keyboard.specs.Calls.{Call, Out, setup_of, image_after, keymap}
-use Rattle.keyboard.specs.Effects.{Entry, Sent, report_named, taken, sent_as, leds_in, entry_in_report, selected}
+use Rattle.keyboard.specs.Effects.{Entry, SentReport, report_named, report_taken, sent_as, leds_in, entry_in_report, selected}
 use Rattle.keyboard.specs.Keys.{key_calls}
 use Rattle.keyboard.specs.Feature.{command_in, yes, no, CommandAnswer, ReadAnswer, FeatureAnswer}
 use Rattle.keyboard.specs.Fate.{changes, changes_by}
@@ -41,7 +41,7 @@ use Rattle.keyboard.specs.Bounded.{most_steps, steps_since}
 use Rattle.keyboard.specs.Lawful.{IsAnswered, OutAnswer}
 use Rattle.keyboard.specs.Value.{KeyboardValue, RunsOn, at_work}
 use Rattle.keyboard.specs.Stands.{StandsFor}
-use Rattle.keyboard.specs.Private.{Leaves, refused, selects, commands, Judges, verdict_of}
+use Rattle.keyboard.specs.Private.{VerdictLeaves, refused, selects, commands, Judges, verdict_of}
 use Rattle.keyboard.proofs.Changing.{changes-some, changes-nothing}
 use Rattle.keyboard.proofs.Bounding.{steps_since-none, accepted_image-now, nothing_needed}
 use Rattle.keyboard.proofs.Served.{Serves, serves}
@@ -65,7 +65,7 @@ free w n b = cc
 -- the verdict on a command while none works
 judged_with : (image bytes : List ℕ) (command : Command) (verdict : Verdict) (old new : KeyboardValue) → at_work old ≡ None → command_in bytes ≡ Ok command
     → CommandAnswer image command (judged_answer verdict) → verdict ≡ verdict_told (changes (keymap image) command) (judged_answer verdict)
-    → RunsOn image new → Leaves image bytes verdict old new → Judges image bytes verdict old new
+    → RunsOn image new → VerdictLeaves image bytes verdict old new → Judges image bytes verdict old new
 judged_with image bytes command verdict old new n c a t r l = record {
   answer_is = no (free (at_work old) n) (no (no_command bytes command c) (subst (λ (x : Result Command KeymapError). ReadAnswer image x (judged_answer verdict)) (sym c) a));
   told = t ∙ ap (λ (x : Result Command KeymapError). verdict_told (changes_by (keymap image) x) (judged_answer verdict)) (sym c);
@@ -163,31 +163,31 @@ offered past packet bytes (Status effect) s a = cc
 offered past packet bytes (Stalled why) s a = cc
 
 -- the verdict leaves the endpoint to be told of it
-pub same_ep : (image bytes : List ℕ) (verdict : Verdict) (old new : KeyboardValue) → Leaves image bytes verdict old new → new.ep ≡ old.ep
+pub same_ep : (image bytes : List ℕ) (verdict : Verdict) (old new : KeyboardValue) → VerdictLeaves image bytes verdict old new → new.ep ≡ old.ep
 same_ep image bytes verdict old new (refused n o) = ap (λ (k : KeyboardValue). k.ep) o
 same_ep image bytes verdict old new (selects z a o) = ap (λ (k : KeyboardValue). k.ep) o
 same_ep image bytes verdict old new (commands command c a n o w m k) = ap (λ (k : KeyboardValue). k.ep) o
 
-unacked : (past : List Call) (packet : List ℕ) (answer : EpAnswer) → (answer ≡ Ack → ⊥) → taken past (Out packet answer) ≡ None
+unacked : (past : List Call) (packet : List ℕ) (answer : EpAnswer) → (answer ≡ Ack → ⊥) → report_taken past (Out packet answer) ≡ None
 unacked past packet Ack n = absurd (n refl)
 unacked past packet Nak n = refl
 unacked past packet (Packet p) n = refl
 unacked past packet (Stall why) n = refl
 
-feature_taken : (past : List Call) (packet : List ℕ) → report_named (setup_of past) ≡ Some FeatureData → taken past (Out packet Ack) ≡ Some (record { report = FeatureData; bytes = packet })
+feature_taken : (past : List Call) (packet : List ℕ) → report_named (setup_of past) ≡ Some FeatureData → report_taken past (Out packet Ack) ≡ Some (record { report = FeatureData; bytes = packet })
 feature_taken past packet n = ap (λ (r : Option HostReport). sent_as packet r) n
 
-entry_when : (packet : List ℕ) (sent : Option Sent) → sent ≡ Some (record { report = FeatureData; bytes = packet }) → slice_index packet 1 ≡ 0
+entry_when : (packet : List ℕ) (sent : Option SentReport) → sent ≡ Some (record { report = FeatureData; bytes = packet }) → slice_index packet 1 ≡ 0
     → entry_in_report sent ≡ Some (record { layer = slice_index packet 2; key = slice_index packet 3 })
 entry_when packet sent e z = rw (e, z) refl
 
-no_entry_when : (packet : List ℕ) (sent : Option Sent) → sent ≡ Some (record { report = FeatureData; bytes = packet }) → (slice_index packet 1 ≡ 0 → ⊥) → entry_in_report sent ≡ None
+no_entry_when : (packet : List ℕ) (sent : Option SentReport) → sent ≡ Some (record { report = FeatureData; bytes = packet }) → (slice_index packet 1 ≡ 0 → ⊥) → entry_in_report sent ≡ None
 no_entry_when packet sent e z = (let b : (slice_index packet 1 == 0) ≡ false = grind (arith, z, nat_tests) in rw (e, b) refl)
 
-no_leds_when : (packet : List ℕ) (sent : Option Sent) → sent ≡ Some (record { report = FeatureData; bytes = packet }) → leds_in sent ≡ None
+no_leds_when : (packet : List ℕ) (sent : Option SentReport) → sent ≡ Some (record { report = FeatureData; bytes = packet }) → leds_in sent ≡ None
 no_leds_when packet sent e = rw e refl
 
-command_when : (packet : List ℕ) (sent : Option Sent) (o : Option Command) → sent ≡ Some (record { report = FeatureData; bytes = packet }) → result_ok (command_in (drop 1 packet)) ≡ o → command_in_report sent ≡ o
+command_when : (packet : List ℕ) (sent : Option SentReport) (o : Option Command) → sent ≡ Some (record { report = FeatureData; bytes = packet }) → result_ok (command_in (drop 1 packet)) ≡ o → command_in_report sent ≡ o
 command_when packet sent o e c = rw e c
 
 -- the numbers after the ID
@@ -238,18 +238,18 @@ offer_selects start past packet bytes verdict old mid new ep j z a o =
     let of : Offered past packet bytes = offer_of start past packet bytes verdict old mid new ep j in
     let is : record new { ep = ep } ≡ record old { ep = ep; layer = slice_index bytes 1; key = slice_index bytes 2 } =
     ap (λ (k : KeyboardValue). record k { ep = ep }) o ∙ ap (λ (k : KeyboardValue). record k { ep = ep; layer = slice_index bytes 1; key = slice_index bytes 2 }) j.between in
-    let sent : taken past (Out packet Ack) ≡ Some (record { report = FeatureData; bytes = packet }) = feature_taken past packet of.names in
+    let sent : report_taken past (Out packet Ack) ≡ Some (record { report = FeatureData; bytes = packet }) = feature_taken past packet of.names in
     let zero_at : slice_index packet 1 ≡ 0 = sym (number_at packet bytes 0 of.bytes_are) ∙ z in
-    let none : command_in_report (taken past (Out packet Ack)) ≡ None = command_when packet (taken past (Out packet Ack)) None sent (subst (λ (bs : List ℕ). result_ok (command_in bs) ≡ None) of.bytes_are (none_read bytes z)) in
+    let none : command_in_report (report_taken past (Out packet Ack)) ≡ None = command_when packet (report_taken past (Out packet Ack)) None sent (subst (λ (bs : List ℕ). result_ok (command_in bs) ≡ None) of.bytes_are (none_read bytes z)) in
     let selects_it : selected (Out packet Ack ∷ past) ≡ record { layer = slice_index packet 2; key = slice_index packet 3 } =
-    selected-out past packet Ack (Some (record { layer = slice_index packet 2; key = slice_index packet 3 })) (entry_when packet (taken past (Out packet Ack)) sent zero_at) in
+    selected-out past packet Ack (Some (record { layer = slice_index packet 2; key = slice_index packet 3 })) (entry_when packet (report_taken past (Out packet Ack)) sent zero_at) in
     subst (λ (k : KeyboardValue). StandsFor start (Out packet Ack ∷ past) k) (sym is)
     (stands_with start past (Out packet Ack) old (record old { ep = ep; layer = slice_index bytes 1; key = slice_index bytes 2 }) j.stands (out_leaves start past packet Ack none) refl
     (record {
       ep = subst (λ (x : EpAnswer). control_ep.StandsFor (ep_calls start (Out packet x ∷ past)) ep) a (ep_after start past packet bytes verdict old mid new ep j);
       keys = rw (keys-out start past packet Ack) j.stands.now.keys;
       protocol = j.stands.now.protocol ∙ sym (protocol-out past packet Ack);
-      leds = j.stands.now.leds ∙ sym (leds-out past packet Ack None (no_leds_when packet (taken past (Out packet Ack)) sent));
+      leds = j.stands.now.leds ∙ sym (leds-out past packet Ack None (no_leds_when packet (report_taken past (Out packet Ack)) sent));
       layer = number_at packet bytes 1 of.bytes_are ∙ ap (λ (x : Entry). x.layer) (sym selects_it);
       key = number_at packet bytes 2 of.bytes_are ∙ ap (λ (x : Entry). x.key) (sym selects_it);
     })
@@ -267,12 +267,12 @@ offer_commands start past packet bytes verdict command old mid new ep j c a n o 
     let call : Call = Out packet Ack in
     let of : Offered past packet bytes = offer_of start past packet bytes verdict old mid new ep j in
     let is : new ≡ record old { ep = mid.ep; store = new.store } = o ∙ ap (λ (k : KeyboardValue). record k { store = new.store }) j.between in
-    let sent : taken past call ≡ Some (record { report = FeatureData; bytes = packet }) = feature_taken past packet of.names in
+    let sent : report_taken past call ≡ Some (record { report = FeatureData; bytes = packet }) = feature_taken past packet of.names in
     let some : slice_index packet 1 ≡ 0 → ⊥ = λ z. no_command bytes command c (number_at packet bytes 0 of.bytes_are ∙ z) in
     let accepted : accepts past call ≡ Some command =
-    accepts-out past packet Ack (Some command) (command_when packet (taken past call) (Some command) sent (subst (λ (bs : List ℕ). result_ok (command_in bs) ≡ Some command) of.bytes_are (ap result_ok c))) in
+    accepts-out past packet Ack (Some command) (command_when packet (report_taken past call) (Some command) sent (subst (λ (bs : List ℕ). result_ok (command_in bs) ≡ Some command) of.bytes_are (ap result_ok c))) in
     let none : working start past ≡ None = sym (works_mid start past packet bytes verdict old mid new ep j) ∙ n in
-    let keeps : selected (call ∷ past) ≡ selected past = selected-out past packet Ack None (no_entry_when packet (taken past call) sent some) in
+    let keeps : selected (call ∷ past) ≡ selected past = selected-out past packet Ack None (no_entry_when packet (report_taken past call) sent some) in
     let lawful : IsAnswered start past call = subst (λ (x : EpAnswer). IsAnswered start past (Out packet x)) a (judged_is start past packet bytes verdict old mid new ep j) in
     record {
       now = record {
@@ -281,7 +281,7 @@ offer_commands start past packet bytes verdict command old mid new ep j c a n o 
         store = j.judges.runs_on;
         works = w ∙ by_taken (after_takes start past call command (orderly start past j.stands.answered) (ends_none_out packet Ack) accepted refl (free (working start past) none));
         protocol = ap (λ (x : KeyboardValue). x.protocol) is ∙ j.stands.now.protocol ∙ sym (protocol-out past packet Ack);
-        leds = ap (λ (x : KeyboardValue). x.leds) is ∙ j.stands.now.leds ∙ sym (leds-out past packet Ack None (no_leds_when packet (taken past call) sent));
+        leds = ap (λ (x : KeyboardValue). x.leds) is ∙ j.stands.now.leds ∙ sym (leds-out past packet Ack None (no_leds_when packet (report_taken past call) sent));
         layer = ap (λ (x : KeyboardValue). x.layer) is ∙ j.stands.now.layer ∙ ap (λ (x : Entry). x.layer) (sym keeps);
         key = ap (λ (x : KeyboardValue). x.key) is ∙ j.stands.now.key ∙ ap (λ (x : Entry). x.key) (sym keeps);
         few =
@@ -301,7 +301,7 @@ offer_commands start past packet bytes verdict command old mid new ep j c a n o 
     by_taken (changed_nothing b h) = rw b (sym (working_after start past (Out packet Ack) None h))
 
 stands_by : (start : List ℕ) (past : List Call) (packet bytes : List ℕ) (verdict : Verdict) (old mid new : KeyboardValue) (ep : Stage) → OfferJudged start past packet bytes verdict old mid new ep
-    → Leaves (image_after start past) bytes verdict mid new → StandsFor start (Out packet (judged_answer verdict) ∷ past) (record new { ep = ep })
+    → VerdictLeaves (image_after start past) bytes verdict mid new → StandsFor start (Out packet (judged_answer verdict) ∷ past) (record new { ep = ep })
 stands_by start past packet bytes verdict old mid new ep j (refused n o) = offer_refused start past packet bytes verdict old mid new ep j n o
 stands_by start past packet bytes verdict old mid new ep j (selects z a o) =
     subst (λ (x : EpAnswer). StandsFor start (Out packet x ∷ past) (record new { ep = ep })) (sym a) (offer_selects start past packet bytes verdict old mid new ep j z a o)
@@ -315,7 +315,7 @@ stands_offered start past packet bytes verdict answer old mid new ep j a =
     subst (λ (x : EpAnswer). StandsFor start (Out packet x ∷ past) (record new { ep = ep })) (sym a) (stands_by start past packet bytes verdict old mid new ep j j.judges.leaves)
 
 -- the endpoint of a keyboard after a verdict
-pub told_ep : (image bytes : List ℕ) (verdict : Verdict) (old new : KeyboardValue) → Leaves image bytes verdict old new → {ep : Stage} → ep ≡ new.ep → ep ≡ old.ep
+pub told_ep : (image bytes : List ℕ) (verdict : Verdict) (old new : KeyboardValue) → VerdictLeaves image bytes verdict old new → {ep : Stage} → ep ≡ new.ep → ep ≡ old.ep
 told_ep image bytes verdict old new l e = e ∙ same_ep image bytes verdict old new l
 
 pub told_answer : (now : Stage) (verdict : Verdict) (answer : EpAnswer) → answer ≡ verdict_answer now verdict → now ≡ Taking FeatureData → answer ≡ judged_answer verdict

@@ -10,7 +10,7 @@ use Rattle.control_ep.specs.declared.answer.DeviceView.{DeviceView}
 use Rattle.control_ep.specs.Transfers.{Transfer, Reads, Takes, Sets, Stage, Rest, Sending, Taking, Status}
 use Rattle.control_ep.specs.Calls.{EpCall}
 use Rattle.control_ep.specs.Requests.{request_of, transfer_of}
-use Rattle.control_ep.specs.Stage.{calls_since, last_setup, first_stall, Progress, progress_of, CommandState, NoCommand, Works, Settled, Failed, until_confirmed, after_command, stage_in, stage_after as stage_by, unless_stalled, stage}
+use Rattle.control_ep.specs.Stage.{LastSetup, NoSetup, RefusedFor, Begins, outcome_of, calls_since, last_setup, first_stall, Progress, progress_of, CommandState, NoCommand, Works, Settled, Failed, until_confirmed, after_command, stage_in, stage_with as stage_by, unless_stalled, stage}
 use Rattle.control_ep.specs.Answers.{out_step}
 use Rattle.keymap_store.specs.declared.store.Work.TheVariants as Work
 use Rattle.keyboard.specs.Calls.{Call, Scanned, SetUp, Out, In, Polled, Worked, BusReset, setup_of, image_after, keymap}
@@ -19,9 +19,9 @@ use Rattle.keyboard.specs.Endpoint.{view_after, with_out, ep_calls, stage_after}
 use Rattle.keyboard.proofs.Requests.{report_in, effect_in, begins_named}
 
 -- the endpoint's last SETUP packet is the one of these calls
-data Opened : Option (List ℕ) → Option (Result Transfer Why × ℕ) → Type 0 where
-  nothing : Opened None None
-  opened : (setup : List ℕ) (view : DeviceView) → Opened (Some setup) (Some (transfer_of (request_of setup) view, (request_of setup).length))
+data Opened : Option (List ℕ) → LastSetup → Type 0 where
+  nothing : Opened None NoSetup
+  opened : (setup : List ℕ) (view : DeviceView) → Opened (Some setup) (outcome_of (transfer_of (request_of setup) view) (request_of setup).length)
 
 last_setup-out : (step : OutStep) (packet : List ℕ) (entries : ℕ → ℕ → ℕ) (answer : EpAnswer) (calls : List EpCall) → last_setup (with_out step packet entries answer calls) ≡ last_setup calls
 last_setup-out (Answered a) packet entries answer calls = refl
@@ -34,7 +34,7 @@ is_opened start [] = nothing
 is_opened start (Scanned scan ∷ before) = is_opened start before
 is_opened start (SetUp bytes ∷ before) = opened bytes (view_after start before)
 is_opened start (Out packet answer ∷ before) =
-    subst (λ (o : Option (Result Transfer Why × ℕ)). Opened (setup_of before) o)
+    subst (λ (o : LastSetup). Opened (setup_of before) o)
     (sym (last_setup-out (out_step (stage (ep_calls start before)) packet) packet (keymap (image_after start before)) answer (ep_calls start before)))
     (is_opened start before)
 is_opened start (In answer ∷ before) = is_opened start before
@@ -78,13 +78,13 @@ serves_in setup (Takes report) length progress r e = by_taken progress.taken
 serves_in setup (Sets effect) length progress r e = serves_until setup progress.confirmed effect e
 
 serves_begun : (setup : List ℕ) (view : DeviceView) (begun : Result Transfer Why) (progress : Progress) → transfer_of (request_of setup) view ≡ begun
-    → Serves (Some setup) (stage_by (Some (begun, (request_of setup).length)) progress)
+    → Serves (Some setup) (stage_by (outcome_of begun (request_of setup).length) progress)
 unfolding report_named effect_asked
 serves_begun setup view (Err why) progress e = tt
 serves_begun setup view (Ok transfer) progress e =
     serves_in (Some setup) transfer (request_of setup).length progress (begins_named (request_of setup) view transfer e).0 (begins_named (request_of setup) view transfer e).1
 
-serves_by : (setup : Option (List ℕ)) (last : Option (Result Transfer Why × ℕ)) (progress : Progress) → Opened setup last → Serves setup (stage_by last progress)
+serves_by : (setup : Option (List ℕ)) (last : LastSetup) (progress : Progress) → Opened setup last → Serves setup (stage_by last progress)
 serves_by setup last progress nothing = tt
 serves_by setup last progress (opened bytes view) = serves_begun bytes view (transfer_of (request_of bytes) view) progress refl
 

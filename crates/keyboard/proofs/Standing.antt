@@ -30,7 +30,7 @@ use Rattle.control_ep.proofs.Inputs.{stands_same}
 use Rattle.keymap_store.specs.Value.{StoreValue}
 use Rattle.keymap_store.specs.Store.{working as working_in}
 use Rattle.keyboard.specs.Calls.{Call, Scanned, SetUp, Out, In, Polled, BusReset, setup_of, image_after, keymap}
-use Rattle.keyboard.specs.Effects.{Entry, report_named, taken, sent_as, leds_in, leds_after, entry_in_report, selected, effect_asked, effect_told, protocol_then, protocol_after}
+use Rattle.keyboard.specs.Effects.{Entry, report_named, report_taken, sent_as, leds_in, leds_after, entry_in_report, selected, effect_asked, effect_told, protocol_then, protocol_after}
 use Rattle.keyboard.specs.Keys.{with_effect, key_calls}
 use Rattle.keyboard.specs.Commands.{accepts, command_in_report, working, working_of}
 use Rattle.keyboard.specs.Endpoint.{view_after, with_out, ep_calls, stage_after}
@@ -196,11 +196,11 @@ stands_in start past answer effect ep keys protocol old h a f e k p =
 
 -- a report that was taken leaves everything where none was
 pub record TakesNothing (past : List Call) (packet : List ℕ) (answer : EpAnswer) : Type 0 where
-  pub leds : leds_in (taken past (Out packet answer)) ≡ None
-  pub entry : entry_in_report (taken past (Out packet answer)) ≡ None
-  pub command : command_in_report (taken past (Out packet answer)) ≡ None
+  pub leds : leds_in (report_taken past (Out packet answer)) ≡ None
+  pub entry : entry_in_report (report_taken past (Out packet answer)) ≡ None
+  pub command : command_in_report (report_taken past (Out packet answer)) ≡ None
 
-pub takes_nothing : (past : List Call) (packet : List ℕ) (answer : EpAnswer) → taken past (Out packet answer) ≡ None → TakesNothing past packet answer
+pub takes_nothing : (past : List Call) (packet : List ℕ) (answer : EpAnswer) → report_taken past (Out packet answer) ≡ None → TakesNothing past packet answer
 takes_nothing past packet answer e = record { leds = ap leds_in e; entry = ap entry_in_report e; command = ap command_in_report e }
 
 -- an OUT packet whose answer is known but for its verdict, in each stage
@@ -231,21 +231,21 @@ received_as FeatureData packet step e =
     subst (λ (s : OutStep). ReceivedAs FeatureData packet s) (checked_step (nat_lt (length packet) 6) (nat_lt 6 (length packet)) (not (has_id (Some 3) packet)) (Offer (drop 1 packet)) step e) refl
 
 -- an OUT packet that is answered by the endpoint itself takes no report
-closing_takes : (past : List Call) (packet : List ℕ) (answer : EpAnswer) → report_named (setup_of past) ≡ None → taken past (Out packet answer) ≡ None
+closing_takes : (past : List Call) (packet : List ℕ) (answer : EpAnswer) → report_named (setup_of past) ≡ None → report_taken past (Out packet answer) ≡ None
 closing_takes past packet Ack n = ap (λ (r : Option HostReport). sent_as packet r) n
 closing_takes past packet Nak n = refl
 closing_takes past packet (Packet p) n = refl
 closing_takes past packet (Stall why) n = refl
 
 answered_in_taking : (past : List Call) (report : HostReport) (packet : List ℕ) (answer : EpAnswer) (r : Result OutStep Why) → received_report report packet ≡ r → Answered answer ≡ report_step r
-    → taken past (Out packet answer) ≡ None
+    → report_taken past (Out packet answer) ≡ None
 answered_in_taking past report packet answer (Err why) e a = (let is : answer ≡ Stall why = cc in rw is refl)
 answered_in_taking past report packet answer (Ok step) e a = absurd (subst (λ (s : OutStep). ReceivedAs report packet s) (sym a) (received_as report packet step e))
 
-stalled_takes : (past : List Call) (packet : List ℕ) (answer : EpAnswer) (why : Why) → Answered answer ≡ Answered (Stall why) → taken past (Out packet answer) ≡ None
+stalled_takes : (past : List Call) (packet : List ℕ) (answer : EpAnswer) (why : Why) → Answered answer ≡ Answered (Stall why) → report_taken past (Out packet answer) ≡ None
 stalled_takes past packet answer why a = (let is : answer ≡ Stall why = cc in rw is refl)
 
-answered_takes : (past : List Call) (packet : List ℕ) (answer : EpAnswer) (now : Stage) → Serves (setup_of past) now → Answered answer ≡ out_step now packet → taken past (Out packet answer) ≡ None
+answered_takes : (past : List Call) (packet : List ℕ) (answer : EpAnswer) (now : Stage) → Serves (setup_of past) now → Answered answer ≡ out_step now packet → report_taken past (Out packet answer) ≡ None
 answered_takes past packet answer Rest s a = stalled_takes past packet answer _ a
 answered_takes past packet answer (Sending bytes asked sent) s a = closing_takes past packet answer s.0
 answered_takes past packet answer (Taking report) s a = answered_in_taking past report packet answer (received_report report packet) refl a
@@ -268,19 +268,19 @@ pub protocol-out : (past : List Call) (packet : List ℕ) (answer : EpAnswer) �
 unfolding protocol_after
 protocol-out past packet answer = refl
 
-pub leds-out : (past : List Call) (packet : List ℕ) (answer : EpAnswer) (o : Option ℕ) → leds_in (taken past (Out packet answer)) ≡ o → leds_after (Out packet answer ∷ past) ≡ unwrap_or o (leds_after past)
+pub leds-out : (past : List Call) (packet : List ℕ) (answer : EpAnswer) (o : Option ℕ) → leds_in (report_taken past (Out packet answer)) ≡ o → leds_after (Out packet answer ∷ past) ≡ unwrap_or o (leds_after past)
 unfolding leds_after
 leds-out past packet answer o e = ap (λ (x : Option ℕ). unwrap_or x (leds_after past)) e
 
-pub selected-out : (past : List Call) (packet : List ℕ) (answer : EpAnswer) (o : Option Entry) → entry_in_report (taken past (Out packet answer)) ≡ o → selected (Out packet answer ∷ past) ≡ unwrap_or o (selected past)
+pub selected-out : (past : List Call) (packet : List ℕ) (answer : EpAnswer) (o : Option Entry) → entry_in_report (report_taken past (Out packet answer)) ≡ o → selected (Out packet answer ∷ past) ≡ unwrap_or o (selected past)
 unfolding selected
 selected-out past packet answer o e = ap (λ (x : Option Entry). unwrap_or x (selected past)) e
 
-pub accepts-out : (past : List Call) (packet : List ℕ) (answer : EpAnswer) (o : Option Command) → command_in_report (taken past (Out packet answer)) ≡ o → accepts past (Out packet answer) ≡ o
+pub accepts-out : (past : List Call) (packet : List ℕ) (answer : EpAnswer) (o : Option Command) → command_in_report (report_taken past (Out packet answer)) ≡ o → accepts past (Out packet answer) ≡ o
 unfolding accepts
 accepts-out past packet answer o e = e
 
-pub out_leaves : (start : List ℕ) (past : List Call) (packet : List ℕ) (answer : EpAnswer) → command_in_report (taken past (Out packet answer)) ≡ None → Leaves_commands start past (Out packet answer)
+pub out_leaves : (start : List ℕ) (past : List Call) (packet : List ℕ) (answer : EpAnswer) → command_in_report (report_taken past (Out packet answer)) ≡ None → Leaves_commands start past (Out packet answer)
 out_leaves start past packet answer e = record { ends_none = ends_none_out packet answer; accepts_none = accepts-out past packet answer None e; same_image = refl; no_work = λ count. refl }
 
 -- an OUT packet that takes nothing
@@ -312,9 +312,9 @@ stands_answered start past packet answer ep old h s e =
 
 -- an output report
 pub record LedsTaken (past : List Call) (packet : List ℕ) (leds : ℕ) : Type 0 where
-  pub leds_is : leds_in (taken past (Out packet Ack)) ≡ Some leds
-  pub entry : entry_in_report (taken past (Out packet Ack)) ≡ None
-  pub command : command_in_report (taken past (Out packet Ack)) ≡ None
+  pub leds_is : leds_in (report_taken past (Out packet Ack)) ≡ Some leds
+  pub entry : entry_in_report (report_taken past (Out packet Ack)) ≡ None
+  pub command : command_in_report (report_taken past (Out packet Ack)) ≡ None
 
 leds_by : (past : List Call) (report : HostReport) (packet : List ℕ) (leds : ℕ) → report_named (setup_of past) ≡ Some report → ReceivedAs report packet (Leds leds) → LedsTaken past packet leds
 leds_by past LedsWithId packet leds n r = record { leds_is = rw (n, r) refl; entry = rw n refl; command = rw n refl }

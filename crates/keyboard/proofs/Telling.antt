@@ -12,7 +12,7 @@ use Rattle.control_ep.specs.declared.answer.OutStep.{OutStep}
 use Rattle.control_ep.specs.declared.answer.OutStep.TheVariants.{Answered, Leds, Offer}
 use Rattle.control_ep.specs.Transfers.{LedsWithId, LedsAlone, FeatureData, Takes, Stage, Rest, Sending, Taking, Waiting, Status, Stalled}
 use Rattle.control_ep.specs.Calls.{EpCall, Judged, Out as EpOut}
-use Rattle.control_ep.specs.Stage.{calls_since, last_setup, first_stall, is_ack, is_taken, is_confirmed, command_of, CommandState, NoCommand, Works, Settled, Failed, state_after, progress_of, after_command, unless_stalled, stage}
+use Rattle.control_ep.specs.Stage.{Begins, calls_since, last_setup, first_stall, is_ack, is_taken, is_confirmed, command_state, CommandState, NoCommand, Works, Settled, Failed, state_after, progress_of, after_command, unless_stalled, stage}
 use Rattle.control_ep.specs.Answers.{out_step, in_answer, received_report, report_step}
 use Rattle.control_ep.proofs.Stages.{stage-is, taking_is, IsTaking}
 use Rattle.control_ep.proofs.Clean.{received_is}
@@ -24,7 +24,7 @@ use Rattle.keyboard.specs.Fate.{Fate, works, settled, failed, fate, fate_after, 
 use Rattle.keyboard.specs.Commands.{accepts, working}
 use Rattle.keyboard.specs.Endpoint.{verdict_told, with_out, ep_calls, stage_after}
 use Rattle.keyboard.specs.Lawful.{IsAnswered, OutAnswer}
-use Rattle.keyboard.specs.Acknowledged.{SameTransfer, Leaves, NoneAcceptedWrites, KeepsAcknowledged}
+use Rattle.keyboard.specs.Acknowledged.{SameTransfer, Spares, NoneAcceptedWrites, KeepsAcknowledged}
 use Rattle.keyboard.proofs.Accepting.{fate-more, ended_by-failed, ended_by-idle, ended_by-working}
 use Rattle.keyboard.proofs.Changing.{changes-false}
 use Rattle.keyboard.proofs.Served.{Serves, serves}
@@ -34,7 +34,7 @@ use Rattle.keyboard.proofs.Sessions.{Orderly, orderly, working_after, after_stay
 -- the entry has the code, and the command that works, if one does, leaves it
 record Stored (start : List ℕ) (past : List Call) (layer key code : ℕ) : Type 0 where
   entry_is : keymap (image_after start past) layer key ≡ code
-  left_alone : Leaves layer key (working start past)
+  left_alone : Spares layer key (working start past)
 
 -- the working command leaves the entry
 left_by : (start : List ℕ) (past : List Call) (layer key code : ℕ) (command : Command) → Stored start past layer key code → working start past ≡ Some command → written command layer key ≡ None
@@ -42,7 +42,7 @@ left_by start past layer key code command s w = rw w at s.left_alone
 
 -- a call more keeps it, if the command that it accepts leaves the entry
 stored_more : (start : List ℕ) (before : List Call) (call : Call) (layer key code : ℕ) → layer < layers → key < keys → Orderly start before → Effect start before call
-    → Leaves layer key (accepts before call) → Stored start before layer key code → Stored start (call ∷ before) layer key code
+    → Spares layer key (accepts before call) → Stored start before layer key code → Stored start (call ∷ before) layer key code
 stored_more start before call layer key code l k o (stays n a e) leaves s =
     let w : working start (call ∷ before) ≡ working start before = working_after start before call (working start before) (after_stays start before call o n a e) in
     record { entry_is = e layer key l k ∙ s.entry_is; left_alone = rw w s.left_alone }
@@ -103,7 +103,7 @@ told_at_packet start before call layer key code asked l k gives o (takes command
 
 -- a later call
 told_more : (start : List ℕ) (past : List Call) (call : Call) (before between : List Call) (layer key code : ℕ) (asked : Command) → layer < layers → key < keys → written asked layer key ≡ Some code → Orderly start past → Effect start past call
-    → Leaves layer key (accepts past call) → Told start past before between layer key code asked → Told start (call ∷ past) before (call ∷ between) layer key code asked
+    → Spares layer key (accepts past call) → Told start past before between layer key code asked → Told start (call ∷ past) before (call ∷ between) layer key code asked
 told_more start past call before between layer key code asked l k gives o effect leaves (is_stored s) = is_stored (stored_more start past call layer key code l k o effect leaves s)
 told_more start past call before between layer key code asked l k gives o effect leaves (has_failed f) =
     has_failed (fate-more (keymap (image_after start before)) asked call between ∙ ap (ended_by call) f ∙ ended_by-failed call)
@@ -132,9 +132,9 @@ told_between start (next ∷ between) before call layer key code asked l k gives
 -- the endpoint's calls of a transfer whose feature report was taken, and what became of its command
 record TakenBy (calls : List EpCall) (state : CommandState) : Type 0 where
   length : ℕ
-  begins : last_setup calls ≡ Some (Ok (Takes FeatureData), length)
+  begins : last_setup calls ≡ Begins (Takes FeatureData) length
   taken : is_taken (calls_since calls) ≡ true
-  command : command_of (calls_since calls) ≡ state
+  command : command_state (calls_since calls) ≡ state
 
 or_false : (a b : Bool) → (a || b) ≡ false → b ≡ false
 or_false true b e = cc
@@ -146,7 +146,7 @@ or_true false b e = e
 
 -- before a report is taken no command was begun
 abbrev Untaken : List EpCall → Type 0
-Untaken calls = is_taken (calls_since calls) ≡ false → command_of (calls_since calls) ≡ NoCommand
+Untaken calls = is_taken (calls_since calls) ≡ false → command_state (calls_since calls) ≡ NoCommand
 
 untaken_judged : (changing : Bool) (bytes packet : List ℕ) (answer : EpAnswer) (calls : List EpCall) → Untaken calls
     → Untaken (Judged (verdict_told changing answer) answer ∷ EpOut packet (Offer bytes) ∷ calls)
@@ -177,8 +177,8 @@ untaken start (In answer ∷ before) e = untaken start before e
 untaken start (Polled answer ∷ before) e = untaken start before e
 untaken start (Worked Work.Idle image ∷ before) e = untaken start before e
 untaken start (Worked Work.Working image ∷ before) e = untaken start before e
-untaken start (Worked Work.Settled image ∷ before) e = ended_none (command_of (calls_since (ep_calls start before))) Settled (untaken start before e)
-untaken start (Worked Work.Failed image ∷ before) e = ended_none (command_of (calls_since (ep_calls start before))) Failed (untaken start before e)
+untaken start (Worked Work.Settled image ∷ before) e = ended_none (command_state (calls_since (ep_calls start before))) Settled (untaken start before e)
+untaken start (Worked Work.Failed image ∷ before) e = ended_none (command_state (calls_since (ep_calls start before))) Failed (untaken start before e)
 untaken start (BusReset ∷ before) e = refl
 
 -- a feature report that was acknowledged was offered
@@ -209,8 +209,8 @@ state_told true works = Works
 state_told true settled = Settled
 state_told true failed = Failed
 
-judged_state : (changing : Bool) (packet bytes : List ℕ) (calls : List EpCall) → command_of (calls_since calls) ≡ NoCommand
-    → command_of (calls_since (Judged (verdict_told changing Ack) Ack ∷ EpOut packet (Offer bytes) ∷ calls)) ≡ state_told changing works
+judged_state : (changing : Bool) (packet bytes : List ℕ) (calls : List EpCall) → command_state (calls_since calls) ≡ NoCommand
+    → command_state (calls_since (Judged (verdict_told changing Ack) Ack ∷ EpOut packet (Offer bytes) ∷ calls)) ≡ state_told changing works
 judged_state true packet bytes calls n = refl
 judged_state false packet bytes calls n = n
 
@@ -388,7 +388,7 @@ NoneAcceptedWrites-later (call ∷ later) earlier past layer key n = NoneAccepte
 NoneAcceptedWrites-sooner : (later earlier past : List Call) (layer key : ℕ) → NoneAcceptedWrites (later ++ earlier) past layer key → NoneAcceptedWrites later (earlier ++ past) layer key
 NoneAcceptedWrites-sooner [] earlier past layer key n = tt
 NoneAcceptedWrites-sooner (call ∷ later) earlier past layer key n =
-    (subst (λ (xs : List Call). Leaves layer key (accepts xs call)) (append_assoc later earlier past) n.0, NoneAcceptedWrites-sooner later earlier past layer key n.1)
+    (subst (λ (xs : List Call). Spares layer key (accepts xs call)) (append_assoc later earlier past) n.0, NoneAcceptedWrites-sooner later earlier past layer key n.1)
 
 -- the command was settled when the empty packet came
 pub settled_here : (start : List ℕ) (between before : List Call) (call : Call) (asked : Command) → SameTransfer between → accepts before call ≡ Some asked → EachCall IsAnswered start (between ++ call ∷ before)

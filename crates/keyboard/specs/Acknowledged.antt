@@ -8,6 +8,11 @@ use Rattle.keyboard.specs.Calls.{Call, SetUp, In, BusReset, image_after, keymap}
 use Rattle.keyboard.specs.Fate.{settled}
 use Rattle.keyboard.specs.Commands.{Accepted, accepts, accepted, accepted_before}
 
+-- an IN packet is answered by the empty packet, which ends the status stage: in the transfer of a command it tells the host that
+-- the command is stored
+abbrev pub confirmation : Call
+confirmation = In (Packet (record { items = [] }))
+
 -- the calls, newest first, begin no other transfer
 abbrev pub SameTransfer : List Call → Type 0
 SameTransfer [] = Unit {0}
@@ -16,15 +21,15 @@ SameTransfer (BusReset ∷ before) = ⊥
 SameTransfer (_ ∷ before) = SameTransfer before
 
 -- a command does not write the entry, where there is one
-abbrev pub Leaves : ℕ → ℕ → Option Command → Type 0
-Leaves layer key None = Unit {0}
-Leaves layer key (Some command) = written command layer key ≡ None
+abbrev pub Spares : ℕ → ℕ → Option Command → Type 0
+Spares layer key None = Unit {0}
+Spares layer key (Some command) = written command layer key ≡ None
 
 -- none of the commands that these calls, newest first, accepted on top of a past writes the entry
 abbrev pub NoneAcceptedWrites : List Call → List Call → ℕ → ℕ → Type 0
 NoneAcceptedWrites [] past layer key = Unit {0}
 NoneAcceptedWrites (call ∷ before) past layer key =
-    Leaves layer key (accepts (before ++ past) call) × NoneAcceptedWrites before past layer key
+    Spares layer key (accepts (before ++ past) call) × NoneAcceptedWrites before past layer key
 
 -- a command that gives the entry this code was accepted, an IN packet of its transfer was answered by the empty packet,
 -- and no command was accepted since that would write the entry, not even one that failed; whatever else came
@@ -35,28 +40,24 @@ pub record IsAcknowledged (past : List Call) (layer key code : ℕ) : Type 0 whe
   pub packet : Call
   pub between : List Call
   pub after : List Call
-  pub past_is : past ≡ after ++ In (Packet (record { items = [] })) ∷ between ++ packet ∷ before
+  pub past_is : past ≡ after ++ confirmation ∷ between ++ packet ∷ before
   pub command : Command
   pub accepted : accepts before packet ≡ Some command
   pub writes : written command layer key ≡ Some code
   pub same_transfer : SameTransfer between
-  pub not_since : NoneAcceptedWrites (after ++ In (Packet (record { items = [] })) ∷ between) (packet ∷ before) layer key
+  pub not_since : NoneAcceptedWrites (after ++ confirmation ∷ between) (packet ∷ before) layer key
 
 -- what the host was told is stored is what the flash says
 abbrev pub KeepsAcknowledged : List ℕ → List Call → Type 0
 KeepsAcknowledged start past =
     (layer key code : ℕ) → IsAcknowledged past layer key code → keymap (image_after start past) layer key ≡ code
 
--- the empty packet, which ends the status stage: it tells the host that the command of its transfer is stored
-abbrev pub told : Call
-told = In (Packet (record { items = [] }))
-
 -- the command that was accepted on top of these calls is confirmed: an IN packet of its transfer was answered by the empty packet
 pub record IsConfirmed (past before : List Call) (command : Command) : Type 0 where
   pub packet : Call
   pub between : List Call
   pub after : List Call
-  pub past_is : past ≡ after ++ told ∷ between ++ packet ∷ before
+  pub past_is : past ≡ after ++ confirmation ∷ between ++ packet ∷ before
   pub accepted : accepts before packet ≡ Some command
   pub same_transfer : SameTransfer between
 

@@ -4,7 +4,7 @@ use Rattle.std.specs.Result.{result_ok}
 use Rattle.layers.specs.declared.command.Command.{Command}
 use Rattle.control_ep.specs.Transfers.{HostReport, FeatureData}
 use Rattle.keyboard.specs.Calls.{Call, image_after, keymap}
-use Rattle.keyboard.specs.Effects.{Sent, taken}
+use Rattle.keyboard.specs.Effects.{SentReport, report_taken}
 use Rattle.keyboard.specs.Feature.{command_in}
 use Rattle.keyboard.specs.Fate.{Fate, works, settled, failed, fate}
 
@@ -19,13 +19,13 @@ command_of FeatureData bytes = result_ok (command_in (drop 1 bytes))
 command_of _ bytes = None
 
 -- the command in the report that a call took, if it took one and there is a command in it
-abbrev pub command_in_report : Option Sent → Option Command
+abbrev pub command_in_report : Option SentReport → Option Command
 command_in_report None = None
 command_in_report (Some sent) = command_of sent.report sent.bytes
 
 -- a command is accepted where a feature report with it is acknowledged
 unfoldable pub accepts : List Call → Call → Option Command
-accepts before call = command_in_report (taken before call)
+accepts before call = command_in_report (report_taken before call)
 
 -- a command that a call accepts, with what became of it by the calls after
 abbrev pub accepted_with : (ℕ → ℕ → ℕ) → List Call → Option Command → List Accepted

@@ -34,19 +34,19 @@ report_named None = None
 report_named (Some setup) = report_of_request (request_of setup)
 
 -- a report that the host has sent: which one its SETUP packet named, and its bytes
-pub record Sent : Type 0 where
+pub record SentReport : Type 0 where
   pub report : HostReport
   pub bytes : List ℕ
 
 -- a packet as the report that was named, if one was
-abbrev pub sent_as : List ℕ → Option HostReport → Option Sent
+abbrev pub sent_as : List ℕ → Option HostReport → Option SentReport
 sent_as packet None = None
 sent_as packet (Some report) = Some (record { report = report; bytes = packet })
 
 -- the report that a call took: an OUT packet that was acknowledged, of a transfer that names a report
-abbrev pub taken : List Call → Call → Option Sent
-taken before (Out packet Ack) = sent_as packet (report_named (setup_of before))
-taken before _ = None
+abbrev pub report_taken : List Call → Call → Option SentReport
+report_taken before (Out packet Ack) = sent_as packet (report_named (setup_of before))
+report_taken before _ = None
 
 -- the LEDs of a report, bits 0 to 4 (HUT page 08h), and none of a feature report
 abbrev pub leds_of : HostReport → List ℕ → Option ℕ
@@ -55,7 +55,7 @@ leds_of LedsAlone bytes = Some (slice_index bytes 0 % 2 ^ 5)
 leds_of FeatureData bytes = None
 
 -- the LEDs of the report that a call took, if it took one that has LEDs
-abbrev pub leds_in : Option Sent → Option ℕ
+abbrev pub leds_in : Option SentReport → Option ℕ
 leds_in None = None
 leds_in (Some sent) = leds_of sent.report sent.bytes
 
@@ -63,7 +63,7 @@ leds_in (Some sent) = leds_of sent.report sent.bytes
 unfoldable pub leds_after : List Call → ℕ
 leds_after [] = 0
 leds_after (BusReset ∷ before) = 0
-leds_after (call ∷ before) = unwrap_or (leds_in (taken before call)) (leds_after before)
+leds_after (call ∷ before) = unwrap_or (leds_in (report_taken before call)) (leds_after before)
 
 -- an entry of the keymap, by layer and key
 pub record Entry : Type 0 where
@@ -77,16 +77,16 @@ entry_of FeatureData bytes =
 entry_of _ bytes = None
 
 -- the entry that is selected by the report that a call took, if it took one that selects
-abbrev pub entry_in_report : Option Sent → Option Entry
+abbrev pub entry_in_report : Option SentReport → Option Entry
 entry_in_report None = None
 entry_in_report (Some sent) = entry_of sent.report sent.bytes
 
 -- the selected entry: that of the latest such report since the start, else key 0 of layer 0
 unfoldable pub selected : List Call → Entry
 selected [] = record { layer = 0; key = 0 }
-selected (call ∷ before) = unwrap_or (entry_in_report (taken before call)) (selected before)
+selected (call ∷ before) = unwrap_or (entry_in_report (report_taken before call)) (selected before)
 
--- the effect of a request without data
+-- the effect of a request without data; none of one that is refused or has data
 abbrev pub effect_set : Result Transfer Why → Effect
 effect_set (Ok (Sets effect)) = effect
 effect_set _ = Nothing

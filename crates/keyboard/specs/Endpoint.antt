@@ -40,7 +40,8 @@ view_after start past = record {
 }
 
 -- the verdict on a feature report, by the answer that was given: an acknowledged command works where it changes
--- something, and is done where it does not; NAK is for a keyboard whose command works
+-- something, and is done where it does not; NAK, the only other answer to an OUT packet, is for a keyboard whose
+-- command works
 abbrev pub verdict_told : Bool → EpAnswer → Verdict
 verdict_told changing Ack = if changing then Working else Done
 verdict_told changing (Stall why) = Refused why

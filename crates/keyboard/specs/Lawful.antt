@@ -10,7 +10,7 @@ use Rattle.control_ep.specs.declared.answer.EpAnswer.TheVariants.{Ack}
 use Rattle.control_ep.specs.declared.answer.OutStep.{OutStep}
 use Rattle.control_ep.specs.declared.answer.OutStep.TheVariants.{Answered, Leds, Offer}
 use Rattle.control_ep.specs.Answers.{out_step, in_answer}
-use Rattle.keyboard.specs.Calls.{Call, Scanned, SetUp, Out, In, Polled, Worked, BusReset, image_after}
+use Rattle.keyboard.specs.Calls.{Call, Scanned, SetUp, Out, In, Polled, Worked, BusReset, image_after, EachCall}
 use Rattle.keyboard.specs.Effects.{protocol_after}
 use Rattle.keyboard.specs.Keys.{key_calls}
 use Rattle.keyboard.specs.Endpoint.{stage_after}
@@ -40,6 +40,10 @@ IsAnswered start before (In answer) = answer ≡ in_answer (stage_after start be
 IsAnswered start before (Polled answer) = answer ≡ answer_after (protocol_after before) (key_calls start before)
 IsAnswered start before (Worked work image) = WorkedOn start before (working start before) work image
 IsAnswered start before BusReset = Unit {0}
+
+-- each call of a session was answered so
+abbrev pub IsLawful : List ℕ → List Call → Type 0
+IsLawful start past = EachCall IsAnswered start past
 
 -- a step of the flash work while a command works, and this holds of the operation that it makes
 pub record MakesSuch (start : List ℕ) (before : List Call) (work : WorkAnswer) (new : List ℕ) (such : Operation → Type 0) : Type 0 where

@@ -36,20 +36,20 @@ verdict_of (Err Refusals.Worn) = Refused Worn
 
 -- what a verdict leaves: nothing is new where the report is not acknowledged; an entry is selected; or a command that
 -- changes something works, and one that changes nothing is done
-pub data Leaves (image bytes : List ℕ) (verdict : Verdict) (old new : KeyboardValue) : Type 0 where
-  refused : (judged_answer verdict ≡ Ack → ⊥) → new ≡ old → Leaves image bytes verdict old new
+pub data VerdictLeaves (image bytes : List ℕ) (verdict : Verdict) (old new : KeyboardValue) : Type 0 where
+  refused : (judged_answer verdict ≡ Ack → ⊥) → new ≡ old → VerdictLeaves image bytes verdict old new
   selects : slice_index bytes 0 ≡ 0 → judged_answer verdict ≡ Ack
-      → new ≡ record old { layer = slice_index bytes 1; key = slice_index bytes 2 } → Leaves image bytes verdict old new
+      → new ≡ record old { layer = slice_index bytes 1; key = slice_index bytes 2 } → VerdictLeaves image bytes verdict old new
   commands : (command : Command) → command_in bytes ≡ Ok command → judged_answer verdict ≡ Ack → at_work old ≡ None → new ≡ record old { store = new.store }
       → at_work new ≡ (if changes (keymap image) command then Some command else None) → left image new.store ≤ most_steps
-      → (IsSome (at_work new) → Needs image (left image new.store)) → Leaves image bytes verdict old new
+      → (IsSome (at_work new) → Needs image (left image new.store)) → VerdictLeaves image bytes verdict old new
 
 -- a verdict on a feature report's bytes
 pub record Judges (image bytes : List ℕ) (verdict : Verdict) (old new : KeyboardValue) : Type 0 where
   pub answer_is : FeatureAnswer image (is_some (at_work old)) bytes (judged_answer verdict)
   pub told : verdict ≡ verdict_told (changes_by (keymap image) (command_in bytes)) (judged_answer verdict)
   pub runs_on : RunsOn image new
-  pub leaves : Leaves image bytes verdict old new
+  pub leaves : VerdictLeaves image bytes verdict old new
 
 -- the store makes a step of the flash work: what it promises of it
 pub record Operating (image : List ℕ) (old : StoreValue) (work : WorkAnswer) (after : List ℕ) (new : StoreValue) : Type 0 where

@@ -3,13 +3,13 @@ use Rattle.std.specs.Prelude.{◌≡◌, ◌+◌, ◌≤◌, ℕ, IsSome, List}
 use Rattle.control_ep.specs.Stands as control_ep
 use Rattle.key_reports.specs.Stands as key_reports
 use Rattle.keymap_store.specs.Left.{left, Needs}
-use Rattle.keyboard.specs.Calls.{Call, image_after, EachCall}
+use Rattle.keyboard.specs.Calls.{Call, image_after}
 use Rattle.keyboard.specs.Effects.{leds_after, selected, protocol_after}
 use Rattle.keyboard.specs.Keys.{key_calls}
 use Rattle.keyboard.specs.Endpoint.{ep_calls}
 use Rattle.keyboard.specs.Commands.{working}
 use Rattle.keyboard.specs.Bounded.{most_steps, steps_since, accepted_image}
-use Rattle.keyboard.specs.Lawful.{IsAnswered}
+use Rattle.keyboard.specs.Lawful.{IsLawful}
 use Rattle.keyboard.specs.Value.{KeyboardValue, RunsOn, at_work}
 
 -- a clause for each field: each part stands for its own calls among them
@@ -28,4 +28,4 @@ pub record PartsStandFor (start : List ℕ) (past : List Call) (keyboard : Keybo
 -- and each call so far was answered as it had to be
 pub record StandsFor (start : List ℕ) (past : List Call) (keyboard : KeyboardValue) : Type 0 where
   pub now : PartsStandFor start past keyboard
-  pub answered : EachCall IsAnswered start past
+  pub answered : IsLawful start past

@@ -17,9 +17,9 @@ ghost use Rattle.keymap_store.specs.Works.{IsPlacedAt, IsTornAt};
 ghost use Rattle.keymap_store.specs.declared.store.Work.{Work};
 ghost use Rattle.keyboard.specs.Acknowledged.{KeepsAcknowledged, IsConfirmed, IsSettled, SettledAfter};
 ghost use Rattle.keyboard.specs.Bounded.{IsInTime, steps_since};
-ghost use Rattle.keyboard.specs.Calls.{Call, Worked, EachCall, image_after, keymap};
+ghost use Rattle.keyboard.specs.Calls.{Call, Worked, image_after, keymap};
 ghost use Rattle.keyboard.specs.Commands.{accepted, accepted_before, settled_of, standing_of, working};
-ghost use Rattle.keyboard.specs.Lawful.{IsAnswered};
+ghost use Rattle.keyboard.specs.Lawful.{IsLawful};
 ghost use Rattle.keyboard.specs.Operated.{Works, HoldsFirst};
 ghost use Rattle.keyboard.specs.Restart.{RestartsLegally};
 ghost use Rattle.keyboard.specs.Sound.{KeepsSound};
@@ -29,14 +29,14 @@ ghost use Rattle.keyboard.specs.Value.{KeyboardValue};
 
 /// The keymap is that of the start changed by the settled commands, in order.
 pub fn keymap_is_of_settled()
-    ensures { (start : List ℕ) (past : List Call) → EachCall IsAnswered start past
+    ensures { (start : List ℕ) (past : List Call) → IsLawful start past
         → SameEntries (keymap (image_after start past)) (changed (keymap start) (settled_of (accepted start past))) }
 {}
 
 /// A restart after any of these calls is legal: it finds the keymap of the start, changed by a prefix
 /// of the accepted commands that did not fail, with each settled one among them.
 pub fn restarts_are_legal()
-    ensures { (start : List ℕ) (past : List Call) → EachCall IsAnswered start past
+    ensures { (start : List ℕ) (past : List Call) → IsLawful start past
         → RestartsLegally start past (image_after start past) }
 {}
 
@@ -75,27 +75,27 @@ pub fn a_step_is_one_operation()
         → works.operation ≡ Operation.Program (target_page (image_after start past)) 0 word
         → HoldsFirst (image_after start past) (length (all_copies (keymap (image_after start past)))) × (HasRoom (image_after start past) → ⊥) }
     ensures cut { (start : List ℕ) (past : List Call) (command : Command) (work : Work) (new image : List ℕ) (works : Works start past command (image_after start past) work new)
-        → EachCall IsAnswered start past → working start past ≡ Some command → IsImage image
+        → IsLawful start past → working start past ≡ Some command → IsImage image
         → MayMake (image_after start past) works.operation image → RestartsLegally start past image }
 {}
 
 /// Slots 0 that are sound stay so, whatever is torn; where one is not, no operation is ever made.
 pub fn headers_stay_sound()
-    ensures { (start : List ℕ) (past : List Call) → EachCall IsAnswered start past → KeepsSound start past }
+    ensures { (start : List ℕ) (past : List Call) → IsLawful start past → KeepsSound start past }
 {}
 
 /// What the host was told is stored is stored: after the empty packet of a command's status stage the
 /// flash holds what the command wrote, whatever else came, until a later command is accepted that would
 /// write the entry, even one that then fails.
 pub fn acknowledged_is_stored()
-    ensures { (start : List ℕ) (past : List Call) → EachCall IsAnswered start past → KeepsAcknowledged start past }
+    ensures { (start : List ℕ) (past : List Call) → IsLawful start past → KeepsAcknowledged start past }
 {}
 
 /// What the host was told is stored is settled: where the empty packet came in the transfer of a command
 /// that was accepted, that command is settled. And the prefix of the commands that a legal restart keeps
 /// has each settled command, at its place.
 pub fn confirmed_is_settled()
-    ensures settled { (start : List ℕ) (past before : List Call) (command : Command) → EachCall IsAnswered start past
+    ensures settled { (start : List ℕ) (past before : List Call) (command : Command) → IsLawful start past
         → IsConfirmed past before command → IsSettled start past before command }
     ensures kept { (start : List ℕ) (past before : List Call) (command : Command) (image : List ℕ) (settled : IsSettled start past before command)
         (restart : RestartsLegally start past image) → SettledAfter (standing_of (accepted_before start settled.since before)) command restart.kept }
@@ -110,7 +110,7 @@ pub fn in_time()
 /// Between two turnovers of a session, at least 127 flash operations are made that touch the tail of the
 /// active page: attempts to append a record.
 pub fn turnovers_are_apart()
-    ensures { (start : List ℕ) (before calls : List Call) (work : Work) (first last : List ℕ) → EachCall IsAnswered start (calls ++ Worked work first ∷ before)
+    ensures { (start : List ℕ) (before calls : List Call) (work : Work) (first last : List ℕ) → IsLawful start (calls ++ Worked work first ∷ before)
         → TurnsOver (image_after start before) first → NoneTurnsOver start calls (Worked work first ∷ before)
         → TurnsOver (image_after start (calls ++ Worked work first ∷ before)) last
         → (n : ℕ) × Follows first n (image_after start (calls ++ Worked work first ∷ before)) × (127 ≤ n) × (n ≤ operations calls) }

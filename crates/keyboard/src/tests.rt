@@ -1,4 +1,5 @@
-//! Sessions of a keyboard on a simulated flash, line by line.
+//! Sessions of a keyboard on a simulated flash, line by line: a call, and behind ` = ` what it answers. A part between
+//! blank lines may begin with `N times:`.
 
 use crate::{EpAnswer, Keyboard, Report, Room, Scan, Work};
 use arrayvec::ArrayVec;
@@ -7,11 +8,10 @@ use layers::{KeyNo, LayerNo};
 use std::alloc::{AllocError, Global};
 use std::marker::Model;
 use std::process::Abort;
-use std::test::Fail;
 
 /// A keyboard and its flash.
 #[derive(Drop)]
-pub struct Rig {
+pub(crate) struct Rig {
     keyboard: Keyboard,
     flash: SimFlash,
 }
@@ -28,19 +28,36 @@ impl Model for Rig {
 }
 
 impl Rig {
-    pub fn start(alloc: Global, flash: SimFlash) -> Result<Rig, AllocError> {
+    fn start(alloc: Global, flash: SimFlash) -> Result<Rig, AllocError> {
         let keyboard = Keyboard::start(alloc, &flash)?;
         Ok(Rig { keyboard, flash })
     }
 
-    pub fn start_in(room: Room, flash: SimFlash) -> Rig {
+    fn start_in(room: Room, flash: SimFlash) -> Rig {
         let keyboard = Keyboard::start_in(room, &flash);
         Rig { keyboard, flash }
     }
 
+    /// Takes the lines of a part, as often as it says, and compares what they answer; `case` names them where one is
+    /// wrong.
+    fn expect_part(&mut self, rt: &impl Abort, case: &str, part: &str) {
+        let (times, lines) = repeated(part);
+        for _ in 0..times {
+            assert_eq!(rt; self.first_wrong(lines), None, "{case}");
+        }
+    }
+
+    fn expect_all(&mut self, rt: &impl Abort, case: &str, scripts: &[&str]) {
+        for script in scripts {
+            for part in script.split("\n\n") {
+                self.expect_part(rt, case, part);
+            }
+        }
+    }
+
     /// The first of these lines that is not answered as it says, and what it was answered: `None` where
     /// it says nothing that there is.
-    pub fn first_wrong<'a>(&mut self, script: &'a str) -> Option<(&'a str, Option<Told<'a>>)> {
+    fn first_wrong<'a>(&mut self, script: &'a str) -> Option<(&'a str, Option<Told<'a>>)> {
         for line in script.lines() {
             let line = line.trim();
             let (ask, wanted) = line.split_once(" = ").unwrap_or((line, ""));
@@ -65,6 +82,7 @@ impl Rig {
             Ask::CutInside(mask) => self.cut_inside(mask.as_slice()),
             Ask::Reset => self.keyboard.bus_reset(),
             Ask::Leds => return hex(&[self.keyboard.leds()]),
+            Ask::Usage(usage) => return hex(&[u8::from(self.keyboard.usages().has_key(*usage))]),
             Ask::Entry(layer, key) => return hex(&self.entry(*layer, *key).to_be_bytes()),
             Ask::Slot(page, slot) => return self.slot(*page as usize, *slot as usize),
         }
@@ -132,6 +150,8 @@ enum Ask {
     CutInside(ArrayVec<u8, 32>),
     Reset,
     Leds,
+    /// Whether a usage of page 07h is held.
+    Usage(u8),
     Entry(LayerNo, KeyNo),
     Slot(u16, u16),
 }
@@ -151,6 +171,7 @@ fn ask_of(text: &str) -> Option<Ask> {
         "cut" => Ask::CutInside(bytes(rest)?),
         "reset" => Ask::Reset,
         "leds" => Ask::Leds,
+        "usage" => return usage_of(rest),
         "entry" => return entry_of(rest),
         "slot" => return slot_of(rest),
         _ => return None,
@@ -162,6 +183,13 @@ fn ask_of(text: &str) -> Option<Ask> {
 fn scans_of(rest: &str) -> Option<Ask> {
     let (count, keys) = rest.split_once(' ').unwrap_or((rest, ""));
     Some(Ask::Scans(number(count)?, pressed(keys)?))
+}
+
+fn usage_of(rest: &str) -> Option<Ask> {
+    match bytes(rest)?.as_slice() {
+        [usage] => Some(Ask::Usage(*usage)),
+        _ => None,
+    }
 }
 
 fn entry_of(rest: &str) -> Option<Ask> {
@@ -178,7 +206,7 @@ fn slot_of(rest: &str) -> Option<Ask> {
 
 /// What came of a line.
 #[derive(Debug, PartialEq, Eq, Drop)]
-pub enum Told<'a> {
+enum Told<'a> {
     Nothing,
     Word(&'a str),
     Stall(u16),
@@ -222,7 +250,7 @@ fn hex(from: &[u8]) -> Told<'static> {
     }
 }
 
-fn number(text: &str) -> Option<u16> {
+pub(crate) fn number(text: &str) -> Option<u16> {
     text.parse::<u16>().ok()
 }
 
@@ -232,25 +260,18 @@ fn two(text: &str) -> Option<(u16, u16)> {
     Some((number(first)?, number(second)?))
 }
 
-fn digit(byte: u8) -> Option<u8> {
-    match byte {
-        b'0'..=b'9' => Some(byte - b'0'),
-        b'a'..=b'f' => Some(byte - b'a' + 10),
-        _ => None,
-    }
-}
-
 /// The bytes of hex digits, two each; `-` stands for none.
 fn bytes(text: &str) -> Option<ArrayVec<u8, 32>> {
     let mut found = ArrayVec::new();
     let mut high = None;
     let digits = if text == "-" { "" } else { text };
-    for byte in digits.bytes() {
-        let low = digit(byte)? % 16;
+    for c in digits.chars() {
+        let low = c.to_digit(16)?;
         match high {
             None => high = Some(low),
             Some(first) => {
-                found.try_push(first % 16 * 16 + low).ok()?;
+                let byte = u8::try_from(first.wrapping_mul(16) | low).ok()?;
+                found.try_push(byte).ok()?;
                 high = None;
             }
         }
@@ -259,10 +280,21 @@ fn bytes(text: &str) -> Option<ArrayVec<u8, 32>> {
 }
 
 /// Eight bytes of hex digits.
-fn eight(text: &str) -> Option<[u8; 8]> {
+pub(crate) fn eight(text: &str) -> Option<[u8; 8]> {
     match bytes(text)?.as_slice() {
         [a, b, c, d, e, f, g, h] => Some([*a, *b, *c, *d, *e, *f, *g, *h]),
         _ => None,
+    }
+}
+
+/// How often the lines of a part are taken, and the lines.
+fn repeated(part: &str) -> (u16, &str) {
+    let Some((count, lines)) = part.split_once(" times:") else {
+        return (1, part);
+    };
+    match number(count.trim()) {
+        Some(times) => (times, lines),
+        None => (1, part),
     }
 }
 
@@ -335,7 +367,8 @@ const COMMANDS: &str = "
     out 030100000700 = ack
     work ff = settled
     in = data -
-    entry 0 0 = 0007";
+    entry 0 0 = 0007
+    usage 04 = 00";
 
 /// Scans and polls.
 const KEYS: &str = "
@@ -397,7 +430,8 @@ const KEYS: &str = "
     poll = nak
     setup 210b000000000000
     in = data -
-    poll = 0000040000000000";
+    poll = 0000040000000000
+    usage 04 = 01";
 
 /// What the host sets, and what is refused.
 const CONTROL: &str = "
@@ -472,29 +506,56 @@ const CONTROL: &str = "
     setup 2109030300000600
     in = stall 16
     work = idle
-    entry 0 0 = 0004";
+    entry 0 0 = 0004
+    usage 04 = 00";
 
-#[test]
-fn sessions_are_answered(rt: HostRuntime) -> Result<(), Fail> {
-    for script in [COMMANDS, KEYS, CONTROL] {
-        let mut rig = Rig::start(rt.alloc(), SimFlash::new(rt.alloc(), 2)?)?;
-        assert_eq!(rt; rig.first_wrong(script), None);
-        let rig = rig;
-        assert!(rt; rig.keyboard.usages().has_key(0x04) == (script == KEYS));
-    }
-    Ok(())
+/// A blank flash of two pages.
+fn blank<R: AllocGlobal + Abort>(rt: &R) -> SimFlash {
+    SimFlash::new(rt.alloc(), 2).ok().expect(rt, "memory")
+}
+
+/// A session on a flash: the lines of these scripts.
+pub(crate) fn session<R: AllocGlobal + Abort>(
+    rt: &R,
+    flash: SimFlash,
+    case: &str,
+    scripts: &[&str],
+) {
+    let mut rig = Rig::start(rt.alloc(), flash).ok().expect(rt, "memory");
+    rig.expect_all(rt, case, scripts);
 }
 
 #[test]
-fn room_is_taken_before_the_start(rt: HostRuntime) -> Result<(), Fail> {
-    let room = Room::take(rt.alloc())?;
-    let mut rig = Rig::start_in(room, SimFlash::new(rt.alloc(), 2)?);
-    assert_eq!(rt; rig.first_wrong(KEYS), None);
-    Ok(())
+fn sessions_are_answered(rt: HostRuntime) {
+    session(&rt, blank(&rt), "commands", &[COMMANDS]);
+    session(&rt, blank(&rt), "keys", &[KEYS]);
+    session(&rt, blank(&rt), "control", &[CONTROL]);
 }
 
-/// A turnover that is cut inside its header, and the command again.
+#[test]
+fn room_is_taken_before_the_start(rt: HostRuntime) {
+    let room = Room::take(rt.alloc()).ok().expect(&rt, "memory");
+    let mut rig = Rig::start_in(room, blank(&rt));
+    rig.expect_all(&rt, "in the room", &[KEYS]);
+}
+
+/// 511 changes, and a turnover that is cut inside its header, and the command again.
 const TURNOVER: &str = "
+    setup 2109030300000600
+    out 030100000500 = ack
+    work = working
+    work = settled
+
+    255 times:
+    setup 2109030300000600
+    out 030100000600 = ack
+    work = settled
+    in = data -
+    setup 2109030300000600
+    out 030100000500 = ack
+    work = settled
+    in = data -
+
     setup 2109030300000600
     out 030100000600 = ack
     work = working
@@ -512,24 +573,6 @@ const TURNOVER: &str = "
     slot 1 2 = 06000010f9ffffef";
 
 #[test]
-fn a_full_page_turns_over(rt: HostRuntime) -> Result<(), Fail> {
-    let mut rig = Rig::start(rt.alloc(), SimFlash::new(rt.alloc(), 2)?)?;
-    assert_eq!(rt;
-        rig.first_wrong(
-            "setup 2109030300000600\nout 030100000500 = ack\nwork = working\nwork = settled"
-        ),
-        None
-    );
-    for n in 1..511u32 {
-        let set = if n % 2 == 0 {
-            "out 030100000500 = ack"
-        } else {
-            "out 030100000600 = ack"
-        };
-        for lines in ["setup 2109030300000600", set, "work = settled\nin = data -"] {
-            assert_eq!(rt; rig.first_wrong(lines), None);
-        }
-    }
-    assert_eq!(rt; rig.first_wrong(TURNOVER), None);
-    Ok(())
+fn a_full_page_turns_over(rt: HostRuntime) {
+    session(&rt, blank(&rt), "a turnover", &[TURNOVER]);
 }

@@ -14,6 +14,8 @@ pub mod laws;
 mod plain_image;
 #[cfg(test)]
 mod random_tests;
+#[cfg(test)]
+mod rows;
 mod store;
 #[cfg(test)]
 mod tests;

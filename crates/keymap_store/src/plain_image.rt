@@ -1,7 +1,8 @@
 //! What the bytes of a flash say, computed slot by slot.
 
+ghost use Rattle.std.specs.Prelude.{◌<◌};
+
 use crate::SubmitRefusal;
-use crate::tests::default_at;
 use flash_model::{NorFlash, SimFlash};
 use records::{Slot, classify, is_sound};
 
@@ -13,6 +14,17 @@ const LISTED: [u16; 16] = [
     0xb0, 0xb1, 0xb2, 0xb3, 0xb4, 0xb5, 0xb6, 0xb7, 0xb8, 0xcd, 0xe2, 0xe9, 0xea, 0x192, 0x223,
     0x224,
 ];
+
+/// The default code of a place.
+fn default_at(place: usize) -> u16
+    requires { place < 384 }
+{
+    match place {
+        0..88 => 4 + place as u16,
+        88..96 => 0xe0 + (place as u16 - 88),
+        _ => 1,
+    }
+}
 
 /// The code that a number is on a page of this format.
 fn code_in(format: u32, code: u16) -> Option<u16> {

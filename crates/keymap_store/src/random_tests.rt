@@ -1,15 +1,14 @@
 //! Random commands on flashes of all kinds, with operations that are torn, by faults or by cuts of
 //! the power inside them.
 
-use crate::fault_tests::{expect_keymap, torn_mask};
+use crate::fault_tests::{expect_keymap, expect_sound, next, torn_mask};
 use crate::plain_image::{are_headers_sound, expected, table_of, write};
-use crate::tests::{Device, next, program};
-use crate::{Taken, Work};
+use crate::rows::{Device, good, program};
+use crate::{SubmitRefusal, Taken, Work};
 use flash_model::SimFlash;
 use layers::Command;
 use std::alloc::Global;
 use std::process::Abort;
-use std::test::Fail;
 
 /// What the slots of a flash hold at the start.
 #[derive(Clone, Copy)]
@@ -42,12 +41,6 @@ fn random_command(random: u32) -> u32 {
         64 | 128 | 192 => u32::from_le_bytes([0, 0, 0, 0x20 + a % 4]),
         _ => u32::from_le_bytes([low, high, b % 96, 0x10 + a % 4]),
     }
-}
-
-/// A word beside its complement.
-fn good(word: u32) -> [u8; 8] {
-    let [a, b, c, d] = word.to_le_bytes();
-    [a, b, c, d, !a, !b, !c, !d]
 }
 
 fn random_bytes(random: u32) -> [u8; 8] {
@@ -89,8 +82,8 @@ fn random_record(filled: Filled, random: u32) -> [u8; 8] {
 }
 
 /// A flash whose pages are filled up to a slot; two in three are full.
-fn flash_of(alloc: Global, filled: Filled, pages: usize, seed: u32) -> Result<SimFlash, Fail> {
-    let mut flash = SimFlash::new(alloc, pages)?;
+fn flash_of(rt: &impl Abort, alloc: Global, filled: Filled, pages: usize, seed: u32) -> SimFlash {
+    let mut flash = SimFlash::new(alloc, pages).expect(rt, "a flash");
     let end = match (filled, seed / 256 % 3) {
         (Filled::Blank, _) => 0,
         (_, 0) => seed as usize / 1024 % 512,
@@ -108,7 +101,7 @@ fn flash_of(alloc: Global, filled: Filled, pages: usize, seed: u32) -> Result<Si
             program(&mut flash, page, slot, bytes);
         }
     }
-    Ok(flash)
+    flash
 }
 
 /// At which operation of a command something happens, if at all: mostly at one of the first.
@@ -124,17 +117,12 @@ fn random_operation(random: u32) -> usize {
 
 /// Works on a command that was taken, with an operation that may be torn, and a cut that may come
 /// before its end; says whether it was settled.
-fn work_torn(
-    rt: &impl Abort,
-    device: &mut Device,
-    operations: usize,
-    random: u32,
-) -> Result<bool, Fail> {
+fn work_torn(rt: &impl Abort, device: &mut Device, operations: usize, random: u32) -> bool {
     let torn = random_operation(random);
     let cut = random_operation(next(next(random)));
     for operation in 1..388 {
         if operation == torn {
-            device.arm(torn_mask(random as usize / 0x1_0000 % 10, random)?);
+            device.arm(torn_mask(random as usize / 0x1_0000 % 10, random));
         }
         let work = device.work();
         device.flash.disarm();
@@ -144,51 +132,58 @@ fn work_torn(
         match work {
             Work::Working if operation != cut => {}
             Work::Settled => {
-                assert_eq!(rt; operation, operations);
-                return Ok(true);
+                expect_operation(rt, operation, operations);
+                return true;
             }
             Work::Failed => {
-                assert_eq!(rt; operation, torn);
-                return Ok(false);
+                expect_operation(rt, operation, torn);
+                return false;
             }
-            Work::Working | Work::Idle => return Ok(false),
+            Work::Working | Work::Idle => return false,
         }
     }
-    Ok(false)
+    false
+}
+
+fn expect_operation(rt: &impl Abort, operation: usize, wanted: usize) {
+    assert_eq!(rt; operation, wanted);
 }
 
 /// Takes a command, maybe with an operation torn or cut short; the keymap is then changed by it
 /// exactly where it was settled, and each slot 0 is still sound.
-fn command_torn(
-    rt: &impl Abort,
-    device: &mut Device,
-    table: &mut [u16; 384],
-    random: u32,
-) -> Result<(), Fail> {
+fn command_torn(rt: &impl Abort, device: &mut Device, table: &mut [u16; 384], random: u32) {
     let command = Command::from_word(random_command(random)).unwrap_or(Command::ResetAll);
     let command = &command;
     let mut after = *table;
     write(&mut after, 2, command.word());
     let want = expected(&device.flash, table, &after);
-    match device.submit(*command) {
-        Ok(Taken::Working) => {
-            let operations = want.unwrap_or(0);
-            assert!(rt; operations > 0);
-            if work_torn(rt, device, operations, next(random))? {
-                *table = after;
-            }
-            assert!(rt; are_headers_sound(&device.flash));
-            expect_keymap(rt, device, table);
+    let taken = device.submit(*command);
+    expect_taken(rt, taken, want);
+    if taken == Ok(Taken::Working) {
+        if work_torn(rt, device, want.unwrap_or(0), next(random)) {
+            *table = after;
         }
-        Ok(Taken::Settled) => assert_eq!(rt; want, Ok(0)),
-        Err(refusal) => assert_eq!(rt; want, Err(refusal)),
+        expect_sound(rt, device);
+        expect_keymap(rt, device, table);
     }
-    Ok(())
 }
 
-/// Random commands, 1,500 on each of 25 flashes of 2, 3 or 8 pages. One that has an unsound slot 0
-/// is as it was.
-fn commands_torn(rt: &impl Abort, alloc: Global, filled: Filled) -> Result<(), Fail> {
+/// A command that takes so many operations, or is refused, was taken so.
+fn expect_taken(
+    rt: &impl Abort,
+    taken: Result<Taken, SubmitRefusal>,
+    operations: Result<usize, SubmitRefusal>,
+) {
+    let wanted = match operations {
+        Ok(0) => Ok(Taken::Settled),
+        Ok(_) => Ok(Taken::Working),
+        Err(refusal) => Err(refusal),
+    };
+    assert_eq!(rt; taken, wanted);
+}
+
+/// Random commands, 1,500 on each of 25 flashes of 2, 3 or 8 pages.
+fn commands_torn(rt: &impl Abort, alloc: Global, filled: Filled) {
     let mut random = 7;
     for n in 0..25 {
         let pages = match n % 3 {
@@ -197,39 +192,59 @@ fn commands_torn(rt: &impl Abort, alloc: Global, filled: Filled) -> Result<(), F
             _ => 8,
         };
         random = next(random);
-        let seed = random;
-        let mut device = Device::start(flash_of(alloc, filled, pages, seed)?);
-        let mut table = table_of(&device.flash);
-        expect_keymap(rt, &device, &table);
-        let sound = are_headers_sound(&device.flash);
-        for _ in 0..1500 {
-            random = next(random);
-            command_torn(rt, &mut device, &mut table, random)?;
-        }
-        if !sound {
-            let begun = flash_of(alloc, filled, pages, seed)?;
-            assert!(rt; device.flash.image() == begun.image());
-        }
+        random = commands_torn_on(rt, alloc, filled, pages, random);
     }
-    Ok(())
+}
+
+/// Random commands on the flash of a number; answers the last number. A flash that has an unsound
+/// slot 0 is then as it was.
+fn commands_torn_on(
+    rt: &impl Abort,
+    alloc: Global,
+    filled: Filled,
+    pages: usize,
+    seed: u32,
+) -> u32 {
+    let mut device = Device::start(flash_of(rt, alloc, filled, pages, seed));
+    let sound = are_headers_sound(&device.flash);
+    let last = take_commands(rt, &mut device, seed);
+    if !sound {
+        expect_same(rt, &device.flash, &flash_of(rt, alloc, filled, pages, seed));
+    }
+    last
+}
+
+fn take_commands(rt: &impl Abort, device: &mut Device, seed: u32) -> u32 {
+    let mut table = table_of(&device.flash);
+    expect_keymap(rt, device, &table);
+    let mut random = seed;
+    for _ in 0..1500 {
+        random = next(random);
+        command_torn(rt, device, &mut table, random);
+    }
+    random
+}
+
+fn expect_same(rt: &impl Abort, flash: &SimFlash, begun: &SimFlash) {
+    assert!(rt; flash.image() == begun.image());
 }
 
 #[test]
-fn commands_torn_on_blank_flashes(rt: HostRuntime) -> Result<(), Fail> {
-    commands_torn(&rt, rt.alloc(), Filled::Blank)
+fn commands_torn_on_blank_flashes(rt: HostRuntime) {
+    commands_torn(&rt, rt.alloc(), Filled::Blank);
 }
 
 #[test]
-fn commands_torn_on_format_1(rt: HostRuntime) -> Result<(), Fail> {
-    commands_torn(&rt, rt.alloc(), Filled::Format1)
+fn commands_torn_on_format_1(rt: HostRuntime) {
+    commands_torn(&rt, rt.alloc(), Filled::Format1);
 }
 
 #[test]
-fn commands_torn_on_slots_of_all_kinds(rt: HostRuntime) -> Result<(), Fail> {
-    commands_torn(&rt, rt.alloc(), Filled::SlotsOfAllKinds)
+fn commands_torn_on_slots_of_all_kinds(rt: HostRuntime) {
+    commands_torn(&rt, rt.alloc(), Filled::SlotsOfAllKinds);
 }
 
 #[test]
-fn commands_torn_on_random_bytes(rt: HostRuntime) -> Result<(), Fail> {
-    commands_torn(&rt, rt.alloc(), Filled::RandomBytes)
+fn commands_torn_on_random_bytes(rt: HostRuntime) {
+    commands_torn(&rt, rt.alloc(), Filled::RandomBytes);
 }

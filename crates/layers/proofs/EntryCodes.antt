@@ -1,10 +1,11 @@
 -- The entries that words give are codes.
+use Rattle.std.specs.Option.{option_or}
 use Rattle.std.proofs.Common.{◌≡◌, ◌∙◌, ℕ, ◌<◌, ◌==◌, ◌&&◌, Bool, true, false, if◌then◌else◌, Option, Some, None, unwrap_or, List, [], ◌∷◌, IsTrue, refl, sym, ap}
 use Rattle.std.specs.Option.{option_map, option_and_then}
 use Rattle.layers.specs.Codes.{keys, is_code, default_code}
 use Rattle.layers.specs.Commands.{IsCommand, command_of}
 use Rattle.layers.specs.Formats.{word_of_format_1, command_of_format_1, command_in}
-use Rattle.layers.specs.Entries.{written, or_else, last_written, changed, commands_in, entry_in, written_by_word}
+use Rattle.layers.specs.Entries.{written, last_written, changed, commands_in, entry_in, written_by_word}
 use Rattle.layers.specs.declared.command.Command.{Command}
 use Rattle.layers.specs.declared.command.Command.TheVariants.{SetKey, ResetLayer, ResetAll}
 use Rattle.layers.proofs.CommandWords.{word_of_command}
@@ -43,7 +44,7 @@ by_command : (command : Option Command) (layer key code : ℕ) → key < keys �
 by_command None layer key code w is e = cc
 by_command (Some c) layer key code w is e = written-is_code c layer key code w (is c refl) e
 
-by_either : (later before : Option ℕ) (code : ℕ) → ((c : ℕ) → later ≡ Some c → is_code c ≡ true) → ((c : ℕ) → before ≡ Some c → is_code c ≡ true) → or_else later before ≡ Some code → is_code code ≡ true
+by_either : (later before : Option ℕ) (code : ℕ) → ((c : ℕ) → later ≡ Some c → is_code c ≡ true) → ((c : ℕ) → before ≡ Some c → is_code c ≡ true) → option_or later before ≡ Some code → is_code code ≡ true
 by_either None before code l b e = b code e
 by_either (Some x) before code l b e = l code e
 

@@ -1,26 +1,27 @@
 -- The last writer over lists that are joined.
+use Rattle.std.specs.Option.{option_or}
 use Rattle.std.proofs.Common.{◌≡◌, ℕ, ◌<◌, Option, Some, None, suc, ◌+◌, ◌-◌, ◌≤◌, arith, length, get_or, take, drop, drop-cons, unwrap_or, List, [], ◌∷◌, ◌++◌, refl, ap, sym, ◌∙◌}
 use Rattle.std.proofs.Math.Seq.{drop-length}
 use Rattle.std.proofs.lemmas.List.{take-append-drop}
 use Rattle.layers.specs.Codes.{layers, keys, default_code}
 use Rattle.layers.specs.Formats.{command_in}
-use Rattle.layers.specs.Entries.{written, or_else, last_written, changed, commands_in, entry_in, written_by_word, NoneWrites, ChangesNothing}
+use Rattle.layers.specs.Entries.{written, last_written, changed, commands_in, entry_in, written_by_word, NoneWrites, ChangesNothing}
 use Rattle.layers.specs.declared.command.Command.{Command}
 
-or_else-none : (a : Option ℕ) → or_else a None ≡ a
-or_else-none None = refl
-or_else-none (Some x) = refl
+option_or-none : (a : Option ℕ) → option_or a None ≡ a
+option_or-none None = refl
+option_or-none (Some x) = refl
 
-or_else-or_else : (a b c : Option ℕ) → or_else (or_else a b) c ≡ or_else a (or_else b c)
-or_else-or_else None b c = refl
-or_else-or_else (Some x) b c = refl
+option_or-option_or : (a b c : Option ℕ) → option_or (option_or a b) c ≡ option_or a (option_or b c)
+option_or-option_or None b c = refl
+option_or-option_or (Some x) b c = refl
 
-pub last_written-append : (xs ys : List Command) (layer key : ℕ) → last_written (xs ++ ys) layer key ≡ or_else (last_written ys layer key) (last_written xs layer key)
+pub last_written-append : (xs ys : List Command) (layer key : ℕ) → last_written (xs ++ ys) layer key ≡ option_or (last_written ys layer key) (last_written xs layer key)
 unfolding last_written
-last_written-append [] ys layer key = sym (or_else-none (last_written ys layer key))
+last_written-append [] ys layer key = sym (option_or-none (last_written ys layer key))
 last_written-append (x ∷ xs) ys layer key =
-    ap (λ (o : Option ℕ). or_else o (written x layer key)) (last_written-append xs ys layer key)
-    ∙ or_else-or_else (last_written ys layer key) (last_written xs layer key) (written x layer key)
+    ap (λ (o : Option ℕ). option_or o (written x layer key)) (last_written-append xs ys layer key)
+    ∙ option_or-option_or (last_written ys layer key) (last_written xs layer key) (written x layer key)
 
 -- no command changes nothing
 pub changed-nil : (entries : ℕ → ℕ → ℕ) (layer key : ℕ) → changed entries [] layer key ≡ entries layer key
@@ -32,16 +33,16 @@ pub changed-one : (entries : ℕ → ℕ → ℕ) (command : Command) (layer key
 unfolding changed last_written
 changed-one entries command layer key = refl
 
-unwrap_or-or_else : (a b : Option ℕ) (d : ℕ) → unwrap_or (or_else a b) d ≡ unwrap_or a (unwrap_or b d)
-unwrap_or-or_else None b d = refl
-unwrap_or-or_else (Some x) b d = refl
+unwrap_or-option_or : (a b : Option ℕ) (d : ℕ) → unwrap_or (option_or a b) d ≡ unwrap_or a (unwrap_or b d)
+unwrap_or-option_or None b d = refl
+unwrap_or-option_or (Some x) b d = refl
 
 -- commands after commands
 pub changed-append : (entries : ℕ → ℕ → ℕ) (xs ys : List Command) (layer key : ℕ) → changed entries (xs ++ ys) layer key ≡ changed (changed entries xs) ys layer key
 unfolding changed
 changed-append entries xs ys layer key =
     ap (λ (o : Option ℕ). unwrap_or o (entries layer key)) (last_written-append xs ys layer key)
-    ∙ unwrap_or-or_else (last_written ys layer key) (last_written xs layer key) (entries layer key)
+    ∙ unwrap_or-option_or (last_written ys layer key) (last_written xs layer key) (entries layer key)
 
 -- an entry after commands rests on that entry before them alone
 pub changed-same : (m n : ℕ → ℕ → ℕ) (commands : List Command) (layer key : ℕ) → m layer key ≡ n layer key → changed m commands layer key ≡ changed n commands layer key
@@ -102,12 +103,12 @@ pub changed-nothing : (entries : ℕ → ℕ → ℕ) (command : Command) (layer
 changed-nothing entries command layer key n l k = n.each layer key l k
 
 -- what is written by words, the first of them apart
-pub last_written-word : (format : ℕ) (word : ℕ) (later : List ℕ) (layer key : ℕ) → last_written (commands_in format (word ∷ later)) layer key ≡ or_else (last_written (commands_in format later) layer key) (written_by_word format word layer key)
+pub last_written-word : (format : ℕ) (word : ℕ) (later : List ℕ) (layer key : ℕ) → last_written (commands_in format (word ∷ later)) layer key ≡ option_or (last_written (commands_in format later) layer key) (written_by_word format word layer key)
 unfolding last_written
 last_written-word format word later layer key = by_option (command_in format word) refl
   where
-    by_option : (o : Option Command) → command_in format word ≡ o → last_written (commands_in format (word ∷ later)) layer key ≡ or_else (last_written (commands_in format later) layer key) (written_by_word format word layer key)
-    by_option None e = rw (commands_in-other format word later e, e) (sym (or_else-none (last_written (commands_in format later) layer key)))
+    by_option : (o : Option Command) → command_in format word ≡ o → last_written (commands_in format (word ∷ later)) layer key ≡ option_or (last_written (commands_in format later) layer key) (written_by_word format word layer key)
+    by_option None e = rw (commands_in-other format word later e, e) (sym (option_or-none (last_written (commands_in format later) layer key)))
     by_option (Some c) e = rw (commands_in-command format word later c e, e) refl
 
 pub last_written-none : (format : ℕ) (words : List ℕ) (layer key : ℕ) → NoneWrites format words layer key → last_written (commands_in format words) layer key ≡ None

@@ -1,7 +1,7 @@
 -- Believed: the entries of a keymap by the commands that changed it: the last writer decides.
 use Rattle.std.specs.Prelude.{◌≡◌, ◌≢◌, ℕ, ◌<◌, ◌==◌, ◌&&◌, if◌then◌else◌, Option, Some, None, unwrap_or, List, [], ◌∷◌, All}
 use Rattle.std.specs.List.{filter_map}
-use Rattle.std.specs.Option.{option_and_then}
+use Rattle.std.specs.Option.{option_and_then, option_or}
 use Rattle.layers.specs.Codes.{layers, keys, default_code}
 use Rattle.layers.specs.Formats.{command_in}
 use Rattle.layers.specs.declared.command.Command.{Command}
@@ -13,15 +13,10 @@ written (SetKey l k code) layer key = if (l == layer) && (k == key) then Some co
 written (ResetLayer l) layer key = if l == layer then Some (default_code layer key) else None
 written ResetAll layer key = Some (default_code layer key)
 
--- the first code, if there is one, else the second
-abbrev pub or_else : Option ℕ → Option ℕ → Option ℕ
-or_else (Some code) other = Some code
-or_else None other = other
-
 -- what the last command that writes the entry gives it, if one does
 unfoldable pub last_written : List Command → ℕ → ℕ → Option ℕ
 last_written [] layer key = None
-last_written (command ∷ later) layer key = or_else (last_written later layer key) (written command layer key)
+last_written (command ∷ later) layer key = option_or (last_written later layer key) (written command layer key)
 
 -- entries after these commands, in order: the last writer's, else the old one
 unfoldable pub changed : (ℕ → ℕ → ℕ) → List Command → ℕ → ℕ → ℕ

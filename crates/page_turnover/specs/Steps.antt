@@ -110,14 +110,14 @@ pub record EndsAs (old : List ℕ) (before : LogValue) (step : Step) (new : List
   pub kept : step ≡ Failed → Keeps old new
 
 -- the operation is whole and its target reads as intended; or it is torn, its target reads otherwise, and the step is Failed
-pub record Attempts (old : List ℕ) (operation : Operation) (step : Step) (new : List ℕ) : Type 0 where
+pub record AttemptsStep (old : List ℕ) (operation : Operation) (step : Step) (new : List ℕ) : Type 0 where
   pub not_idle : step ≢ Idle
   pub done : step ≢ Failed → Makes old operation new × ReadsBack operation new
   pub failed : step ≡ Failed → MayMake old operation new × (ReadsBack operation new → ⊥)
 
 -- a step makes the operation that is next, and none where nothing is
 abbrev pub AttemptsNext : Option Operation → List ℕ → Step → List ℕ → Type 0
-AttemptsNext (Some operation) old step new = Attempts old operation step new
+AttemptsNext (Some operation) old step new = AttemptsStep old operation step new
 AttemptsNext None old step new = (step ≡ Idle) × (new ≡ old)
 
 -- a step makes one operation, or none if it answers Idle; Failed is a fault, and a fault may have read back as done

@@ -1,10 +1,11 @@
 //! Images of any bytes: what a log reads of them, compared with a plain second reading.
 
+use crate::rows::Seen;
 use crate::test_flash::{good, halves, program};
 use crate::{Log, Unsound};
 use flash_model::{NorFlash, SimFlash};
+use std::alloc::Global;
 use std::process::Abort;
-use std::test::Fail;
 
 /// A number that looks random, from the one before it.
 fn next(random: u32) -> u32 {
@@ -102,67 +103,97 @@ fn unsound_page(flash: &SimFlash) -> Option<usize> {
     None
 }
 
+/// What a log says of itself by the plain reading.
+fn plain_log(flash: &SimFlash) -> Seen {
+    let mut seen = Seen::nothing();
+    if let Some(page) = unsound_page(flash) {
+        seen.usable = Err(Unsound { page });
+    }
+    let Some((page, seq)) = active_page(flash) else {
+        return seen;
+    };
+    let mut tail = 1;
+    for slot in 1..512 {
+        if halves(flash, page, slot) != (u32::MAX, u32::MAX) {
+            tail = slot + 1;
+        }
+    }
+    seen.active = Some((page, seq));
+    seen.tail = Some(tail);
+    if let Some(header) = good_word(flash, page, 0) {
+        seen.format = Some((header >> 28) as u8);
+        seen.room = header >> 28 == 2 && tail <= 511;
+    }
+    seen
+}
+
 /// A log reads of this flash what the plain reading finds.
 fn expect_plain(rt: &impl Abort, flash: &SimFlash, seed: u32) {
     let log = Log::mount(flash);
-    let active = active_page(flash);
-    assert_eq!(rt; log.active(), active, "seed {seed}");
-    let usable = match unsound_page(flash) {
-        Some(page) => Err(Unsound { page }),
-        None => Ok(()),
-    };
-    assert_eq!(rt; log.usable(), usable, "seed {seed}");
+    assert_eq!(rt; Seen::of(&log), plain_log(flash), "seed {seed}");
     let mut words = log.words(flash);
-    let mut tail = None;
-    let mut format = None;
-    if let Some((page, _)) = active {
-        tail = Some(1);
-        format = good_word(flash, page, 0).map(|word| (word >> 28) as u8);
+    if let Some((page, _)) = active_page(flash) {
         for slot in 1..512 {
-            if halves(flash, page, slot) != (u32::MAX, u32::MAX) {
-                tail = Some(slot + 1);
-            }
             if let Some(word) = good_word(flash, page, slot) {
-                assert_eq!(rt; words.next(), Some(word), "seed {seed}");
+                expect_word(rt, words.next(), Some(word), seed);
             }
         }
     }
-    assert_eq!(rt; words.next(), None, "seed {seed}");
-    assert_eq!(rt; log.tail(), tail, "seed {seed}");
-    assert_eq!(rt; log.format(), format, "seed {seed}");
-    let room = match tail {
-        Some(tail) => tail <= 511 && format == Some(2),
-        None => false,
-    };
-    assert_eq!(rt; log.room(), room, "seed {seed}");
+    expect_word(rt, words.next(), None, seed);
+}
+
+fn expect_word(rt: &impl Abort, found: Option<u32>, wanted: Option<u32>, seed: u32) {
+    assert_eq!(rt; found, wanted, "seed {seed}");
+}
+
+/// A flash of random slots is read as it stands.
+fn random_image(rt: &impl Abort, alloc: Global, pages: usize, seed: u32) {
+    let mut flash = SimFlash::new(alloc, pages).expect(rt, "a flash");
+    fill(&mut flash, seed);
+    expect_plain(rt, &flash, seed);
 }
 
 #[test]
-fn random_images_are_read_as_they_stand(rt: HostRuntime) -> Result<(), Fail> {
+fn random_images_are_read_as_they_stand(rt: HostRuntime) {
     let mut seed = 1;
     for n in 0..210 {
         seed = next(seed);
-        let mut flash = SimFlash::new(rt.alloc(), 2 + n % 7)?;
-        fill(&mut flash, seed);
-        expect_plain(&rt, &flash, seed);
+        random_image(&rt, rt.alloc(), 2 + n % 7, seed);
     }
-    Ok(())
+}
+
+/// Programs each slot of a blank flash with random bytes, and answers the last number.
+fn fill_with_bytes(flash: &mut SimFlash, seed: u32) -> u32 {
+    let mut random = seed;
+    for page in 0..flash.pages() {
+        for slot in 0..512 {
+            random = next(random);
+            program(flash, page, slot, random_bytes(random));
+        }
+    }
+    random
+}
+
+/// The log of this flash has no page, and slot 0 of its first page is not sound.
+fn expect_no_log(rt: &impl Abort, flash: &SimFlash) {
+    let mut none = Seen::nothing();
+    none.usable = Err(Unsound { page: 0 });
+    assert_eq!(rt; Seen::of(&Log::mount(flash)), none);
+}
+
+/// A flash of random bytes has no log; answers the last number.
+fn image_of_bytes(rt: &impl Abort, alloc: Global, pages: usize, seed: u32) -> u32 {
+    let mut flash = SimFlash::new(alloc, pages).expect(rt, "a flash");
+    let last = fill_with_bytes(&mut flash, seed);
+    expect_plain(rt, &flash, last);
+    expect_no_log(rt, &flash);
+    last
 }
 
 #[test]
-fn images_of_random_bytes_alone_have_no_log(rt: HostRuntime) -> Result<(), Fail> {
+fn images_of_random_bytes_alone_have_no_log(rt: HostRuntime) {
     let mut random = 1;
     for pages in 2..9 {
-        let mut flash = SimFlash::new(rt.alloc(), pages)?;
-        for page in 0..flash.pages() {
-            for slot in 0..512 {
-                random = next(random);
-                program(&mut flash, page, slot, random_bytes(random));
-            }
-        }
-        expect_plain(&rt, &flash, random);
-        assert_eq!(rt; Log::mount(&flash).active(), None);
-        assert_eq!(rt; Log::mount(&flash).usable(), Err(Unsound { page: 0 }));
+        random = image_of_bytes(&rt, rt.alloc(), pages, random);
     }
-    Ok(())
 }

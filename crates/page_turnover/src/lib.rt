@@ -24,6 +24,8 @@ mod log;
 mod operation;
 mod reading;
 #[cfg(test)]
+mod rows;
+#[cfg(test)]
 mod step_tests;
 #[cfg(test)]
 mod test_flash;

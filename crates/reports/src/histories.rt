@@ -100,7 +100,7 @@ fn tick(rt: &impl Abort, random: &mut Random, poller: &mut Poller, now: &mut Sit
     let (usages_before, wanted_before) = (now.usages, now.wanted);
     if random.below(2) == 0 {
         let codes = CODES[random.below(8) as usize];
-        now.usages = usages(rt, codes);
+        now.usages = usages(codes).expect(rt, "usages");
         now.wanted = wanted_of(codes);
     }
     let (usages_now, protocol) = (now.usages, now.protocol);
@@ -163,7 +163,7 @@ fn the_poller_is_the_definition(rt: HostRuntime) -> Result<(), Fail> {
         let mut poller = Poller::new(rt.alloc())?;
         let mut past: Vec<Call> = Vec::new(rt.alloc());
         let mut now = Situation {
-            usages: usages(&rt, &[]),
+            usages: usages(&[]).expect(&rt, "usages"),
             wanted: wanted_of(&[]),
             protocol: if seed % 2 == 0 {
                 Protocol::Boot

@@ -1,364 +1,482 @@
-//! The worked reports, and the poller over worked sequences.
+//! The worked reports, and the poller over worked sequences: texts of rows, each a call and what it answers.
+//!
+//! ```text
+//! boot CODES = BYTES            the report while keys with these codes are held; so `bitmap` and `consumer`
+//! protocol boot                 the protocol of the scans and polls from here on, or `report`
+//! poll CODES = BYTES, nothing   as many polls as answers, while the keys are held
+//! wait COUNT CODES              so many scans in which nothing changes
+//! turn COUNT CODES > CODES      so many scans, each of which changes the keys, there and back by turns
+//! rounds COUNT CODES = BYTES    so many scans with a poll after each: the first report that is sent
+//! idle ID = BYTE                an idle value
+//! set ID BYTE                   sets it
+//! forget                        forgets what was sent; `reset` is a reset
+//! ```
+//!
+//! Counts are decimal; codes and bytes are hex digits. `-` stands for no keys, and `#` begins a comment. Each part
+//! between blank lines has a poller of its own.
 
 use crate::{IdleId, Poller, Protocol, Report, bitmap, boot, consumer};
 use layers::{Command, Held, KeyNo, Keymap, Usages};
+use std::alloc::{AllocError, Global};
 use std::process::Abort;
-use std::test::Fail;
 
 /// The usages of held keys with these codes.
-pub(crate) fn usages(rt: &impl Abort, codes: &[u16]) -> Usages {
+pub(crate) fn usages(codes: &[u16]) -> Option<Usages> {
     let mut keymap = Keymap::standard();
     let mut held = Held::new();
     for (key, code) in (0..96u8).zip(codes) {
-        let command = Command::read(1, 0, key, *code).ok().expect(rt, "a command");
-        keymap.apply(command);
-        held.press(&keymap, KeyNo::read(key).ok().expect(rt, "a key"));
+        press(&mut keymap, &mut held, key, *code)?;
     }
-    held.usages()
+    Some(held.usages())
+}
+
+/// Gives a key this code, and presses it.
+fn press(keymap: &mut Keymap, held: &mut Held, key: u8, code: u16) -> Option<()> {
+    keymap.apply(Command::read(1, 0, key, code).ok()?);
+    held.press(keymap, KeyNo::read(key).ok()?);
+    Some(())
+}
+
+/// What a row's call answers.
+#[derive(Debug, PartialEq, Eq, Drop)]
+enum Told {
+    /// The call has no answer.
+    Done,
+    /// No report is sent.
+    Nothing,
+    Bytes(Report),
+}
+
+/// A poller, and the protocol of its scans and polls.
+#[derive(Drop)]
+struct Session {
+    poller: Poller,
+    protocol: Protocol,
+}
+
+impl Session {
+    fn start(alloc: Global) -> Result<Session, AllocError> {
+        Ok(Session {
+            poller: Poller::new(alloc)?,
+            protocol: Protocol::Report,
+        })
+    }
+
+    /// The first of these rows whose call doesn't answer as it says, and what it answers: `None` where the row can't be
+    /// read.
+    fn first_wrong<'a>(&mut self, rows: &'a str) -> Option<(&'a str, Option<Told>)> {
+        for row in rows.lines() {
+            let row = row.trim();
+            let (call, answers) = row.split_once(" = ").unwrap_or((row, ""));
+            for answer in answers.split(", ") {
+                let told = self.call(call);
+                if told.is_none() || told != answer_of(answer) {
+                    return Some((row, told));
+                }
+            }
+        }
+        None
+    }
+
+    fn call(&mut self, call: &str) -> Option<Told> {
+        let (word, rest) = call.split_once(' ').unwrap_or((call, ""));
+        match word {
+            "" | "#" => {},
+            "boot" => return Some(bytes(&boot(&keys(rest)?))),
+            "bitmap" => return Some(bytes(&bitmap(&keys(rest)?))),
+            "consumer" => return Some(bytes(&consumer(&keys(rest)?))),
+            "poll" => return Some(self.poll(&keys(rest)?)),
+            "rounds" => return self.rounds(rest),
+            "idle" => return Some(bytes(&[self.poller.idle(id(rest)?)])),
+            "protocol" => self.protocol = protocol(rest)?,
+            "wait" => return self.wait(rest),
+            "turn" => return self.turn(rest),
+            "set" => return self.set(rest),
+            "forget" => self.poller.forget_sent(),
+            "reset" => self.poller.reset(),
+            _ => return None,
+        }
+        Some(Told::Done)
+    }
+
+    fn poll(&mut self, held: &Usages) -> Told {
+        match self.poller.poll(held, self.protocol) {
+            Some(report) => Told::Bytes(report),
+            None => Told::Nothing,
+        }
+    }
+
+    fn wait(&mut self, rest: &str) -> Option<Told> {
+        let (count, held) = rest.split_once(' ')?;
+        let held = keys(held)?;
+        for _ in 0..number(count)? {
+            self.poller.tick(&held, &held, self.protocol);
+        }
+        Some(Told::Done)
+    }
+
+    fn turn(&mut self, rest: &str) -> Option<Told> {
+        let (count, rest) = rest.split_once(' ')?;
+        let (before, after) = rest.split_once(" > ")?;
+        let (before, after) = (keys(before)?, keys(after)?);
+        for n in 0..number(count)? {
+            if n % 2 == 0 {
+                self.poller.tick(&before, &after, self.protocol);
+            } else {
+                self.poller.tick(&after, &before, self.protocol);
+            }
+        }
+        Some(Told::Done)
+    }
+
+    fn rounds(&mut self, rest: &str) -> Option<Told> {
+        let (count, held) = rest.split_once(' ')?;
+        let held = keys(held)?;
+        for _ in 0..number(count)? {
+            self.poller.tick(&held, &held, self.protocol);
+            let told = self.poll(&held);
+            if told != Told::Nothing {
+                return Some(told);
+            }
+        }
+        Some(Told::Nothing)
+    }
+
+    fn set(&mut self, rest: &str) -> Option<Told> {
+        let (name, value) = rest.split_once(' ')?;
+        self.poller.set_idle(id(name)?, byte(value)?);
+        Some(Told::Done)
+    }
+}
+
+fn id(text: &str) -> Option<IdleId> {
+    match text {
+        "0" => Some(IdleId::All),
+        "1" => Some(IdleId::One),
+        "2" => Some(IdleId::Two),
+        _ => None,
+    }
+}
+
+fn protocol(text: &str) -> Option<Protocol> {
+    match text {
+        "boot" => Some(Protocol::Boot),
+        "report" => Some(Protocol::Report),
+        _ => None,
+    }
+}
+
+fn number(text: &str) -> Option<u32> {
+    text.parse::<u32>().ok()
+}
+
+/// The number of one to eight hex digits.
+fn hex(text: &str) -> Option<u32> {
+    if text.is_empty() || text.len() > 8 {
+        return None;
+    }
+    let mut number = 0u32;
+    for c in text.chars() {
+        number = number.wrapping_mul(16) | c.to_digit(16)?;
+    }
+    Some(number)
+}
+
+fn byte(text: &str) -> Option<u8> {
+    u8::try_from(hex(text)?).ok()
+}
+
+/// The usages of held keys with these codes.
+fn keys(text: &str) -> Option<Usages> {
+    if text == "-" {
+        return usages(&[]);
+    }
+    let mut codes: [u16; 16] = [0; 16];
+    let mut count = 0usize;
+    for word in text.split(' ') {
+        *codes.get_mut(count)? = u16::try_from(hex(word)?).ok()?;
+        count = count.wrapping_add(1);
+    }
+    usages(codes.get(..count)?)
+}
+
+fn bytes(from: &[u8]) -> Told {
+    match Report::try_from(from) {
+        Ok(report) => Told::Bytes(report),
+        Err(_) => Told::Nothing,
+    }
+}
+
+/// The answer that a row wants; `None` where it can't be read.
+fn answer_of(text: &str) -> Option<Told> {
+    match text {
+        "" => Some(Told::Done),
+        "nothing" => Some(Told::Nothing),
+        _ => Some(Told::Bytes(bytes_of(text)?)),
+    }
+}
+
+/// The bytes of hex digits, two each.
+fn bytes_of(text: &str) -> Option<Report> {
+    let mut report = Report::new();
+    let mut high = None;
+    for c in text.chars() {
+        let low = c.to_digit(16)?;
+        match high {
+            None => high = Some(low),
+            Some(first) => {
+                let byte = u8::try_from(first.wrapping_mul(16) | low).ok()?;
+                report.try_push(byte).ok()?;
+                high = None;
+            }
+        }
+    }
+    if high.is_some() { None } else { Some(report) }
+}
+
+/// Makes the calls of these rows, and compares what they answer.
+fn rows<R: AllocGlobal + Abort>(rt: &R, rows: &str) {
+    for part in rows.split("\n\n") {
+        let mut session = Session::start(rt.alloc()).ok().expect(rt, "memory");
+        assert_eq!(rt; session.first_wrong(part), None, "in {part}");
+    }
 }
 
 #[test]
 fn boot_reports(rt: HostRuntime) {
-    let rows: &[(&[u16], [u8; 8])] = &[
-        (&[], [0, 0, 0, 0, 0, 0, 0, 0]),
-        (&[0x04], [0, 0, 0x04, 0, 0, 0, 0, 0]),
-        // Usages are listed from the least one on, modifiers by their bits.
-        (
-            &[0xA4, 0x04, 0x1E, 0xE0, 0xE7],
-            [0x81, 0, 0x04, 0x1E, 0xA4, 0, 0, 0],
-        ),
-        (
-            &[0x04, 0x05, 0x06, 0x07, 0x08, 0x09, 0xE1],
-            [0x02, 0, 0x04, 0x05, 0x06, 0x07, 0x08, 0x09],
-        ),
-        // Seven are too many; the modifier stays right.
-        (
-            &[0x04, 0x05, 0x06, 0x07, 0x08, 0x09, 0x0A, 0xE0],
-            [0x01, 0, 1, 1, 1, 1, 1, 1],
-        ),
-        (
-            &[0xA4, 0x9F, 0x98, 0x60, 0x58, 0x50, 0x48],
-            [0, 0, 1, 1, 1, 1, 1, 1],
-        ),
-        // Seven keys of one usage are one usage; a key without a usage of page 07h is none.
-        (&[0x04; 7], [0, 0, 0x04, 0, 0, 0, 0, 0]),
-        (&[0x0000, 0x4001], [0; 8]),
-    ];
-    for (codes, bytes) in rows {
-        assert_eq!(rt; boot(&usages(&rt, codes)), *bytes);
-    }
+    rows(
+        &rt,
+        "boot - = 0000000000000000
+        boot 04 = 0000040000000000
+        # Usages are listed from the least one on, modifiers by their bits.
+        boot a4 04 1e e0 e7 = 8100041ea4000000
+        boot 04 05 06 07 08 09 e1 = 0200040506070809
+        # Seven are too many; the modifier stays right.
+        boot 04 05 06 07 08 09 0a e0 = 0100010101010101
+        boot a4 9f 98 60 58 50 48 = 0000010101010101
+        # Seven keys of one usage are one usage; a key without a usage of page 07h is none.
+        boot 04 04 04 04 04 04 04 = 0000040000000000
+        boot 0000 4001 = 0000000000000000",
+    );
 }
 
 #[test]
 fn bitmap_reports(rt: HostRuntime) {
-    let mut bytes = [0; 23];
-    bytes[0] = 0x01;
-    assert_eq!(rt; bitmap(&usages(&rt, &[])), bytes);
-    bytes[2] = 0x01;
-    assert_eq!(rt; bitmap(&usages(&rt, &[0x04])), bytes);
-    // Usage 0Bh is the last bit of its byte, 0Ch the first of the next, A4h the last one of all.
-    bytes[1] = 0x81;
-    bytes[2] = 0x81;
-    bytes[3] = 0x01;
-    bytes[22] = 0x01;
-    let held = [0x04, 0x0B, 0x0C, 0xA4, 0xE0, 0xE7, 0x4001];
-    assert_eq!(rt; bitmap(&usages(&rt, &held)), bytes);
+    rows(
+        &rt,
+        "bitmap - = 0100000000000000000000000000000000000000000000
+        bitmap 04 = 0100010000000000000000000000000000000000000000
+        # Usage 0Bh is the last bit of its byte, 0Ch the first of the next, A4h the last one of all.
+        bitmap 04 0b 0c a4 e0 e7 4001 = 0181810100000000000000000000000000000000000001",
+    );
 }
 
 #[test]
 fn consumer_reports(rt: HostRuntime) {
-    let rows: &[(&[u16], [u8; 9])] = &[
-        (&[0x04, 0xE0], [0x02, 0, 0, 0, 0, 0, 0, 0, 0]),
-        (&[0x4192], [0x02, 0x92, 0x01, 0, 0, 0, 0, 0, 0]),
-        (
-            &[0x43FF, 0x4001, 0x40E9],
-            [0x02, 0x01, 0, 0xE9, 0, 0xFF, 0x03, 0, 0],
-        ),
-        // Of five the four least, and the fifth where one of them goes.
-        (
-            &[0x4005, 0x4004, 0x4003, 0x4002, 0x4001],
-            [0x02, 0x01, 0, 0x02, 0, 0x03, 0, 0x04, 0],
-        ),
-        (
-            &[0x4005, 0x4004, 0x4003, 0x4002],
-            [0x02, 0x02, 0, 0x03, 0, 0x04, 0, 0x05, 0],
-        ),
-        (
-            &[0x4005, 0x4004, 0x4003, 0x4001],
-            [0x02, 0x01, 0, 0x03, 0, 0x04, 0, 0x05, 0],
-        ),
-        (
-            &[0x4005, 0x4004, 0x4002, 0x4001],
-            [0x02, 0x01, 0, 0x02, 0, 0x04, 0, 0x05, 0],
-        ),
-        (
-            &[0x4005, 0x4003, 0x4002, 0x4001],
-            [0x02, 0x01, 0, 0x02, 0, 0x03, 0, 0x05, 0],
-        ),
-        (
-            &[0x4004, 0x4003, 0x4002, 0x4001],
-            [0x02, 0x01, 0, 0x02, 0, 0x03, 0, 0x04, 0],
-        ),
-    ];
-    for (codes, bytes) in rows {
-        assert_eq!(rt; consumer(&usages(&rt, codes)), *bytes);
-    }
-}
-
-fn assert_sent(rt: &impl Abort, answer: Option<Report>, bytes: &[u8]) {
-    let report = answer.expect(rt, "a report");
-    assert_eq!(rt; report.as_slice(), bytes);
-}
-
-/// So many scans in which nothing changes.
-fn wait(poller: &mut Poller, held: &Usages, protocol: Protocol, scans: u32) {
-    for _ in 0..scans {
-        poller.tick(held, held, protocol);
-    }
+    rows(
+        &rt,
+        "consumer 04 e0 = 020000000000000000
+        consumer 4192 = 029201000000000000
+        consumer 43ff 4001 40e9 = 020100e900ff030000
+        # Of five the four least, and the fifth where one of them goes.
+        consumer 4005 4004 4003 4002 4001 = 020100020003000400
+        consumer 4005 4004 4003 4002 = 020200030004000500
+        consumer 4005 4004 4003 4001 = 020100030004000500
+        consumer 4005 4004 4002 4001 = 020100020004000500
+        consumer 4005 4003 4002 4001 = 020100020003000500
+        consumer 4004 4003 4002 4001 = 020100020003000400",
+    );
 }
 
 // A key press is sent once, and again when 500 ms have passed.
 #[test]
-fn a_report_repeats_after_its_idle_time(rt: HostRuntime) -> Result<(), Fail> {
-    let held = usages(&rt, &[0x04]);
-    let wanted = [0, 0, 0x04, 0, 0, 0, 0, 0];
-    let mut poller = Poller::new(rt.alloc())?;
-    assert!(rt; poller.poll(&usages(&rt, &[]), Protocol::Boot).is_none());
-    assert_sent(&rt, poller.poll(&held, Protocol::Boot), &wanted);
-    assert!(rt; poller.poll(&held, Protocol::Boot).is_none());
-    wait(&mut poller, &held, Protocol::Boot, 499);
-    assert!(rt; poller.poll(&held, Protocol::Boot).is_none());
-    wait(&mut poller, &held, Protocol::Boot, 1);
-    assert_sent(&rt, poller.poll(&held, Protocol::Boot), &wanted);
-    assert!(rt; poller.poll(&held, Protocol::Boot).is_none());
-    Ok(())
-}
-
-// Of two changed reports ID 1 is sent first, then ID 2; 500 ms later ID 1 is sent again, and ID 2 never is.
-#[test]
-fn the_poll_rule_takes_turns(rt: HostRuntime) -> Result<(), Fail> {
-    let held = usages(&rt, &[0x04, 0x4005]);
-    let mut one = [0; 23];
-    one[0] = 0x01;
-    one[2] = 0x01;
-    let two = [0x02, 0x05, 0, 0, 0, 0, 0, 0, 0];
-    let mut poller = Poller::new(rt.alloc())?;
-    assert_sent(&rt, poller.poll(&held, Protocol::Report), &one);
-    assert_sent(&rt, poller.poll(&held, Protocol::Report), &two);
-    assert!(rt; poller.poll(&held, Protocol::Report).is_none());
-    wait(&mut poller, &held, Protocol::Report, 499);
-    assert!(rt; poller.poll(&held, Protocol::Report).is_none());
-    wait(&mut poller, &held, Protocol::Report, 1);
-    assert_sent(&rt, poller.poll(&held, Protocol::Report), &one);
-    assert!(rt; poller.poll(&held, Protocol::Report).is_none());
-    // Two that have changed again: ID 1 was sent last, so that ID 2 is first; and of two that have
-    // waited for their idle time too.
-    let none = usages(&rt, &[]);
-    assert_sent(
+fn a_report_repeats_after_its_idle_time(rt: HostRuntime) {
+    rows(
         &rt,
-        poller.poll(&none, Protocol::Report),
-        &[2, 0, 0, 0, 0, 0, 0, 0, 0],
+        "protocol boot
+        poll - = nothing
+        poll 04 = 0000040000000000, nothing
+        wait 499 04
+        poll 04 = nothing
+        wait 1 04
+        poll 04 = 0000040000000000, nothing",
     );
-    poller.set_idle(IdleId::All, 1);
-    wait(&mut poller, &held, Protocol::Report, 4);
-    one[2] = 0;
-    assert_sent(&rt, poller.poll(&none, Protocol::Report), &one);
-    wait(&mut poller, &held, Protocol::Report, 4);
-    assert_sent(
+}
+
+#[test]
+fn the_poll_rule_takes_turns(rt: HostRuntime) {
+    rows(
         &rt,
-        poller.poll(&none, Protocol::Report),
-        &[2, 0, 0, 0, 0, 0, 0, 0, 0],
+        "# Of two changed reports ID 1 is sent first, then ID 2; 500 ms later ID 1 is sent again, and ID 2 never is.
+        poll 04 4005 = 0100010000000000000000000000000000000000000000, 020500000000000000, nothing
+        wait 499 04 4005
+        poll 04 4005 = nothing
+        wait 1 04 4005
+        poll 04 4005 = 0100010000000000000000000000000000000000000000, nothing
+        # Two that have changed again: ID 1 was sent last, so that ID 2 is first; and of two that have waited for their
+        # idle time too.
+        poll - = 020000000000000000
+        set 0 01
+        wait 4 04 4005
+        poll - = 0100000000000000000000000000000000000000000000
+        wait 4 04 4005
+        poll - = 020000000000000000, 0100000000000000000000000000000000000000000000",
     );
-    assert_sent(&rt, poller.poll(&none, Protocol::Report), &one);
-    Ok(())
 }
 
-// An idle value of 0 never repeats; a value that is set later finds the time that has passed, however
-// long that was.
+// An idle value of 0 never repeats; a value that is set later finds the time that has passed, however long that was.
 #[test]
-fn setting_an_idle_value_keeps_the_age(rt: HostRuntime) -> Result<(), Fail> {
-    let none = usages(&rt, &[]);
-    let mut poller = Poller::new(rt.alloc())?;
-    poller.set_idle(IdleId::All, 0);
-    for _ in 0..65_540 {
-        poller.tick(&none, &none, Protocol::Boot);
-        assert!(rt; poller.poll(&none, Protocol::Boot).is_none());
-    }
-    poller.set_idle(IdleId::One, 255);
-    assert_sent(&rt, poller.poll(&none, Protocol::Boot), &[0; 8]);
-    assert!(rt; poller.poll(&none, Protocol::Boot).is_none());
-    Ok(())
+fn setting_an_idle_value_keeps_the_age(rt: HostRuntime) {
+    rows(
+        &rt,
+        "protocol boot
+        set 0 00
+        rounds 65540 - = nothing
+        set 1 ff
+        poll - = 0000000000000000, nothing",
+    );
 }
 
 #[test]
-fn idle_values_stand_by_id(rt: HostRuntime) -> Result<(), Fail> {
-    let mut poller = Poller::new(rt.alloc())?;
-    assert_eq!(rt; poller.idle(IdleId::One), 125);
-    assert_eq!(rt; poller.idle(IdleId::Two), 0);
-    poller.set_idle(IdleId::Two, 40);
-    assert_eq!(rt; poller.idle(IdleId::All), 125);
-    assert_eq!(rt; poller.idle(IdleId::Two), 40);
-    poller.set_idle(IdleId::One, 7);
-    assert_eq!(rt; poller.idle(IdleId::All), 7);
-    poller.set_idle(IdleId::All, 9);
-    poller.forget_sent();
-    assert_eq!(rt; poller.idle(IdleId::One), 9);
-    assert_eq!(rt; poller.idle(IdleId::Two), 9);
-    poller.reset();
-    assert_eq!(rt; poller.idle(IdleId::All), 125);
-    assert_eq!(rt; poller.idle(IdleId::Two), 0);
-    Ok(())
+fn idle_values_stand_by_id(rt: HostRuntime) {
+    rows(
+        &rt,
+        "idle 1 = 7d
+        idle 2 = 00
+        set 2 28
+        idle 0 = 7d
+        idle 2 = 28
+        set 1 07
+        idle 0 = 07
+        set 0 09
+        forget
+        idle 1 = 09
+        idle 2 = 09
+        reset
+        idle 0 = 7d
+        idle 2 = 00",
+    );
 }
 
 // What was sent before counts no longer, and what waited is gone: the present state is sent, once.
 #[test]
-fn forgetting_empties_the_queue(rt: HostRuntime) -> Result<(), Fail> {
-    let none = usages(&rt, &[]);
-    let held = usages(&rt, &[0x04]);
-    let wanted = [0, 0, 0x04, 0, 0, 0, 0, 0];
-    let mut poller = Poller::new(rt.alloc())?;
-    poller.tick(&none, &held, Protocol::Boot);
-    poller.tick(&held, &none, Protocol::Boot);
-    poller.forget_sent();
-    assert!(rt; poller.poll(&none, Protocol::Boot).is_none());
-    poller.tick(&none, &held, Protocol::Boot);
-    assert_sent(&rt, poller.poll(&held, Protocol::Boot), &wanted);
-    poller.forget_sent();
-    assert_sent(&rt, poller.poll(&held, Protocol::Boot), &wanted);
-    assert!(rt; poller.poll(&held, Protocol::Boot).is_none());
-    poller.tick(&held, &none, Protocol::Boot);
-    poller.reset();
-    assert_sent(&rt, poller.poll(&held, Protocol::Boot), &wanted);
-    assert!(rt; poller.poll(&held, Protocol::Boot).is_none());
-    Ok(())
+fn forgetting_empties_the_queue(rt: HostRuntime) {
+    rows(
+        &rt,
+        "protocol boot
+        turn 2 - > 04
+        forget
+        poll - = nothing
+        turn 1 - > 04
+        poll 04 = 0000040000000000
+        forget
+        poll 04 = 0000040000000000, nothing
+        turn 1 04 > -
+        reset
+        poll 04 = 0000040000000000, nothing",
+    );
 }
 
 // A key that is pressed and released between two polls reaches the host.
 #[test]
-fn a_press_and_its_release_wait(rt: HostRuntime) -> Result<(), Fail> {
-    let none = usages(&rt, &[]);
-    let held = usages(&rt, &[0x04]);
-    let mut poller = Poller::new(rt.alloc())?;
-    poller.tick(&none, &held, Protocol::Boot);
-    poller.tick(&held, &none, Protocol::Boot);
-    assert_sent(
+fn a_press_and_its_release_wait(rt: HostRuntime) {
+    rows(
         &rt,
-        poller.poll(&none, Protocol::Boot),
-        &[0, 0, 0x04, 0, 0, 0, 0, 0],
+        "protocol boot
+        turn 2 - > 04
+        poll - = 0000040000000000, 0000000000000000, nothing",
     );
-    assert_sent(&rt, poller.poll(&none, Protocol::Boot), &[0; 8]);
-    assert!(rt; poller.poll(&none, Protocol::Boot).is_none());
-    Ok(())
-}
-
-/// The one set and the other by turns.
-fn turn<'a>(count: u32, even: &'a Usages, odd: &'a Usages) -> &'a Usages {
-    if count % 2 == 0 { even } else { odd }
 }
 
 // So many presses and releases of one key, one a scan: the latest eight wait, oldest first.
 #[test]
-fn the_queue_holds_eight(rt: HostRuntime) -> Result<(), Fail> {
-    let none = usages(&rt, &[]);
-    let held = usages(&rt, &[0x04]);
-    for pushes in 7..=10u32 {
-        let mut poller = Poller::new(rt.alloc())?;
-        for push in 0..pushes {
-            poller.tick(
-                turn(push, &none, &held),
-                turn(push + 1, &none, &held),
-                Protocol::Boot,
-            );
-        }
-        for push in pushes.saturating_sub(8)..pushes {
-            let key = if push % 2 == 0 { 0x04 } else { 0 };
-            let answer = poller.poll(turn(pushes, &none, &held), Protocol::Boot);
-            assert_sent(&rt, answer, &[0, 0, key, 0, 0, 0, 0, 0]);
-        }
-        assert!(rt;
-            poller
-                .poll(turn(pushes, &none, &held), Protocol::Boot)
-                .is_none()
-        );
-    }
-    Ok(())
+fn the_queue_holds_eight(rt: HostRuntime) {
+    rows(
+        &rt,
+        "protocol boot
+        turn 7 - > 04
+        poll 04 = 0000040000000000, 0000000000000000, 0000040000000000, 0000000000000000
+        poll 04 = 0000040000000000, 0000000000000000, 0000040000000000, nothing
+
+        protocol boot
+        turn 8 - > 04
+        poll - = 0000040000000000, 0000000000000000, 0000040000000000, 0000000000000000
+        poll - = 0000040000000000, 0000000000000000, 0000040000000000, 0000000000000000, nothing
+
+        protocol boot
+        turn 9 - > 04
+        poll 04 = 0000000000000000, 0000040000000000, 0000000000000000, 0000040000000000
+        poll 04 = 0000000000000000, 0000040000000000, 0000000000000000, 0000040000000000, nothing
+
+        protocol boot
+        turn 10 - > 04
+        poll - = 0000040000000000, 0000000000000000, 0000040000000000, 0000000000000000
+        poll - = 0000040000000000, 0000000000000000, 0000040000000000, 0000000000000000, nothing",
+    );
 }
 
-// A scan that changes both reports pushes ID 1 before ID 2: seven, eight, nine and ten pushes in all. With
-// seven that wait this drops the oldest, with eight the two oldest; a report whose bytes stay is not pushed.
+// A scan that changes both reports pushes ID 1 before ID 2: seven, eight, nine and ten pushes in all. With seven that
+// wait this drops the oldest, with eight the two oldest; a report whose bytes stay is not pushed.
 #[test]
-fn one_scan_pushes_both_reports(rt: HostRuntime) -> Result<(), Fail> {
-    let none = usages(&rt, &[]);
-    let volume = usages(&rt, &[0x4005]);
-    let both = usages(&rt, &[0x04, 0x4006]);
-    let mut one = [0; 23];
-    one[0] = 0x01;
-    one[2] = 0x01;
-    for waiting in 5..=8u32 {
-        let mut poller = Poller::new(rt.alloc())?;
-        for push in 0..waiting {
-            let (before, now) = (turn(push, &none, &volume), turn(push, &volume, &none));
-            poller.tick(before, now, Protocol::Report);
-        }
-        poller.tick(&none, &both, Protocol::Report);
-        for push in waiting.saturating_sub(6)..waiting {
-            let usage = if push % 2 == 0 { 0x05 } else { 0 };
-            let answer = poller.poll(&both, Protocol::Report);
-            assert_sent(&rt, answer, &[0x02, usage, 0, 0, 0, 0, 0, 0, 0]);
-        }
-        assert_sent(&rt, poller.poll(&both, Protocol::Report), &one);
-        let two = [0x02, 0x06, 0, 0, 0, 0, 0, 0, 0];
-        assert_sent(&rt, poller.poll(&both, Protocol::Report), &two);
-        assert!(rt; poller.poll(&both, Protocol::Report).is_none());
-    }
-    Ok(())
+fn one_scan_pushes_both_reports(rt: HostRuntime) {
+    rows(
+        &rt,
+        "turn 5 - > 4005
+        turn 1 - > 04 4006
+        poll 04 4006 = 020500000000000000, 020000000000000000, 020500000000000000, 020000000000000000
+        poll 04 4006 = 020500000000000000
+        poll 04 4006 = 0100010000000000000000000000000000000000000000, 020600000000000000, nothing
+
+        turn 6 - > 4005
+        turn 1 - > 04 4006
+        poll 04 4006 = 020500000000000000, 020000000000000000, 020500000000000000, 020000000000000000
+        poll 04 4006 = 020500000000000000, 020000000000000000
+        poll 04 4006 = 0100010000000000000000000000000000000000000000, 020600000000000000, nothing
+
+        turn 7 - > 4005
+        turn 1 - > 04 4006
+        poll 04 4006 = 020000000000000000, 020500000000000000, 020000000000000000, 020500000000000000
+        poll 04 4006 = 020000000000000000, 020500000000000000
+        poll 04 4006 = 0100010000000000000000000000000000000000000000, 020600000000000000, nothing
+
+        turn 8 - > 4005
+        turn 1 - > 04 4006
+        poll 04 4006 = 020500000000000000, 020000000000000000, 020500000000000000, 020000000000000000
+        poll 04 4006 = 020500000000000000, 020000000000000000
+        poll 04 4006 = 0100010000000000000000000000000000000000000000, 020600000000000000, nothing",
+    );
 }
 
 // While reports wait an elapsed one is not sent; its age counts from the poll that sends it.
 #[test]
-fn an_elapsed_report_waits_behind_the_queue(rt: HostRuntime) -> Result<(), Fail> {
-    let none = usages(&rt, &[]);
-    let held = usages(&rt, &[0x4005]);
-    let down = [0x02, 0x05, 0, 0, 0, 0, 0, 0, 0];
-    let up = [0x02, 0, 0, 0, 0, 0, 0, 0, 0];
-    let mut one = [0; 23];
-    one[0] = 0x01;
-    let mut poller = Poller::new(rt.alloc())?;
-    poller.set_idle(IdleId::All, 1);
-    poller.tick(&none, &held, Protocol::Report);
-    poller.tick(&held, &none, Protocol::Report);
-    wait(&mut poller, &none, Protocol::Report, 10);
-    // ID 1 has been elapsed for long, and ID 2 too.
-    assert_sent(&rt, poller.poll(&none, Protocol::Report), &down);
-    assert_sent(&rt, poller.poll(&none, Protocol::Report), &up);
-    assert_sent(&rt, poller.poll(&none, Protocol::Report), &one);
-    assert!(rt; poller.poll(&none, Protocol::Report).is_none());
-    // From the polls on, and not from the pushes, four scans pass.
-    wait(&mut poller, &none, Protocol::Report, 3);
-    assert!(rt; poller.poll(&none, Protocol::Report).is_none());
-    wait(&mut poller, &none, Protocol::Report, 1);
-    assert_sent(&rt, poller.poll(&none, Protocol::Report), &up);
-    assert_sent(&rt, poller.poll(&none, Protocol::Report), &one);
-    assert!(rt; poller.poll(&none, Protocol::Report).is_none());
-    Ok(())
+fn an_elapsed_report_waits_behind_the_queue(rt: HostRuntime) {
+    rows(
+        &rt,
+        "set 0 01
+        turn 2 - > 4005
+        wait 10 -
+        # ID 1 has been elapsed for long, and ID 2 too.
+        poll - = 020500000000000000, 020000000000000000
+        poll - = 0100000000000000000000000000000000000000000000, nothing
+        # From the polls on, and not from the pushes, four scans pass.
+        wait 3 -
+        poll - = nothing
+        wait 1 -
+        poll - = 020000000000000000, 0100000000000000000000000000000000000000000000, nothing",
+    );
 }
 
 // A change beyond the four least consumer usages changes no bytes: nothing is pushed, nothing is sent.
 #[test]
-fn a_fifth_consumer_usage_changes_nothing(rt: HostRuntime) -> Result<(), Fail> {
-    let five = usages(&rt, &[0x4005, 0x4004, 0x4003, 0x4002, 0x4001]);
-    let four = usages(&rt, &[0x4004, 0x4003, 0x4002, 0x4001]);
-    let others = usages(&rt, &[0x4005, 0x4003, 0x4002, 0x4001]);
-    let mut poller = Poller::new(rt.alloc())?;
-    let least = [0x02, 0x01, 0, 0x02, 0, 0x03, 0, 0x04, 0];
-    assert_sent(&rt, poller.poll(&five, Protocol::Report), &least);
-    poller.tick(&five, &four, Protocol::Report);
-    assert!(rt; poller.poll(&four, Protocol::Report).is_none());
-    poller.tick(&four, &five, Protocol::Report);
-    assert!(rt; poller.poll(&five, Protocol::Report).is_none());
-    poller.tick(&five, &others, Protocol::Report);
-    let fifth = [0x02, 0x01, 0, 0x02, 0, 0x03, 0, 0x05, 0];
-    assert_sent(&rt, poller.poll(&others, Protocol::Report), &fifth);
-    assert!(rt; poller.poll(&others, Protocol::Report).is_none());
-    Ok(())
+fn a_fifth_consumer_usage_changes_nothing(rt: HostRuntime) {
+    rows(
+        &rt,
+        "poll 4005 4004 4003 4002 4001 = 020100020003000400
+        turn 1 4005 4004 4003 4002 4001 > 4004 4003 4002 4001
+        poll 4004 4003 4002 4001 = nothing
+        turn 1 4004 4003 4002 4001 > 4005 4004 4003 4002 4001
+        poll 4005 4004 4003 4002 4001 = nothing
+        turn 1 4005 4004 4003 4002 4001 > 4005 4003 4002 4001
+        poll 4005 4003 4002 4001 = 020100020003000500, nothing",
+    );
 }

@@ -13,8 +13,6 @@ mod mask;
 mod number;
 mod read;
 mod statement;
-#[cfg(test)]
-mod tests;
 mod words;
 
 pub use fault::{LineFault, ScriptError};

@@ -26,7 +26,7 @@ use Rattle.session_law.specs.Due.{put, waits, due}
 use Rattle.session_law.specs.Heard.{Hears, at_start, one_more}
 use Rattle.session_law.specs.Fetched.{IsFetched}
 use Rattle.session_law.proofs.Following.{waits-poll}
-use Rattle.session_law.specs.Example.{get_descriptor, gave, fetch, came, fetched, key_down, no_key, pressed, session, letter_a}
+use Rattle.session_law.specs.Example.{get_descriptor, gave, fetch, came, fetched, key_down, no_key, pressed, typed, letter_a}
 
 fetch_answered : EachCall IsAnswered [] fetch
 unfolding ep_calls stage transfer_of packet_at
@@ -46,7 +46,7 @@ heard_press {before = before} {host = host} h = one_more key_down true before ho
 heard_release : {before : List Call} {host : List HostCall} → Hears [] before host → Hears [] (no_key ∷ before) host
 heard_release {before = before} {host = host} h = one_more no_key true before host h
 
-pub hears : Hears [] session fetched
+pub hears : Hears [] typed fetched
 hears =
     heard_release (heard_release (heard_release (heard_release (heard_release
     (heard_press (heard_press (heard_press (heard_press (heard_press heard_fetch)))))))))
@@ -64,37 +64,37 @@ came_through = record {
   taken = (refl, (refl, (refl, (refl, (refl, (refl, (refl, (refl, (refl, (refl, (refl, (refl, (refl, tt)))))))))))));
 }
 
-poll_answered : IsAnswered [] session (Polled (Some letter_a))
+poll_answered : IsAnswered [] typed (Polled (Some letter_a))
 unfolding down debounced has any_below resolved code last_written changed commands_in entry_in newer newest active format words entries_of protocol_after effect_asked key_calls scans_of held_calls those_below keys_after table consumer_after poller_calls answer_after members number_of byte_of bytes_of boot_bytes bitmap_bytes words_of consumer_bytes pushed_by pushed waiting queue rule_answer poll_answer
 poll_answered = refl
 
-pub answered : EachCall IsAnswered [] (Polled (Some letter_a) ∷ session)
+pub answered : EachCall IsAnswered [] (Polled (Some letter_a) ∷ typed)
 answered = (poll_answered, (tt, (tt, (tt, (tt, (tt, (tt, (tt, (tt, (tt, (tt, fetch_answered)))))))))))
 
 pub was_down : keys_after (key_calls [] pressed) 4 ≡ true
 unfolding down debounced has any_below resolved code last_written changed commands_in entry_in newer newest active format words entries_of protocol_after effect_asked key_calls scans_of held_calls those_below keys_after table
 was_down = refl
 
-pub is_up : keys_after (key_calls [] session) 4 ≡ false
+pub is_up : keys_after (key_calls [] typed) 4 ≡ false
 unfolding down debounced has any_below resolved code last_written changed commands_in entry_in newer newest active format words entries_of protocol_after effect_asked key_calls scans_of held_calls those_below keys_after table
 is_up = refl
 
-two_wait : waiting (poller_calls (key_calls [] session)) ≡ 2
+two_wait : waiting (poller_calls (key_calls [] typed)) ≡ 2
 unfolding down debounced has any_below resolved code last_written changed commands_in entry_in newer newest active format words entries_of protocol_after effect_asked key_calls scans_of held_calls those_below keys_after table consumer_after poller_calls members number_of byte_of bytes_of boot_bytes bitmap_bytes words_of consumer_bytes pushed_by waiting
 two_wait = refl
 
-two_put : put [] session ≡ record { moment = pressed; input = One } ∷ record { moment = session; input = One } ∷ []
+two_put : put [] typed ≡ record { moment = pressed; input = One } ∷ record { moment = typed; input = One } ∷ []
 unfolding down debounced has any_below resolved code last_written changed commands_in entry_in newer newest active format words entries_of protocol_after effect_asked key_calls scans_of held_calls those_below keys_after table consumer_after members number_of byte_of bytes_of boot_bytes bitmap_bytes words_of consumer_bytes put
 two_put = refl
 
-both_wait : waits [] session ≡ record { moment = pressed; input = One } ∷ record { moment = session; input = One } ∷ []
+both_wait : waits [] typed ≡ record { moment = pressed; input = One } ∷ record { moment = typed; input = One } ∷ []
 unfolding waits
 both_wait = rw (two_wait, two_put) refl
 
-pub had_waited : due [] session ≡ Some (record { moment = pressed; input = One })
+pub had_waited : due [] typed ≡ Some (record { moment = pressed; input = One })
 unfolding due
 had_waited = rw both_wait refl
 
-pub is_next : due [] (Polled (Some letter_a) ∷ session) ≡ Some (record { moment = session; input = One })
+pub is_next : due [] (Polled (Some letter_a) ∷ typed) ≡ Some (record { moment = typed; input = One })
 unfolding due
-is_next = rw (waits-poll [] session (Some letter_a), both_wait) refl
+is_next = rw (waits-poll [] typed (Some letter_a), both_wait) refl

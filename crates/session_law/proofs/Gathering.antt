@@ -1,4 +1,5 @@
 -- What a host has gathered of the report descriptor, and the read of it that is under way.
+use Rattle.std.specs.Option.{option_or}
 use Rattle.std.proofs.Common.{◌≡◌, ◌⊎◌, ℕ, suc, ◌+◌, ◌==◌, ◌&&◌, not, Bool, true, false, if◌then◌else◌, List, [], ◌∷◌, ◌++◌, Option, Some, None, Ok, length, take, min, ◌*◌, ◌≤◌, refl, sym, ◌∙◌, ap, arith, inl}
 use Rattle.std.specs.Prelude.{unwrap_or}
 use Rattle.std.proofs.lemmas.Bool.{eqb-true}
@@ -15,7 +16,7 @@ use Rattle.control_ep.specs.declared.answer.OutStep.TheVariants.{Answered, Leds,
 use Rattle.control_ep.specs.Transfers.{Reads}
 use Rattle.control_ep.specs.Calls.{EpCall, In as EpIn, Settle, Fail}
 use Rattle.control_ep.specs.Packets.{packet_at, joined_packets}
-use Rattle.control_ep.specs.Stage.{calls_since, last_setup, first_stall, or_else, reason_in, count_in}
+use Rattle.control_ep.specs.Stage.{Begins, calls_since, last_setup, first_stall, reason_in, count_in}
 use Rattle.host.specs.Faultless.{is_faultless}
 use Rattle.host.specs.Kept.{Fetch, with_packet, is_end, goes_on, is_kept, kept_with}
 use Rattle.keyboard.specs.Endpoint.{with_out}
@@ -24,7 +25,7 @@ use Rattle.session_law.proofs.Giving.{all_came}
 -- a host gathers what a read sends that is under way: the first bytes of the text; unless a packet was stalled, those that
 -- came so far
 pub record Gathers (text : List ℕ) (past : List EpCall) (fetch : Fetch) : Type 0 where
-  pub begins : last_setup past ≡ Some (Ok (Reads text), fetch.wanted)
+  pub begins : last_setup past ≡ Begins (Reads text) fetch.wanted
   pub bytes_are : first_stall (calls_since past) ≡ None → fetch.bytes ≡ joined_packets text fetch.wanted (count_in (calls_since past))
   pub so_far : fetch.bytes ≡ take (length fetch.bytes) text
 
@@ -47,7 +48,7 @@ same_read text old new (Some fetch) s h = record {
   so_far = h.so_far;
 }
 
-pub none_before : (a b : Option Why) → or_else a b ≡ None → a ≡ None
+pub none_before : (a b : Option Why) → option_or a b ≡ None → a ≡ None
 none_before None b e = refl
 none_before (Some why) b e = cc
 
@@ -56,7 +57,7 @@ same_out (Answered a) packet entries answer calls = record { setup = refl; stall
 same_out (Leds leds) packet entries answer calls = record { setup = refl; stalled = none_before (first_stall (calls_since calls)) None; count = refl }
 same_out (Offer bytes) packet entries answer calls = record {
   setup = refl;
-  stalled = λ e. none_before (first_stall (calls_since calls)) None (none_before (or_else (first_stall (calls_since calls)) None) (reason_in answer) e);
+  stalled = λ e. none_before (first_stall (calls_since calls)) None (none_before (option_or (first_stall (calls_since calls)) None) (reason_in answer) e);
   count = refl;
 }
 
@@ -76,7 +77,7 @@ stalled_read text calls why effect (Some fetch) h = record {
   so_far = h.so_far;
 }
   where
-    now_stalled : (before : Option Why) → or_else before (Some why) ≡ None → ⊥
+    now_stalled : (before : Option Why) → option_or before (Some why) ≡ None → ⊥
     now_stalled None e = cc
     now_stalled (Some w) e = cc
 

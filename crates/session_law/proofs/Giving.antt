@@ -11,7 +11,7 @@ use Rattle.control_ep.specs.declared.answer.EpAnswer.TheVariants.{Packet, Stall}
 use Rattle.control_ep.specs.declared.answer.Effect.TheVariants.{Nothing}
 use Rattle.control_ep.specs.Transfers.{Transfer, Reads, Rest, Sending}
 use Rattle.control_ep.specs.Packets.{packet_at, joined_packets}
-use Rattle.control_ep.specs.Stage.{Progress, until_confirmed}
+use Rattle.control_ep.specs.Stage.{LastSetup, Begins, Progress, until_confirmed}
 use Rattle.control_ep.specs.Answers.{in_answer, packet_or_stall}
 use Rattle.control_ep.proofs.Stages.{stage_by}
 use Rattle.control_ep.proofs.Joined.{joined-is}
@@ -47,8 +47,8 @@ given_by text wanted n true closed false answer w e =
 given_by text wanted n false true confirmed answer w e = stalls WrongStage e
 given_by text wanted n false false confirmed answer w e = given_packet text wanted n (packet_at text wanted n) answer refl e
 
-pub given : (text : List ℕ) (wanted : ℕ) (stalled : Option Why) (start : Option (Result Transfer Why × ℕ)) (progress : Progress) (answer : EpAnswer)
-    → start ≡ Some (Ok (Reads text), wanted) → answer ≡ in_answer (stage_by stalled start progress) → Given text wanted progress.sent stalled answer
+pub given : (text : List ℕ) (wanted : ℕ) (stalled : Option Why) (start : LastSetup) (progress : Progress) (answer : EpAnswer)
+    → start ≡ Begins (Reads text) wanted → answer ≡ in_answer (stage_by stalled start progress) → Given text wanted progress.sent stalled answer
 given text wanted (Some why) start progress answer s e = stalls why e
 given text wanted None start progress answer s e =
     given_by text wanted progress.sent (wanted == 0) progress.closed progress.confirmed answer refl (rw s at e)

@@ -47,8 +47,8 @@ abbrev pub pressed : List Call
 pressed = key_down ∷ key_down ∷ key_down ∷ key_down ∷ key_down ∷ fetch
 
 -- and then five with no key down
-abbrev pub session : List Call
-session = no_key ∷ no_key ∷ no_key ∷ no_key ∷ no_key ∷ pressed
+abbrev pub typed : List Call
+typed = no_key ∷ no_key ∷ no_key ∷ no_key ∷ no_key ∷ pressed
 
 -- the report of ID 1 with usage 04h alone
 abbrev pub letter_a : List ℕ

@@ -3,6 +3,7 @@ use Rattle.std.specs.Prelude.{◌≡◌, ℕ, Bool, Option, None, Some, List, []
 use Rattle.descriptor_build.specs.Served.{report_bytes}
 use Rattle.control_ep.specs.declared.answer.EpAnswer.TheVariants.{Packet}
 use Rattle.host.specs.Calls.{HostCall, was_set_up, got_packet, lost}
+use Rattle.host.specs.Kept.{gathering, kept}
 use Rattle.keyboard.specs.Calls.{Call, SetUp, In, BusReset}
 
 -- what a host hears of a call, by whether memory for a packet was there: its SETUP packets, the packets that the keyboard
@@ -29,3 +30,7 @@ pub data Hears (told : List HostCall) : List Call → List HostCall → Type 0 w
 pub data NoneOrServed (text : Option (List ℕ)) : Type 0 where
   none_kept : text ≡ None → NoneOrServed text
   served_kept : text ≡ Some report_bytes → NoneOrServed text
+
+-- before a session a host that was told so much gathers nothing, and keeps nothing but that descriptor
+abbrev pub IsFresh : List HostCall → Type 0
+IsFresh told = (gathering told ≡ None) × NoneOrServed (kept told)

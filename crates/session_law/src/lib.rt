@@ -13,17 +13,17 @@ ghost use Rattle.host.specs.Calls.{HostCall};
 ghost use Rattle.host.specs.Kept.{Fetch, gathering, kept};
 ghost use Rattle.host.specs.Reads.{text_by, Reads};
 ghost use Rattle.host.specs.declared.reading.Reading.{Reading};
-ghost use Rattle.keyboard.specs.Calls.{Call, Polled, EachCall};
+ghost use Rattle.keyboard.specs.Calls.{Call, Polled};
 ghost use Rattle.keyboard.specs.Effects.{protocol_after};
 ghost use Rattle.keyboard.specs.Keys.{key_calls};
-ghost use Rattle.keyboard.specs.Lawful.{IsAnswered};
+ghost use Rattle.keyboard.specs.Lawful.{IsAnswered, IsLawful};
 ghost use Rattle.key_reports.specs.Past.{keys_after, consumer_after};
 ghost use Rattle.reports.specs.Layouts.{listed_count, consumer_count};
 ghost use Rattle.reports.specs.declared.Input.TheVariants.{Boot, One, Two};
 ghost use Rattle.session_law.specs.Due.{Due, due_bytes, due};
-ghost use Rattle.session_law.specs.Example.{fetched, pressed, session, letter_a};
+ghost use Rattle.session_law.specs.Example.{fetched, pressed, typed, letter_a};
 ghost use Rattle.session_law.specs.Fetched.{IsFetched};
-ghost use Rattle.session_law.specs.Heard.{Hears, NoneOrServed};
+ghost use Rattle.session_law.specs.Heard.{Hears, IsFresh, NoneOrServed};
 ghost use Rattle.session_law.specs.Named.{IsKeyNamed, IsConsumerNamed};
 ghost use Rattle.session_law.specs.Read.{IsReadAs, NamesWanted};
 ghost use Rattle.session_law.specs.Sent.{IsWantedAt};
@@ -52,14 +52,14 @@ pub fn moments_go_on()
 /// What a host fetches in a session is the keyboard's report descriptor: a host that kept that or nothing before, and was
 /// gathering nothing, keeps that or nothing after, whatever was asked, refused and cut short.
 pub fn fetched_is_served()
-    ensures { (start : List ℕ) (past : List Call) (told host : List HostCall) → EachCall IsAnswered start past → Hears told past host
-        → gathering told ≡ None → NoneOrServed (kept told) → NoneOrServed (kept host) }
+    ensures { (start : List ℕ) (past : List Call) (told host : List HostCall) → IsLawful start past → Hears told past host
+        → IsFresh told → NoneOrServed (kept host) }
 {}
 
 /// What a host gathers of it in a session, also of a fetch that is cut short, are its first bytes.
 pub fn gathered_is_served()
-    ensures { (start : List ℕ) (past : List Call) (told host : List HostCall) (fetch : Fetch) → EachCall IsAnswered start past → Hears told past host
-        → gathering told ≡ None → NoneOrServed (kept told) → gathering host ≡ Some fetch
+    ensures { (start : List ℕ) (past : List Call) (told host : List HostCall) (fetch : Fetch) → IsLawful start past → Hears told past host
+        → IsFresh told → gathering host ≡ Some fetch
         → fetch.bytes ≡ take (length fetch.bytes) report_bytes }
 {}
 
@@ -67,8 +67,8 @@ pub fn gathered_is_served()
 /// a SETUP packet that asks for at least 99 bytes, and its 13 packets before another SETUP packet or a bus reset, with memory
 /// for each.
 pub fn kept_is_fetched()
-    ensures { (start : List ℕ) (past : List Call) (told host : List HostCall) → EachCall IsAnswered start past → Hears told past host
-        → gathering told ≡ None → NoneOrServed (kept told)
+    ensures { (start : List ℕ) (past : List Call) (told host : List HostCall) → IsLawful start past → Hears told past host
+        → IsFresh told
         → kept host ≡ Some report_bytes ↔ ((kept told ≡ Some report_bytes) ⊎ IsFetched told host) }
 {}
 
@@ -77,7 +77,7 @@ pub fn kept_is_fetched()
 /// where it fetched none. No report is refused.
 pub fn read_is_wanted()
     ensures { (start : List ℕ) (past : List Call) (told host : List HostCall) (bytes : List ℕ) (reading : Reading)
-        → EachCall IsAnswered start (Polled (Some bytes) ∷ past) → Hears told past host → gathering told ≡ None → NoneOrServed (kept told)
+        → IsLawful start (Polled (Some bytes) ∷ past) → Hears told past host → IsFresh told
         → Reads (text_by (protocol_after past) host) bytes reading → IsReadAs start past host bytes reading }
 {}
 
@@ -114,11 +114,11 @@ pub fn keys_are_read()
 /// A session of which the laws say something, computed from the definitions: on an empty flash a host fetches the report
 /// descriptor, key 0 is pressed and released, and a poll is answered the press, which waited; the release comes next.
 pub fn a_session()
-    ensures answered { EachCall IsAnswered [] (Polled (Some letter_a) ∷ session) }
-    ensures hears { Hears [] session fetched }
+    ensures answered { IsLawful [] (Polled (Some letter_a) ∷ typed) }
+    ensures hears { Hears [] typed fetched }
     ensures fetches { IsFetched [] fetched }
     ensures pressed { keys_after (key_calls [] pressed) 4 ≡ true }
-    ensures released { keys_after (key_calls [] session) 4 ≡ false }
-    ensures waited { due [] session ≡ Some (record { moment = pressed; input = One }) }
-    ensures next { due [] (Polled (Some letter_a) ∷ session) ≡ Some (record { moment = session; input = One }) }
+    ensures released { keys_after (key_calls [] typed) 4 ≡ false }
+    ensures waited { due [] typed ≡ Some (record { moment = pressed; input = One }) }
+    ensures next { due [] (Polled (Some letter_a) ∷ typed) ≡ Some (record { moment = typed; input = One }) }
 {}

@@ -11,8 +11,6 @@ mod digits;
 mod fault;
 mod print;
 mod read;
-#[cfg(test)]
-mod tests;
 
 pub use digits::{HexDigits, HexWord};
 pub use fault::{ReadError, WriteError};

@@ -22,7 +22,7 @@ use Rattle.world.specs.declared.event.Event.{Event}
 use Rattle.world.specs.declared.event.Event.TheVariants.{Scan, Setup, OutPacket, InPacket, Poll, Work, WorkFault, Cut, CutInWork, BusReset, Entry, SlotAt, Leds}
 use Rattle.world.specs.declared.event.Answer.{Answer}
 use Rattle.world.specs.declared.event.Answer.TheVariants.{Done, Ack, Nak, Sent, Worked, Restarted, SlotIs, NoSlot}
-use Rattle.world.specs.Kinds.{Step, Kind, starts, calls, looks, kind, told, bytes_told}
+use Rattle.world.specs.Kinds.{Step, Kind, starts, calls, looks, kind, as_answer, bytes_told}
 use Rattle.world.specs.History.{Session, session_with, session, heard_in, host_calls, flash_after, EachStep}
 use Rattle.world.specs.Lawful.{SlotAnswer, Answered, IsAnswered, IsSent}
 use Rattle.world.specs.Readings.{ReadsWanted, KeepsServed, GathersServed}
@@ -79,7 +79,7 @@ of_slot : {A : Type 0} (answer : Answer) (bytes : List ℕ) (reading : Reading) 
 of_slot answer bytes reading image page slot (yes p a) e = clash answer (SlotIs (slot_at image page slot)) bytes reading a refl e
 of_slot answer bytes reading image page slot (no p a) e = clash answer NoSlot bytes reading a refl e
 
-of_endpoint : (answer : EpAnswer) → bytes_told (told answer) ≡ None
+of_endpoint : (answer : EpAnswer) → bytes_told (as_answer answer) ≡ None
 of_endpoint ep.Ack = refl
 of_endpoint ep.Nak = refl
 of_endpoint (ep.Packet packet) = refl
@@ -110,8 +110,8 @@ reads_by : (now : Session) (host : List HostCall) (old : SimValue) (event : Even
     → answer ≡ Sent (record { items = bytes }) reading → IsReadAs now.first now.past host bytes reading
 reads_by now host old (Scan scan) answer refused new bytes reading l h a e = clash answer Done bytes reading a.0 refl e
 reads_by now host old (Setup setup) answer refused new bytes reading l h a e = clash answer Ack bytes reading a.0 refl e
-reads_by now host old (OutPacket packet) answer refused new bytes reading l h (by_ep, a, lawful, u) e = clash answer (told by_ep) bytes reading a (of_endpoint by_ep) e
-reads_by now host old InPacket answer refused new bytes reading l h (by_ep, a, lawful, f, m) e = clash answer (told by_ep) bytes reading a (of_endpoint by_ep) e
+reads_by now host old (OutPacket packet) answer refused new bytes reading l h (by_ep, a, lawful, u) e = clash answer (as_answer by_ep) bytes reading a (of_endpoint by_ep) e
+reads_by now host old InPacket answer refused new bytes reading l h (by_ep, a, lawful, f, m) e = clash answer (as_answer by_ep) bytes reading a (of_endpoint by_ep) e
 reads_by now host old Poll answer refused new bytes reading l h (report, p, f, s) e = read_of_sent now host report answer refused bytes reading l h p s e
 reads_by now host old Work answer refused new bytes reading l h (work, a, w, r) e = clash answer (Worked work) bytes reading a refl e
 reads_by now host old (WorkFault mask) answer refused new bytes reading l h (work, a, w, r) e = clash answer (Worked work) bytes reading a refl e

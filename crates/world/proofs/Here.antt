@@ -13,18 +13,18 @@ use Rattle.world.specs.declared.event.Event.{Event}
 use Rattle.world.specs.declared.event.Event.TheVariants.{Scan, Setup, OutPacket, InPacket, Poll, Work, WorkFault, Cut, CutInWork, BusReset, Entry, SlotAt, Leds}
 use Rattle.world.specs.declared.event.Answer.{Answer}
 use Rattle.world.specs.declared.event.Answer.TheVariants.{Worked}
-use Rattle.world.specs.Kinds.{Step, Kind, starts, calls, looks, kind_of, told, ep_told, bytes_told, work_told}
+use Rattle.world.specs.Kinds.{Step, Kind, starts, calls, looks, kind_of, as_answer, ep_told, bytes_told, work_told}
 use Rattle.world.specs.History.{Session, session_with, session, host_calls, flash_after, EachStep}
 use Rattle.world.specs.Lawful.{Answered, IsAnswered, IsSent}
 
 -- an answer of endpoint 0 is told as it is
-told_back : (answer : EpAnswer) → ep_told (told answer) ≡ answer
+told_back : (answer : EpAnswer) → ep_told (as_answer answer) ≡ answer
 told_back ep.Ack = refl
 told_back ep.Nak = refl
 told_back (ep.Packet packet) = refl
 told_back (ep.Stall why) = refl
 
-pub by_endpoint : (answer : Answer) (by_ep : EpAnswer) → answer ≡ told by_ep → ep_told answer ≡ by_ep
+pub by_endpoint : (answer : Answer) (by_ep : EpAnswer) → answer ≡ as_answer by_ep → ep_told answer ≡ by_ep
 by_endpoint answer by_ep e = ap ep_told e ∙ told_back by_ep
 
 pub by_report : (protocol : Protocol) (heard : List HostCall) (report : Option (List ℕ)) (answer : Answer) (refused : Bool) → IsSent protocol heard report answer refused → bytes_told answer ≡ report

@@ -20,7 +20,7 @@ use Rattle.world.specs.declared.event.Event.TheVariants.{OutPacket, InPacket, Wo
 use Rattle.world.specs.declared.event.Answer.{Answer}
 use Rattle.world.specs.declared.event.Answer.TheVariants.{Worked, Restarted, EntryIs}
 use Rattle.world.specs.Flash.{armed_by}
-use Rattle.world.specs.Kinds.{Step, Kind, starts, calls, looks, kind_of, told}
+use Rattle.world.specs.Kinds.{Step, Kind, starts, calls, looks, kind_of, as_answer}
 use Rattle.session_law.specs.Heard.{heard, with_heard}
 use Rattle.world.specs.History.{Session, session_with, session, heard_in, host_calls, flash_after}
 use Rattle.world.specs.Lawful.{Answered, MayRefuse, MakesOn, OperatedAs, WorksIn}
@@ -52,20 +52,20 @@ same_flash start past old s = (here start past s.answered).image ∙ sym (ap (λ
 pub out_told : (start : SimValue) (past : List Step) (old : WorldValue) (packet : ArrayVec ℕ) (bytes : List ℕ) (by_ep : EpAnswer) (device : KeyboardValue) → bytes ≡ packet.items → StandsFor start past old
     → keyboard_stands.StandsFor (session start past).first (Out bytes by_ep ∷ (session start past).past) device
     → keyboard.IsAnswered (session start past).first (session start past).past (Out bytes by_ep)
-    → StandsFor start (record { event = OutPacket packet; answer = told by_ep; flash = old.flash; refused = false } ∷ past) (record old { keyboard = device })
+    → StandsFor start (record { event = OutPacket packet; answer = as_answer by_ep; flash = old.flash; refused = false } ∷ past) (record old { keyboard = device })
 out_told start past old packet bytes by_ep device e s d a =
-    more start past old (OutPacket packet) (told by_ep) false (record old { keyboard = device }) (calls (Out bytes by_ep))
-    (ap (λ (x : EpAnswer). calls (Out packet.items x)) (by_endpoint (told by_ep) by_ep refl) ∙ ap (λ (x : List ℕ). calls (Out x by_ep)) (sym e))
+    more start past old (OutPacket packet) (as_answer by_ep) false (record old { keyboard = device }) (calls (Out bytes by_ep))
+    (ap (λ (x : EpAnswer). calls (Out packet.items x)) (by_endpoint (as_answer by_ep) by_ep refl) ∙ ap (λ (x : List ℕ). calls (Out x by_ep)) (sym e))
     s (by_ep, refl, subst (λ (x : List ℕ). keyboard.IsAnswered (session start past).first (session start past).past (Out x by_ep)) e a, (s.flash, refl)) d s.host
 
 pub in_told : (start : SimValue) (past : List Step) (old : WorldValue) (by_ep : EpAnswer) (refused : Bool) (device : KeyboardValue) (host : Host) → StandsFor start past old
     → keyboard_stands.StandsFor (session start past).first (In by_ep ∷ (session start past).past) device
     → keyboard.IsAnswered (session start past).first (session start past).past (In by_ep)
     → host_stands.StandsFor (with_heard (heard (In by_ep) (not refused)) (host_calls past)) host → MayRefuse (host_calls past) by_ep refused
-    → StandsFor start (record { event = InPacket; answer = told by_ep; flash = old.flash; refused = refused } ∷ past) (record old { keyboard = device; host = host })
+    → StandsFor start (record { event = InPacket; answer = as_answer by_ep; flash = old.flash; refused = refused } ∷ past) (record old { keyboard = device; host = host })
 in_told start past old by_ep refused device host s d a h m =
-    more start past old InPacket (told by_ep) refused (record old { keyboard = device; host = host }) (calls (In by_ep))
-    (ap (λ (x : EpAnswer). calls (In x)) (by_endpoint (told by_ep) by_ep refl))
+    more start past old InPacket (as_answer by_ep) refused (record old { keyboard = device; host = host }) (calls (In by_ep))
+    (ap (λ (x : EpAnswer). calls (In x)) (by_endpoint (as_answer by_ep) by_ep refl))
     s (by_ep, refl, a, s.flash, m) d h
 
 some_armed : (armed : Option (List ℕ)) → (armed ≡ None → ⊥) → IsSome armed

@@ -21,13 +21,13 @@ pub record Step : Type 0 where
   pub refused : Bool
 
 -- an answer of endpoint 0, as it is told
-abbrev pub told : EpAnswer → Answer
-told ep.Ack = Ack
-told ep.Nak = Nak
-told (ep.Packet packet) = Packet packet
-told (ep.Stall why) = Stall why
+abbrev pub as_answer : EpAnswer → Answer
+as_answer ep.Ack = Ack
+as_answer ep.Nak = Nak
+as_answer (ep.Packet packet) = Packet packet
+as_answer (ep.Stall why) = Stall why
 
--- and back; an answer that is none of endpoint 0 comes of no packet
+-- and back. No packet has an answer that is none of endpoint 0 (`Answered`, in `Lawful`), so what it counts as is no matter
 abbrev pub ep_told : Answer → EpAnswer
 ep_told Ack = ep.Ack
 ep_told (Packet packet) = ep.Packet packet
@@ -39,7 +39,7 @@ abbrev pub bytes_told : Answer → Option (List ℕ)
 bytes_told (Sent bytes reading) = Some bytes.items
 bytes_told _ = None
 
--- what a step of the flash work came to
+-- what a step of the flash work came to; no such step has another answer
 abbrev pub work_told : Answer → WorkAnswer
 work_told (Worked work) = work
 work_told _ = Idle

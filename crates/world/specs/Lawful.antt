@@ -23,8 +23,8 @@ use Rattle.world.specs.declared.event.Event.TheVariants.{Scan, Setup, OutPacket,
 use Rattle.world.specs.declared.event.Answer.{Answer}
 use Rattle.world.specs.declared.event.Answer.TheVariants.{Done, Ack, Nak, Sent, Worked, Restarted, EntryIs, SlotIs, NoSlot, LedsAre}
 use Rattle.world.specs.Flash.{armed_by}
-use Rattle.world.specs.Kinds.{Step, told}
-use Rattle.world.specs.History.{Session, session, host_calls, flash_after}
+use Rattle.world.specs.Kinds.{Step, as_answer}
+use Rattle.world.specs.History.{Session, session, host_calls, flash_after, EachStep}
 
 -- the flash stays as it was, and the host was refused no memory
 abbrev pub Untouched : SimValue → SimValue → Bool → Type 0
@@ -78,10 +78,10 @@ abbrev pub Answered : Session → List HostCall → SimValue → Event → Answe
 Answered now heard old (Scan scan) answer refused new = (answer ≡ Done) × Untouched old new refused
 Answered now heard old (Setup bytes) answer refused new = (answer ≡ Ack) × Untouched old new refused
 Answered now heard old (OutPacket packet) answer refused new =
-    (by_ep : EpAnswer) × (answer ≡ told by_ep) × keyboard.IsAnswered now.first now.past (Out packet.items by_ep)
+    (by_ep : EpAnswer) × (answer ≡ as_answer by_ep) × keyboard.IsAnswered now.first now.past (Out packet.items by_ep)
     × Untouched old new refused
 Answered now heard old InPacket answer refused new =
-    (by_ep : EpAnswer) × (answer ≡ told by_ep) × keyboard.IsAnswered now.first now.past (In by_ep) × (new ≡ old)
+    (by_ep : EpAnswer) × (answer ≡ as_answer by_ep) × keyboard.IsAnswered now.first now.past (In by_ep) × (new ≡ old)
     × MayRefuse heard by_ep refused
 Answered now heard old Poll answer refused new =
     (report : Option (List ℕ)) × keyboard.IsAnswered now.first now.past (Polled report) × (new ≡ old)
@@ -103,3 +103,7 @@ Answered now heard old Leds answer refused new = (answer ≡ LedsAre (leds_after
 abbrev pub IsAnswered : SimValue → List Step → Step → Type 0
 IsAnswered start before step =
     Answered (session start before) (host_calls before) (flash_after start before) step.event step.answer step.refused step.flash
+
+-- each step of a history was answered so
+abbrev pub IsLawful : SimValue → List Step → Type 0
+IsLawful start history = EachStep IsAnswered start history

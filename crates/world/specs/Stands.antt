@@ -8,7 +8,7 @@ use Rattle.world.specs.declared.event.Answer.{Answer}
 use Rattle.world.specs.Kinds.{Step}
 use Rattle.world.specs.History.{session, host_calls, flash_after, EachStep}
 use Rattle.world.specs.Bounded.{StaysInTime}
-use Rattle.world.specs.Lawful.{IsAnswered}
+use Rattle.world.specs.Lawful.{IsLawful}
 use Rattle.world.specs.Value.{WorldValue}
 
 -- the keyboard stands for the session's calls on the session's first image, the host for what it has heard, and the flash is
@@ -17,7 +17,7 @@ pub record StandsFor (start : SimValue) (past : List Step) (world : WorldValue) 
   pub keyboard : keyboard_stands.StandsFor (session start past).first (session start past).past world.keyboard
   pub host : host_stands.StandsFor (host_calls past) world.host
   pub flash : world.flash ≡ flash_after start past
-  pub answered : EachStep IsAnswered start past
+  pub answered : IsLawful start past
   pub in_time : EachStep StaysInTime start past
 
 -- in none of these steps was the host refused memory

@@ -9,10 +9,10 @@ ghost use Rattle.keyboard.specs.Value.{RunsOn};
 ghost use Rattle.world.specs.declared.event.Answer.TheVariants.{Restarted};
 ghost use Rattle.flash_model.specs.Sim.{SimValue};
 ghost use Rattle.world.specs.declared.event.Event.TheVariants.{Scan as ScanEvent, Setup, OutPacket, InPacket, Poll, Work as WorkEvent, WorkFault, Cut, CutInWork, BusReset, Entry, SlotAt, Leds};
-ghost use Rattle.world.specs.Kinds.{Step, told};
+ghost use Rattle.world.specs.Kinds.{Step, as_answer};
 ghost use Rattle.session_law.specs.Heard.{heard, with_heard};
 ghost use Rattle.world.specs.History.{EachStep};
-ghost use Rattle.world.specs.Lawful.{IsAnswered, MayRefuse, is_no_memory};
+ghost use Rattle.world.specs.Lawful.{IsLawful, MayRefuse, is_no_memory};
 ghost use Rattle.world.specs.Restart.{RestartsLegally, ShowsSettled};
 ghost use Rattle.world.specs.Acknowledged.{KeepsAcknowledged};
 ghost use Rattle.world.specs.Readings.{ReadsWanted, KeepsServed};
@@ -99,7 +99,7 @@ impl World {
     pub fn run(&mut self, events: &[Event], answers: &mut Vec<Answer>) -> Result<(), AllocError>
         // Each event is answered as it has to be, what is operated on the flash is lawful, and the host reads each report
         // by what it has heard.
-        ensures answered { Runs (EachStep IsAnswered) self.old self.new events.now answers.old.items answers.new.items (is_ok result) }
+        ensures answered { Runs IsLawful self.old self.new events.now answers.old.items answers.new.items (is_ok result) }
         // Each restart finds the keymap of the restart before, changed by a prefix of the commands accepted since that did
         // not fail, with each settled one among them; also where the power was cut inside a program or an erase.
         ensures restarts { Runs (EachStep RestartsLegally) self.old self.new events.now answers.old.items answers.new.items (is_ok result) }
@@ -185,7 +185,7 @@ impl World {
     fn out_packet(&mut self, packet: &ArrayVec<u8, 8>) -> Told
         ensures { Takes (OutPacket packet.now) self.old result self.new }
     {
-        just(told(self.keyboard.out(packet.as_slice())))
+        just(as_answer(self.keyboard.out(packet.as_slice())))
     }
 
     /// An IN token: a packet of data goes to the host.
@@ -195,7 +195,7 @@ impl World {
         let answer = self.keyboard.in_packet();
         let refused = hears(&mut self.host, &answer);
         Told {
-            answer: told(answer),
+            answer: as_answer(answer),
             refused,
         }
     }
@@ -326,8 +326,8 @@ fn just(answer: Answer) -> Told
 }
 
 /// The answer of endpoint 0.
-fn told(answer: EpAnswer) -> Answer
-    ensures { result ≡ told answer }
+fn as_answer(answer: EpAnswer) -> Answer
+    ensures { result ≡ as_answer answer }
 {
     match answer {
         EpAnswer::Ack => Answer::Ack,

@@ -5,7 +5,7 @@ ghost use Rattle.std.specs.Option.{option_map};
 ghost use Rattle.control_ep.specs.Requests.{request_of};
 ghost use Rattle.control_ep.specs.Stage as stage;
 ghost use Rattle.keyboard.specs.Calls.{setup_of};
-ghost use Rattle.keyboard.specs.Effects.{report_named, taken, leds_in, leds_after, entry_in_report, selected, effect_asked, effect_told, protocol_then, protocol_after};
+ghost use Rattle.keyboard.specs.Effects.{report_named, report_taken, leds_in, leds_after, entry_in_report, selected, effect_asked, effect_told, protocol_then, protocol_after};
 ghost use Rattle.judge.specs.Records.{call_of, calls_of, fields_of, report_of, entry_of};
 
 use crate::session::recorded::Recorded;
@@ -117,7 +117,7 @@ pub fn byte_at(packet: &[u8], index: usize) -> u8
 
 /// The LEDs of the output report that a call took, if it took one.
 fn leds_taken(before: &[Recorded], call: &Recorded) -> Option<u8>
-    ensures { result ≡ leds_in (taken (calls_of before.now) (call_of call.now)) }
+    ensures { result ≡ leds_in (report_taken (calls_of before.now) (call_of call.now)) }
 {
     match call {
         Recorded::Out(packet, EpAnswer::Ack) => match report_named(setup_of(before)) {
@@ -148,7 +148,7 @@ pub fn leds_after(past: &[Recorded]) -> u8
 
 /// The entry that the feature report that a call took selects, if it took one that does.
 fn entry_taken(before: &[Recorded], call: &Recorded) -> Option<Entry>
-    ensures { option_map entry_of result ≡ entry_in_report (taken (calls_of before.now) (call_of call.now)) }
+    ensures { option_map entry_of result ≡ entry_in_report (report_taken (calls_of before.now) (call_of call.now)) }
 {
     match call {
         Recorded::Out(packet, EpAnswer::Ack) => match report_named(setup_of(before)) {

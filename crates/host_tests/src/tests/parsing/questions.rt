@@ -1,0 +1,243 @@
+//! What is asked of a descriptor.
+
+use super::{Ranges, bytes, number, same, two};
+use descriptor_parse::{Descriptor, FieldUsages, Kind, parse};
+use std::alloc::Global;
+use std::fmt;
+use std::process::Abort;
+
+/// A usage in hex after a space, or ` -`.
+#[derive(Drop)]
+struct Usage(Option<u32>);
+
+impl fmt::Display for Usage {
+    fn fmt<W: fmt::Write>(&self, f: &mut fmt::Formatter<W>) -> fmt::Result {
+        match self.0 {
+            Some(usage) => write!(f, " {usage:x}"),
+            None => write!(f, " -"),
+        }
+    }
+}
+
+/// The usages of so many places of a field.
+#[derive(Drop)]
+struct Places<'a> {
+    of: &'a Descriptor,
+    field: usize,
+    first: usize,
+    count: usize,
+}
+
+impl fmt::Display for Places<'_> {
+    fn fmt<W: fmt::Write>(&self, f: &mut fmt::Formatter<W>) -> fmt::Result {
+        for place in 0..self.count {
+            let usage = self.of.usage(self.field, self.first.wrapping_add(place));
+            write!(f, "{}", Usage(usage))?;
+        }
+        Ok(())
+    }
+}
+
+/// The lengths of the reports of a kind with so many IDs.
+#[derive(Drop)]
+struct Lengths<'a> {
+    of: &'a Descriptor,
+    kind: Kind,
+    first: u8,
+    count: u8,
+}
+
+impl fmt::Display for Lengths<'_> {
+    fn fmt<W: fmt::Write>(&self, f: &mut fmt::Formatter<W>) -> fmt::Result {
+        for id in 0..self.count {
+            match self.of.report_len(self.kind, self.first.wrapping_add(id)) {
+                Some(length) => write!(f, " {length}")?,
+                None => write!(f, " -")?,
+            }
+        }
+        Ok(())
+    }
+}
+
+/// Asks a descriptor, `QUESTION = ANSWER` a row:
+///
+/// - `ids`: whether it uses Report IDs; `fields`: how many it has
+/// - `input FIRST COUNT`, `output ..`, `feature ..`: the lengths of the reports of so many IDs
+/// - `usages FIELD FIRST COUNT`: the usages of so many places
+/// - `ranges FIELD`: the ranges of its usages; `counts FIELD`: how many counts there are of them
+fn asks<R: AllocGlobal + Abort>(rt: &R, text: &str, rows: &str) {
+    let descriptor = descriptor_of(rt, rt.alloc(), &bytes(rt, text));
+    for row in rows.lines() {
+        ask(rt, rt.alloc(), &descriptor, row);
+    }
+}
+
+fn descriptor_of(rt: &impl Abort, alloc: Global, text: &[u8]) -> Descriptor {
+    match parse(alloc, text) {
+        Ok(descriptor) => descriptor,
+        Err(error) => panic!(rt; "{error}"),
+    }
+}
+
+fn ask(rt: &impl Abort, alloc: Global, of: &Descriptor, row: &str) {
+    let (question, wanted) = two(rt, row, " =");
+    let (word, rest) = question.split_once(' ').unwrap_or((question, ""));
+    match word {
+        "ids" => same(rt, if of.uses_ids() { " yes" } else { " no" }, wanted, row),
+        "fields" => told(rt, alloc, of.fields().len(), wanted, row),
+        "input" => ask_lengths(rt, alloc, of, Kind::Input, rest, wanted),
+        "output" => ask_lengths(rt, alloc, of, Kind::Output, rest, wanted),
+        "feature" => ask_lengths(rt, alloc, of, Kind::Feature, rest, wanted),
+        "usages" => ask_usages(rt, alloc, of, rest, wanted),
+        "ranges" => ask_ranges(rt, alloc, of.ranges(number(rt, rest)), wanted, row),
+        "counts" => told(rt, alloc, of.counts(number(rt, rest)).len(), wanted, row),
+        _ => panic!(rt; "no question: {row}"),
+    }
+}
+
+fn told(rt: &impl Abort, alloc: Global, told: usize, wanted: &str, row: &str) {
+    let told = format!(in alloc; " {told}").ok().expect(rt, "memory");
+    same(rt, told.as_str(), wanted, row);
+}
+
+fn ask_lengths(
+    rt: &impl Abort,
+    alloc: Global,
+    of: &Descriptor,
+    kind: Kind,
+    rest: &str,
+    wanted: &str,
+) {
+    let (first, count) = two(rt, rest, " ");
+    let first = (number(rt, first) % 256) as u8;
+    let count = (number(rt, count) % 256) as u8;
+    let lengths = Lengths {
+        of,
+        kind,
+        first,
+        count,
+    };
+    let told = format!(in alloc; "{lengths}").ok().expect(rt, "memory");
+    same(rt, told.as_str(), wanted, rest);
+}
+
+fn ask_usages(rt: &impl Abort, alloc: Global, of: &Descriptor, rest: &str, wanted: &str) {
+    let (field, places) = two(rt, rest, " ");
+    let (first, count) = two(rt, places, " ");
+    let places = Places {
+        of,
+        field: number(rt, field),
+        first: number(rt, first),
+        count: number(rt, count),
+    };
+    let told = format!(in alloc; "{places}").ok().expect(rt, "memory");
+    same(rt, told.as_str(), wanted, rest);
+}
+
+fn ask_ranges(rt: &impl Abort, alloc: Global, of: &[(u32, u32)], wanted: &str, row: &str) {
+    let told = format!(in alloc; " {}", Ranges(of))
+        .ok()
+        .expect(rt, "memory");
+    same(rt, told.as_str(), wanted, row);
+}
+
+#[test]
+fn the_served_reports(rt: HostRuntime) {
+    asks(&rt, "SERVED", SERVED_REPORTS);
+}
+
+const SERVED_REPORTS: &str = "\
+ids = yes
+fields = 5
+input 0 4 = - 23 9 -
+output 0 4 = - 2 - -
+feature 0 4 = - - - 6
+feature 255 1 = -";
+
+#[test]
+fn the_served_usages(rt: HostRuntime) {
+    asks(&rt, "SERVED", SERVED_USAGES);
+}
+
+const SERVED_USAGES: &str = "\
+usages 0 0 9 = 700e0 700e1 700e2 700e3 700e4 700e5 700e6 700e7 -
+usages 1 160 2 = 700a4 -
+usages 3 402 1 = c0192
+usages 3 1024 1 = -
+usages 4 0 6 = ff000002 ff000002 ff000002 ff000002 ff000002 -
+usages 5 0 1 = -
+ranges 3 = 000c0000-000c03ff
+ranges 4 = ff000002
+ranges 5 = -";
+
+/// Three fields of six, one and no usages.
+#[test]
+fn arrays_and_the_last_usage(rt: HostRuntime) {
+    asks(
+        &rt,
+        "05 07 09 01 19 05 29 07 75 01 95 06 81 02 09 01 19 05 29 07 15 00 25 10 81 00 75 03 95 01 91 02",
+        ARRAYS,
+    );
+}
+
+const ARRAYS: &str = "\
+ids = no
+input 0 1 = 2
+output 0 1 = 1
+feature 0 1 = -
+usages 0 0 7 = 70001 70005 70006 70007 70007 70007 -
+usages 1 0 6 = 70001 70005 70006 70007 - -
+usages 2 0 1 = -";
+
+/// An array and a variable field of two hundred ranges each, a single usage and three in turn.
+const TEXT_OF_RANGES: &str =
+    "05 07 75 01 96 00 04 25 01 100*090119052907 81 00 100*090119052907 81 02";
+
+#[test]
+fn places_of_many_ranges(rt: HostRuntime) {
+    asks(&rt, TEXT_OF_RANGES, PLACES_OF_RANGES);
+}
+
+const PLACES_OF_RANGES: &str = "\
+counts 0 = 200
+counts 2 = 0
+usages 0 0 8 = 70001 70005 70006 70007 70001 70005 70006 70007
+usages 0 399 2 = 70007 -
+usages 0 18446744073709551615 1 = -
+usages 1 399 2 = 70007 70007
+usages 1 1023 2 = 70007 -";
+
+#[test]
+fn all_places_of_many_ranges(rt: HostRuntime) {
+    let descriptor = descriptor_of(&rt, rt.alloc(), &bytes(&rt, TEXT_OF_RANGES));
+    four_in_turn(&rt, &descriptor);
+    counts_of_four_in_turn(&rt, descriptor.counts(0));
+    for field in descriptor.report(Kind::Input, 0) {
+        last_usages(&rt, &field);
+    }
+}
+
+fn four_in_turn(rt: &impl Abort, descriptor: &Descriptor) {
+    for place in 0..400 {
+        let wanted = match place % 4 {
+            0 => 0x0007_0001,
+            1 => 0x0007_0005,
+            2 => 0x0007_0006,
+            _ => 0x0007_0007,
+        };
+        let told = (descriptor.usage(0, place), descriptor.usage(1, place));
+        assert_eq!(rt; told, (Some(wanted), Some(wanted)), "of place {place}");
+    }
+}
+
+fn counts_of_four_in_turn(rt: &impl Abort, counts: &[u32]) {
+    assert_eq!(rt; counts.get(..4), Some([1, 4, 5, 8].as_slice()));
+    assert_eq!(rt; counts.last(), Some(&400));
+}
+
+fn last_usages(rt: &impl Abort, field: &FieldUsages<'_>) {
+    assert_eq!(rt;
+        (field.nth(399), field.nth(400), field.usage(398)),
+        (Some(0x0007_0007), None, Some(0x0007_0006))
+    );
+}

@@ -1,0 +1,16 @@
+//! Histories of a world, recorded and judged.
+
+use arrayvec::ArrayVec;
+use flash_model::{Mask, SimFlash};
+use judge::history::{Recorded, Start, all_told, first_wrong};
+use std::alloc::Global;
+use std::process::Abort;
+use std::test::Fail;
+use world::{Answer, Event, World};
+
+mod lines;
+mod random;
+mod rig;
+mod wrong;
+
+pub use rig::Rig;

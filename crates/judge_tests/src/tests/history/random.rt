@@ -1,0 +1,443 @@
+//! Random events on random flashes: each step is judged right.
+
+ghost use Rattle.std.specs.Prelude.{◌<◌};
+
+use super::super::text::{good, mask_of, next};
+use super::*;
+use layers::{KeyNo, LayerNo};
+use world::{Reading, Scan, Work};
+
+/// How many events each test takes, how many lists of them a history has, and how many histories there
+/// are at most.
+const EVENTS: usize = 20_000;
+
+const LISTS: usize = 14;
+
+const HISTORIES: usize = 400;
+
+/// A mask: of all bits, of none, or of some, of up to eight bytes.
+fn mask(state: &mut u32) -> Mask {
+    let [a, b, c, _] = next(state).to_le_bytes();
+    match a % 8 {
+        0 => mask_of(&[0xFF]),
+        1 => mask_of(&[0x00]),
+        2 => mask_of(&[]),
+        3 | 4 => mask_of(&[a, b, c, a, b, c, 0xFF, b]),
+        _ => mask_of(&[b]),
+    }
+}
+
+/// A scan of some of nine keys, two of which are modifiers by default.
+fn scan(state: &mut u32) -> Scan {
+    let held = next(state);
+    let rows = if held % 8 == 0 {
+        // Seven keys and more.
+        [0x00FF, 0, 0, 0, 0, 0x8000]
+    } else if held % 8 == 1 {
+        [0; 6]
+    } else {
+        let [_, low, high, _] = held.to_le_bytes();
+        [
+            u16::from(low % 64),
+            0,
+            0,
+            0,
+            0,
+            u16::from(high % 2) * 0x8000,
+        ]
+    };
+    Scan { rows }
+}
+
+/// SETUP packets that are served: bmRequestType, bRequest, wValue, wLength.
+fn served(place: u32) -> (u8, u8, u16, u8) {
+    match place % 18 {
+        0 => (0x80, 0x06, 0x0100, 18),
+        1 => (0x80, 0x06, 0x0200, 255),
+        2 => (0x81, 0x06, 0x2100, 9),
+        3 => (0x81, 0x06, 0x2200, 99),
+        4 => (0xA1, 0x01, 0x0101, 23),
+        5 => (0xA1, 0x01, 0x0102, 9),
+        6 => (0xA1, 0x01, 0x0201, 2),
+        7 => (0xA1, 0x01, 0x0303, 6),
+        8 => (0xA1, 0x01, 0x0100, 8),
+        9 => (0xA1, 0x01, 0x0200, 1),
+        10 => (0xA1, 0x02, 0x0000, 1),
+        11 => (0xA1, 0x02, 0x0002, 1),
+        12 => (0xA1, 0x03, 0x0000, 1),
+        13 => (0x21, 0x0A, 0x0100, 0),
+        14 => (0x21, 0x0A, 0x0201, 0),
+        15 => (0x21, 0x0A, 0x0002, 0),
+        16 => (0x21, 0x0B, 0x0000, 0),
+        _ => (0x21, 0x0B, 0x0001, 0),
+    }
+}
+
+/// A SETUP packet: mostly one that is served, else nearly one, or any.
+fn setup(state: &mut u32) -> [u8; 8] {
+    let [a, b, c, _] = next(state).to_le_bytes();
+    let (kind, code, value, length) = served(next(state));
+    let [low, high] = value.to_le_bytes();
+    let mut setup = [kind, code, low, high, 0, 0, length, 0];
+    match b % 16 {
+        0 => setup[usize::from(c % 8)] = b / 16,
+        1 => setup[usize::from(c % 8)] = c,
+        2 => setup = [a, b, c, a, b, c, a, b],
+        _ => {}
+    }
+    setup
+}
+
+/// The OUT packet of a feature report: mostly a command that sets one of eight keys.
+fn feature(state: &mut u32) -> ArrayVec<u8, 8> {
+    let [a, b, c, _] = next(state).to_le_bytes();
+    let mut packet = ArrayVec::from([0x03, 0x01, b % 2, b / 2 % 4, c % 16, 0x00, 0x00, 0x00]);
+    let mut length = 6;
+    match a % 32 {
+        0 => length = usize::from(c % 9),
+        1 => packet = ArrayVec::from([0x03, 0x00, b % 5, c % 128, 0, 0, 0, 0]),
+        2 => packet = ArrayVec::from([0x03, 0x02, b % 5, 0, 0, 0, 0, 0]),
+        3 => packet = ArrayVec::from([0x03, 0x03, 0, 0, 0, 0, 0, 0]),
+        4 => packet = ArrayVec::from([0x03, b % 5, b, c, a, b, 0, 0]),
+        5 => packet = ArrayVec::from([a, b, c, a, b, c, a, b]),
+        6..=11 => packet = ArrayVec::from([0x03, 0x01, 0, b % 6, c, 0x40, 0, 0]),
+        12..=14 => packet = ArrayVec::from([0x03, 0x01, 0, b % 6, c % 4, 0x50, 0, 0]),
+        _ => {}
+    }
+    packet.truncate(length);
+    packet
+}
+
+/// So many IN tokens.
+fn ins(events: &mut Vec<Event>, count: u32) -> Result<(), Fail> {
+    for _ in 0..count {
+        events.push(Event::InPacket)?;
+    }
+    Ok(())
+}
+
+/// A fetch of the report descriptor, of any length, and mostly to its end.
+fn fetch(events: &mut Vec<Event>, state: &mut u32) -> Result<(), Fail> {
+    let length = match next(state) % 4 {
+        0 => (next(state) % 301) as u16,
+        1 => 104,
+        _ => 99,
+    };
+    let [low, high] = length.to_le_bytes();
+    events.push(Event::Setup([0x81, 6, 0, 0x22, 0, 0, low, high]))?;
+    let whole = u32::from(length.min(99)) / 8 + 1;
+    match next(state) % 4 {
+        0 => {
+            let count = next(state) % 16;
+            ins(events, count)
+        }
+        1 => {
+            ins(events, whole)?;
+            events.push(Event::OutPacket(ArrayVec::new()))?;
+            Ok(())
+        }
+        _ => ins(events, whole),
+    }
+}
+
+/// Some steps of the flash work.
+fn works(events: &mut Vec<Event>, state: &mut u32) -> Result<(), Fail> {
+    let count = match next(state) % 8 {
+        0 => 0,
+        1 => 14,
+        few => few / 2 + 1,
+    };
+    for _ in 0..count {
+        match next(state) % 16 {
+            0 | 1 => events.push(Event::WorkFault(mask(state)))?,
+            2 => events.push(Event::CutInWork(mask(state)))?,
+            3 => events.push(Event::InPacket)?,
+            _ => events.push(Event::Work)?,
+        }
+    }
+    Ok(())
+}
+
+/// A command, and steps of its work.
+fn command(events: &mut Vec<Event>, state: &mut u32) -> Result<(), Fail> {
+    events.push(Event::Setup([0x21, 9, 3, 3, 0, 0, 6, 0]))?;
+    events.push(Event::OutPacket(feature(state)))?;
+    works(events, state)?;
+    events.push(Event::InPacket)?;
+    Ok(())
+}
+
+/// LEDs of either protocol, and a look at them.
+fn leds(events: &mut Vec<Event>, state: &mut u32) -> Result<(), Fail> {
+    let [a, b, _, _] = next(state).to_le_bytes();
+    let mut packet = ArrayVec::from([0x01, b, 0, 0, 0, 0, 0, 0]);
+    if a % 4 == 0 {
+        events.push(Event::Setup([0x21, 9, 0, 2, 0, 0, 1, 0]))?;
+        packet.truncate(1);
+    } else {
+        events.push(Event::Setup([0x21, 9, 1, 2, 0, 0, 2, 0]))?;
+        packet.truncate(2);
+    }
+    events.push(Event::OutPacket(packet))?;
+    events.push(Event::Leds)?;
+    ins(events, 1)
+}
+
+/// A transfer without data, or a read.
+fn request(events: &mut Vec<Event>, state: &mut u32) -> Result<(), Fail> {
+    events.push(Event::Setup(setup(state)))?;
+    let count = next(state) % 4;
+    ins(events, count)?;
+    if count == 3 {
+        events.push(Event::OutPacket(ArrayVec::new()))?;
+    }
+    Ok(())
+}
+
+/// A protocol is chosen.
+fn protocol(events: &mut Vec<Event>, state: &mut u32) -> Result<(), Fail> {
+    let chosen = (next(state) % 2) as u8;
+    events.push(Event::Setup([0x21, 0x0B, chosen, 0, 0, 0, 0, 0]))?;
+    ins(events, 1)
+}
+
+/// Keys that bounce, and are debounced after it, mostly; then polls.
+fn keys(events: &mut Vec<Event>, state: &mut u32) -> Result<(), Fail> {
+    let bounces = next(state) % 3;
+    for _ in 0..bounces {
+        events.push(Event::Scan(scan(state)))?;
+    }
+    let settled = scan(state);
+    let times = next(state) % 3 + 4;
+    for _ in 0..times {
+        events.push(Event::Scan(settled))?;
+    }
+    polls(events, state)
+}
+
+fn polls(events: &mut Vec<Event>, state: &mut u32) -> Result<(), Fail> {
+    let count = next(state) % 3 + 1;
+    for _ in 0..count {
+        events.push(Event::Poll)?;
+    }
+    Ok(())
+}
+
+/// A look at an entry, or at a slot.
+fn look(events: &mut Vec<Event>, state: &mut u32) -> Result<(), Fail> {
+    let [a, b, c, _] = next(state).to_le_bytes();
+    events.push(Event::SlotAt {
+        page: a % 9,
+        slot: u16::from(b) * 2 + u16::from(c % 2),
+    })?;
+    if let (Ok(layer), Ok(key)) = (LayerNo::read(b % 2), KeyNo::read(c % 8)) {
+        events.push(Event::Entry(layer, key))?;
+    }
+    Ok(())
+}
+
+/// A packet that belongs to nothing.
+fn stray(events: &mut Vec<Event>, state: &mut u32) -> Result<(), Fail> {
+    events.push(match next(state) % 4 {
+        0 => Event::OutPacket(feature(state)),
+        1 => Event::Setup(setup(state)),
+        2 => Event::InPacket,
+        _ => Event::Work,
+    })?;
+    Ok(())
+}
+
+/// Appends some events that belong together.
+fn add(events: &mut Vec<Event>, state: &mut u32) -> Result<(), Fail> {
+    match next(state) % 32 {
+        0 | 1 => fetch(events, state),
+        2..=8 => command(events, state),
+        9 | 10 => leds(events, state),
+        11..=13 => request(events, state),
+        14 | 15 => protocol(events, state),
+        16..=19 => keys(events, state),
+        20..=22 => polls(events, state),
+        23 | 24 => look(events, state),
+        25..=27 => stray(events, state),
+        28 => works(events, state),
+        29 => {
+            events.push(Event::BusReset)?;
+            Ok(())
+        }
+        30 => {
+            events.push(Event::CutInWork(mask(state)))?;
+            Ok(())
+        }
+        _ => {
+            events.push(Event::Cut)?;
+            look(events, state)
+        }
+    }
+}
+
+/// A list of events: what belongs together may be cut by the end of the list before.
+fn list(alloc: Global, state: &mut u32) -> Result<Vec<Event>, Fail> {
+    let mut events = Vec::new(alloc);
+    let bursts = next(state) % 3;
+    for _ in 0..bursts + 1 {
+        add(&mut events, state)?;
+    }
+    Ok(events)
+}
+
+/// The bytes of a slot of a flash of this kind.
+fn slot_bytes(state: &mut u32, kind: u32, page: usize, slot: usize) -> [u8; 8] {
+    let [a, b, c, _] = next(state).to_le_bytes();
+    let records = 506 - usize::from(c % 2);
+    match kind {
+        // A page that is nearly full, of format 2 or 1, and blank ones.
+        0..=3 if page == 0 && slot == 0 => good(if kind < 2 { 0x2000_0001 } else { 0x1000_0001 }),
+        0..=3 if page == 0 && slot < records => {
+            let first = if kind == 2 { 0x1000_4000 } else { 0x1000_0004 };
+            good(first | u32::from(b % 8) << 16 | u32::from(a % 16))
+        }
+        // Two logs, the second one with the greatest number that there is.
+        4 if slot == 0 && page < 2 => good(if page == 0 { 0x2000_0007 } else { 0x2FFF_FFFF }),
+        4 if page == 1 && slot < 510 => good(0x1000_0000 | u32::from(b % 8) << 16 | 5),
+        // Any bytes, with sound headers or without.
+        5 if slot == 0 => [0xFF; 8],
+        5 | 6 if a % 2 == 0 => [a, b, c, a, b, c, a, b],
+        5 | 6 => good(u32::from_le_bytes([a, b, c % 8, 0x10])),
+        _ => [0xFF; 8],
+    }
+}
+
+/// The bytes of a flash of so many pages: of some kind, or blank.
+fn image(alloc: Global, state: &mut u32, pages: usize) -> Result<Vec<u8>, Fail> {
+    let kind = next(state) % 10;
+    let mut bytes = Vec::new(alloc);
+    for page in 0..pages {
+        for slot in 0..512 {
+            bytes.extend_from_slice(&slot_bytes(state, kind, page, slot))?;
+        }
+    }
+    Ok(bytes)
+}
+
+/// Worlds on a flash of so many pages, armed or not.
+fn begin(alloc: Global, state: &mut u32, pages: usize) -> Result<Rig, Fail> {
+    let image = image(alloc, state, pages)?;
+    let armed = mask(state);
+    let mask = if next(state) % 4 == 0 {
+        Some(armed.as_slice())
+    } else {
+        None
+    };
+    Rig::start(alloc, image.as_slice(), mask)
+}
+
+/// What a step shows: the place of the first of the things below that it is.
+fn shown(step: &Recorded) -> usize
+    ensures { result < 12 }
+{
+    match (&step.event, &step.answer) {
+        (
+            _,
+            Answer::Sent {
+                bytes: _,
+                reading: Reading::Unread,
+            },
+        ) => 0,
+        (
+            _,
+            Answer::Sent {
+                bytes,
+                reading: Reading::Usages(_),
+            },
+        ) => match bytes.len() {
+            8 => 1,
+            9 => 2,
+            _ => 3,
+        },
+        (_, Answer::Worked(Work::Working)) => 4,
+        (_, Answer::Worked(Work::Settled)) => 5,
+        (_, Answer::Worked(Work::Failed)) => 6,
+        (_, Answer::Stall(_)) => 7,
+        (Event::Cut, _) => 8,
+        (Event::CutInWork(_), _) => 9,
+        (_, Answer::Packet(_)) => 10,
+        _ => 11,
+    }
+}
+
+/// Some lists of events: each step is judged right.
+fn goes_on(rt: &impl Abort, alloc: Global, state: &mut u32, rig: &mut Rig) -> Result<(), Fail> {
+    for _ in 0..LISTS {
+        let events = list(alloc, state)?;
+        let same = rig.take(alloc, events)?;
+        assert!(rt; same);
+    }
+    let wrong = rig.judged(alloc)?;
+    assert_eq!(rt; wrong, None);
+    Ok(())
+}
+
+/// A history on a flash of so many pages: how many events it has; and what it shows is counted.
+fn history(
+    rt: &impl Abort,
+    alloc: Global,
+    state: &mut u32,
+    pages: usize,
+    all: &mut [u32; 12],
+) -> Result<usize, Fail> {
+    let mut rig = begin(alloc, state, pages)?;
+    goes_on(rt, alloc, state, &mut rig)?;
+    count(all, rig.steps());
+    Ok(rig.steps().len())
+}
+
+/// One more of each thing that a history showed.
+fn count(all: &mut [u32; 12], steps: &[Recorded]) {
+    for step in steps {
+        let place = shown(step);
+        all[place] = all[place].wrapping_add(1);
+    }
+}
+
+/// Histories on flashes of so many pages in turn, of 20,000 events and more: each thing was shown often.
+fn histories(rt: &impl Abort, alloc: Global, pages: [usize; 3], from: u32) -> Result<(), Fail> {
+    let mut state = from;
+    let mut taken = 0usize;
+    let mut all = [0u32; 12];
+    for turn in 0..HISTORIES {
+        if taken < EVENTS {
+            let more = history(rt, alloc, &mut state, pages[turn % 3], &mut all)?;
+            taken = taken.saturating_add(more);
+        }
+    }
+    assert!(rt; taken >= EVENTS, "{taken} events");
+    for number in all {
+        assert!(rt; number > 20, "{all:?}");
+    }
+    Ok(())
+}
+
+#[test]
+fn on_two_pages(rt: HostRuntime) -> Result<(), Fail> {
+    histories(&rt, rt.alloc(), [2, 2, 2], 1)
+}
+
+#[test]
+fn on_two_and_three_pages(rt: HostRuntime) -> Result<(), Fail> {
+    histories(&rt, rt.alloc(), [2, 3, 2], 2)
+}
+
+#[test]
+fn on_three_to_five_pages(rt: HostRuntime) -> Result<(), Fail> {
+    histories(&rt, rt.alloc(), [3, 4, 5], 3)
+}
+
+#[test]
+fn on_two_to_six_pages(rt: HostRuntime) -> Result<(), Fail> {
+    histories(&rt, rt.alloc(), [2, 4, 6], 2026)
+}
+
+#[test]
+fn on_two_to_eight_pages(rt: HostRuntime) -> Result<(), Fail> {
+    histories(&rt, rt.alloc(), [2, 7, 8], 11)
+}

@@ -1,0 +1,349 @@
+//! Sessions line by line: what the keyboard answers is what a line says, and is judged right.
+
+use super::super::text::{bytes, eight, number, packet, pressed};
+use super::*;
+use control_ep::Why;
+
+impl Rig {
+    /// Takes each of these lines.
+    fn take_all(&mut self, rt: &impl Abort, alloc: Global, script: &str) -> Result<(), Fail> {
+        for line in script.lines() {
+            self.take(rt, alloc, line.trim())?;
+        }
+        Ok(())
+    }
+
+    /// Takes a line, `ASK = ANSWER`, or `ASK` where any answer will do.
+    pub fn take(&mut self, rt: &impl Abort, alloc: Global, line: &str) -> Result<(), Fail> {
+        let (ask, told) = line.split_once(" = ").unwrap_or((line, ""));
+        if ask == "cut" {
+            expect_judged(rt, self.judged(alloc)?, None, line);
+            return self.cut(alloc);
+        }
+        if let Some(mask) = ask.strip_prefix("cut in work ") {
+            expect_judged(rt, self.judged(alloc)?, None, line);
+            let mask = bytes(mask).ok_or("a mask")?;
+            let may_leave = self.cut_in_work(alloc, mask.as_slice())?;
+            assert!(rt; may_leave, "{line} leaves what no cut may leave");
+            return Ok(());
+        }
+        let (word, rest) = ask.split_once(' ').unwrap_or((ask, ""));
+        self.ask(alloc, word, rest)?;
+        if !told.is_empty() {
+            self.expect(rt, told, line);
+        }
+        Ok(())
+    }
+
+    /// Makes a call by its word.
+    fn ask(&mut self, alloc: Global, word: &str, rest: &str) -> Result<(), Fail> {
+        match word {
+            "setup" => self.setup(eight(rest).ok_or("eight bytes")?),
+            "out" => self.out(bytes(rest).ok_or("a packet")?.as_slice()),
+            "in" => self.in_packet(),
+            "scans" => self.scans(rest),
+            "poll" => self.poll(),
+            "work" => self.work(alloc, bytes(rest).ok_or("a mask")?.as_slice()),
+            "reset" => self.reset(),
+            "" => Ok(()),
+            _ => None.ok_or("a word that is none")?,
+        }
+    }
+
+    /// So many scans with these keys.
+    fn scans(&mut self, rest: &str) -> Result<(), Fail> {
+        let (times, keys) = rest.split_once(' ').unwrap_or((rest, ""));
+        let scan = pressed(keys).ok_or("keys")?;
+        for _ in 0..number(times).ok_or("a count")? {
+            self.scan(scan)?;
+        }
+        Ok(())
+    }
+
+    /// Compares how the newest call was answered with what a line tells.
+    pub fn expect(&self, rt: &impl Abort, told: &str, line: &str) {
+        match self.past.first() {
+            Some(Recorded::Out(_, answer) | Recorded::In(answer)) => {
+                expect_answer(rt, answer, told, line)
+            }
+            Some(Recorded::Polled(report)) => expect_report(rt, report, told, line),
+            Some(Recorded::Worked(work, _)) => expect_work(rt, *work, told, line),
+            _ => panic!(rt; "nothing is answered: {line}"),
+        }
+    }
+
+    /// Whether the newest call is a step of the flash work that made no operation.
+    pub fn was_idle(&self) -> bool {
+        match self.past.first() {
+            Some(Recorded::Worked(work, _)) => *work == Work::Idle,
+            _ => false,
+        }
+    }
+}
+
+/// Compares the first call that is judged wrong after a line.
+pub fn expect_judged(rt: &impl Abort, found: Option<usize>, wanted: Option<usize>, line: &str) {
+    assert_eq!(rt; found, wanted, "the first wrong call after: {line}");
+}
+
+/// Compares an answer of endpoint 0 with what a line tells; what no line can tell is none.
+fn expect_answer(rt: &impl Abort, answer: &EpAnswer, told: &str, line: &str) {
+    let wanted = answer_of(told);
+    assert_eq!(rt; Some(answer), wanted.as_ref(), "{line}");
+}
+
+/// Compares the report of a poll with what a line tells.
+fn expect_report(rt: &impl Abort, report: &Option<Report>, told: &str, line: &str) {
+    let wanted = if told == "nak" { None } else { bytes(told) };
+    assert!(rt; told == "nak" || wanted.is_some(), "no report: {line}");
+    assert_eq!(rt; report, &wanted, "{line}");
+}
+
+/// Compares the answer of a step of the flash work with what a line tells.
+fn expect_work(rt: &impl Abort, work: Work, told: &str, line: &str) {
+    assert_eq!(rt; Some(work), work_of(told), "{line}");
+}
+
+/// The answer of a step of the flash work.
+pub fn work_of(told: &str) -> Option<Work> {
+    match told {
+        "idle" => Some(Work::Idle),
+        "working" => Some(Work::Working),
+        "settled" => Some(Work::Settled),
+        "failed" => Some(Work::Failed),
+        _ => None,
+    }
+}
+
+/// The reasons of a STALL by their numbers, from 1 on.
+const REASONS: [Why; 16] = [
+    Why::UnknownRequest,
+    Why::WrongInterface,
+    Why::UnknownDescriptor,
+    Why::UnknownReport,
+    Why::WrongLength,
+    Why::BadProtocol,
+    Why::BadOperation,
+    Why::BadLayer,
+    Why::BadKey,
+    Why::BadCode,
+    Why::Unsound,
+    Why::Worn,
+    Why::FlashFault,
+    Why::ShortData,
+    Why::LongData,
+    Why::WrongStage,
+];
+
+/// An answer of endpoint 0, as a line tells it.
+pub fn answer_of(told: &str) -> Option<EpAnswer> {
+    let (word, rest) = told.split_once(' ').unwrap_or((told, ""));
+    Some(match word {
+        "data" => EpAnswer::Packet(packet(rest)?),
+        "stall" => {
+            let place = usize::from(number(rest)?).checked_sub(1)?;
+            EpAnswer::Stall(*REASONS.get(place)?)
+        }
+        "ack" => EpAnswer::Ack,
+        "nak" => EpAnswer::Nak,
+        _ => return None,
+    })
+}
+
+/// A command is settled, then another fails, and each transfer ends as its command does.
+const COMMANDS: &str = "
+    in = stall 16
+    setup 2109030300000600
+    out 030100000500 = ack
+    in = nak
+    work = working
+    in = nak
+    work = settled
+    in = data -
+    in = stall 16
+    cut
+    setup 2109030300000600
+    out 030100000500 = ack
+    in = data -
+    work = idle
+    setup 2109030300000600
+    out 030100000600 = ack
+    work 00 = failed
+    in = stall 13
+    setup 2109030300000600
+    out 030100000600 = ack
+    work ff = settled
+    in = data -
+    cut
+    setup 2109030300000600
+    out 030100000700 = ack
+    setup a103000000000100
+    in = data 01
+    setup 2109030300000600
+    out 030000010000 = nak
+    work = settled
+    out 030000010000 = ack
+    in = data -";
+
+/// The power is cut before a command's record, after it and inside it; a bus reset drops no command; a
+/// key without a usage.
+const CUTS: &str = "
+    setup 2109030300000600
+    out 030100000500 = ack
+    setup a103000000000100
+    work = working
+    cut
+    setup a101030300000600
+    in = data 030000000400
+    setup 2109030300000600
+    out 030100000500 = ack
+    work = settled
+    cut
+    setup a101030300000600
+    in = data 030000000500
+    setup 2109030300000600
+    out 030100000600 = ack
+    reset
+    in = stall 16
+    work = settled
+    setup 2109030300000600
+    out 030100000100 = ack
+    work = settled
+    scans 5 0
+    poll = nak
+    cut in work 55
+    setup 2109030300000600
+    out 030100000700 = ack
+    cut in work 0f
+    setup a101030300000600
+    in = data 030000000100
+    setup 2109030300000600
+    out 030100000700 = ack
+    cut in work ff
+    setup a101030300000600
+    in = data 030000000700";
+
+/// Each request is refused at its SETUP packet or its data, and the stall stays.
+const REFUSALS: &str = "
+    setup 8000000000000200
+    in = stall 1
+    setup a103000001000100
+    in = stall 2
+    setup 8006000300000400
+    in = stall 3
+    setup 2109010300000600
+    out 030100000500 = stall 4
+    setup 2109030300000500
+    out 0301000005 = stall 5
+    setup 210b020000000000
+    in = stall 6
+    setup 2109030300000600
+    out 030400000000 = stall 7
+    in = stall 7
+    setup 2109030300000600
+    out 030104000500 = stall 8
+    setup 2109030300000600
+    out 030100600500 = stall 9
+    setup 2109030300000600
+    out 03010000a500 = stall 10
+    setup 2109030300000600
+    out 0301000005 = stall 14
+    setup 2109030300000600
+    out 03010000050000 = stall 15
+    setup 2109030300000600
+    in = stall 16
+    work = idle";
+
+/// Debounced keys, the boot report and its overflow.
+const BOOT: &str = "
+    setup 210b000000000000
+    in = data -
+    scans 4 0
+    scans 1
+    scans 4 0
+    poll = nak
+    scans 1 0
+    poll = 0000040000000000
+    scans 5 0 1 2 3 4 5 6 88
+    poll = 0100010101010101
+    scans 5
+    poll = 0000000000000000
+    poll = nak";
+
+/// Reports in report protocol; GET_REPORT counts as nothing sent.
+const REPORTS: &str = "
+    setup 2109030300000600
+    out 03010000b040 = ack
+    work = working
+    work = settled
+    in = data -
+    scans 5 0 1
+    setup a101020100000900
+    in = data 02b0000000000000
+    in = data 00
+    in = stall 16
+    poll = 0100020000000000000000000000000000000000000000
+    poll = 02b000000000000000
+    poll = nak
+    scans 499 0 1
+    poll = nak
+    scans 1 0 1
+    poll = 0100020000000000000000000000000000000000000000
+    scans 5
+    poll = 0100000000000000000000000000000000000000000000
+    poll = 020000000000000000";
+
+/// Idle values, LEDs and the selected entry, and a bus reset.
+const SETTINGS: &str = "
+    setup a102000000000100
+    in = data 7d
+    setup 210a000100000000
+    setup a102010000000100
+    in = data 7d
+    setup 210a010200000000
+    in = data -
+    setup a102010000000100
+    in = data 02
+    scans 5 0
+    poll = 0100010000000000000000000000000000000000000000
+    scans 7 0
+    poll = nak
+    scans 1 0
+    poll = 0100010000000000000000000000000000000000000000
+    setup 2109010200000200
+    out 01e2 = ack
+    in = data -
+    setup a101010200000200
+    in = data 0102
+    setup 2109030300000600
+    out 030000010000 = ack
+    in = data -
+    setup a101030300000600
+    in = data 030000010500
+    reset
+    setup a101010200000200
+    in = data 0100
+    setup a102010000000100
+    in = data 7d
+    setup a101030300000600
+    in = data 030000010500
+    cut
+    setup a101030300000600
+    in = data 030000000400";
+
+/// The lines of a session on a blank flash: each is answered as it says, and each call is judged right.
+fn session(rt: &impl Abort, alloc: Global, script: &str) -> Result<(), Fail> {
+    let flash = SimFlash::new(alloc, 2)?;
+    let mut rig = Rig::start(alloc, flash)?;
+    rig.take_all(rt, alloc, script)?;
+    expect_judged(rt, rig.judged(alloc)?, None, script);
+    Ok(())
+}
+
+#[test]
+fn sessions_are_judged_right(rt: HostRuntime) -> Result<(), Fail> {
+    for script in [COMMANDS, CUTS, REFUSALS, BOOT, REPORTS, SETTINGS] {
+        session(&rt, rt.alloc(), script)?;
+    }
+    Ok(())
+}

@@ -1,0 +1,205 @@
+//! Each step of a command's flash work, torn with each of some masks, by a fault and by a cut.
+
+use super::super::text::with_slots;
+use super::*;
+use judge::session::{cut_leaves, is_next_step, passes};
+
+/// Masks of one byte.
+const MASKS: [u8; 7] = [0x00, 0x01, 0x0f, 0x55, 0xaa, 0xfe, 0xff];
+
+/// How many bytes the masks that look random have.
+const RANDOM: [usize; 3] = [1, 8, 4096];
+
+/// SET_REPORT of the feature report.
+const SET_FEATURE: [u8; 8] = [0x21, 0x09, 0x03, 0x03, 0x00, 0x00, 0x06, 0x00];
+
+/// A mask: the ones of one byte come first.
+fn mask(number: usize, state: &mut u32) -> Mask {
+    if let Some(byte) = MASKS.get(number) {
+        return mask_of(&[*byte]);
+    }
+    let count = match RANDOM.get(number.wrapping_sub(7)) {
+        Some(count) => *count,
+        None => 0,
+    };
+    let mut mask = Mask::new();
+    for _ in 0..count {
+        let [_, byte, _, _] = next(state).to_le_bytes();
+        let _fits = mask.try_push(byte);
+    }
+    mask
+}
+
+/// The feature report that sets a key of layer 0.
+fn sets(key: u8, code: u8) -> [u8; 6] {
+    [0x03, 0x01, 0x00, key, code, 0x00]
+}
+
+/// A keyboard on a flash that accepted a command and made so many steps for it.
+fn worked(alloc: Global, flash: &SimFlash, report: &[u8], steps: usize) -> Result<Rig, Fail> {
+    let mut rig = Rig::start(alloc, copy_of(alloc, flash)?)?;
+    rig.setup(SET_FEATURE)?;
+    rig.out(report)?;
+    for _ in 0..steps {
+        let _work = rig.step();
+    }
+    Ok(rig)
+}
+
+/// The step after so many, torn by this mask, as it is recorded.
+fn torn_step(
+    alloc: Global,
+    start: &SimFlash,
+    report: &[u8],
+    steps: usize,
+    mask: &[u8],
+) -> Result<Option<Recorded>, Fail> {
+    let mut rig = worked(alloc, start, report, steps)?;
+    rig.work(alloc, mask)?;
+    Ok(rig.take_newest())
+}
+
+/// Whether a torn step is judged right: by its answer, and as a cut inside it.
+fn is_right(alloc: Global, run: &Rig, call: &Recorded) -> Result<bool, Fail> {
+    let Recorded::Worked(_, flash) = call else {
+        return Ok(false);
+    };
+    let past = run.past.as_slice();
+    let step = is_next_step(alloc, &run.start, past, call)?;
+    let passes = passes(alloc, &run.start, past, call)?;
+    let cut = cut_leaves(alloc, &run.start, past, flash)?;
+    Ok(step && passes && cut)
+}
+
+/// Whether the step after so many, torn by this mask, is judged right.
+fn is_torn_right(
+    alloc: Global,
+    run: &Rig,
+    report: &[u8],
+    steps: usize,
+    mask: &[u8],
+) -> Result<bool, Fail> {
+    match torn_step(alloc, &run.start, report, steps, mask)? {
+        Some(call) => is_right(alloc, run, &call),
+        None => Ok(false),
+    }
+}
+
+/// Tears the step after so many by each of ten masks.
+fn tear(
+    rt: &impl Abort,
+    alloc: Global,
+    run: &Rig,
+    report: &[u8],
+    steps: usize,
+    state: &mut u32,
+) -> Result<(), Fail> {
+    for number in 0..10 {
+        let mask = mask(number, state);
+        let right = is_torn_right(alloc, run, report, steps, mask.as_slice())?;
+        assert!(rt; right, "{steps} {number}");
+    }
+    Ok(())
+}
+
+/// Tears each of so many steps in turn, and makes it whole.
+fn tear_each(
+    rt: &impl Abort,
+    alloc: Global,
+    run: &mut Rig,
+    report: &[u8],
+    count: usize,
+) -> Result<(), Fail> {
+    let mut state = 1;
+    for steps in 0..count {
+        tear(rt, alloc, run, report, steps, &mut state)?;
+        run.work(alloc, &[])?;
+    }
+    Ok(())
+}
+
+/// Tears each step of the command that sets a key of layer 0, which takes so many.
+fn tear_each_step(
+    rt: &impl Abort,
+    alloc: Global,
+    flash: SimFlash,
+    key: u8,
+    code: u8,
+    count: usize,
+) -> Result<(), Fail> {
+    let report = sets(key, code);
+    let mut run = worked(alloc, &flash, &report, 0)?;
+    tear_each(rt, alloc, &mut run, &report, count)?;
+    let wrong = run.judged(alloc)?;
+    assert_eq!(rt; wrong, None);
+    run.in_packet()?;
+    run.expect(rt, "data -", "the status stage");
+    Ok(())
+}
+
+#[test]
+fn each_step_of_a_turnover_is_torn(rt: HostRuntime) -> Result<(), Fail> {
+    let alloc = rt.alloc();
+    tear_each_step(&rt, alloc, full_page(alloc, &[])?, 0, 6, 3)?;
+    // A copy and a torn header of a turn that was cut.
+    let begun = [
+        (1, 1, good(0x1000_0005)),
+        (1, 0, [0xaa, 0xaa, 0xaa, 0xaa, 0xff, 0xff, 0xff, 0xff]),
+    ];
+    tear_each_step(&rt, alloc, full_page(alloc, &begun)?, 0, 6, 4)?;
+    // A page of format 1, whose copy has another code.
+    let old = [(0, 0, good(0x1000_0001)), (0, 1, good(0x1000_400d))];
+    tear_each_step(&rt, alloc, slots_of(alloc, 2, &old)?, 1, 6, 3)
+}
+
+#[test]
+fn each_step_of_the_longest_turnover_is_torn(rt: HostRuntime) -> Result<(), Fail> {
+    let alloc = rt.alloc();
+    tear_each_step(&rt, alloc, all_set(alloc)?, 0, 0, 387)
+}
+
+/// A full page of format 1 that sets every entry to 0, and key 0 in turn to 5 and 0, and a page after
+/// it that is not blank.
+fn all_set(alloc: Global) -> Result<SimFlash, Fail> {
+    let mut slots = Vec::new(alloc);
+    slots.push((0, 0, good(0x1000_0001)))?;
+    for number in 0..511usize {
+        let word = match u32::try_from(number) {
+            Ok(place) if number < 384 => place / 96 << 24 | place % 96 << 16,
+            _ => if number % 2 == 0 { 5 } else { 0 },
+        };
+        slots.push((0, number.wrapping_add(1), good(0x1000_0000 | word)))?;
+    }
+    slots.push((1, 9, [0; 8]))?;
+    slots_of(alloc, 2, slots.as_slice())
+}
+
+/// After a header, a record on its way: whether a cut may leave this slot, told by its page, its number
+/// and its bytes.
+const CUTS: &str = "yes 0 1 ffffffffffffffff
+    yes 0 1 f5f0f0f0faffffff
+    yes 0 1 05000010faffffef
+    no 0 1 f4f0f0f0faffffff
+    no 0 1 06000010f9ffffef
+    no 0 2 05000010faffffef
+    no 1 1 feffffffffffffff";
+
+/// Whether a cut inside the record of a command may leave the flash with this slot.
+fn may_leave(alloc: Global, slot: &str) -> Result<bool, Fail> {
+    let blank = SimFlash::new(alloc, 2)?;
+    let mut rig = worked(alloc, &blank, &sets(0, 5), 0)?;
+    rig.work(alloc, &[])?;
+    let cut = with_slots(alloc, &rig.flash, slot)?;
+    let left = cut_leaves(alloc, &rig.start, rig.past.as_slice(), &cut)?;
+    Ok(left)
+}
+
+#[test]
+fn cuts_leave_the_old_record_or_the_new(rt: HostRuntime) -> Result<(), Fail> {
+    for line in CUTS.lines() {
+        let (told, slot) = line.trim().split_once(' ').unwrap_or(("", ""));
+        let may = may_leave(rt.alloc(), slot)?;
+        assert_eq!(rt; may, told == "yes", "{line}");
+    }
+    Ok(())
+}

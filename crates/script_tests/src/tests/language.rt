@@ -1,0 +1,152 @@
+//! The language of scripts: what each line says, and the first fault of a text.
+
+use super::same;
+use script::{Action, Line, Statement, read_lines};
+use std::alloc::{AllocError, Global};
+use std::process::Abort;
+use std::test::Fail;
+use text_io::HexDigits;
+
+/// Each line of the language, beside what it says.
+const EACH_LINE: &str = "\
+# Each line of the language.
+scan 0 17 = One(Scan(Scan { rows: [1, 2, 0, 0, 0, 0] }))
+
+scans 9 95 = Scans { count: 9, scan: Scan { rows: [0, 0, 0, 0, 0, 32768] } }
+poll\r = One(Poll)
+setup 2109030300000600 = One(Setup([33, 9, 3, 3, 0, 0, 6, 0]))
+out = One(Out([]))
+out 0301 = One(Out([3, 1]))
+\tin  = One(In)
+work = One(Work)
+workfault 0fF0 = WorkFault(0ff0)
+workfault - = WorkFault()
+cut = One(Cut)
+cutwork 55 = CutWork(55)
+entry 3 95 = One(Entry(LayerNo { layer: 3 }, KeyNo { key: 95 }))
+slot 1 511 = One(Slot { page: 1, slot: 511 })
+set 0 255 a0B1 = Set { layer: 0, key: 255, code: 41137 }
+reset = One(Reset)
+leds = One(Leds)
+fetch = Fetch";
+
+/// Texts beside their first fault. A row is `SCRIPT|FAULT`, and `|` ends it. A mask has whole bytes, and at least one.
+const FAULTS: &str = "\
+in\n# x\nenter 0\nin in|Line { line: 3, fault: UnknownWord }|
+work\nscan 96 1 x\nsetup 00|Line { line: 2, fault: BadNumber }|
+slot 0\n|Line { line: 1, fault: WrongWords }|
+\n\nout 030|Line { line: 3, fault: BadHex }|
+fetch\nreset 0|Line { line: 2, fault: WrongWords }|
+leds\nfetch 810600220000ff00|Line { line: 2, fault: WrongWords }|
+led|Line { line: 1, fault: UnknownWord }|
+workfault 0|Line { line: 1, fault: BadHex }|
+workfault --|Line { line: 1, fault: BadHex }|
+cutwork 0g|Line { line: 1, fault: BadHex }|
+workfault|Line { line: 1, fault: WrongWords }|
+cutwork 00 00|Line { line: 1, fault: WrongWords }";
+
+/// Adds rows to a script, and what they say to what is expected. A row is `LINE = SAID`, or `LINE` alone where it says
+/// nothing; what it says comes after the line's number.
+fn add_rows(
+    alloc: Global,
+    script: &mut String,
+    expected: &mut String,
+    rows: &str,
+) -> Result<(), AllocError> {
+    let mut number = 0u32;
+    for row in rows.lines() {
+        number = number.wrapping_add(1);
+        let (line, said) = row.split_once(" = ").unwrap_or((row, ""));
+        script.push_str(line)?;
+        script.push_str("\n")?;
+        if !said.is_empty() {
+            let line = format!(in alloc; "{number} {said}\n")?;
+            expected.push_str(line.as_str())?;
+        }
+    }
+    Ok(())
+}
+
+/// Adds a line's number and what it says to a text.
+fn push_line(alloc: Global, text: &mut String, line: &Line<'_>) -> Result<(), AllocError> {
+    let number = line.number;
+    let said = match &line.statement {
+        Statement::One(Action::WorkFault(mask)) => {
+            let mask = mask.mask();
+            format!(in alloc; "{number} WorkFault({})\n", HexDigits(mask.as_slice()))
+        }
+        Statement::One(Action::CutWork(mask)) => {
+            let mask = mask.mask();
+            format!(in alloc; "{number} CutWork({})\n", HexDigits(mask.as_slice()))
+        }
+        statement => format!(in alloc; "{number} {statement:?}\n"),
+    }?;
+    text.push_str(said.as_str())
+}
+
+/// Adds these lines to a text.
+fn push_lines(alloc: Global, text: &mut String, lines: &[Line<'_>]) -> Result<(), AllocError> {
+    for line in lines {
+        push_line(alloc, text, line)?;
+    }
+    Ok(())
+}
+
+/// Adds what a script says to a text: its lines, or its first fault alone.
+fn push_script<R: AllocGlobal + Abort>(
+    rt: &R,
+    text: &mut String,
+    script: &[u8],
+) -> Result<(), AllocError> {
+    assert!(rt; script.len() <= 1_048_576);
+    match read_lines(rt.alloc(), 2, script) {
+        Ok(lines) => push_lines(rt.alloc(), text, lines.as_slice()),
+        Err(error) => {
+            let fault = format!(in rt.alloc(); "{error:?}")?;
+            text.push_str(fault.as_str())
+        }
+    }
+}
+
+/// Reads a script, and compares what it says.
+fn says<R: AllocGlobal + Abort>(rt: &R, script: &str, expected: &str) -> Result<(), AllocError> {
+    let mut said = String::new(rt.alloc());
+    push_script(rt, &mut said, script.as_bytes())?;
+    same(rt, said.as_str(), expected, script);
+    Ok(())
+}
+
+#[test]
+fn each_line(rt: HostRuntime) -> Result<(), Fail> {
+    let mut script = String::new(rt.alloc());
+    let mut expected = String::new(rt.alloc());
+    add_rows(rt.alloc(), &mut script, &mut expected, EACH_LINE)?;
+    says(&rt, script.as_str(), expected.as_str())?;
+    // The last line needs no end.
+    says(&rt, "leds\nfetch", "1 One(Leds)\n2 Fetch\n")?;
+    Ok(())
+}
+
+#[test]
+fn the_first_fault(rt: HostRuntime) -> Result<(), Fail> {
+    for row in FAULTS.split("|\n") {
+        let (script, fault) = row.split_once('|').unwrap_or((row, "no row"));
+        says(&rt, script, fault)?;
+    }
+    Ok(())
+}
+
+/// The longest mask has 4,096 bytes.
+#[test]
+fn the_longest_mask(rt: HostRuntime) -> Result<(), Fail> {
+    let mut digits = String::new(rt.alloc());
+    for _ in 0..4096 {
+        digits.push_str("a5")?;
+    }
+    let script = format!(in rt.alloc(); "cutwork {digits}")?;
+    let expected = format!(in rt.alloc(); "1 CutWork({digits})\n")?;
+    says(&rt, script.as_str(), expected.as_str())?;
+    let longer = format!(in rt.alloc(); "cutwork {digits}a5")?;
+    says(&rt, longer.as_str(), "Line { line: 1, fault: BadHex }")?;
+    Ok(())
+}
