@@ -1,7 +1,6 @@
 //! The lines of fields.
 
 use super::{SERVED, prints};
-use std::test::Fail;
 
 #[test]
 fn the_served_descriptor(rt: HostRuntime) {
@@ -44,40 +43,4 @@ fn lines_of_fields(rt: HostRuntime) {
         let (text, expected) = row.split_once('|').unwrap_or((row, "no row"));
         prints(&rt, text, Ok(()), expected);
     }
-}
-
-#[test]
-fn as_many_fields_as_there_can_be(rt: HostRuntime) -> Result<(), Fail> {
-    let mut text = String::new(rt.alloc());
-    let mut expected = String::new(rt.alloc());
-    // A field without usages, one of a single usage, and then ranges.
-    text.push_str("7501 9501\n8102 1901 2901 8102\n")?;
-    expected.push_str("input 0 0 1 1 0 0 variable -\ninput 0 1 1 1 0 0 variable 00000001\n")?;
-    for bit in 2u32..256 {
-        let line = format!(in rt.alloc(); "1901 29{bit:02x} 8102\n")?;
-        text.push_str(line.as_str())?;
-        let line = format!(in rt.alloc(); "input 0 {bit} 1 1 0 0 variable 00000001-{bit:08x}\n")?;
-        expected.push_str(line.as_str())?;
-    }
-    prints(&rt, text.as_str(), Ok(()), expected.as_str());
-    Ok(())
-}
-
-#[test]
-fn as_many_usages_as_there_can_be(rt: HostRuntime) -> Result<(), Fail> {
-    let mut text = String::new(rt.alloc());
-    let mut expected = String::new(rt.alloc());
-    text.push_str("75 01 95 01 09 00")?;
-    expected.push_str("feature 0 0 1 1 0 0 array 00000000")?;
-    for usage in 1u32..2045 {
-        let usage = usage % 256;
-        let item = format!(in rt.alloc(); " 09 {usage:02x}")?;
-        text.push_str(item.as_str())?;
-        let shown = format!(in rt.alloc(); ",{usage:08x}")?;
-        expected.push_str(shown.as_str())?;
-    }
-    text.push_str(" B1 00")?;
-    expected.push_str("\n")?;
-    prints(&rt, text.as_str(), Ok(()), expected.as_str());
-    Ok(())
 }

@@ -313,64 +313,6 @@ fn a_full_page_of_the_greatest_sequence_number(rt: HostRuntime) -> Result<(), Fa
     Ok(())
 }
 
-/// A full page of format 1: each of the 384 entries is 0000, and then entry (0, 0) is 0005 and 0000 in
-/// turn. Page 1 is not blank.
-fn longest_turn(alloc: Global) -> Result<Vec<u8>, AllocError> {
-    let mut image = blank(alloc)?;
-    put(image.as_mut_slice(), 0, 0, 0x01000010feffffef);
-    put(image.as_mut_slice(), 1, 9, 0);
-    for slot in 1..512u16 {
-        let place = if slot <= 384 { slot - 1 } else { 0 };
-        let code = if slot <= 384 { 0 } else { 5 * (slot % 2) as u8 };
-        let word = [code, 0, (place % 96) as u8, 0x10 | (place / 96) as u8];
-        let [a, b, c, d] = word;
-        put(
-            image.as_mut_slice(),
-            0,
-            usize::from(slot),
-            u64::from_be_bytes([a, b, c, d, !a, !b, !c, !d]),
-        );
-    }
-    Ok(image)
-}
-
-/// The longest command begins.
-const BEGUN: &str = "\
-setup 2109030300000600 = ack
-out 030100000000 = ack";
-
-/// And ends.
-const ENDED: &str = "\
-entry 0 0 = 0005
-work = settled
-in = data -
-slot 1 0 = 02000020fdffffdf
-slot 1 1 = 05000010faffffef
-slot 1 384 = 00005f13ffffa0ec
-slot 1 385 = 00000010ffffffef
-slot 1 386 = ffffffffffffffff
-entry 0 0 = 0000";
-
-#[test]
-fn the_longest_command_takes_387_steps(rt: HostRuntime) -> Result<(), Fail> {
-    let mut script = String::new(rt.alloc());
-    let mut expected = String::new(rt.alloc());
-    add_rows(rt.alloc(), &mut script, &mut expected, 0, BEGUN)?;
-    for number in 2..388 {
-        add_rows(
-            rt.alloc(),
-            &mut script,
-            &mut expected,
-            number,
-            "work = working",
-        )?;
-    }
-    add_rows(rt.alloc(), &mut script, &mut expected, 388, ENDED)?;
-    let flash = SimFlash::from_image(longest_turn(rt.alloc())?)?;
-    prints_on(&rt, flash, script.as_str(), Ok(()), expected.as_str());
-    Ok(())
-}
-
 /// Each on a blank flash whose next operation writes nothing and fails.
 const ON_AN_ARMED_FLASH: &str = "\
 # a flash that is armed fails the first operation.

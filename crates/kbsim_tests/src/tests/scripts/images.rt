@@ -2,66 +2,59 @@
 
 use super::{prints_on, same, so_ended, text_of};
 use crate::tests::streams::Repeated;
-use kbsim::{LineFault, RunError, World, blank_flash, image_flash, print_fault, run_on};
-use std::alloc::{AllocError, Global};
+use kbsim::{LineFault, RunError, blank_flash, image_flash, print_fault};
+use std::alloc::Global;
 use std::test::Fail;
 
-/// The length of an image, whether its reader fails after it, and what comes of it.
-const IMAGES: [(usize, bool, Result<usize, RunError>); 14] = [
-    (0, false, Err(RunError::Image)),
-    (4_096, false, Err(RunError::Image)),
-    (8_191, false, Err(RunError::Image)),
-    (8_192, false, Ok(8_192)),
-    (8_193, false, Err(RunError::Image)),
-    (28_672, false, Ok(28_672)),
-    (32_768, false, Ok(32_768)),
-    (32_769, false, Err(RunError::Image)),
-    (1_000_000, false, Err(RunError::Image)),
-    (0, true, Err(RunError::Input)),
-    (1_000, true, Err(RunError::Input)),
-    (4_096, true, Err(RunError::Input)),
-    (8_192, true, Err(RunError::Input)),
-    (32_769, true, Err(RunError::Image)),
-];
+/// The length of an image, whether its reader `fails` after it, and the length of its flash, or the fault.
+const IMAGES: &str = "\
+0 ends: image
+4096 ends: image
+8191 ends: image
+8192 ends: 8192
+8193 ends: image
+28672 ends: 28672
+32768 ends: 32768
+32769 ends: image
+1000000 ends: image
+0 fails: input
+1000 fails: input
+4096 fails: input
+8192 fails: input
+32769 fails: image";
 
 #[test]
 fn the_lengths_of_images(rt: HostRuntime) {
-    for (length, fails, wanted) in IMAGES {
-        // As a pipe does, it gives less than is asked for.
-        let mut reader = Repeated {
-            byte: 255,
-            left: length,
-            most: 1000,
-            fails,
-        };
-        let found = image_flash(rt.alloc(), &mut reader).map(|flash| flash.image().len());
-        assert_eq!(rt; found, wanted, "of {length} bytes");
+    for row in IMAGES.lines() {
+        let (given, wanted) = row.split_once(": ").unwrap_or((row, ""));
+        let (length, end) = given.split_once(' ').unwrap_or((given, ""));
+        let length = length.parse::<usize>().unwrap_or(0);
+        let left = length.saturating_sub(32_769);
+        let told = read_image(rt.alloc(), length, end == "fails");
         // One byte more than the largest image has is the last that is read.
-        assert_eq!(rt; reader.left, length.saturating_sub(32_769));
+        assert_eq!(rt; told, (wanted_of(wanted), left), "{row}");
     }
 }
 
-/// The image that a device leaves.
-fn image_left(alloc: Global, run: Result<World, RunError>) -> Result<Vec<u8>, AllocError> {
-    match run {
-        Ok(world) => world.flash().image().to_vec(alloc),
-        Err(_) => Err(AllocError),
-    }
+/// The length of the flash of an image, or the fault, and how many bytes were not read. As a pipe does, its reader gives
+/// less than is asked for.
+fn read_image(alloc: Global, length: usize, fails: bool) -> (Result<usize, RunError>, usize) {
+    let mut reader = Repeated {
+        byte: 255,
+        left: length,
+        most: 1000,
+        fails,
+    };
+    let found = image_flash(alloc, &mut reader).map(|flash| flash.image().len());
+    (found, reader.left)
 }
 
-#[test]
-fn a_run_from_the_image_of_another(rt: HostRuntime) -> Result<(), Fail> {
-    let flash = blank_flash(rt.alloc(), 3).map_err(|_| "flash")?;
-    let mut printed = Vec::new(rt.alloc());
-    let mut first = b"set 0 0 0005\n".as_slice();
-    let run = run_on(rt.alloc(), flash, &mut first, &mut printed);
-    let image = image_left(rt.alloc(), run)?;
-    same(&rt, text_of(printed.as_slice()), "1 ack\n", "the first run");
-    assert_eq!(rt; image.len(), 12_288);
-    let flash = image_flash(rt.alloc(), &mut image.as_slice()).map_err(|_| "image")?;
-    let second = "entry 0 0\nslot 2 511\n";
-    prints_on(&rt, flash, second, Ok(()), "1 0005\n2 ffffffffffffffff\n");
-    Ok(())
+fn wanted_of(text: &str) -> Result<usize, RunError> {
+    match text {
+        "image" => Err(RunError::Image),
+        "input" => Err(RunError::Input),
+        _ => Ok(text.parse::<usize>().unwrap_or(0)),
+    }
 }
 
 #[test]
