@@ -1,7 +1,7 @@
 """Writes the device crates as one crate of plain Rust: `export-rust [--contracts] DIR`.
 
 What is exported is the text of the proved sources without what proofs alone read: ghost items, clauses, laws, the prover's
-attributes and impls. Paths are changed, since eleven crates become modules of one. `rules.py` says what is known; anything
+attributes and impls. Paths are changed, since the crates of the device and of its tests become modules of one. `rules.py` says what is known; anything
 else is refused with its file and line, and then nothing is written.
 """
 
@@ -30,7 +30,7 @@ class Export:
 
     def __init__(self, root, contracts=False, crates=None):
         self.root, self.contracts = root, contracts
-        self.crates = crates or rules.CRATES
+        self.crates = crates or rules.CRATES + rules.TEST_CRATES
         self.files = {}
         self.digests = {}
         self.owed = set()
@@ -44,7 +44,7 @@ class Export:
                 if name not in rules.STAND_INS and name not in rules.LIBRARIES and name not in self.crates:
                     self.faults.append(f"crates.txt: {crate} stands on {name}, which is not exported")
             neighbours = set(stands_on[crate]) & set(self.crates)
-            self.guarded(lambda: self.module(crate, "", neighbours, False))
+            self.guarded(lambda: self.module(crate, "", neighbours, crate in rules.TEST_CRATES))
         for crate, name in sorted(set(rules.OWED) - self.owed):
             self.faults.append(f"tools/export_rust/rules.py: OWED names {crate}::{name}, which has no condition")
         self.templates()
@@ -101,8 +101,9 @@ class Export:
 
 def declaration(crate):
     """A crate as a module. Contracts alone use some imports, and other crates than these some calls."""
+    condition = "#[cfg(test)]\n" if crate in rules.TEST_CRATES else ""
     visibility = "pub " if crate in rules.PUBLIC_CRATES else ""
-    return f"#[allow(dead_code, unused_imports)]\n{visibility}mod {crate};"
+    return f"{condition}#[allow(dead_code, unused_imports)]\n{visibility}mod {crate};"
 
 
 def has_code(text):

@@ -4,6 +4,9 @@
 CRATES = ["flash_model", "records", "page_turnover", "layers", "keymap_store", "debounce", "reports", "key_reports",
           "descriptor_build", "control_ep", "keyboard"]
 
+# The crates of their tests, lowest first, which are modules of tests alone.
+TEST_CRATES = ["row_text", "keymap_store_tests", "key_reports_tests", "keyboard_tests"]
+
 # Modules that a maker may use by themselves; the other crates become private modules.
 PUBLIC_CRATES = {"page_turnover", "debounce", "control_ep"}
 

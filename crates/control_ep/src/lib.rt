@@ -22,13 +22,9 @@ mod answer;
 mod data;
 mod endpoint;
 pub mod laws;
-#[cfg(test)]
-mod look_back_tests;
 mod packets;
 mod report;
 mod request;
-#[cfg(test)]
-mod tests;
 mod why;
 
 pub use answer::{DeviceView, Effect, EpAnswer, OutStep, Verdict};

@@ -14,11 +14,7 @@ ghost use Rattle.debounce.specs.Scans.{has, set_keys};
 pub mod debouncer;
 pub mod keys;
 pub mod laws;
-#[cfg(test)]
-mod plain;
 mod row;
-#[cfg(test)]
-mod tests;
 
 pub use debouncer::{Debouncer, Edges};
 pub use keys::Keys;

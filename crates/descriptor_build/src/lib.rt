@@ -16,8 +16,6 @@ ghost use Rattle.descriptor_build.specs.Items.{tag_of, data_of, size_bits, item_
 use arrayvec::ArrayVec;
 
 pub mod served;
-#[cfg(test)]
-mod tests;
 
 pub use served::{CONFIGURATION, DEVICE, HID, SERVED_REPORT, SERVED_REPORT_LEN, served_report};
 

@@ -17,11 +17,7 @@ ghost use Rattle.flash_model.specs.Operations.{Programs, MayProgram, Erases, May
 
 pub mod laws;
 pub mod masks;
-#[cfg(test)]
-mod rows;
 pub mod sim;
-#[cfg(test)]
-mod tests;
 
 pub use masks::Mask;
 pub use sim::{FlashError, SimFlash};

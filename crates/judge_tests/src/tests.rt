@@ -1,5 +1,6 @@
 //! Recorded runs, and what is judged of them.
 
 mod history;
+mod random;
 mod session;
 mod text;

@@ -3,4 +3,3 @@ pub mod Edges
 pub mod Standing
 pub mod Tabled
 pub mod Pressed
-pub mod PlainScans

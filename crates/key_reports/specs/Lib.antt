@@ -2,7 +2,6 @@ pub mod Calls
 pub mod Past
 pub mod Codes
 pub mod Tables
-pub mod Plain
 pub mod Value
 pub mod Stands
 pub mod Edges

@@ -7,15 +7,9 @@
 //! calls it at each scan and poll, with the keymap of its store.
 #![tactic(auto)]
 
-#[cfg(test)]
-mod histories;
 pub mod key_reports;
 mod keys;
 pub mod laws;
-#[cfg(test)]
-mod plain;
-#[cfg(test)]
-mod tests;
 
 pub use debounce::Scan;
 pub use key_reports::KeyReports;

@@ -16,13 +16,9 @@
 #![tactic(auto)]
 
 mod feature;
-#[cfg(test)]
-mod image_tests;
 mod keyboard;
 pub mod laws;
 mod room;
-#[cfg(test)]
-mod tests;
 
 pub use control_ep::{EpAnswer, Why};
 pub use flash_model::NorFlash;

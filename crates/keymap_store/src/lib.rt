@@ -7,17 +7,7 @@
 //! for it.
 #![tactic(auto)]
 
-#[cfg(test)]
-mod fault_tests;
 pub mod laws;
-#[cfg(test)]
-mod plain_image;
-#[cfg(test)]
-mod random_tests;
-#[cfg(test)]
-mod rows;
 mod store;
-#[cfg(test)]
-mod tests;
 
 pub use store::{Store, SubmitRefusal, Taken, Work};

@@ -7,4 +7,3 @@ pub mod EntryCodes
 pub mod BitSets
 pub mod HeldKeys
 pub mod NamedUsages
-pub mod PlainCodes

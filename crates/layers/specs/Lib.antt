@@ -7,5 +7,4 @@ pub mod Copies
 pub mod Held
 pub mod Usages
 pub mod HeldStands
-pub mod Calls
 pub mod Resolved

@@ -15,12 +15,6 @@ pub mod command;
 pub mod held;
 pub mod keymap;
 pub mod laws;
-#[cfg(test)]
-mod plain;
-#[cfg(test)]
-mod plain_held;
-#[cfg(test)]
-mod tests;
 pub mod usages;
 
 pub use code::{Code, KeyNo, KeymapError, LayerNo};

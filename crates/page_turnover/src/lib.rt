@@ -17,22 +17,10 @@
 
 mod block;
 mod header;
-#[cfg(test)]
-mod image_tests;
 pub mod laws;
 mod log;
 mod operation;
 mod reading;
-#[cfg(test)]
-mod rows;
-#[cfg(test)]
-mod step_tests;
-#[cfg(test)]
-mod test_flash;
-#[cfg(test)]
-mod tests;
-#[cfg(test)]
-mod torn_tests;
 mod words;
 
 pub use log::{Log, Step, TurnRefusal, Unsound};

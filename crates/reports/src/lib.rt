@@ -10,16 +10,12 @@
 use arrayvec::ArrayVec;
 
 pub mod bytes;
-#[cfg(test)]
-mod histories;
 pub mod laws;
 mod made;
 pub mod plain;
 pub mod poller;
 mod queue;
 mod sent;
-#[cfg(test)]
-mod tests;
 
 pub use bytes::{bitmap, boot, consumer};
 pub use poller::Poller;

@@ -1,10 +1,11 @@
 //! Sessions of a keyboard on a simulated flash, recorded and judged.
 
-use super::text::{good, mask_of, next};
+use super::text::mask_of;
 use arrayvec::ArrayVec;
 use flash_model::{Mask, NorFlash, SimFlash};
 use judge::session::{Recorded, cut_leaves, first_misstep, first_wrong};
 use keyboard::{EpAnswer, Keyboard, Report, Scan, Work};
+use row_text::good;
 use std::alloc::{AllocError, Global};
 use std::marker::Model;
 use std::process::Abort;

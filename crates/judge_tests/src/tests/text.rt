@@ -1,75 +1,10 @@
-//! What the tests of sessions and those of histories share: numbers, bytes and slots as lines tell them.
+//! What the tests of sessions and those of histories share: masks, reasons and slots as lines tell them.
 
-use arrayvec::ArrayVec;
+use control_ep::Why;
 use flash_model::{Mask, SimFlash};
-use keyboard::Scan;
+use row_text::{eight, two};
 use std::alloc::Global;
 use std::test::Fail;
-
-pub fn number(text: &str) -> Option<u16> {
-    text.parse::<u16>().ok()
-}
-
-/// Two numbers.
-pub fn two(text: &str) -> Option<(u16, u16)> {
-    let (first, second) = text.split_once(' ')?;
-    Some((number(first)?, number(second)?))
-}
-
-fn digit(byte: u8) -> Option<u8> {
-    match byte {
-        b'0'..=b'9' => Some(byte - b'0'),
-        b'a'..=b'f' => Some(byte - b'a' + 10),
-        _ => None,
-    }
-}
-
-/// The bytes of hex digits, two each; `-` stands for none.
-pub fn bytes(text: &str) -> Option<ArrayVec<u8, 32>> {
-    let mut found = ArrayVec::new();
-    let mut high = None;
-    let digits = if text == "-" { "" } else { text };
-    for byte in digits.bytes() {
-        let low = digit(byte)? % 16;
-        match high {
-            None => high = Some(low),
-            Some(first) => {
-                found.try_push(first % 16 * 16 + low).ok()?;
-                high = None;
-            }
-        }
-    }
-    if high.is_some() { None } else { Some(found) }
-}
-
-/// A packet of hex digits, at most eight bytes.
-pub fn packet(text: &str) -> Option<ArrayVec<u8, 8>> {
-    let mut found = ArrayVec::new();
-    found.try_extend_from_slice(bytes(text)?.as_slice()).ok()?;
-    Some(found)
-}
-
-/// Eight bytes of hex digits.
-pub fn eight(text: &str) -> Option<[u8; 8]> {
-    match bytes(text)?.as_slice() {
-        [a, b, c, d, e, f, g, h] => Some([*a, *b, *c, *d, *e, *f, *g, *h]),
-        _ => None,
-    }
-}
-
-/// The scan with these keys pressed.
-pub fn pressed(keys: &str) -> Option<Scan> {
-    let mut rows = [0; 6];
-    for word in keys.split_whitespace() {
-        let key = number(word)?;
-        let row = (key / 16) as usize;
-        if row >= 6 {
-            return None;
-        }
-        rows[row] |= 1 << (key % 16);
-    }
-    Some(Scan { rows })
-}
 
 /// A mask of these bytes.
 pub fn mask_of(bytes: &[u8]) -> Mask {
@@ -78,16 +13,16 @@ pub fn mask_of(bytes: &[u8]) -> Mask {
     mask
 }
 
-/// The next number of a fixed sequence.
-pub fn next(state: &mut u32) -> u32 {
-    *state = state.wrapping_mul(1_664_525).wrapping_add(1_013_904_223);
-    *state >> 8
-}
-
-/// A word beside its complement.
-pub fn good(word: u32) -> [u8; 8] {
-    let [a, b, c, d] = word.to_le_bytes();
-    [a, b, c, d, !a, !b, !c, !d]
+/// The reasons of a STALL that lines put in the place of others, by their numbers.
+pub fn reason(number: u16) -> Option<Why> {
+    match number {
+        5 => Some(Why::WrongLength),
+        9 => Some(Why::BadKey),
+        10 => Some(Why::BadCode),
+        13 => Some(Why::FlashFault),
+        16 => Some(Why::WrongStage),
+        _ => None,
+    }
 }
 
 /// A flash with other slots, if the text gives some.

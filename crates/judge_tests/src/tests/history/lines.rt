@@ -1,10 +1,13 @@
-//! Events and answers as lines of text.
+//! Events and answers as lines of text: `scans COUNT KEYS`, `setup BYTES`, `out BYTES`, `in`, `poll`, `fetch`, `work`,
+//! `works COUNT`, `workfault MASK`, `cut`, `cutwork MASK`, `reset`, `leds`, `entry LAYER KEY`, `slot PAGE SLOT`; answers
+//! are the words in `answer_of`.
 
-use super::super::text::{bytes, eight, mask_of, number, packet, pressed, two};
+use super::super::text::{mask_of, reason};
 use super::*;
-use control_ep::Why;
 use host::{Host, Reading};
+use keyboard::Scan;
 use layers::{Code, KeyNo, LayerNo};
+use row_text::{byte, bytes, eight, half, number, pressed, two};
 use world::Work;
 
 /// The events of a line; none of an empty one.
@@ -30,15 +33,17 @@ pub fn events(alloc: Global, line: &str) -> Result<Vec<Event>, Fail> {
 
 fn event_of(word: &str, rest: &str) -> Option<Event> {
     let event = match word {
-        "scans" => Event::Scan(pressed(rest)?),
+        "scans" => Event::Scan(Scan {
+            rows: pressed(rest)?,
+        }),
         "setup" => Event::Setup(eight(rest)?),
-        "out" => Event::OutPacket(packet(rest)?),
+        "out" => Event::OutPacket(bytes(rest)?),
         "in" | "fetch" => Event::InPacket,
         "poll" => Event::Poll,
         "work" | "works" => Event::Work,
-        "workfault" => Event::WorkFault(mask_of(bytes(rest)?.as_slice())),
+        "workfault" => Event::WorkFault(mask_of(bytes::<32>(rest)?.as_slice())),
         "cut" => Event::Cut,
-        "cutwork" => Event::CutInWork(mask_of(bytes(rest)?.as_slice())),
+        "cutwork" => Event::CutInWork(mask_of(bytes::<32>(rest)?.as_slice())),
         "reset" => Event::BusReset,
         "leds" => Event::Leds,
         "entry" => return entry(rest),
@@ -61,18 +66,6 @@ fn entry(rest: &str) -> Option<Event> {
     Some(Event::Entry(layer, key))
 }
 
-/// The reasons of a STALL that lines name, by their numbers.
-fn reason(number: u16) -> Option<Why> {
-    match number {
-        5 => Some(Why::WrongLength),
-        9 => Some(Why::BadKey),
-        10 => Some(Why::BadCode),
-        13 => Some(Why::FlashFault),
-        16 => Some(Why::WrongStage),
-        _ => None,
-    }
-}
-
 /// An answer, as a line tells it.
 pub fn answer_of(alloc: Global, told: &str) -> Option<Answer> {
     let (word, rest) = told.split_once(' ').unwrap_or((told, ""));
@@ -80,7 +73,7 @@ pub fn answer_of(alloc: Global, told: &str) -> Option<Answer> {
         "done" => Answer::Done,
         "ack" => Answer::Ack,
         "nak" => Answer::Nak,
-        "data" => Answer::Packet(packet(rest)?),
+        "data" => Answer::Packet(bytes(rest)?),
         "stall" => Answer::Stall(reason(number(rest)?)?),
         "report" => {
             let (report, read) = rest.split_once(" read").unwrap_or((rest, "-"));
@@ -97,16 +90,13 @@ pub fn answer_of(alloc: Global, told: &str) -> Option<Answer> {
         "code" => Answer::EntryIs(code_of(rest)?),
         "bytes" => Answer::SlotIs(eight(rest)?),
         "none" => Answer::NoSlot,
-        "leds" => Answer::LedsAre(*bytes(rest)?.first()?),
+        "leds" => Answer::LedsAre(byte(rest)?),
         _ => return None,
     })
 }
 
 fn code_of(text: &str) -> Option<Code> {
-    match bytes(text)?.as_slice() {
-        [high, low] => Code::read(u16::from_be_bytes([*high, *low])).ok(),
-        _ => None,
-    }
+    Code::read(half(text)?).ok()
 }
 
 /// A reading: `-` is none at all, `?` that memory was refused, and hex digits are those of a boot report
@@ -115,6 +105,6 @@ fn reading_of(alloc: Global, text: &str) -> Option<Reading> {
     Some(match text.trim() {
         "-" => Reading::Unread,
         "?" => Reading::NoMemory,
-        hex => Host::new(alloc).read(keyboard::Protocol::Boot, bytes(hex)?.as_slice()),
+        hex => Host::new(alloc).read(keyboard::Protocol::Boot, bytes::<32>(hex)?.as_slice()),
     })
 }

@@ -2,10 +2,12 @@
 
 ghost use Rattle.std.specs.Prelude.{◌<◌};
 
-use super::super::text::{good, mask_of, next};
+use super::super::random::{mask, next, packet, scan, setup};
+use super::super::text::mask_of;
 use super::*;
 use layers::{KeyNo, LayerNo};
-use world::{Reading, Scan, Work};
+use row_text::good;
+use world::{Reading, Work};
 
 /// How many events each test takes, how many lists of them a history has, and how many histories there
 /// are at most.
@@ -14,99 +16,6 @@ const EVENTS: usize = 20_000;
 const LISTS: usize = 14;
 
 const HISTORIES: usize = 400;
-
-/// A mask: of all bits, of none, or of some, of up to eight bytes.
-fn mask(state: &mut u32) -> Mask {
-    let [a, b, c, _] = next(state).to_le_bytes();
-    match a % 8 {
-        0 => mask_of(&[0xFF]),
-        1 => mask_of(&[0x00]),
-        2 => mask_of(&[]),
-        3 | 4 => mask_of(&[a, b, c, a, b, c, 0xFF, b]),
-        _ => mask_of(&[b]),
-    }
-}
-
-/// A scan of some of nine keys, two of which are modifiers by default.
-fn scan(state: &mut u32) -> Scan {
-    let held = next(state);
-    let rows = if held % 8 == 0 {
-        // Seven keys and more.
-        [0x00FF, 0, 0, 0, 0, 0x8000]
-    } else if held % 8 == 1 {
-        [0; 6]
-    } else {
-        let [_, low, high, _] = held.to_le_bytes();
-        [
-            u16::from(low % 64),
-            0,
-            0,
-            0,
-            0,
-            u16::from(high % 2) * 0x8000,
-        ]
-    };
-    Scan { rows }
-}
-
-/// SETUP packets that are served: bmRequestType, bRequest, wValue, wLength.
-fn served(place: u32) -> (u8, u8, u16, u8) {
-    match place % 18 {
-        0 => (0x80, 0x06, 0x0100, 18),
-        1 => (0x80, 0x06, 0x0200, 255),
-        2 => (0x81, 0x06, 0x2100, 9),
-        3 => (0x81, 0x06, 0x2200, 99),
-        4 => (0xA1, 0x01, 0x0101, 23),
-        5 => (0xA1, 0x01, 0x0102, 9),
-        6 => (0xA1, 0x01, 0x0201, 2),
-        7 => (0xA1, 0x01, 0x0303, 6),
-        8 => (0xA1, 0x01, 0x0100, 8),
-        9 => (0xA1, 0x01, 0x0200, 1),
-        10 => (0xA1, 0x02, 0x0000, 1),
-        11 => (0xA1, 0x02, 0x0002, 1),
-        12 => (0xA1, 0x03, 0x0000, 1),
-        13 => (0x21, 0x0A, 0x0100, 0),
-        14 => (0x21, 0x0A, 0x0201, 0),
-        15 => (0x21, 0x0A, 0x0002, 0),
-        16 => (0x21, 0x0B, 0x0000, 0),
-        _ => (0x21, 0x0B, 0x0001, 0),
-    }
-}
-
-/// A SETUP packet: mostly one that is served, else nearly one, or any.
-fn setup(state: &mut u32) -> [u8; 8] {
-    let [a, b, c, _] = next(state).to_le_bytes();
-    let (kind, code, value, length) = served(next(state));
-    let [low, high] = value.to_le_bytes();
-    let mut setup = [kind, code, low, high, 0, 0, length, 0];
-    match b % 16 {
-        0 => setup[usize::from(c % 8)] = b / 16,
-        1 => setup[usize::from(c % 8)] = c,
-        2 => setup = [a, b, c, a, b, c, a, b],
-        _ => {}
-    }
-    setup
-}
-
-/// The OUT packet of a feature report: mostly a command that sets one of eight keys.
-fn feature(state: &mut u32) -> ArrayVec<u8, 8> {
-    let [a, b, c, _] = next(state).to_le_bytes();
-    let mut packet = ArrayVec::from([0x03, 0x01, b % 2, b / 2 % 4, c % 16, 0x00, 0x00, 0x00]);
-    let mut length = 6;
-    match a % 32 {
-        0 => length = usize::from(c % 9),
-        1 => packet = ArrayVec::from([0x03, 0x00, b % 5, c % 128, 0, 0, 0, 0]),
-        2 => packet = ArrayVec::from([0x03, 0x02, b % 5, 0, 0, 0, 0, 0]),
-        3 => packet = ArrayVec::from([0x03, 0x03, 0, 0, 0, 0, 0, 0]),
-        4 => packet = ArrayVec::from([0x03, b % 5, b, c, a, b, 0, 0]),
-        5 => packet = ArrayVec::from([a, b, c, a, b, c, a, b]),
-        6..=11 => packet = ArrayVec::from([0x03, 0x01, 0, b % 6, c, 0x40, 0, 0]),
-        12..=14 => packet = ArrayVec::from([0x03, 0x01, 0, b % 6, c % 4, 0x50, 0, 0]),
-        _ => {}
-    }
-    packet.truncate(length);
-    packet
-}
 
 /// So many IN tokens.
 fn ins(events: &mut Vec<Event>, count: u32) -> Result<(), Fail> {
@@ -161,7 +70,7 @@ fn works(events: &mut Vec<Event>, state: &mut u32) -> Result<(), Fail> {
 /// A command, and steps of its work.
 fn command(events: &mut Vec<Event>, state: &mut u32) -> Result<(), Fail> {
     events.push(Event::Setup([0x21, 9, 3, 3, 0, 0, 6, 0]))?;
-    events.push(Event::OutPacket(feature(state)))?;
+    events.push(Event::OutPacket(packet(state)))?;
     works(events, state)?;
     events.push(Event::InPacket)?;
     Ok(())
@@ -239,7 +148,7 @@ fn look(events: &mut Vec<Event>, state: &mut u32) -> Result<(), Fail> {
 /// A packet that belongs to nothing.
 fn stray(events: &mut Vec<Event>, state: &mut u32) -> Result<(), Fail> {
     events.push(match next(state) % 4 {
-        0 => Event::OutPacket(feature(state)),
+        0 => Event::OutPacket(packet(state)),
         1 => Event::Setup(setup(state)),
         2 => Event::InPacket,
         _ => Event::Work,

@@ -1,8 +1,8 @@
 //! Many short sessions with calls of every kind: each call is judged right.
 
-ghost use Rattle.std.specs.Prelude.{◌<◌};
-
+use super::super::random::{mask, next, packet, scan, setup};
 use super::*;
+use row_text::good;
 
 /// How many flashes of so many pages there are, how many sessions each has, and how many calls a session.
 const FLASHES: u32 = 20;
@@ -10,92 +10,6 @@ const FLASHES: u32 = 20;
 const SESSIONS: u32 = 100;
 
 const CALLS: u32 = 25;
-
-/// SETUP packets that are served: bmRequestType, bRequest, wValue, wLength.
-const SERVED: [(u8, u8, u16, u8); 24] = [
-    (0x80, 0x06, 0x0100, 18),
-    (0x80, 0x06, 0x0200, 255),
-    (0x81, 0x06, 0x2100, 9),
-    (0x81, 0x06, 0x2200, 99),
-    (0xA1, 0x01, 0x0101, 23),
-    (0xA1, 0x01, 0x0102, 9),
-    (0xA1, 0x01, 0x0201, 2),
-    (0xA1, 0x01, 0x0303, 6),
-    (0xA1, 0x01, 0x0303, 6),
-    (0xA1, 0x01, 0x0100, 9),
-    (0xA1, 0x01, 0x0200, 1),
-    (0xA1, 0x02, 0x0000, 1),
-    (0xA1, 0x02, 0x0002, 1),
-    (0xA1, 0x03, 0x0000, 1),
-    (0x21, 0x09, 0x0201, 2),
-    (0x21, 0x09, 0x0200, 1),
-    (0x21, 0x09, 0x0303, 6),
-    (0x21, 0x09, 0x0303, 6),
-    (0x21, 0x09, 0x0303, 6),
-    (0x21, 0x0A, 0x0100, 0),
-    (0x21, 0x0A, 0x0301, 0),
-    (0x21, 0x0A, 0x0202, 0),
-    (0x21, 0x0B, 0x0000, 0),
-    (0x21, 0x0B, 0x0001, 0),
-];
-
-/// A SETUP packet: mostly one that is served, else nearly one, or any.
-fn setup(state: &mut u32) -> [u8; 8] {
-    let [a, b, c, _] = next(state).to_le_bytes();
-    let (kind, code, value, length) = SERVED[usize::from(a % 24)];
-    let [low, high] = value.to_le_bytes();
-    let mut setup = [kind, code, low, high, 0, 0, length, 0];
-    match b % 16 {
-        0 => setup[usize::from(c % 8)] = b / 16,
-        1 => setup[usize::from(c % 8)] = c,
-        2 => setup = [a, b, c, a, b, c, a, b],
-        _ => {}
-    }
-    setup
-}
-
-/// An OUT packet: mostly a feature report, or LEDs, else any.
-fn packet(state: &mut u32) -> ArrayVec<u8, 8> {
-    let [a, b, c, _] = next(state).to_le_bytes();
-    let mut packet = ArrayVec::from([0x03, 0x01, b % 2, b / 2 % 4, c % 16, 0x00, 0x00, 0x00]);
-    let mut length = 6;
-    match a % 16 {
-        0 => length = 0,
-        1 | 2 => {
-            packet = ArrayVec::from([0x01, b, 0, 0, 0, 0, 0, 0]);
-            length = 1 + usize::from(c % 2);
-        }
-        3 => packet = ArrayVec::from([0x03, 0x00, b % 5, c % 128, 0, 0, 0, 0]),
-        4 => packet = ArrayVec::from([0x03, 0x02, b % 5, 0, 0, 0, 0, 0]),
-        5 => packet = ArrayVec::from([0x03, 0x03, 0, 0, 0, 0, 0, 0]),
-        6 => packet = ArrayVec::from([0x03, 0x01, 0, b % 4, c, 0x40, 0, 0]),
-        7 => packet = ArrayVec::from([a / 16, b, c, a, b, c, a, b]),
-        8 => length = usize::from(c % 9),
-        _ => {}
-    }
-    packet.truncate(length);
-    packet
-}
-
-/// A scan of some of three keys.
-fn scan(state: &mut u32) -> Scan {
-    let held = next(state);
-    Scan::NONE
-        .with(0, held % 2 == 0)
-        .with(1, held / 2 % 4 == 0)
-        .with(2, held / 8 % 2 == 0)
-}
-
-/// A mask of one or eight bytes.
-fn mask(state: &mut u32) -> Mask {
-    let [a, b, c, _] = next(state).to_le_bytes();
-    match a % 4 {
-        0 => mask_of(&[0x00]),
-        1 => mask_of(&[0xff]),
-        2 => mask_of(&[a, b, c, a, b, c, 0xff, b]),
-        _ => mask_of(&[b]),
-    }
-}
 
 /// Makes a call. Commands and the flash work come more often than the others.
 fn call(rig: &mut Rig, alloc: Global, state: &mut u32) -> Result<(), Fail> {

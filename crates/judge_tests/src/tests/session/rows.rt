@@ -1,8 +1,11 @@
-//! Sessions line by line: what the keyboard answers is what a line says, and is judged right.
+//! Sessions line by line: what the keyboard answers is what a line says, and is judged right. `setup BYTES`, `out BYTES`,
+//! `in`, `scans COUNT KEYS`, `poll`, `work MASK` and `reset` are calls, and what stands behind ` = ` is the answer: `ack`,
+//! `nak`, `data BYTES`, `stall NUMBER`, the bytes of a report, or `idle`, `working`, `settled`, `failed`. `cut` cuts the
+//! power, `cut in work MASK` inside a step.
 
-use super::super::text::{bytes, eight, number, packet, pressed};
+use super::super::text::reason;
 use super::*;
-use control_ep::Why;
+use row_text::{bytes, eight, number, pressed};
 
 impl Rig {
     /// Takes each of these lines.
@@ -22,7 +25,7 @@ impl Rig {
         }
         if let Some(mask) = ask.strip_prefix("cut in work ") {
             expect_judged(rt, self.judged(alloc)?, None, line);
-            let mask = bytes(mask).ok_or("a mask")?;
+            let mask = bytes::<32>(mask).ok_or("a mask")?;
             let may_leave = self.cut_in_work(alloc, mask.as_slice())?;
             assert!(rt; may_leave, "{line} leaves what no cut may leave");
             return Ok(());
@@ -39,11 +42,11 @@ impl Rig {
     fn ask(&mut self, alloc: Global, word: &str, rest: &str) -> Result<(), Fail> {
         match word {
             "setup" => self.setup(eight(rest).ok_or("eight bytes")?),
-            "out" => self.out(bytes(rest).ok_or("a packet")?.as_slice()),
+            "out" => self.out(bytes::<32>(rest).ok_or("a packet")?.as_slice()),
             "in" => self.in_packet(),
             "scans" => self.scans(rest),
             "poll" => self.poll(),
-            "work" => self.work(alloc, bytes(rest).ok_or("a mask")?.as_slice()),
+            "work" => self.work(alloc, bytes::<32>(rest).ok_or("a mask")?.as_slice()),
             "reset" => self.reset(),
             "" => Ok(()),
             _ => None.ok_or("a word that is none")?,
@@ -53,9 +56,9 @@ impl Rig {
     /// So many scans with these keys.
     fn scans(&mut self, rest: &str) -> Result<(), Fail> {
         let (times, keys) = rest.split_once(' ').unwrap_or((rest, ""));
-        let scan = pressed(keys).ok_or("keys")?;
+        let rows = pressed(keys).ok_or("keys")?;
         for _ in 0..number(times).ok_or("a count")? {
-            self.scan(scan)?;
+            self.scan(Scan { rows })?;
         }
         Ok(())
     }
@@ -86,8 +89,13 @@ pub fn expect_judged(rt: &impl Abort, found: Option<usize>, wanted: Option<usize
     assert_eq!(rt; found, wanted, "the first wrong call after: {line}");
 }
 
-/// Compares an answer of endpoint 0 with what a line tells; what no line can tell is none.
+/// Compares an answer of endpoint 0 with what a line tells, the reason of a STALL by its number.
 fn expect_answer(rt: &impl Abort, answer: &EpAnswer, told: &str, line: &str) {
+    if let EpAnswer::Stall(why) = answer {
+        let wanted = told.strip_prefix("stall ").unwrap_or("");
+        assert_eq!(rt; Some(u16::from(why.number())), number(wanted), "{line}");
+        return;
+    }
     let wanted = answer_of(told);
     assert_eq!(rt; Some(answer), wanted.as_ref(), "{line}");
 }
@@ -115,35 +123,12 @@ pub fn work_of(told: &str) -> Option<Work> {
     }
 }
 
-/// The reasons of a STALL by their numbers, from 1 on.
-const REASONS: [Why; 16] = [
-    Why::UnknownRequest,
-    Why::WrongInterface,
-    Why::UnknownDescriptor,
-    Why::UnknownReport,
-    Why::WrongLength,
-    Why::BadProtocol,
-    Why::BadOperation,
-    Why::BadLayer,
-    Why::BadKey,
-    Why::BadCode,
-    Why::Unsound,
-    Why::Worn,
-    Why::FlashFault,
-    Why::ShortData,
-    Why::LongData,
-    Why::WrongStage,
-];
-
 /// An answer of endpoint 0, as a line tells it.
 pub fn answer_of(told: &str) -> Option<EpAnswer> {
     let (word, rest) = told.split_once(' ').unwrap_or((told, ""));
     Some(match word {
-        "data" => EpAnswer::Packet(packet(rest)?),
-        "stall" => {
-            let place = usize::from(number(rest)?).checked_sub(1)?;
-            EpAnswer::Stall(*REASONS.get(place)?)
-        }
+        "data" => EpAnswer::Packet(bytes(rest)?),
+        "stall" => EpAnswer::Stall(reason(number(rest)?)?),
         "ack" => EpAnswer::Ack,
         "nak" => EpAnswer::Nak,
         _ => return None,

@@ -1,5 +1,6 @@
 //! Each step of a command's flash work, torn with each of some masks, by a fault and by a cut.
 
+use super::super::random::next;
 use super::super::text::with_slots;
 use super::*;
 use judge::session::{cut_leaves, is_next_step, passes};

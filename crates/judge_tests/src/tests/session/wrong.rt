@@ -1,8 +1,9 @@
 //! Sessions that the definitions refuse: each is a right one with its last call changed.
 
-use super::super::text::{bytes, with_slots};
+use super::super::text::with_slots;
 use super::rows::{answer_of, expect_judged, work_of};
 use super::*;
+use row_text::bytes;
 
 /// On a blank flash of two pages each: the way there, and the last call with what it was answered
 /// instead; then maybe, after `with`, one or two slots of the flash after it that were changed: page,

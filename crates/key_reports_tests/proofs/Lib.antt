@@ -1,0 +1,2 @@
+pub mod PlainCodes
+pub mod PlainScans

@@ -1,0 +1,212 @@
+//! Bounces of every length, presses and releases in one scan, the keys of scans, the planes, and the
+//! debouncer beside the plain definition.
+
+use super::text::Random;
+use debounce::{Debouncer, Scan};
+use std::process::Abort;
+
+mod plain;
+
+const NONE: Scan = Scan { rows: [0; 6] };
+
+const KEY_0: Scan = Scan {
+    rows: [1, 0, 0, 0, 0, 0],
+};
+
+const KEY_95: Scan = Scan {
+    rows: [0, 0, 0, 0, 0, 0x8000],
+};
+
+#[test]
+fn a_scan_has_its_bits(rt: HostRuntime) {
+    let scan = Scan {
+        rows: [0x8001, 0, 0x0010, 0, 0, 0x8000],
+    };
+    for key in 0..96u8 {
+        let wanted = key == 0 || key == 15 || key == 36 || key == 95;
+        assert_eq!(rt; scan.has(key), wanted, "at key {key}");
+    }
+}
+
+/// The keys of a scan, in the order in which the iterator gives them.
+fn assert_keys(rt: &impl Abort, scan: Scan, wanted: &[u8]) {
+    let mut count = 0;
+    for key in scan.keys() {
+        assert_eq!(rt; wanted.get(count), Some(&key), "place {count}");
+        count = count.saturating_add(1);
+    }
+    assert_eq!(rt; count, wanted.len());
+}
+
+/// The keys that the iterator gives are set, and those between them are not.
+fn assert_keys_are_set(rt: &impl Abort, scan: Scan) {
+    let mut next = 0u8;
+    for key in scan.keys() {
+        assert!(rt; next <= key && key < 96);
+        for between in next..key {
+            assert!(rt; !scan.has(between), "key {between}");
+        }
+        assert!(rt; scan.has(key), "key {key}");
+        next = key + 1;
+    }
+    for between in next..96 {
+        assert!(rt; !scan.has(between), "key {between}");
+    }
+}
+
+#[test]
+fn the_keys_of_a_scan_rise(rt: HostRuntime) {
+    assert_keys(&rt, NONE, &[]);
+    assert_keys(&rt, KEY_95, &[95]);
+    let corners = Scan {
+        rows: [0x8001, 0, 0, 0, 0, 0x8000],
+    };
+    assert_keys(&rt, corners, &[0, 15, 95]);
+    let all = Scan { rows: [0xFFFF; 6] };
+    let mut numbers = [0; 96];
+    for (key, number) in (0..96u8).zip(numbers.iter_mut()) {
+        *number = key;
+    }
+    assert_keys(&rt, all, &numbers);
+}
+
+#[test]
+fn the_planes_count_to_five(rt: HostRuntime) {
+    let mut keys = Debouncer::new();
+    assert_eq!(rt; *keys.planes(), [[0; 6]; 3]);
+    for _ in 0..3 {
+        let _ = keys.feed(NONE);
+    }
+    let _ = keys.feed(KEY_0);
+    assert_eq!(rt;
+        *keys.planes(),
+        [
+            [0x0001, 0, 0, 0, 0, 0],
+            [0x0000; 6],
+            [0xFFFE, 0xFFFF, 0xFFFF, 0xFFFF, 0xFFFF, 0xFFFF],
+        ]
+    );
+    // Five and more are five.
+    for _ in 0..9 {
+        let _ = keys.feed(KEY_0);
+    }
+    assert_eq!(rt; *keys.planes(), [[0xFFFF; 6], [0x0000; 6], [0xFFFF; 6]]);
+}
+
+// Four samples, one that differs, four more: no run of five. The fifth in a row presses.
+#[test]
+fn five_in_a_row_press(rt: HostRuntime) {
+    let mut keys = Debouncer::new();
+    for _ in 0..4 {
+        assert_eq!(rt; keys.feed(KEY_0).pressed, NONE);
+    }
+    assert_eq!(rt; keys.feed(NONE).pressed, NONE);
+    for _ in 0..4 {
+        assert_eq!(rt; keys.feed(KEY_0).pressed, NONE);
+    }
+    assert!(rt; !keys.is_down(0));
+    let edges = keys.feed(KEY_0);
+    assert_eq!(rt; edges.pressed, KEY_0);
+    assert_eq!(rt; edges.released, NONE);
+    assert!(rt; keys.is_down(0));
+    assert!(rt; !keys.is_down(1));
+}
+
+#[test]
+fn only_a_bounce_of_five_samples_or_more_counts(rt: HostRuntime) {
+    for length in 1..=9u8 {
+        let mut keys = Debouncer::new();
+        for k in 1..=length {
+            let pressed = if k == 5 { KEY_0 } else { NONE };
+            assert_eq!(rt; keys.feed(KEY_0).pressed, pressed, "sample {k} of {length}");
+        }
+        for k in 1..=9u8 {
+            let released = if k == 5 && length >= 5 { KEY_0 } else { NONE };
+            assert_eq!(rt;
+                keys.feed(NONE).released,
+                released,
+                "sample {k} after {length}"
+            );
+        }
+    }
+}
+
+#[test]
+fn one_scan_presses_and_releases(rt: HostRuntime) {
+    let mut keys = Debouncer::new();
+    for _ in 0..9 {
+        let _ = keys.feed(KEY_0);
+    }
+    for _ in 0..4 {
+        let _ = keys.feed(KEY_95);
+    }
+    let edges = keys.feed(KEY_95);
+    assert_eq!(rt; edges.released, KEY_0);
+    assert_eq!(rt; edges.pressed, KEY_95);
+    assert!(rt; keys.is_down(95));
+}
+
+const SCANS: usize = 80;
+
+/// Each key of this row holds each value for one to nine scans.
+fn row_of(random: &mut Random, old: u16, left: &mut [u8; 16]) -> u16 {
+    let mut row = old;
+    for (bit, scans) in left.iter_mut().enumerate() {
+        if *scans == 0 {
+            *scans = random.below(9) as u8;
+            row ^= 1 << bit;
+        } else {
+            *scans -= 1;
+        }
+    }
+    row
+}
+
+fn compare(rt: &impl Abort, seed: u64) {
+    let mut random = Random(seed);
+    let mut keys = Debouncer::new();
+    let mut left = [[0u8; 16]; 6];
+    let mut scan = NONE;
+    let mut past = [[false; SCANS]; 96];
+    for later in (0..SCANS).rev() {
+        let old = scan;
+        for r in 0..6usize {
+            scan.rows[r] = row_of(&mut random, old.rows[r], &mut left[r]);
+        }
+        let edges = keys.feed(scan);
+        for key in 0..96u8 {
+            let samples = &mut past[key as usize];
+            samples[later] = scan.has(key);
+            let before = plain::debounced(&samples[later + 1..]);
+            let now = plain::debounced(&samples[later..]);
+            assert_eq!(rt; keys.is_down(key), now, "key {key}, seed {seed}");
+            assert_eq!(rt;
+                edges.pressed.has(key),
+                now && !before,
+                "key {key}, seed {seed}"
+            );
+            assert_eq!(rt;
+                edges.released.has(key),
+                before && !now,
+                "key {key}, seed {seed}"
+            );
+            let count = plain::equal_latest(&samples[later..]);
+            for (bit, plane) in keys.planes().iter().enumerate() {
+                let word = plane[key as usize / 16];
+                assert_eq!(rt;
+                    (word >> (key % 16)) & 1,
+                    ((count >> (bit % 8)) & 1) as u16,
+                    "plane {bit}, key {key}, seed {seed}"
+                );
+            }
+        }
+        assert_keys_are_set(rt, scan);
+    }
+}
+
+#[test]
+fn the_debouncer_is_the_definition(rt: HostRuntime) {
+    for seed in 1..=20 {
+        compare(&rt, seed);
+    }
+}

@@ -1,0 +1,8 @@
+//! The tests of [`flash_model`], [`records`], [`page_turnover`] and [`keymap_store`]: rows over flashes, logs and
+//! stores, whole, torn and cut, beside what is told of them, and images beside a plain reading.
+//!
+//! They stand apart from the four crates, since a crate with tests is proved twice, and call what a maker calls.
+#![tactic(auto)]
+
+#[cfg(test)]
+mod tests;

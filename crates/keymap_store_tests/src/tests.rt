@@ -1,0 +1,9 @@
+//! What a flash does (`flash`, of `flash_model`), slots hold (`kinds`, of `records`), a log does (`logs`, of
+//! `page_turnover`) and a store does (`store`, of `keymap_store`); `slots` and `text` are what they share.
+
+mod flash;
+mod kinds;
+mod logs;
+mod slots;
+mod store;
+mod text;
