@@ -12,7 +12,8 @@ pub trait FlashController {
     fn read(&self, address: usize) -> u8;
 
     /// Clears the bits of eight bytes that are clear in `bytes`, and touches no other byte. Answers whether the
-    /// controller reported no fault. The eight bytes were erased before, and not written since.
+    /// controller reported no fault. The eight bytes read as FFh: erased, and since then at most programmed by a torn call
+    /// that left every bit set.
     fn program(&mut self, address: usize, bytes: [u8; SLOT_BYTES]) -> bool;
 
     /// Sets every bit of the 4,096 bytes from here on, and answers whether the controller reported no fault.

@@ -9,8 +9,8 @@
 //!
 //! [`Keyboard`] is the device. Each call is one event: a scan of the matrix, a packet of endpoint 0, a poll of
 //! endpoint 1, a step of the flash work, a bus reset. It takes no memory and never waits. One condition is on its
-//! caller: [`Keyboard::work`] and [`Keyboard::restart`] are lent the flash that the keyboard started on, and nobody
-//! else writes it. Keep the two in one struct.
+//! caller: [`Keyboard::work`] is lent the flash that the keyboard last started or restarted on, and nobody else writes
+//! it. Keep the two in one struct.
 //!
 //! [`page_turnover`], [`debounce`] and [`control_ep`] can be used by themselves.
 //!
