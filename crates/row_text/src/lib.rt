@@ -23,7 +23,7 @@ pub fn hex(text: &str) -> Option<u32> {
 }
 
 /// A number of hex digits, of 16 bits.
-pub fn half(text: &str) -> Option<u16> {
+pub fn hex16(text: &str) -> Option<u16> {
     u16::from_str_radix(text, 16).ok()
 }
 

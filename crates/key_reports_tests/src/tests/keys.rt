@@ -19,7 +19,7 @@ use super::text::{Told, answer_of, id, of_bytes, protocol, sent};
 use debounce::Scan;
 use key_reports::{IdleId, KeyReports, Protocol, Report};
 use layers::{Command, Keymap};
-use row_text::{byte, half, number, pressed};
+use row_text::{byte, hex16, number, pressed};
 use std::alloc::{AllocError, Global};
 use std::process::Abort;
 
@@ -71,7 +71,7 @@ impl Device {
             "bitmap" => return Some(of_bytes(&self.keys.bitmap())),
             "consumer" => return Some(of_bytes(&self.keys.consumer())),
             "usage" => return Some(yes(self.keys.usages().has_key(byte(rest)?))),
-            "consumes" => return Some(yes(self.keys.usages().has_consumer(half(rest)?))),
+            "consumes" => return Some(yes(self.keys.usages().has_consumer(hex16(rest)?))),
             "idle" => return Some(of_bytes(&[self.keys.idle(id(rest)?)])),
             "set" => return self.set(rest),
             "forget" => self.keys.forget_sent(),
@@ -110,7 +110,7 @@ fn command(text: &str) -> Option<Command> {
     let (key, code) = rest.split_once(' ')?;
     let layer = u8::try_from(number(layer)?).ok()?;
     let key = u8::try_from(number(key)?).ok()?;
-    Command::read(1, layer, key, half(code)?).ok()
+    Command::read(1, layer, key, hex16(code)?).ok()
 }
 
 fn yes(is: bool) -> Told {

@@ -18,7 +18,7 @@
 use super::text::{Told, answer_of, id, of_bytes, protocol, sent};
 use layers::{Command, Held, KeyNo, Keymap, Usages};
 use reports::{IdleId, Poller, Protocol, Report, bitmap, boot, consumer};
-use row_text::{byte, half, number};
+use row_text::{byte, hex16, number};
 use std::alloc::{AllocError, Global};
 use std::process::Abort;
 
@@ -148,7 +148,7 @@ fn keys(text: &str) -> Option<Usages> {
     let mut codes: [u16; 16] = [0; 16];
     let mut count = 0usize;
     for word in text.split(' ') {
-        *codes.get_mut(count)? = half(word)?;
+        *codes.get_mut(count)? = hex16(word)?;
         count = count.wrapping_add(1);
     }
     usages(codes.get(..count)?)

@@ -6,7 +6,9 @@ mod kernels;
 
 const FREE: [u8; 8] = [0xff; 8];
 
-const HEADER: [u8; 8] = [0x01, 0x00, 0x00, 0x10, 0xfe, 0xff, 0xff, 0xef];
+const HEADER: [u8; 8] = [0x01, 0x00, 0x00, 0x20, 0xfe, 0xff, 0xff, 0xdf];
+
+const OLD_HEADER: [u8; 8] = [0x01, 0x00, 0x00, 0x10, 0xfe, 0xff, 0xff, 0xef];
 
 const LAST_HEADER: [u8; 8] = [0xff, 0xff, 0xff, 0x1f, 0x00, 0x00, 0x00, 0xe0];
 
@@ -22,7 +24,8 @@ const ZEROS: [u8; 8] = [0x00; 8];
 
 #[test]
 fn a_word_stands_before_its_complement(rt: HostRuntime) {
-    assert_eq!(rt; encode(0x1000_0001), HEADER);
+    assert_eq!(rt; encode(0x2000_0001), HEADER);
+    assert_eq!(rt; encode(0x1000_0001), OLD_HEADER);
     assert_eq!(rt; encode(0x1fff_ffff), LAST_HEADER);
     assert_eq!(rt; encode(0x1000_0005), RECORD);
     assert_eq!(rt;
@@ -33,7 +36,7 @@ fn a_word_stands_before_its_complement(rt: HostRuntime) {
 
 #[test]
 fn whole_slots_are_good(rt: HostRuntime) {
-    assert_eq!(rt; classify(HEADER), Slot::Good(0x1000_0001));
+    assert_eq!(rt; classify(OLD_HEADER), Slot::Good(0x1000_0001));
     assert_eq!(rt; classify(LAST_HEADER), Slot::Good(0x1fff_ffff));
     assert_eq!(rt; classify(RECORD), Slot::Good(0x1000_0005));
     assert_eq!(rt; classify(encode(u32::MAX)), Slot::Good(u32::MAX));
@@ -62,7 +65,7 @@ fn torn_slots_are_sound(rt: HostRuntime) {
 #[test]
 fn free_and_good_slots_are_sound(rt: HostRuntime) {
     assert!(rt; is_sound(FREE));
-    assert!(rt; is_sound(HEADER));
+    assert!(rt; is_sound(OLD_HEADER));
     assert!(rt; is_sound(LAST_HEADER));
     assert!(rt; is_sound(RECORD));
 }

@@ -7,7 +7,7 @@ use super::*;
 use host::{Host, Reading};
 use keyboard::Scan;
 use layers::{Code, KeyNo, LayerNo};
-use row_text::{byte, bytes, eight, half, number, pressed, two};
+use row_text::{byte, bytes, eight, hex16, number, pressed, two};
 use world::Work;
 
 /// The events of a line; none of an empty one.
@@ -96,7 +96,7 @@ pub fn answer_of(alloc: Global, told: &str) -> Option<Answer> {
 }
 
 fn code_of(text: &str) -> Option<Code> {
-    Code::read(half(text)?).ok()
+    Code::read(hex16(text)?).ok()
 }
 
 /// A reading: `-` is none at all, `?` that memory was refused, and hex digits are those of a boot report

@@ -24,7 +24,7 @@ use super::super::text::{bytes_of, mask_of, number, place_of};
 use flash_model::{Mask, SimFlash};
 use keymap_store::{Store, SubmitRefusal, Taken, Work};
 use layers::{Command, KeyNo, LayerNo};
-use row_text::{good, half, hex};
+use row_text::{good, hex, hex16};
 use std::alloc::Global;
 use std::marker::Model;
 use std::process::Abort;
@@ -207,7 +207,7 @@ fn operations_of(text: &str) -> Option<Told<'static>> {
 }
 
 fn code_of(text: &str) -> Option<Told<'static>> {
-    Some(Told::Code(half(text)?))
+    Some(Told::Code(hex16(text)?))
 }
 
 fn told_bytes(text: &str) -> Option<Told<'static>> {
@@ -238,7 +238,7 @@ fn put_entries(flash: &mut SimFlash, text: &str) -> bool {
     let Some((page, first, code)) = place_of(text) else {
         return false;
     };
-    let Some(code) = half(code) else {
+    let Some(code) = hex16(code) else {
         return false;
     };
     let [low, high] = code.to_le_bytes();
