@@ -85,6 +85,13 @@ const STATUS_HELP: &str = "\
 Exit status:
   0  all was done
   1  a fault, whose line is the last one on standard output, or the output
+     was refused
+  2  the command line was refused";
+
+const RUN_STATUS_HELP: &str = "\
+Exit status:
+  0  all was done
+  1  a fault, whose line is the last one on standard output, or the output
      was refused, or the flash can't be saved
   2  the command line was refused";
 
@@ -158,7 +165,7 @@ fn program<'a>(alloc: Global) -> Result<Command<'a>, AllocError> {
         command
             .version(VERSION)
             .about("A simulated keyboard whose keymap is kept in flash")
-            .after_long_help(STATUS_HELP)
+            .after_long_help(RUN_STATUS_HELP)
             .subcommand_required(true),
     )
 }
@@ -168,7 +175,7 @@ fn run<'a>(alloc: Global) -> Result<Command<'a>, AllocError> {
     Command::new(alloc, "run")
         .about("Runs the script on standard input")
         .long_about(RUN_HELP)
-        .after_long_help(STATUS_HELP)
+        .after_long_help(RUN_STATUS_HELP)
         .arg(pages(alloc))?
         .arg(image)?
         .arg(save(alloc))

@@ -58,13 +58,20 @@ fn run<R: AllocGlobal + Files + Input + Print + Eprint>(
     finish(rt, ended, &mut Place { rt, path: save })
 }
 
-/// The flash that a run starts on; `Input` where a file can't be opened.
-fn flash_of<R: AllocGlobal + Files>(rt: &R, start: Start<'_>) -> Result<SimFlash, RunError> {
+/// The flash that a run starts on; `Input` where a file can't be opened, and standard error says
+/// why.
+fn flash_of<R: AllocGlobal + Files + Eprint>(
+    rt: &R,
+    start: Start<'_>,
+) -> Result<SimFlash, RunError> {
     match start {
         Start::Blank { pages } => blank_flash(rt.alloc(), pages),
         Start::Image(path) => match fs::open(rt, path) {
             Ok(mut file) => image_flash(rt.alloc(), &mut file),
-            Err(_) => Err(RunError::Input),
+            Err(error) => {
+                let _ = eprintln!(rt; "error: {path} can't be opened: {error}");
+                Err(RunError::Input)
+            }
         },
     }
 }
