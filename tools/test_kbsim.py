@@ -1,22 +1,174 @@
-"""Long inputs of bin/kbsim, and what it prints for them: test_kbsim.py. Short ones stand in bin/test and `kbsim_tests`."""
+"""Tests of bin/kbsim: the rows of tests/, whose README.md says how they are written, and inputs too long for rows."""
 
+import difflib
+import glob
 import os
+import re
 import subprocess
 import tempfile
 import unittest
+from typing import NamedTuple
 
 ROOT = os.path.dirname(os.path.dirname(os.path.abspath(__file__)))
 
 
-class Long(unittest.TestCase):
-    """Each of these inputs is as long as its kind may be, or longer by one."""
+def make_image(pages, slots, file):
+    """Writes the image of a flash of so many pages, with these lines of slots, to a file."""
+    subprocess.run([f"{ROOT}/bin/make-image", str(pages)], input="\n".join(slots).encode(), stdout=file, check=True)
 
-    maxDiff = None
+
+class Program(unittest.TestCase):
+    """The program, as its tests call it."""
 
     def prints(self, words, text, printed, status=0):
         """Compares what the program prints of a text, and its status."""
-        ran = subprocess.run([f"{ROOT}/bin/kbsim", *words], input=text.encode(), stdout=subprocess.PIPE)
-        self.assertEqual((ran.returncode, ran.stdout.decode()), (status, printed))
+        given = text if isinstance(text, bytes) else text.encode()
+        ran = subprocess.run([f"{ROOT}/bin/kbsim", *words], input=given, stdout=subprocess.PIPE)
+        if (ran.returncode, ran.stdout) == (status, printed.encode()):
+            return
+        told = ran.stdout.decode(errors="backslashreplace").split("\n")
+        lines = difflib.unified_diff(printed.split("\n"), told, "expected", "printed", lineterm="", n=2)
+        self.fail("\n".join([f"kbsim {' '.join(words)}: status {ran.returncode}, expected {status}", *lines]))
+
+
+class Case(NamedTuple):
+    """What is given to the program, and what it is to print."""
+
+    place: str  # the file and the line
+    slots: list[str]  # those of the image, as bin/make-image reads them
+    given: bytes
+    printed: str
+
+
+class Rows(Program):
+    """The files of tests/: a method for each heading."""
+
+    def run_cases(self, words, cases):
+        for case in cases:
+            with self.subTest(case.place), tempfile.NamedTemporaryFile() as image:
+                started = list(words)
+                if "--image" in words:
+                    pages = words.index("--image") + 1
+                    make_image(words[pages], case.slots, image)
+                    started[pages] = image.name
+                elif case.slots:
+                    self.fail("slots of an image, and no --image in the heading")
+                last = (case.printed.splitlines() or [""])[-1]
+                self.prints(started, case.given, case.printed, 1 if last.startswith("fault ") else 0)
+
+
+def unescaped(text):
+    """The bytes of a text in which some are escaped."""
+
+    def byte_of(match):
+        letter, byte, character = match.groups()
+        if letter:
+            return {b"n": b"\n", b"r": b"\r", b"t": b"\t"}[letter]
+        if byte:
+            return bytes([int(byte, 16)])
+        if character:
+            return chr(int(character, 16)).encode()
+        raise ValueError(f"{text}: a backslash that begins no escape")
+
+    return re.sub(rb"\\(?:([nrt])|x([0-9a-f]{2})|u\{([0-9a-f]+)\}|)", byte_of, text.encode())
+
+
+def case_of_row(place, words, row):
+    """A case of one line: its columns end in bars."""
+    match row.split("|"):
+        case [text, printed, ""]:
+            pass
+        case [text, line, fault, ""] if words[0] == "run":
+            printed = f"fault line {line}: {fault}\n"
+        case [text, number, offset, ""]:
+            printed = f"fault parse {number} at {offset}\n"
+        case _:
+            raise ValueError(f"{place}: a row of two or of three columns")
+    return Case(place, [], unescaped(text), unescaped(printed).decode())
+
+
+def case_of_dialog(place, lines):
+    """A case whose given lines begin with `>`; what is printed follows."""
+    given = [line[2:] for line in lines if line == ">" or line.startswith("> ")]
+    printed = lines[len(given) :]
+    if any(line.startswith(">") for line in printed):
+        raise ValueError(f"{place}: a given line below what is printed")
+    return Case(place, [], "\n".join(given).encode(), "".join(f"{line}\n" for line in printed))
+
+
+def case_of_script(place, lines):
+    """A case whose lines are those of a script beside what they print."""
+    rows = []
+    for line in lines:
+        times = re.fullmatch(r"(\d+) times: (.*)", line)
+        rows += times[2].split("; ") * int(times[1]) if times else [line]
+    printed = ""
+    for number, row in enumerate(rows, 1):
+        answer = row.partition(" = ")[2]
+        printed += f"{number} {answer}\n" if answer else ""
+    script = "".join(row.partition(" = ")[0] + "\n" for row in rows)
+    slots = [row.removeprefix("# flash ") for row in rows if row.startswith("# flash ")]
+    return Case(f"{place} {rows[0]}", slots, script.encode(), printed)
+
+
+def read_cases(path):
+    """The headings of a file of rows, each with its cases."""
+    tests, name = {}, os.path.relpath(path, ROOT)
+    heading, words, block, first = None, [], [], 0
+
+    def end_block():
+        if block:
+            case = case_of_dialog if block[0].startswith(">") else case_of_script
+            tests[heading].append(case(f"{name}:{first}", block))
+            block.clear()
+
+    with open(path, newline="\n") as file:
+        lines = file.read().split("\n")
+    for number, line in enumerate(lines, 1):
+        if line.startswith("//"):
+            continue
+        if line.startswith("== "):
+            end_block()
+            heading = line.removeprefix("== ")
+            words = heading.partition(": ")[2].split()
+            if not words or heading in tests:
+                raise ValueError(f"{name}:{number}: a heading without words, or for the second time")
+            tests[heading] = []
+        elif line == "":
+            end_block()
+        elif heading is None:
+            raise ValueError(f"{name}:{number}: a row before the first heading")
+        elif line.endswith("|"):
+            end_block()
+            tests[heading].append(case_of_row(f"{name}:{number}", words, line))
+        else:
+            first = first if block else number
+            block.append(line)
+    end_block()
+    if not tests or not all(tests.values()):
+        raise ValueError(f"{name}: no heading, or one without a case")
+    return tests
+
+
+def add_tests(folder):
+    """Makes a method of each heading of a folder's files."""
+    paths = sorted(glob.glob(f"{ROOT}/tests/{folder}/*.rows"))
+    if not paths:
+        raise ValueError(f"tests/{folder}: no rows")
+    for path in paths:
+        for heading, cases in read_cases(path).items():
+            words = heading.partition(": ")[2].split()
+            stem = os.path.basename(path).removesuffix(".rows")
+            name = re.sub(r"\W+", "_", f"test_{folder}_{stem}_{heading}")
+            setattr(Rows, name, lambda self, words=words, cases=cases: self.run_cases(words, cases))
+
+
+add_tests("scripts")
+add_tests("descriptors")
+
+
+class Long(Program):
+    """Each of these inputs is as long as its kind may be, or longer by one."""
 
     def test_as_many_fields_as_there_can_be(self):
         # A field without usages, one of a single usage, and then ranges.
@@ -43,6 +195,8 @@ class Long(unittest.TestCase):
         self.prints(["parse", "--items"], text, printed + "fault parse 13 at 516\n", 1)
 
     def test_a_descriptor_that_is_too_long(self):
+        self.prints(["parse"], "04" * 4096, "")
+        self.prints(["parse"], "04" * 4097, "fault parse 16 at 4096\n", 1)
         # The longest descriptor, one with an item more, and those whose item at 4,095 is longer.
         ends = {
             "04": "4095  04              Usage Page (00h)\n",
@@ -56,6 +210,17 @@ class Long(unittest.TestCase):
         for end, last in ends.items():
             with self.subTest(end):
                 self.prints(["parse", "--items"], "04" * 4095 + end, lines + last, 1 if "fault" in last else 0)
+
+    def test_the_longest_text(self):
+        self.prints(["parse"], "0" * 1_048_576, "fault parse 16 at 4096\n", 1)
+        self.prints(["parse"], "0" * 1_048_575, "fault hex\n", 1)
+        self.prints(["parse"], "0" * 1_048_577, "fault too long\n", 1)
+
+    def test_the_longest_script(self):
+        # A comment.
+        self.prints(["run"], "#" * 1_048_576, "")
+        self.prints(["run"], "#" * 1_048_577, "fault too long\n", 1)
+        self.prints(["run"], "#" * 2_000_000, "fault too long\n", 1)
 
     def test_the_most_keys_of_a_scan(self):
         # The words are counted before any number is read.
@@ -82,7 +247,7 @@ class Long(unittest.TestCase):
         rows += [("slot 1 1", "05000010faffffef"), ("slot 1 384", "00005f13ffffa0ec"), ("slot 1 385", "00000010ffffffef")]
         rows += [("slot 1 386", "ffffffffffffffff"), ("entry 0 0", "0000")]
         with tempfile.NamedTemporaryFile() as image:
-            subprocess.run([f"{ROOT}/bin/make-image", "2"], input="\n".join(slots).encode(), stdout=image, check=True)
+            make_image(2, slots, image)
             script = "".join(f"{line}\n" for line, _ in rows)
             printed = "".join(f"{number} {answer}\n" for number, (_, answer) in enumerate(rows, 1))
             self.prints(["run", "--image", image.name], script, printed)

@@ -1,6 +1,5 @@
 //! Readers and writers that fail, and the longest text.
 
-use super::described::DESCRIBED;
 use super::{refused, same, so_ended, text_of};
 use crate::tests::streams::{
     FailingReader, FailingWriter, KINDS, NeverFlushed, Repeated, before_it_fails,
@@ -9,6 +8,12 @@ use descriptor_parse::ParseFault;
 use parse_lines::{LinesError, describe, items_text, parse_text};
 use std::io::ErrorKind;
 use std::process::Abort;
+
+/// What `describe` prints.
+const DESCRIBED: &str = "device 120100020000000809120100000100000001
+configuration 0902220001010080320904000001030101000921110100012263000705810320000a
+report 05010906a1018501050719e029e715002501750195088102190429a495a18102950781030508190129059505910295039103c0050c0901a1018502150026ff0319002aff03751095048100c00600ff0901a10185030902150026ff0075089505b102c0
+";
 
 const TEXT: &str = "85 01 05 07 09 0A 75 01 95 06 81 02";
 
@@ -160,30 +165,15 @@ fn a_writer_that_does_not_flush(rt: HostRuntime) {
 }
 
 #[test]
-fn the_longest_text(rt: HostRuntime) {
-    let too_long = refused(ParseFault::TooLong, 4096);
-    for (left, fails, ends, expected) in [
-        (1_048_576, false, too_long, "fault parse 16 at 4096\n"),
-        (1_048_575, false, Err(LinesError::BadHexText), "fault hex\n"),
-        (
-            1_048_577,
-            false,
-            Err(LinesError::TooLong),
-            "fault too long\n",
-        ),
-        (
-            2_000_000,
-            true,
-            Err(LinesError::TooLong),
-            "fault too long\n",
-        ),
-        (1_048_576, true, Err(LinesError::Input), "fault input\n"),
-    ] {
+fn the_longest_text_of_a_reader_that_fails(rt: HostRuntime) {
+    let too_long = (Err(LinesError::TooLong), "fault too long\n");
+    let failed = (Err(LinesError::Input), "fault input\n");
+    for (left, (ends, expected)) in [(2_000_000, too_long), (1_048_576, failed)] {
         let mut reader = Repeated {
             byte: b'0',
             left,
             most: usize::MAX,
-            fails,
+            fails: true,
         };
         let mut printed = Vec::new(rt.alloc());
         let ended = parse_text(rt.alloc(), &mut reader, &mut printed);

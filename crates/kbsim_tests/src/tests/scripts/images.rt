@@ -1,10 +1,9 @@
 //! Runs from an image.
 
-use super::{prints_on, same, so_ended, text_of};
+use super::{same, so_ended, text_of};
 use crate::tests::streams::Repeated;
-use kbsim::{LineFault, RunError, blank_flash, image_flash, print_fault};
+use kbsim::{RunError, image_flash, print_fault};
 use std::alloc::Global;
-use std::test::Fail;
 
 /// The length of an image, whether its reader `fails` after it, and the length of its flash, or the fault.
 const IMAGES: &str = "\
@@ -55,15 +54,6 @@ fn wanted_of(text: &str) -> Result<usize, RunError> {
         "input" => Err(RunError::Input),
         _ => Ok(text.parse::<usize>().unwrap_or(0)),
     }
-}
-
-#[test]
-fn the_pages_of_the_image_count(rt: HostRuntime) -> Result<(), Fail> {
-    let flash = blank_flash(rt.alloc(), 3).map_err(|_| "flash")?;
-    let fault = LineFault::BadNumber;
-    let ends = Err(RunError::Line { line: 1, fault });
-    prints_on(&rt, flash, "slot 3 0\n", ends, "fault line 1: bad number\n");
-    Ok(())
 }
 
 #[test]

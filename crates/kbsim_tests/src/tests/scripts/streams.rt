@@ -8,7 +8,6 @@ use kbsim::{LineFault, RunError, blank_flash, print_fault, run_on, run_script};
 use std::alloc::Global;
 use std::io::{ErrorKind, Read, Write};
 use std::process::Abort;
-use std::test::Fail;
 
 const SCRIPT: &str = "entry 0 0\nset 0 0 0005\nslot 0 1\n";
 
@@ -125,57 +124,28 @@ fn a_writer_that_does_not_flush(rt: HostRuntime) {
 }
 
 #[test]
-fn the_longest_script(rt: HostRuntime) {
-    let too_long = (Err(RunError::TooLong), "fault too long\n");
-    for (left, fails, (ends, expected)) in [
-        (1_048_576, false, (Ok(()), "")),
-        (1_048_577, false, too_long),
-        (2_000_000, false, too_long),
-        (1_048_576, true, (Err(RunError::Input), "fault input\n")),
-    ] {
-        // A comment.
-        let mut reader = Repeated {
-            byte: b'#',
-            left,
-            most: usize::MAX,
-            fails,
-        };
-        let mut printed = Vec::new(rt.alloc());
-        let ended = run_script(rt.alloc(), 2, &mut reader, &mut printed);
-        same(&rt, text_of(printed.as_slice()), expected, expected);
-        so_ended(&rt, ended, ends, expected);
-    }
+fn the_longest_script_of_a_reader_that_fails(rt: HostRuntime) {
+    // A comment.
+    let mut reader = Repeated {
+        byte: b'#',
+        left: 1_048_576,
+        most: usize::MAX,
+        fails: true,
+    };
+    let mut printed = Vec::new(rt.alloc());
+    let ended = run_script(rt.alloc(), 2, &mut reader, &mut printed);
+    same(
+        &rt,
+        text_of(printed.as_slice()),
+        "fault input\n",
+        "a comment",
+    );
+    so_ended(&rt, ended, Err(RunError::Input), "a comment");
 }
 
 #[test]
-fn more_than_the_buffer_holds(rt: HostRuntime) -> Result<(), Fail> {
-    let mut script = String::new(rt.alloc());
-    let mut expected = String::new(rt.alloc());
-    for number in 1u32..2000 {
-        script.push_str("slot 0 0\n")?;
-        let line = format!(in rt.alloc(); "{number} ffffffffffffffff\n")?;
-        expected.push_str(line.as_str())?;
-    }
-    prints(&rt, 2, script.as_bytes(), Ok(()), expected.as_str());
-    Ok(())
-}
-
-#[test]
-fn page_counts(rt: HostRuntime) {
+fn page_counts_that_no_flash_has(rt: HostRuntime) {
     for pages in [0, 1, 9, usize::MAX] {
         prints(&rt, pages, b"in x\n", Err(RunError::PageCount), "");
-    }
-    for (pages, script, expected) in [
-        (2, "slot 1 511", "1 ffffffffffffffff\n"),
-        (8, "slot 1 511", "1 ffffffffffffffff\n"),
-        (8, "slot 7 0", "1 ffffffffffffffff\n"),
-        // A slot of the last of eight pages.
-        (
-            8,
-            "slot 7 511\nset 0 0 0005\n",
-            "1 ffffffffffffffff\n2 ack\n",
-        ),
-    ] {
-        prints(&rt, pages, script.as_bytes(), Ok(()), expected);
     }
 }
