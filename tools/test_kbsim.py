@@ -28,7 +28,8 @@ class Program(unittest.TestCase):
             return
         told = ran.stdout.decode(errors="backslashreplace").split("\n")
         lines = difflib.unified_diff(printed.split("\n"), told, "expected", "printed", lineterm="", n=2)
-        self.fail("\n".join([f"kbsim {' '.join(words)}: status {ran.returncode}, expected {status}", *lines]))
+        ended = "" if ran.returncode == status else f" ends with status {ran.returncode}, not {status}"
+        self.fail("\n".join([f"kbsim {' '.join(words)}{ended}", *lines]))
 
 
 class Case(NamedTuple):
