@@ -5,7 +5,6 @@
 //! input and output. Its arguments, its files and its exit status are only tested. `bin/kbsim` calls it.
 #![tactic(auto)]
 
-mod command_line;
 mod keep;
 mod program;
 

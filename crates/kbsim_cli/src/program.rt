@@ -3,10 +3,10 @@
 ghost use Rattle.std.specs.Prelude.{◌≡◌, ◌≢◌, ◌<◌, ◌≤◌, ◌⊎◌, IfOk, IfErr, OnOk, OnErr};
 ghost use Rattle.clap.specs.Words.{kind_of};
 
-use crate::command_line::{Request, Start, read};
 use crate::keep::{Keep, Place};
 use clap::Error;
 use clap::error::ErrorKind;
+use command_line::{Request, Start, read};
 use kbsim::{RunError, SimFlash, World, blank_flash, image_flash, print_fault, run_on};
 use parse_lines::{LinesError, describe, items_text, parse_text};
 use std::rt::{Env, Files};

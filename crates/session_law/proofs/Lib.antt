@@ -11,4 +11,3 @@ pub mod Hearing
 pub mod Completing
 pub mod Keeping
 pub mod Naming
-pub mod Example

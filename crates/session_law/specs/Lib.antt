@@ -4,4 +4,3 @@ pub mod Heard
 pub mod Read
 pub mod Fetched
 pub mod Named
-pub mod Example

@@ -1,11 +1,11 @@
 //! What a host reads in a session of the keyboard is what the keymap gives for the debounced keys: laws over the
 //! definitions of what the keyboard answers, of what a host hears of it, and of what a host reads.
 //!
-//! Nothing is kept, and nothing runs: the functions have empty bodies, and their contracts are the laws; `a_session` is an
-//! example of which they say something. `world` takes them for each session of a history.
+//! Nothing is kept, and nothing runs: the functions have empty bodies, and their contracts are the laws. `world` takes them
+//! for each session of a history; `session_example` has a session of which they say something.
 #![tactic(auto)]
 
-ghost use Rattle.std.specs.Prelude.{◌≡◌, ◌≢◌, ◌⊎◌, ◌↔◌, ◌∷◌, ◌++◌, ◌≤◌, ◌<◌, ℕ, true, false, List, [], Option, None, Some, Contains, length, take, min};
+ghost use Rattle.std.specs.Prelude.{◌≡◌, ◌≢◌, ◌⊎◌, ◌↔◌, ◌∷◌, ◌++◌, ◌≤◌, ◌<◌, ℕ, List, [], Option, None, Some, Contains, length, take, min};
 ghost use Rattle.std.specs.List.Sorted.{IsStrictlyIncreasing};
 ghost use Rattle.std.specs.Option.{option_map};
 ghost use Rattle.descriptor_build.specs.Served.{report_bytes};
@@ -21,7 +21,6 @@ ghost use Rattle.key_reports.specs.Past.{keys_after, consumer_after};
 ghost use Rattle.reports.specs.Layouts.{listed_count, consumer_count};
 ghost use Rattle.reports.specs.declared.Input.TheVariants.{Boot, One, Two};
 ghost use Rattle.session_law.specs.Due.{Due, due_bytes, due};
-ghost use Rattle.session_law.specs.Example.{fetched, pressed, typed, letter_a};
 ghost use Rattle.session_law.specs.Fetched.{IsFetched};
 ghost use Rattle.session_law.specs.Heard.{Hears, IsFresh, NoneOrServed};
 ghost use Rattle.session_law.specs.Named.{IsKeyNamed, IsConsumerNamed};
@@ -109,16 +108,4 @@ pub fn keys_are_read()
         → (usage lesser : ℕ) → Contains usages usage → IsConsumerNamed (key_calls start n.sent.moment) lesser → lesser < usage → Contains usages lesser }
     // rising, each once
     ensures rising { (start : List ℕ) (past : List Call) (bytes usages : List ℕ) (n : NamesWanted start past bytes usages) → IsStrictlyIncreasing usages }
-{}
-
-/// A session of which the laws say something, computed from the definitions: on an empty flash a host fetches the report
-/// descriptor, key 0 is pressed and released, and a poll is answered the press, which waited; the release comes next.
-pub fn a_session()
-    ensures answered { IsLawful [] (Polled (Some letter_a) ∷ typed) }
-    ensures hears { Hears [] typed fetched }
-    ensures fetches { IsFetched [] fetched }
-    ensures pressed { keys_after (key_calls [] pressed) 4 ≡ true }
-    ensures released { keys_after (key_calls [] typed) 4 ≡ false }
-    ensures waited { due [] typed ≡ Some (record { moment = pressed; input = One }) }
-    ensures next { due [] (Polled (Some letter_a) ∷ typed) ≡ Some (record { moment = typed; input = One }) }
 {}

@@ -1,4 +1,8 @@
-//! Reading the command line.
+//! The command line of the program `kbsim`: what its words ask for, or why they are refused, and the texts of its help.
+//!
+//! Nothing is kept. It promises that each command line is answered, without a panic; what it answers is only tested.
+//! `kbsim_cli` calls it.
+#![tactic(auto)]
 
 use clap::{Arg, ArgAction, ArgMatches, Command, Error, value_parser};
 use std::alloc::{AllocError, Global};

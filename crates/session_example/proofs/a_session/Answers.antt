@@ -1,5 +1,5 @@
-use Rattle.session_law.proofs.Example.{answered, hears, came_through, was_down, is_up, had_waited, is_next}
-use Rattle.session_law.proofs.a_session.Goals as goal
+use Rattle.session_example.proofs.Example.{answered, hears, came_through, was_down, is_up, had_waited, is_next}
+use Rattle.session_example.proofs.a_session.Goals as goal
 
 pub returns-clause-answered : goal.returns-clause-answered
 returns-clause-answered c = answered

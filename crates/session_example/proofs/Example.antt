@@ -26,7 +26,7 @@ use Rattle.session_law.specs.Due.{put, waits, due}
 use Rattle.session_law.specs.Heard.{Hears, at_start, one_more}
 use Rattle.session_law.specs.Fetched.{IsFetched}
 use Rattle.session_law.proofs.Following.{waits-poll}
-use Rattle.session_law.specs.Example.{get_descriptor, gave, fetch, came, fetched, key_down, no_key, pressed, typed, letter_a}
+use Rattle.session_example.specs.Example.{get_descriptor, gave, fetch, came, fetched, key_down, no_key, pressed, typed, letter_a}
 
 fetch_answered : EachCall IsAnswered [] fetch
 unfolding ep_calls stage transfer_of packet_at
