@@ -287,17 +287,24 @@ run_all start lines world first now so_far = (
   so_far.appends,
 )
 
--- what was printed when a run stops
+-- what was printed when a run stops at some line
+abbrev pub StoppedAt : SimValue → List Line → Option (List ℕ) → Option (List ℕ) → Type 0
+StoppedAt start lines first now =
+    (count : ℕ) × (text : List ℕ) × (after : SimValue) × (count < length lines) × IsRun start (take count lines) text after × Appends first now text
+
+-- the same, or before the first line
 abbrev pub Stopped : SimValue → List Line → Option (List ℕ) → Option (List ℕ) → Type 0
 Stopped start lines first now =
     (count : ℕ) × (text : List ℕ) × (after : SimValue) × ((text ≡ []) ⊎ (count < length lines)) × IsRun start (take count lines) text after × Appends first now text
 
--- at some line, or before the first
 pub stopped_at : (start : SimValue) (lines : List Line) (i : ℕ) (world : WorldValue) (first now : Option (List ℕ)) → RunSoFar start (take i lines) world first now
-    → i < length lines → Stopped start lines first now
+    → i < length lines → StoppedAt start lines first now
 stopped_at start lines i world first now so_far more =
     let (text, run, appends) = run_all start (take i lines) world first now so_far in
-    (i, text, world.flash, inr more, run, appends)
+    (i, text, world.flash, more, run, appends)
+
+pub stopped_some : (start : SimValue) (lines : List Line) (first now : Option (List ℕ)) → StoppedAt start lines first now → Stopped start lines first now
+stopped_some start lines first now (count, text, after, more, run, appends) = (count, text, after, inr more, run, appends)
 
 pub stopped_none : (start : SimValue) (lines : List Line) (first : Option (List ℕ)) → Stopped start lines first first
 stopped_none start lines first =

@@ -76,7 +76,7 @@ pub fn run_script<R: Read, W: Write>(
 }
 
 /// Runs the script that a reader gives, on this flash, armed or not, and prints a line for each of
-/// its lines. The answer is the device after the last line, with its flash.
+/// its lines. The answer is the flash after the last line.
 ///
 /// What is read, checked and printed, and each fault but `PageCount`, is as `run_script` says; the
 /// script is checked against the flash's number of pages.
@@ -85,10 +85,10 @@ pub fn run_on<R: Read, W: Write>(
     flash: SimFlash,
     reader: &mut R,
     writer: &mut W,
-) -> Result<World, RunError>
+) -> Result<SimFlash, RunError>
     ensures sound { OnOk result (IfSome (R.remaining reader.old) (IsSound (page_count flash.image))) }
-    ensures printed { IfOk result (λ world. IfSome (R.remaining reader.old) (λ script. (text : List ℕ)
-        × IsOutput flash script text world.flash × Appends (W.contents writer.old) (W.contents writer.new) text)) }
+    ensures printed { IfOk result (λ after. IfSome (R.remaining reader.old) (λ script. (text : List ℕ)
+        × IsOutput flash script text after × Appends (W.contents writer.old) (W.contents writer.new) text)) }
     ensures refused { IfErr result (λ e. IsRunFault (page_count flash.image) (R.remaining reader.old) e) }
     ensures counted { result ≢ Err RunError.PageCount }
     ensures fault_alone { IfErr result (λ e. IsEarly e → Appends (W.contents writer.old) (W.contents writer.new) (fault_line e)) }
@@ -116,14 +116,15 @@ pub fn print_fault<W: Write>(error: RunError, writer: &mut W) -> RunError
     tell(&mut Printer::new(writer), error)
 }
 
-/// Runs the lines of a script on a flash, and gives the writer what they print.
+/// Runs the lines of a script on a flash, and gives the writer what they print. The answer is the
+/// flash after them.
 fn run_lines<W: Write>(
     alloc: Global,
     flash: SimFlash,
     lines: &[Line<'_>],
     writer: &mut W,
-) -> Result<World, RunError>
-    ensures printed { IfOk result (λ world. (text : List ℕ) × IsRun flash lines.now text world.flash
+) -> Result<SimFlash, RunError>
+    ensures printed { IfOk result (λ after. (text : List ℕ) × IsRun flash lines.now text after
         × Appends (W.contents writer.old) (W.contents writer.new) text) }
     ensures late { IfErr result (λ e. (e ≡ RunError.Memory) ⊎ (e ≡ RunError.Output)) }
     ensures stopped { result ≡ Err RunError.Memory → (count : ℕ) × (text : List ℕ) × (after : SimValue)
@@ -131,12 +132,12 @@ fn run_lines<W: Write>(
         × Appends (W.contents writer.old) (W.contents writer.new) (text ++ fault_line RunError.Memory) }
 {
     let mut printer = Printer::new(writer);
-    let world = match perform(alloc, flash, lines, &mut printer) {
-        Ok(world) => world,
+    let after = match perform(alloc, flash, lines, &mut printer) {
+        Ok(after) => after,
         Err(error) => return Err(tell(&mut printer, error)),
     };
     match printer.finish() {
-        Ok(()) => Ok(world),
+        Ok(()) => Ok(after),
         Err(_) => Err(RunError::Output),
     }
 }
@@ -175,14 +176,14 @@ fn lines_of(alloc: Global, pages: usize, text: &[u8]) -> Result<Vec<Line<'_>>, R
     }
 }
 
-/// Runs the lines of a script on a flash. The answer is the device after them.
+/// Runs the lines of a script on a flash. The answer is the flash after them.
 fn perform<W: Write>(
     alloc: Global,
     flash: SimFlash,
     lines: &[Line<'_>],
     printer: &mut Printer<'_, W>,
-) -> Result<World, RunError>
-    ensures printed { IfOk result (λ world. (text : List ℕ) × IsRun flash lines.now text world.flash × Prints W.contents printer.old printer.new text) }
+) -> Result<SimFlash, RunError>
+    ensures printed { IfOk result (λ after. (text : List ℕ) × IsRun flash lines.now text after × Prints W.contents printer.old printer.new text) }
     ensures same_writer { OnOk result (printer_writer printer.new ≡ printer_writer printer.old) }
     ensures late { IfErr result (λ e. (e ≡ RunError.Memory) ⊎ ((e ≡ RunError.Output) × (lines.now ≢ []))) }
     ensures stopped { result ≡ Err RunError.Memory → (count : ℕ) × (text : List ℕ) × (after : SimValue)
@@ -191,9 +192,29 @@ fn perform<W: Write>(
     ensures same_writer_stopped { result ≡ Err RunError.Memory → printer_writer printer.new ≡ printer_writer printer.old }
 {
     let mut world = world_on(alloc, flash)?;
-    let mut answers = Vec::new(alloc);
+    let ended = run_each(&mut world, lines, &mut Vec::new(alloc), printer);
+    let after = world.into_flash();
+    ended.map(|()| after)
+}
+
+/// Runs the lines of a script on a device that was just started.
+fn run_each<W: Write>(
+    world: &mut World,
+    lines: &[Line<'_>],
+    answers: &mut Vec<Answer>,
+    printer: &mut Printer<'_, W>,
+) -> Result<(), RunError>
+    ensures printed { OnOk result ((start : SimValue) → StandsFor start [] world.old → (text : List ℕ)
+        × IsRun start lines.now text world.new.flash × Prints W.contents printer.old printer.new text) }
+    ensures same_writer { OnOk result (printer_writer printer.new ≡ printer_writer printer.old) }
+    ensures late { IfErr result (λ e. (e ≡ RunError.Memory) ⊎ ((e ≡ RunError.Output) × (lines.now ≢ []))) }
+    ensures stopped { result ≡ Err RunError.Memory → (start : SimValue) → StandsFor start [] world.old
+        → (count : ℕ) × (text : List ℕ) × (after : SimValue) × (count < length lines.now)
+        × IsRun start (take count lines.now) text after × Prints W.contents printer.old printer.new text }
+    ensures same_writer_stopped { result ≡ Err RunError.Memory → printer_writer printer.new ≡ printer_writer printer.old }
+{
     for line in lines {
-        let Ok(outcome) = run_line(&mut world, &line.statement, &mut answers) else {
+        let Ok(outcome) = run_line(world, &line.statement, answers) else {
             return Err(RunError::Memory);
         };
         let shown = PrintedLine {
@@ -204,7 +225,7 @@ fn perform<W: Write>(
             return Err(RunError::Output);
         };
     }
-    Ok(world)
+    Ok(())
 }
 
 /// A device that starts on a flash; `Memory` where it finds no room.

@@ -7,7 +7,7 @@ use crate::keep::{Keep, Place};
 use clap::Error;
 use clap::error::ErrorKind;
 use command_line::{Request, Start, read};
-use kbsim::{RunError, SimFlash, World, blank_flash, image_flash, print_fault, run_on};
+use kbsim::{RunError, SimFlash, blank_flash, image_flash, print_fault, run_on};
 use parse_lines::{LinesError, describe, items_text, parse_text};
 use std::rt::{Env, Files};
 use std::{env, fs, io};
@@ -77,16 +77,16 @@ fn flash_of<R: AllocGlobal + Files + Eprint>(
 }
 
 /// Keeps the flash's bytes after a run without a fault. The answer is the status.
-fn finish<R: Eprint, K: Keep>(rt: &R, ended: Result<World, RunError>, kept: &mut K) -> u8
-    ensures done { IfOk ended (λ world. result ≡ DONE → K.keeps kept.old world.flash.image kept.new) }
+fn finish<R: Eprint, K: Keep>(rt: &R, ended: Result<SimFlash, RunError>, kept: &mut K) -> u8
+    ensures done { IfOk ended (λ flash. result ≡ DONE → K.keeps kept.old flash.image kept.new) }
     ensures fault { OnErr ended (result ≡ FAULT) }
     ensures untouched { OnErr ended (kept.new ≡ kept.old) }
     ensures either { (result ≡ DONE) ⊎ (result ≡ FAULT) }
 {
-    let Ok(world) = ended else {
+    let Ok(flash) = ended else {
         return FAULT;
     };
-    let Err(error) = kept.keep(world.flash().image()) else {
+    let Err(error) = kept.keep(flash.image()) else {
         return DONE;
     };
     let _ = eprintln!(rt; "error: the flash can't be saved: {error}");

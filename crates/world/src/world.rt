@@ -81,6 +81,13 @@ impl World {
         &self.bench.flash
     }
 
+    /// The flash, taken out of the world: keyboard and host are dropped.
+    pub fn into_flash(self) -> SimFlash
+        ensures { result ≡ self.flash }
+    {
+        self.bench.flash
+    }
+
     /// The host.
     pub fn host(&self) -> &Host
         // it stands for all that it was told: the SETUP packets, the packets of data that IN packets were answered by, and

@@ -2,7 +2,7 @@
 //! are drawn. Scripts beside what they print are rows of `tests/scripts`.
 
 use super::{same, text_of};
-use kbsim::{RunError, World, run_script};
+use kbsim::{RunError, SimFlash, run_script};
 use std::process::Abort;
 
 mod flashes;
@@ -27,7 +27,7 @@ fn prints<R: AllocGlobal + Abort>(
 }
 
 /// How a run ended. Its device is let go here alone: each place that does costs the proof seconds.
-fn end_of(run: Result<World, RunError>) -> Result<(), RunError> {
+fn end_of(run: Result<SimFlash, RunError>) -> Result<(), RunError> {
     match run {
         Ok(_) => Ok(()),
         Err(error) => Err(error),

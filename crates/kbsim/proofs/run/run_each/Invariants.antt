@@ -1,7 +1,9 @@
-use Rattle.std.proofs.Common.{◌≡◌, take}
+use Rattle.std.proofs.Common.{◌≡◌, [], take}
+use Rattle.flash_model.specs.Sim.{SimValue}
 use Rattle.text_io.specs.Printers.{printed, printer_writer}
+use Rattle.world.specs.Stands.{StandsFor}
 use Rattle.kbsim.proofs.OutputLemmas.{RunSoFar}
-use Rattle.kbsim.proofs.run.perform.Given as goal
+use Rattle.kbsim.proofs.run.run_each.Given as goal
 
 -- what was run and printed so far, to the same writer
 pub record SoFar (run same : Type 0) : Type 0 where
@@ -10,7 +12,6 @@ pub record SoFar (run same : Type 0) : Type 0 where
 
 abbrev pub invariant-loop-line : goal.invariant-loop-line
 invariant-loop-line g l = SoFar
-    (RunSoFar l.fn.flash (take l.line-index l.lines) l.world
-    (printed g.W.Write.contents l.fn.printer)
-    (printed g.W.Write.contents l.printer))
+    ((start : SimValue) → StandsFor start [] l.fn.world
+    → RunSoFar start (take l.line-index l.lines) l.world (printed g.W.Write.contents l.fn.printer) (printed g.W.Write.contents l.printer))
     (printer_writer l.printer ≡ printer_writer l.fn.printer)
