@@ -17,17 +17,11 @@ abbrev pub IsReadingFault : ℕ → Option (List ℕ) → RunError → Type 0
 IsReadingFault most left error.TooLong = IfSome left (λ all. most < length all)
 IsReadingFault most left error.Input = ⊤
 IsReadingFault most left error.Memory = ⊤
-IsReadingFault most left error.Image = ⊥
-IsReadingFault most left error.PageCount = ⊥
-IsReadingFault most left (error.Line number fault) = ⊥
-IsReadingFault most left error.Output = ⊥
+IsReadingFault most left _ = ⊥
 
 -- why there is no flash of an image, where its bytes are known
 abbrev pub IsImageFault : Option (List ℕ) → RunError → Type 0
 IsImageFault left error.Image = IfSome left (λ image. IsImage image → ⊥)
 IsImageFault left error.Input = ⊤
 IsImageFault left error.Memory = ⊤
-IsImageFault left error.TooLong = ⊥
-IsImageFault left error.PageCount = ⊥
-IsImageFault left (error.Line number fault) = ⊥
-IsImageFault left error.Output = ⊥
+IsImageFault left _ = ⊥

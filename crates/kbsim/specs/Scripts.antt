@@ -29,6 +29,4 @@ IsEarly (error.Line number fault) = ⊤
 IsEarly error.TooLong = ⊤
 IsEarly error.Input = ⊤
 IsEarly error.Image = ⊤
-IsEarly error.PageCount = ⊥
-IsEarly error.Output = ⊥
-IsEarly error.Memory = ⊥
+IsEarly _ = ⊥

@@ -45,5 +45,4 @@ IsBeforeItems error.BadHexText = ⊤
 IsBeforeItems error.TooLong = ⊤
 IsBeforeItems error.Input = ⊤
 IsBeforeItems error.Memory = ⊤
-IsBeforeItems (error.Refused e) = ⊥
-IsBeforeItems error.Output = ⊥
+IsBeforeItems _ = ⊥

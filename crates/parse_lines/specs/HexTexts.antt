@@ -26,7 +26,4 @@ IsNoHex text =
 abbrev pub IsHexFault : List ℕ → LinesError → Type 0
 IsHexFault text error.BadHexText = IsNoHex text
 IsHexFault text error.Memory = length (digits_of text) % 2 ≡ 0
-IsHexFault text error.TooLong = ⊥
-IsHexFault text error.Input = ⊥
-IsHexFault text (error.Refused e) = ⊥
-IsHexFault text error.Output = ⊥
+IsHexFault text _ = ⊥

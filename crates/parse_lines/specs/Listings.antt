@@ -56,7 +56,7 @@ fault_words fault.SizeTooLarge = codes "Report Size too large"
 fault_words fault.CountTooLarge = codes "Report Count too large"
 fault_words fault.EndWithoutCollection = codes "End Collection without Collection"
 fault_words fault.CollectionDeep = codes "Collection too deep"
-fault_words fault.UnpairedUsage = codes "unpaired Usage Minimum or Maximum"
+fault_words fault.UnpairedUsage = codes "Usage Minimum and Maximum don't pair"
 fault_words fault.UsageInverted = codes "Usage Minimum over Maximum"
 fault_words fault.LogicalInverted = codes "Logical Minimum over Maximum"
 fault_words fault.TooManyFields = codes "too many fields"
@@ -114,21 +114,13 @@ pub record IsListing (text lines : List ℕ) : Type 0 where
 -- a fault of the descriptor
 abbrev pub IsOfDescriptor : LinesError → Type 0
 IsOfDescriptor (error.Refused e) = ⊤
-IsOfDescriptor error.BadHexText = ⊥
-IsOfDescriptor error.TooLong = ⊥
-IsOfDescriptor error.Input = ⊥
-IsOfDescriptor error.Memory = ⊥
-IsOfDescriptor error.Output = ⊥
+IsOfDescriptor _ = ⊥
 
 -- what is printed of bytes that are refused: the line of the fault, and where it is one of the descriptor the lines of the
 -- items before it, up to the one at which it comes
 abbrev pub refused_lines : List ℕ → LinesError → List ℕ
 refused_lines bytes (error.Refused e) = item_lines bytes (Some e) ++ fault_line (error.Refused e)
-refused_lines bytes error.BadHexText = fault_line error.BadHexText
-refused_lines bytes error.TooLong = fault_line error.TooLong
-refused_lines bytes error.Input = fault_line error.Input
-refused_lines bytes error.Memory = fault_line error.Memory
-refused_lines bytes error.Output = fault_line error.Output
+refused_lines bytes e = fault_line e
 
 -- These lines are printed of a text, where it is known, that is refused: of the bytes that it says, if it says any.
 pub record IsRefusedListing (text : Option (List ℕ)) (lines : List ℕ) (e : LinesError) : Type 0 where

@@ -12,6 +12,4 @@ abbrev pub IsReadingFault : Option (List ℕ) → LinesError → Type 0
 IsReadingFault left error.TooLong = IfSome left (λ all. longest < length all)
 IsReadingFault left error.Input = ⊤
 IsReadingFault left error.Memory = ⊤
-IsReadingFault left error.BadHexText = ⊥
-IsReadingFault left (error.Refused e) = ⊥
-IsReadingFault left error.Output = ⊥
+IsReadingFault left _ = ⊥

@@ -36,10 +36,7 @@ pub record IsOutput (text lines : List ℕ) : Type 0 where
 abbrev pub IsRefusal : List ℕ → LinesError → Type 0
 IsRefusal bytes (error.Refused e) = (e.fault ≢ fault.Memory) × IsFirstFault bytes e
 IsRefusal bytes error.Memory = (offset : ℕ) × MayWantMemory bytes offset
-IsRefusal bytes error.BadHexText = ⊥
-IsRefusal bytes error.TooLong = ⊥
-IsRefusal bytes error.Input = ⊥
-IsRefusal bytes error.Output = ⊥
+IsRefusal bytes _ = ⊥
 
 -- why a text, where it is known, is refused
 abbrev pub IsTextFault : Option (List ℕ) → LinesError → Type 0

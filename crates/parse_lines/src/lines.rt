@@ -155,7 +155,7 @@ fn fault_words(fault: ParseFault) -> &'static str
         ParseFault::CountTooLarge => "Report Count too large",
         ParseFault::EndWithoutCollection => "End Collection without Collection",
         ParseFault::CollectionDeep => "Collection too deep",
-        ParseFault::UnpairedUsage => "unpaired Usage Minimum or Maximum",
+        ParseFault::UnpairedUsage => "Usage Minimum and Maximum don't pair",
         ParseFault::UsageInverted => "Usage Minimum over Maximum",
         ParseFault::LogicalInverted => "Logical Minimum over Maximum",
         ParseFault::TooManyFields => "too many fields",

@@ -278,8 +278,12 @@ fn shown(step: &Recorded) -> usize
 fn goes_on(rt: &impl Abort, alloc: Global, state: &mut u32, rig: &mut Rig) -> Result<(), Fail> {
     for _ in 0..LISTS {
         let events = list(alloc, state)?;
+        let from = rig.steps().len();
         let same = rig.take(alloc, events)?;
-        assert!(rt; same);
+        assert!(rt;
+            same,
+            "one by one and as a list, the events after step {from} were answered otherwise"
+        );
     }
     let wrong = rig.judged(alloc)?;
     assert_eq!(rt; wrong, None);

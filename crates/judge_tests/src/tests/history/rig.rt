@@ -86,14 +86,13 @@ impl Rig {
         let mut answers = Vec::new(alloc);
         self.one.run(from_ref(&event), &mut answers)?;
         let flash = flash_of(alloc, self.one.flash().image())?;
-        if let Some(answer) = answers.pop() {
-            self.steps.push(Recorded {
-                event,
-                answer,
-                refused: false,
-                flash,
-            })?;
-        }
+        let answer = answers.pop().ok_or("an event has no answer")?;
+        self.steps.push(Recorded {
+            event,
+            answer,
+            refused: false,
+            flash,
+        })?;
         Ok(())
     }
 
@@ -126,10 +125,10 @@ impl Rig {
     }
 
     /// Puts an answer in the place of a step's.
-    pub fn tell(&mut self, index: usize, answer: Answer) {
-        if let Some(step) = self.steps.get_mut(index) {
-            step.answer = answer;
-        }
+    pub fn tell(&mut self, index: usize, answer: Answer) -> Result<(), Fail> {
+        let step = self.steps.get_mut(index).ok_or("no such step")?;
+        step.answer = answer;
+        Ok(())
     }
 
     /// The flash after the steps.

@@ -356,12 +356,12 @@ const TOLD: &str = "setup 2109030300000600
     leds";
 
 /// Each answer from the second one on is moved to the event before it.
-fn shift(rig: &mut Rig) {
+fn shift(rig: &mut Rig) -> Result<(), Fail> {
     for k in 1..5usize {
-        if let Some(answer) = answer_at(rig, k + 1) {
-            rig.tell(k, answer);
-        }
+        let answer = answer_at(rig, k + 1).ok_or("an answer that is not of this test")?;
+        rig.tell(k, answer)?;
     }
+    Ok(())
 }
 
 /// Judges the command with all answers, and with the second one missing.
@@ -370,7 +370,7 @@ fn judge_twice(rt: &impl Abort, alloc: Global, rig: &mut Rig) -> Result<(), Fail
         goes(rt, alloc, rig, line.trim())?;
     }
     expect_judged(rt, rig.judged(alloc)?, None, TOLD);
-    shift(rig);
+    shift(rig)?;
     expect_judged(rt, rig.judged(alloc)?, Some(1), "an answer that is missing");
     Ok(())
 }

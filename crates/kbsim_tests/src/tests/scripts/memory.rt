@@ -1,5 +1,6 @@
 //! Requests for memory that are refused. In a plain run none is; the test command can refuse one.
 
+use super::text_of;
 use arrayvec::ArrayVec;
 use kbsim::{RunError, run_script};
 
@@ -20,7 +21,11 @@ fn whole_lines_and_then_the_fault(rt: HostRuntime) {
     } else {
         assert_eq!(rt; ended, Err(RunError::Memory));
         let front = printed.as_slice().strip_suffix(REFUSED);
-        assert!(rt; front.is_some_and(|lines| is_whole(lines) && PRINTED.starts_with(lines)));
+        let text = text_of(printed.as_slice());
+        assert!(rt;
+            front.is_some_and(|lines| is_whole(lines) && PRINTED.starts_with(lines)),
+            "{text}"
+        );
     }
 }
 

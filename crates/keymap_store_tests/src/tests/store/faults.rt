@@ -284,12 +284,18 @@ fn torn_once(
 }
 
 fn expect_some(rt: &impl Abort, operations: Option<usize>) {
-    assert!(rt; operations.is_some());
+    assert!(rt;
+        operations.is_some(),
+        "the command was refused, failed, or took too many operations"
+    );
 }
 
 /// Slot 0 of each page is sound.
 pub fn expect_sound(rt: &impl Abort, device: &Device) {
-    assert!(rt; are_headers_sound(&device.flash));
+    assert!(rt;
+        are_headers_sound(&device.flash),
+        "slot 0 of a page is not sound"
+    );
 }
 
 /// Takes a command once for each of its operations, each mask, and a fault or a cut, on a flash that
