@@ -303,9 +303,6 @@ stopped_at start lines i world first now so_far more =
     let (text, run, appends) = run_all start (take i lines) world first now so_far in
     (i, text, world.flash, more, run, appends)
 
-pub stopped_some : (start : SimValue) (lines : List Line) (first now : Option (List ℕ)) → StoppedAt start lines first now → Stopped start lines first now
-stopped_some start lines first now (count, text, after, more, run, appends) = (count, text, after, inr more, run, appends)
-
 pub stopped_none : (start : SimValue) (lines : List Line) (first : Option (List ℕ)) → Stopped start lines first first
 stopped_none start lines first =
     (0, [], start, inl refl, record { steps = []; answered = tt; none_refused = tt; in_time = tt; prints = (refl, refl); leaves = refl }, Appends-nil first)

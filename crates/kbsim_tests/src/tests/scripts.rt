@@ -26,7 +26,7 @@ fn prints<R: AllocGlobal + Abort>(
     so_ended(rt, ended, ends, text_of(script));
 }
 
-/// How a run ended. Its device is let go here alone: each place that does costs the proof seconds.
+/// How a run ended. Its flash is let go here alone.
 fn end_of(run: Result<SimFlash, RunError>) -> Result<(), RunError> {
     match run {
         Ok(_) => Ok(()),

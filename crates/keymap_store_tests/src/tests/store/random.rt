@@ -229,6 +229,7 @@ fn take_commands(rt: &impl Abort, device: &mut Device, seed: u32) -> u32 {
 
 /// The flash has the bytes that it began with; else its first other byte is told.
 fn expect_same(rt: &impl Abort, flash: &SimFlash, begun: &SimFlash) {
+    assert_eq!(rt; flash.image().len(), begun.image().len());
     let bytes = flash.image().iter().zip(begun.image().iter());
     for (at, (byte, was)) in bytes.enumerate() {
         assert!(rt; byte == was, "byte {at} is {byte:02x}, and was {was:02x}");
