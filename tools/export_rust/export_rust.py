@@ -19,8 +19,13 @@ HERE = os.path.dirname(os.path.abspath(__file__))
 ROOT = os.path.dirname(os.path.dirname(HERE))
 TEMPLATES = os.path.join(HERE, "templates")
 
-# The file that says of which sources a crate was exported; a folder that has it may be written anew.
+# The file that says of which sources a crate was exported.
 SOURCES = "SOURCES"
+
+# The file that says what was written; a folder that has it, and the rest as it says, may be written anew.
+WRITTEN = "WRITTEN"
+
+UNPROVED = "export-rust: no proof was checked: run `rt verdict` in the crates of a change, or bin/test (docs/USING.md)"
 
 BANNER = "// Exported from crates/{} by bin/export-rust. Edit that file instead.\n"
 
@@ -33,7 +38,7 @@ class Export:
         self.crates = crates or rules.CRATES + rules.TEST_CRATES
         self.files = {}
         self.digests = {}
-        self.owed = set()
+        self.met = set()
         self.faults = []
 
     def make(self):
@@ -45,8 +50,10 @@ class Export:
                     self.faults.append(f"crates.txt: {crate} stands on {name}, which is not exported")
             neighbours = set(stands_on[crate]) & set(self.crates)
             self.guarded(lambda: self.module(crate, "", neighbours, crate in rules.TEST_CRATES))
-        for crate, name in sorted(set(rules.OWED) - self.owed):
+        for crate, name in sorted(set(rules.OWED) - self.met):
             self.faults.append(f"tools/export_rust/rules.py: OWED names {crate}::{name}, which has no condition")
+        for crate, name in sorted(rules.HIDDEN - self.met):
+            self.faults.append(f"tools/export_rust/rules.py: HIDDEN names {crate}::{name}, which is no public call")
         self.templates()
 
     def guarded(self, step):
@@ -64,12 +71,12 @@ class Export:
         source = f"{crate}/src/{module or 'lib'}.rt"
         with open(os.path.join(self.root, "crates", source), encoding="utf-8") as file:
             text = file.read()
-        self.digests[source] = hashlib.sha256(text.encode()).hexdigest()
+        self.digests[source] = digest(text.encode())
         translator = Translator(crate, module, f"crates/{source}", neighbours, hosted, self.contracts)
         translator.open_module = lambda name, hosted: self.guarded(
             lambda: self.module(crate, translator.joined(name), neighbours, hosted))
         made = translator.translate(text)
-        self.owed |= translator.owed
+        self.met |= translator.met
         if not has_code(made):
             return False
         self.files[f"src/{crate}/{module}.rs" if module else f"src/{crate}.rs"] = BANNER.format(source) + made
@@ -87,16 +94,41 @@ class Export:
                 self.files[os.path.relpath(path, TEMPLATES)] = text
 
     def write(self, folder):
-        """Writes the crate. A folder that holds anything but an earlier export is refused."""
-        if os.path.exists(folder) and os.listdir(folder) and not os.path.exists(os.path.join(folder, SOURCES)):
-            raise Refused(f"{folder}: is no earlier export, and not empty")
+        """Writes the crate, unless anything else than an earlier export would be lost."""
+        self.files[SOURCES] = "".join(f"{of}  crates/{source}\n" for source, of in sorted(self.digests.items()))
+        self.faults += lost(folder, self.files)
+        if self.faults:
+            return
         shutil.rmtree(os.path.join(folder, "src"), ignore_errors=True)
-        self.files[SOURCES] = "".join(f"{digest}  crates/{source}\n" for source, digest in sorted(self.digests.items()))
+        self.files[WRITTEN] = "".join(f"{digest(text.encode())}  {name}\n" for name, text in sorted(self.files.items()))
         for name, text in sorted(self.files.items()):
             path = os.path.join(folder, name)
             os.makedirs(os.path.dirname(path), exist_ok=True)
             with open(path, "w", encoding="utf-8") as file:
                 file.write(text)
+
+
+def digest(content):
+    return hashlib.sha256(content).hexdigest()
+
+
+def lost(folder, files):
+    """What a new export would take from a folder and no earlier one wrote as it stands, as faults."""
+    if not os.path.exists(folder) or not os.listdir(folder):
+        return []
+    if not os.path.exists(os.path.join(folder, WRITTEN)):
+        return [f"{folder}: is no earlier export, and not empty"]
+    with open(os.path.join(folder, WRITTEN), encoding="utf-8") as file:
+        written = {tuple(line.rstrip("\n").split("  ", 1)) for line in file}
+    names = {name for name in files if os.path.exists(os.path.join(folder, name))}
+    for inside, _, found in os.walk(os.path.join(folder, "src")):
+        names |= {os.path.relpath(os.path.join(inside, name), folder) for name in found}
+    faults = []
+    for name in sorted(names):
+        with open(os.path.join(folder, name), "rb") as file:
+            if (digest(file.read()), name) not in written:
+                faults.append(f"{os.path.join(folder, name)}: would be lost, and no export wrote it as it is; take it away")
+    return faults
 
 
 def declaration(crate):
@@ -125,7 +157,7 @@ def read_crates(root):
 def main():
     parser = argparse.ArgumentParser(prog="export-rust", description="Writes the keyboard as one crate of plain Rust.")
     parser.add_argument("--contracts", action="store_true", help="write each contract into its function's docs")
-    parser.add_argument("dir", metavar="DIR", help="the folder of the crate: none yet, an empty one, or an earlier export")
+    parser.add_argument("dir", metavar="DIR", help="the folder of the crate: none yet, an empty one, or an earlier export, whose src is replaced whole")
     options = parser.parse_args()
     export = Export(ROOT, options.contracts)
     export.make()
@@ -138,6 +170,7 @@ def main():
         return 1
     lines = sum(text.count("\n") for name, text in export.files.items() if name.endswith(".rs"))
     print(f"export-rust: {options.dir}: {len(export.digests)} files of the source read, {lines} lines of Rust written")
+    print(UNPROVED, file=sys.stderr)
     return 0
 
 

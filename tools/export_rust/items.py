@@ -31,7 +31,7 @@ class Translator:
         self.rewriter = Rewriter(crate, file, neighbours, hosted)
         self.neighbours = neighbours
         self.open_module = lambda name, hosted: True    # whether anything is left of the file of a module
-        self.owed = set()                               # the entries of OWED that were met with
+        self.met = set()                                # the entries of OWED and HIDDEN that were met with
 
     def refuse(self, token, why):
         self.rewriter.refuse(token, why)
@@ -240,6 +240,9 @@ class Translator:
             return self.test(tokens)
         if any(clause.text.startswith("requires") for clause in clauses):
             tokens = self.with_condition(lead, tokens, name)
+        if (self.crate, name) in rules.HIDDEN and self.is_public(tokens):
+            self.met.add((self.crate, name))
+            tokens = self.for_the_crate(tokens)
         if self.contracts:
             lead.docs += contract(clauses, bool(lead.docs))
         return self.rewriter.code(tokens)
@@ -264,13 +267,21 @@ class Translator:
 
     def with_condition(self, lead, tokens, name):
         """A function that asks something of its caller: the docs say it, or only the crate may call it."""
-        if text_at(tokens, 0) != "pub" or text_at(tokens, after(tokens, 0)) == "(":
+        if not self.is_public(tokens):
             return tokens
         if (self.crate, name) not in rules.OWED:
-            return [Token("word", "pub(crate)", tokens[0].line)] + tokens[1:]
-        self.owed.add((self.crate, name))
+            return self.for_the_crate(tokens)
+        self.met.add((self.crate, name))
         lead.docs = [f"/// {rules.OWED[self.crate, name]}", "///"] + lead.docs
         return tokens
+
+    def is_public(self, tokens):
+        """Whether a function begins with a plain `pub`."""
+        return text_at(tokens, 0) == "pub" and text_at(tokens, after(tokens, 0)) != "("
+
+    def for_the_crate(self, tokens):
+        """A public function that only the crate may call."""
+        return [Token("word", "pub(crate)", tokens[0].line)] + tokens[1:]
 
     def test(self, tokens):
         """A test: the runtime that Rattle gives it is given by `rattle::test::run`."""

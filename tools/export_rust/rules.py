@@ -53,6 +53,9 @@ OWED = {
     ("page_turnover", "step"): "**Needs** the flash that the log was mounted on, as the log left it. Nothing checks it.",
 }
 
+# Public calls that take or give a type which has no name outside of the export; they become `pub(crate)` too.
+HIDDEN = {("keyboard", "start_in")}
+
 # Methods that may fail in Rattle, or take an allocator, and do neither in Rust. On `self` they are a crate's own.
 REFUSED_METHODS = {"clone", "cloned", "push", "push_str", "insert", "collect", "to_vec", "to_owned", "to_string", "extend",
                    "extend_from_slice", "reserve", "resize", "sort", "cast_signed", "cast_unsigned", "expect", "try_collect"}

@@ -9,7 +9,7 @@ import unittest
 sys.dont_write_bytecode = True
 
 import rules
-from export_rust import HERE, ROOT, Export
+from export_rust import HERE, ROOT, UNPROVED, Export, digest
 from items import Translator
 from lexing import Refused
 from scripts import script
@@ -20,6 +20,11 @@ def rust(text, crate="layers", hosted=False, contracts=False, left=True):
     translator = Translator(crate, "", "f.rt", {"records"}, hosted, contracts)
     translator.open_module = lambda name, hosted: left
     return translator.translate(text)
+
+
+def run(folder):
+    """The exporter, run on a folder."""
+    return subprocess.run([sys.executable, "-B", os.path.join(HERE, "export_rust.py"), folder], capture_output=True, text=True)
 
 
 # A name, a source, its export.
@@ -138,6 +143,11 @@ class Forms(unittest.TestCase):
         said, blank, docs, _ = rust(source, crate="keyboard").split("\n", 3)
         self.assertEqual((said, blank, docs), (f"/// {rules.OWED['keyboard', 'work']}", "///", "/// Works."))
 
+    def test_a_call_with_a_type_that_has_no_name_is_for_the_crate(self):
+        source = "pub fn start_in(room: Room) -> u8\n    ensures { a }\n{ 1 }\n"
+        self.assertEqual(rust(source, crate="keyboard"), "pub(crate) fn start_in(room: Room) -> u8 { 1 }\n")
+        self.assertEqual(rust(source, crate="layers"), "pub fn start_in(room: Room) -> u8 { 1 }\n")
+
     def test_contracts_are_docs_on_request(self):
         source = "/// Doc.\nfn f() -> u8\n    ensures one {\n        result ≡ 1 }\n{ 1 }\n"
         self.assertIn("/// ensures one { result ≡ 1 }\n", rust(source, contracts=True))
@@ -163,7 +173,7 @@ class Whole(unittest.TestCase):
             self.assertEqual(export.faults, [])
             exports.append(export.files)
         self.assertEqual(exports[0], exports[1])
-        self.assertIn("src/keyboard/keyboard.rs", exports[0])
+        self.assertIn("    pub(crate) fn start_in<", exports[0]["src/keyboard/keyboard.rs"])
         for name, text in exports[0].items():
             code = "\n".join(line for line in text.split("\n") if not line.strip().startswith("//"))
             self.assertNotRegex(code, r"\b(ghost|requires|ensures|Model)\b", name)
@@ -187,10 +197,41 @@ class Whole(unittest.TestCase):
         with tempfile.TemporaryDirectory() as folder:
             with open(os.path.join(folder, "mine"), "w", encoding="utf-8") as file:
                 file.write("text")
-            ended = subprocess.run([sys.executable, "-B", os.path.join(HERE, "export_rust.py"), folder], capture_output=True, text=True)
+            ended = run(folder)
             self.assertEqual(ended.returncode, 1)
             self.assertIn("nothing was written", ended.stderr)
             self.assertEqual(os.listdir(folder), ["mine"])
+
+    def test_an_earlier_export_is_replaced_and_says_that_it_is_unproved(self):
+        with tempfile.TemporaryDirectory() as folder:
+            os.makedirs(os.path.join(folder, "a/src/gone"))
+            old = {"Cargo.toml": "old", "src/gone/old.rs": "old"}
+            with open(os.path.join(folder, "a/WRITTEN"), "w", encoding="utf-8") as file:
+                file.write("".join(f"{digest(text.encode())}  {name}\n" for name, text in old.items()))
+            for name, text in [*old.items(), ("Cargo.lock", "mine")]:
+                with open(os.path.join(folder, "a", name), "w", encoding="utf-8") as file:
+                    file.write(text)
+            for _ in range(2):
+                ended = run(os.path.join(folder, "a"))
+                self.assertEqual((ended.returncode, ended.stderr), (0, UNPROVED + "\n"))
+            self.assertFalse(os.path.exists(os.path.join(folder, "a/src/gone")))
+            with open(os.path.join(folder, "a/Cargo.lock"), encoding="utf-8") as file:
+                self.assertEqual(file.read(), "mine")
+
+    def test_what_no_export_wrote_is_refused_by_name(self):
+        with tempfile.TemporaryDirectory() as folder:
+            self.assertEqual(run(folder).returncode, 0)
+            mine = {"src/mine.rs": "fn mine() {}\n", "src/rattle.rs": "changed\n", "Cargo.toml": "changed\n"}
+            for name, text in mine.items():
+                with open(os.path.join(folder, name), "w", encoding="utf-8") as file:
+                    file.write(text)
+            ended = run(folder)
+            self.assertEqual(ended.returncode, 1)
+            self.assertEqual(ended.stderr.count("would be lost"), 3)
+            for name, text in mine.items():
+                self.assertIn(f"{folder}/{name}: would be lost", ended.stderr)
+                with open(os.path.join(folder, name), encoding="utf-8") as file:
+                    self.assertEqual(file.read(), text)
 
     def test_a_script_is_the_same_each_time(self):
         self.assertEqual(script(7), script(7))
