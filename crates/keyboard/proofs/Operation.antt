@@ -258,7 +258,7 @@ record_in : (held : Option ActivePage) (command : Command) (old : List ℕ) (log
 record_in None command old log operation room d e n = cc
 record_in (Some place) command old log operation room d e n =
     let h = held_active old log place d e in
-    record { room = room; page = place.page; seq = place.seq; tail = place.tail; is_active = h.is_active; is_tail = h.is_tail; operation_is = some_operation _ operation n }
+    record { room = room; page = place.page; tail = place.tail; place = record { seq = place.seq; is_active = h.is_active; is_tail = h.is_tail }; operation_is = some_operation _ operation n }
 
 no_erase : (command : Command) (old : List ℕ) (operation : Operation) → IsRecord command old operation → (page : ℕ) → operation ≡ Erase page → page ≡ target_page old
 no_erase command old operation r page e = (let f = r.operation_is in cc)

@@ -8,12 +8,13 @@ use Rattle.page_turnover.specs.declared.operation.Operation.{Operation}
 use Rattle.page_turnover.specs.declared.operation.Operation.TheVariants.{Program, Erase}
 use Rattle.page_turnover.specs.Next.{Makes, MayMake, ReadsBack}
 use Rattle.page_turnover.specs.Operates.{Operates, programs, erases, MayOperate, may_program, may_erase}
+use Rattle.page_turnover.specs.Steps.{Attempts}
 use Rattle.page_turnover.specs.Turn.{target_page}
 use Rattle.page_turnover.specs.Usable.{IsUsable}
 use Rattle.page_turnover.specs.Words.{IsBlank, HasRoom}
 use Rattle.keymap_store.specs.declared.store.Work.{Work as WorkAnswer}
 use Rattle.keymap_store.specs.declared.store.Work.TheVariants.{Idle, Working, Settled, Failed}
-use Rattle.keymap_store.specs.Next.{Attempts, all_copies}
+use Rattle.keymap_store.specs.Next.{all_copies}
 use Rattle.keymap_store.specs.Works.{IsPlacedAt, IsTornAt}
 use Rattle.keyboard.specs.Bounded.{steps_since}
 use Rattle.keyboard.specs.Calls.{Call, image_after, keymap, EachCall}
@@ -36,19 +37,19 @@ pub whole_step : (start : List ℕ) (past : List Call) (command : Command) (old 
 whole_step start past command old work new w n = operates_by old w.operation new w.usable w.loses_nothing (w.attempts.done n).0
 
 pub torn_step : (start : List ℕ) (past : List Call) (command : Command) (old : List ℕ) (work : WorkAnswer) (new : List ℕ) → Works start past command old work new → work ≡ Failed → MayOperate old new
-torn_step start past command old work new w e = may_operate_by old w.operation new w.usable w.loses_nothing (w.attempts.failed e).0
+torn_step start past command old work new w e = may_operate_by old w.operation new w.usable w.loses_nothing (w.attempts.torn e).0
 
 -- of the record
 placed_by : (command : Command) (old : List ℕ) (operation : Operation) (new : List ℕ) → IsRecord command old operation → Makes old operation new → IsPlacedAt old command new
 placed_by command old operation new r m =
     let M : Operation → Type 0 = λ o. Makes old o new in
-    record { page = r.page; seq = r.seq; tail = r.tail; is_active = r.is_active; is_tail = r.is_tail; programs = subst M r.operation_is m }
+    record { page = r.page; tail = r.tail; place = r.place; programs = subst M r.operation_is m }
 
 torn_by : (command : Command) (old : List ℕ) (operation : Operation) (new : List ℕ) → IsRecord command old operation → MayMake old operation new → (ReadsBack operation new → ⊥) → IsTornAt old command new
 torn_by command old operation new r m n =
     let M : Operation → Type 0 = λ o. MayMake old o new in
     let R : Operation → Type 0 = λ o. ReadsBack o new → ⊥ in
-    record { page = r.page; seq = r.seq; tail = r.tail; is_active = r.is_active; is_tail = r.is_tail; torn = subst M r.operation_is m; unread = subst R r.operation_is n }
+    record { page = r.page; tail = r.tail; place = r.place; torn = subst M r.operation_is m; unread = subst R r.operation_is n }
 
 not_failed : (work : WorkAnswer) → work ≡ Settled → work ≢ Failed
 not_failed work e f = cc
@@ -59,7 +60,7 @@ placed_step start past command old work new w e =
 
 pub record_torn : (start : List ℕ) (past : List Call) (command : Command) (old : List ℕ) (work : WorkAnswer) (new : List ℕ) (works : Works start past command old work new) → work ≡ Failed → suc (steps_since past) ≡ works.advances.needed → IsTornAt old command new
 record_torn start past command old work new w e n =
-    let left = w.attempts.failed e in
+    let left = w.attempts.torn e in
     torn_by command old w.operation new (w.advances.record_last n) left.0 left.1
 
 -- of a turn
@@ -76,11 +77,11 @@ in_target_torn old operation new (erases_target e used) m = (let M : Operation �
 in_target_torn old operation new (copies n l e h) m = (let M : Operation → Type 0 = λ o. MayMake old o new in slot_in_page old (target_page old) _ new (subst M e m).rest)
 in_target_torn old operation new (heads e h) m = (let M : Operation → Type 0 = λ o. MayMake old o new in slot_in_page old (target_page old) 0 new (subst M e m).rest)
 
-in_target_by : (old : List ℕ) (operation : Operation) (work : WorkAnswer) (new : List ℕ) → IsOfTurn old operation → Attempts old operation work new → OnePage old (target_page old) new
+in_target_by : (old : List ℕ) (operation : Operation) (work : WorkAnswer) (new : List ℕ) → IsOfTurn old operation → Attempts old operation (work ≡ Idle) (work ≡ Failed) new → OnePage old (target_page old) new
 in_target_by old operation Idle new t a = absurd (a.not_idle refl)
 in_target_by old operation Working new t a = in_target_whole old operation new t (a.done (λ e. cc)).0
 in_target_by old operation Settled new t a = in_target_whole old operation new t (a.done (λ e. cc)).0
-in_target_by old operation Failed new t a = in_target_torn old operation new t (a.failed refl).0
+in_target_by old operation Failed new t a = in_target_torn old operation new t (a.torn refl).0
 
 pub in_target : (start : List ℕ) (past : List Call) (command : Command) (old : List ℕ) (work : WorkAnswer) (new : List ℕ) (works : Works start past command old work new) → suc (steps_since past) < works.advances.needed → OnePage old (target_page old) new
 in_target start past command old work new w l = in_target_by old w.operation work new (w.advances.turn_before l) w.attempts
@@ -131,7 +132,7 @@ no_erase command old operation page r o = (let e = r.operation_is in cc)
 no_header : (command : Command) (old : List ℕ) (operation : Operation) (word : ℕ) → IsRecord command old operation → operation ≡ Program (target_page old) 0 word → ⊥
 no_header command old operation word r o =
     let at : 0 ≡ r.tail = same_slot (target_page old) r.page 0 r.tail word _ (sym o ∙ r.operation_is) in
-    absurd (omega (arith, r.is_tail.low))
+    absurd (omega (arith, r.place.is_tail.low))
 
 last_of_all : (made needed : ℕ) → suc made ≤ needed → needed ≤ suc made → suc made ≡ needed
 last_of_all made needed w l = omega arith

@@ -9,6 +9,7 @@ use Rattle.page_turnover.specs.declared.operation.Operation.{Operation}
 use Rattle.page_turnover.specs.declared.operation.Operation.TheVariants.{Program, Erase}
 use Rattle.page_turnover.specs.Next.{Makes, MayMake}
 use Rattle.page_turnover.specs.Operates.{Operates, programs, erases, MayOperate, may_program, may_erase}
+use Rattle.page_turnover.specs.Steps.{Attempts, AttemptsNext}
 use Rattle.page_turnover.specs.Usable.{IsUsable}
 use Rattle.keymap_store.specs.declared.store.Job.{Job}
 use Rattle.keymap_store.specs.declared.store.Job.TheVariants.{Resting, Appending, Turning}
@@ -17,7 +18,7 @@ use Rattle.keymap_store.specs.declared.store.Work.TheVariants.{Idle, Working, Se
 use Rattle.keymap_store.specs.Cut.{KeymapAfter, recorded, as_before, CutLeaves}
 use Rattle.keymap_store.specs.Keymap.{SameEntries}
 use Rattle.keymap_store.specs.Left.{left, Needs}
-use Rattle.keymap_store.specs.Next.{Attempts, AttemptsNext, next_operation_of}
+use Rattle.keymap_store.specs.Next.{next_operation_of}
 use Rattle.keymap_store.specs.Store.{Mirrors, working as working_in}
 use Rattle.keymap_store.specs.Value.{StoreValue}
 use Rattle.keymap_store.specs.Works.{WorksAs, IsAppendedFor}
@@ -31,7 +32,7 @@ use Rattle.keyboard.specs.Keys.{key_calls}
 use Rattle.keyboard.specs.Commands.{accepts, working}
 use Rattle.keyboard.specs.Endpoint.{ep_calls}
 use Rattle.keyboard.specs.Bounded.{most_steps, steps_since, accepted_image}
-use Rattle.keyboard.specs.Operated.{Works, WorksOn, Advances, IsCutShort}
+use Rattle.keyboard.specs.Operated.{Works, ComesTo, Advances, IsCutShort}
 use Rattle.keyboard.specs.Lawful.{WorkedOn, IsAnswered, MakesSuch}
 use Rattle.keyboard.specs.Private.{Operating}
 use Rattle.keyboard.specs.Restart.{RestartsLegally, CutsLegally}
@@ -62,20 +63,20 @@ appended_for old o command new e p = let P : Option Command → Type 0 = λ x. I
 
 -- what the operation is, by the store's clauses
 outcome : (command : Command) (image : List ℕ) (store : StoreValue) (work : WorkAnswer) (after : List ℕ) (new : StoreValue) → Mirrors image store → Operating image store work after new → working_in store.job ≡ Some command
-    → WorksAs image store work after new → WorksOn command image work after
+    → WorksAs image store work after new → ComesTo command image work after
 outcome command image store Idle after new m o w a = not_some (working_in store.job) command a.none w
 outcome command image store Working after new m o w a =
-    same_entries (keymap after) (keymap image) store.keymap (subst (λ (codes : List ℕ). HasEntries (keymap after) codes) a.same_keymap o.mirrors.keymap_is) m.keymap_is
+    same_entries (keymap after) (keymap image) store.keymap (subst (λ (codes : List ℕ). HasEntries (keymap after) codes) a.same_keymap o.leaves.mirrors.keymap_is) m.keymap_is
 outcome command image store Settled after new m o w a =
     let same : a.command ≡ command = same_command (working_in store.job) a.command command a.was w in
     let entries : SameEntries (keymap after) (changed (keymap image) (a.command ∷ [])) =
-    same_entries (keymap after) (changed (keymap image) (a.command ∷ [])) new.keymap o.mirrors.keymap_is (a.changes (keymap image) m.keymap_is) in
+    same_entries (keymap after) (changed (keymap image) (a.command ∷ [])) new.keymap o.leaves.mirrors.keymap_is (a.changes (keymap image) m.keymap_is) in
     record {
-      record_is = appended_for image (working_in store.job) command after w (o.writes.appended refl);
+      record_is = appended_for image (working_in store.job) command after w (o.leaves.writes.appended refl);
       entries = subst (λ (c : Command). SameEntries (keymap after) (changed (keymap image) (c ∷ []))) same entries;
     }
 outcome command image store Failed after new m o w a =
-    same_entries (keymap after) (keymap image) store.keymap (subst (λ (codes : List ℕ). HasEntries (keymap after) codes) a.same_keymap o.mirrors.keymap_is) m.keymap_is
+    same_entries (keymap after) (keymap image) store.keymap (subst (λ (codes : List ℕ). HasEntries (keymap after) codes) a.same_keymap o.leaves.mirrors.keymap_is) m.keymap_is
 
 not_idle : (command : Command) (image : List ℕ) (store : StoreValue) (work : WorkAnswer) (after : List ℕ) (new : StoreValue) → working_in store.job ≡ Some command → WorksAs image store work after new → work ≢ Idle
 not_idle command image store Idle after new w a e = not_some (working_in store.job) command a.none w
@@ -100,9 +101,9 @@ advances start before command old operation work after new s o v n on =
       last = λ e. (let one : left (image_after start before) old.store ≡ 1 = o.down.last e in omega (arith, one));
       before_last = λ e. (
         (let some : 1 ≤ left after new = needs_more after new (on e) in omega (arith, o.down.fewer e, some)),
-        o.writes.turns e,
+        o.leaves.writes.turns e,
       );
-      fails = o.writes.kept;
+      fails = o.leaves.writes.kept;
     }
 
 works_for : (command : Command) (image : List ℕ) (store : StoreValue) (work : WorkAnswer) (after : List ℕ) (new : StoreValue) → WorksAs image store work after new → working_in store.job ≡ Some command
@@ -117,11 +118,11 @@ may_make : (old : List ℕ) (operation : Operation) (new : List ℕ) → IsImage
 may_make old (Program page slot word) new i m = whole_program old page slot _ new m
 may_make old (Erase page) new i m = whole_erase old page new i m
 
-made : (old : List ℕ) (operation : Operation) (work : WorkAnswer) (new : List ℕ) → IsImage old → Attempts old operation work new → MayMake old operation new
+made : (old : List ℕ) (operation : Operation) (work : WorkAnswer) (new : List ℕ) → IsImage old → Attempts old operation (work ≡ Idle) (work ≡ Failed) new → MayMake old operation new
 made old operation Idle new i a = absurd (a.not_idle refl)
 made old operation Working new i a = may_make old operation new i (a.done (λ e. cc)).0
 made old operation Settled new i a = may_make old operation new i (a.done (λ e. cc)).0
-made old operation Failed new i a = (a.failed refl).0
+made old operation Failed new i a = (a.torn refl).0
 
 -- the command of a record that is being appended
 appending : (job : Job) (a b : Command) → job ≡ Appending a → working_in job ≡ Some b → a ≡ b
@@ -151,9 +152,9 @@ was_usable_torn old new (may_erase u page p n e) = u
 
 usable_by : (image : List ℕ) (store : StoreValue) (work : WorkAnswer) (after : List ℕ) (new : StoreValue) → Operating image store work after new → work ≢ Idle → IsUsable image
 usable_by image store Idle after new o n = absurd (n refl)
-usable_by image store Working after new o n = was_usable image after (o.operates (λ e. cc) (λ e. cc))
-usable_by image store Settled after new o n = was_usable image after (o.operates (λ e. cc) (λ e. cc))
-usable_by image store Failed after new o n = was_usable_torn image after (o.torn refl)
+usable_by image store Working after new o n = was_usable image after (o.leaves.operates (λ e. cc) (λ e. cc))
+usable_by image store Settled after new o n = was_usable image after (o.leaves.operates (λ e. cc) (λ e. cc))
+usable_by image store Failed after new o n = was_usable_torn image after (o.leaves.torn refl)
 
 -- a step while a command works, that makes this operation
 record WorksBy (start : List ℕ) (before : List Call) (command : Command) (work : WorkAnswer) (after : List ℕ) (operation : Operation) : Type 0 where
@@ -161,7 +162,7 @@ record WorksBy (start : List ℕ) (before : List Call) (command : Command) (work
   operation_is : step.operation ≡ operation
 
 works_of : (operation : Operation) (start : List ℕ) (before : List Call) (command : Command) (old : KeyboardValue) (work : WorkAnswer) (after : List ℕ) (new : StoreValue) → next_operation_of (image_after start before) old.store ≡ Some operation → StandsFor start before old
-    → Operating (image_after start before) old.store work after new → at_work old ≡ Some command → work ≢ Idle → Attempts (image_after start before) operation work after → WorksBy start before command work after operation
+    → Operating (image_after start before) old.store work after new → at_work old ≡ Some command → work ≢ Idle → Attempts (image_after start before) operation (work ≡ Idle) (work ≡ Failed) after → WorksBy start before command work after operation
 works_of operation start before command old work after new n s o v some a =
     let image : List ℕ = image_after start before in
     let held : Mirrors image old.store = s.now.store in
@@ -172,10 +173,10 @@ works_of operation start before command old work after new n s o v some a =
         usable = usable;
         loses_nothing = loses_by old.store.job image old.store command operation refl held n v;
         attempts = a;
-        advances = advances start before command old operation work after new s o v n (λ e. rw (works_for command image old.store work after new o.works v e) refl);
-        outcome = outcome command image old.store work after new held o v o.works;
-        sound = o.sound usable;
-        wears = (cut_leaves image after old.store operation held n o.mirrors.log_is.whole (made image operation work after held.log_is.whole a)).wears;
+        advances = advances start before command old operation work after new s o v n (λ e. rw (works_for command image old.store work after new o.leaves.works v e) refl);
+        outcome = outcome command image old.store work after new held o v o.leaves.works;
+        sound = o.leaves.sound usable;
+        wears = (cut_leaves image after old.store operation held n o.leaves.mirrors.log_is.whole (made image operation work after held.log_is.whole a)).wears;
         cut = λ cut i t. cut_short image old.store operation command cut held n v i t;
       };
       operation_is = refl;
@@ -183,13 +184,13 @@ works_of operation start before command old work after new n s o v some a =
 
 -- by the operation that is next
 works_by : (next : Option Operation) (start : List ℕ) (before : List Call) (command : Command) (old : KeyboardValue) (work : WorkAnswer) (after : List ℕ) (new : StoreValue) → next_operation_of (image_after start before) old.store ≡ next → StandsFor start before old
-    → Operating (image_after start before) old.store work after new → at_work old ≡ Some command → work ≢ Idle → AttemptsNext next (image_after start before) work after → Works start before command (image_after start before) work after
+    → Operating (image_after start before) old.store work after new → at_work old ≡ Some command → work ≢ Idle → AttemptsNext next (image_after start before) (work ≡ Idle) (work ≡ Failed) after → Works start before command (image_after start before) work after
 works_by None start before command old work after new n s o v some (idle, same) = absurd (some idle)
 works_by (Some operation) start before command old work after new n s o v some a = (works_of operation start before command old work after new n s o v some a).step
 
 -- what holds of the operation that is next holds of the step's
 such_by : (next : Option Operation) (start : List ℕ) (before : List Call) (command : Command) (old : KeyboardValue) (work : WorkAnswer) (after : List ℕ) (new : StoreValue) (such : Operation → Type 0) → next_operation_of (image_after start before) old.store ≡ next → StandsFor start before old
-    → Operating (image_after start before) old.store work after new → working start before ≡ Some command → work ≢ Idle → AttemptsNext next (image_after start before) work after
+    → Operating (image_after start before) old.store work after new → working start before ≡ Some command → work ≢ Idle → AttemptsNext next (image_after start before) (work ≡ Idle) (work ≡ Failed) after
     → ((operation : Operation) → next_operation_of (image_after start before) old.store ≡ Some operation → such operation) → MakesSuch start before work after such
 such_by None start before command old work after new such n s o w some (idle, same) h = absurd (some idle)
 such_by (Some operation) start before command old work after new such n s o w some a h =
@@ -199,7 +200,7 @@ such_by (Some operation) start before command old work after new such n s o w so
 works : (start : List ℕ) (before : List Call) (command : Command) (old : KeyboardValue) (work : WorkAnswer) (after : List ℕ) (new : StoreValue) → StandsFor start before old
     → Operating (image_after start before) old.store work after new → at_work old ≡ Some command → Works start before command (image_after start before) work after
 works start before command old work after new s o v =
-    works_by (next_operation_of (image_after start before) old.store) start before command old work after new refl s o v (not_idle command (image_after start before) old.store work after new v o.works) o.attempts
+    works_by (next_operation_of (image_after start before) old.store) start before command old work after new refl s o v (not_idle command (image_after start before) old.store work after new v o.leaves.works) o.leaves.attempts
 
 idle_same : (image : List ℕ) (store : StoreValue) (work : WorkAnswer) (after : List ℕ) (new : StoreValue) → working_in store.job ≡ None → WorksAs image store work after new → (work ≡ Idle) × (after ≡ image)
 idle_same image store Idle after new n a = (refl, a.same_image)
@@ -209,7 +210,7 @@ idle_same image store Failed after new n a = absurd (not_both (working_in store.
 
 worked_by : (start : List ℕ) (before : List Call) (w : Option Command) (old : KeyboardValue) (work : WorkAnswer) (after : List ℕ) (new : StoreValue) → StandsFor start before old
     → Operating (image_after start before) old.store work after new → at_work old ≡ w → WorkedOn start before w work after
-worked_by start before None old work after new s o v = idle_same (image_after start before) old.store work after new v o.works
+worked_by start before None old work after new s o v = idle_same (image_after start before) old.store work after new v o.leaves.works
 worked_by start before (Some command) old work after new s o v = works start before command old work after new s o v
 
 -- what a step of the flash work makes of the flash is lawful
@@ -220,8 +221,8 @@ worked_on start before old work after new s o = worked_by start before (working 
 such_in : (start : List ℕ) (before : List Call) (w : Option Command) (old : KeyboardValue) (work : WorkAnswer) (after : List ℕ) (new : StoreValue) (such : Operation → Type 0) → StandsFor start before old
     → Operating (image_after start before) old.store work after new → working start before ≡ w → work ≢ Idle
     → ((operation : Operation) → next_operation_of (image_after start before) old.store ≡ Some operation → such operation) → MakesSuch start before work after such
-such_in start before None old work after new such s o w some h = absurd (some (idle_same (image_after start before) old.store work after new (s.now.works ∙ w) o.works).0)
-such_in start before (Some command) old work after new such s o w some h = such_by (next_operation_of (image_after start before) old.store) start before command old work after new such refl s o w some o.attempts h
+such_in start before None old work after new such s o w some h = absurd (some (idle_same (image_after start before) old.store work after new (s.now.works ∙ w) o.leaves.works).0)
+such_in start before (Some command) old work after new such s o w some h = such_by (next_operation_of (image_after start before) old.store) start before command old work after new such refl s o w some o.leaves.attempts h
 
 -- the operation of a step of the flash work is the one that the store asks for
 pub makes_such : (start : List ℕ) (before : List Call) (old : KeyboardValue) (work : WorkAnswer) (after : List ℕ) (new : StoreValue) (such : Operation → Type 0) → StandsFor start before old
@@ -241,7 +242,7 @@ stands_after start before work after ep new old s o e works few needs = record {
   now = record {
     ep = e;
     keys = s.now.keys;
-    store = o.mirrors;
+    store = o.leaves.mirrors;
     works = works;
     protocol = s.now.protocol;
     leds = s.now.leds;
@@ -280,7 +281,7 @@ works_on start before command after ep new old s o e v w later =
 
 ended : (start : List ℕ) (before : List Call) (command : Command) (work : WorkAnswer) (after : List ℕ) (ep : Stage) (new : StoreValue) (old : KeyboardValue) → StandsFor start before old
     → Operating (image_after start before) old.store work after new → control_ep.StandsFor (ep_calls start (Worked work after ∷ before)) ep
-    → at_work old ≡ Some command → WorksOn command (image_after start before) work after → WorksAs (image_after start before) old.store work after new
+    → at_work old ≡ Some command → ComesTo command (image_after start before) work after → WorksAs (image_after start before) old.store work after new
     → StandsFor start (Worked work after ∷ before) (record old { ep = ep; store = new })
 ended start before command Idle after ep new old s o e v c a = absurd c
 ended start before command Settled after ep new old s o e v c a =
@@ -314,8 +315,8 @@ idled start before Idle after ep new old s o e v i f a =
 worked_stands : (start : List ℕ) (before : List Call) (work : WorkAnswer) (w : Option Command) (after : List ℕ) (ep : Stage) (new : StoreValue) (old : KeyboardValue) → StandsFor start before old
     → Operating (image_after start before) old.store work after new → control_ep.StandsFor (ep_calls start (Worked work after ∷ before)) ep
     → at_work old ≡ w → WorkedOn start before w work after → StandsFor start (Worked work after ∷ before) (record old { ep = ep; store = new })
-worked_stands start before work None after ep new old s o e v (idle, same) = idled start before work after ep new old s o e v idle same o.works
-worked_stands start before work (Some command) after ep new old s o e v on = ended start before command work after ep new old s o e v on.outcome o.works
+worked_stands start before work None after ep new old s o e v (idle, same) = idled start before work after ep new old s o e v idle same o.leaves.works
+worked_stands start before work (Some command) after ep new old s o e v on = ended start before command work after ep new old s o e v on.outcome o.leaves.works
 
 stands_worked : (start : List ℕ) (before : List Call) (work : WorkAnswer) (after : List ℕ) (ep : Stage) (new : StoreValue) (old : KeyboardValue) → StandsFor start before old
     → Operating (image_after start before) old.store work after new → control_ep.StandsFor (ep_calls start (Worked work after ∷ before)) ep
@@ -363,7 +364,7 @@ cut_legal start past command cut h w (inl e) = restarts_without start past cut h
 cut_legal start past command cut h w (inr e) = restarts_with start past command cut h w e
 
 left_by : (start : List ℕ) (past : List Call) (command : Command) (work : WorkAnswer) (new : List ℕ) → EachCall IsAnswered start past → working start past ≡ Some command
-    → WorksOn command (image_after start past) work new → RestartsLegally start past new
+    → ComesTo command (image_after start past) work new → RestartsLegally start past new
 left_by start past command Settled new h w c = restarts_with start past command new h w c.entries
 left_by start past command Working new h w c = restarts_without start past new h c
 left_by start past command Failed new h w c = restarts_without start past new h c

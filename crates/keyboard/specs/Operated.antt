@@ -11,15 +11,15 @@ use Rattle.page_turnover.specs.declared.operation.Operation.TheVariants.{Program
 use Rattle.page_turnover.specs.Active.{active}
 use Rattle.page_turnover.specs.Header.{header_word}
 use Rattle.page_turnover.specs.Next.{MayMake}
-use Rattle.page_turnover.specs.Steps.{Keeps}
+use Rattle.page_turnover.specs.Steps.{Keeps, Attempts}
 use Rattle.page_turnover.specs.Turn.{target_page, next_seq}
 use Rattle.page_turnover.specs.Usable.{IsUsable}
-use Rattle.page_turnover.specs.Words.{words, FreeFrom, IsBlank, IsTail, HasRoom}
+use Rattle.page_turnover.specs.Words.{words, FreeFrom, IsBlank, IsActiveTail, HasRoom}
 use Rattle.keymap_store.specs.declared.store.Work.{Work as WorkAnswer}
 use Rattle.keymap_store.specs.declared.store.Work.TheVariants.{Idle, Working, Settled, Failed}
 use Rattle.keymap_store.specs.Keymap.{SameEntries}
 use Rattle.keymap_store.specs.Left.{Needs}
-use Rattle.keymap_store.specs.Next.{Attempts, all_copies}
+use Rattle.keymap_store.specs.Next.{all_copies}
 use Rattle.keymap_store.specs.Turnovers.{Turns, Wears}
 use Rattle.keyboard.specs.Calls.{Call, keymap}
 use Rattle.keyboard.specs.Bounded.{steps_since, accepted_image}
@@ -34,10 +34,8 @@ LosesNothing old (Erase page) = (page < page_count old) × ((seq : ℕ) → acti
 pub record IsRecord (command : Command) (old : List ℕ) (operation : Operation) : Type 0 where
   pub room : HasRoom old
   pub page : ℕ
-  pub seq : ℕ
   pub tail : ℕ
-  pub is_active : active old ≡ Some (page, seq)
-  pub is_tail : IsTail old page tail
+  pub place : IsActiveTail old page tail
   pub operation_is : operation ≡ Program page tail (word_of command)
 
 -- the page after the active one holds the first n of the words that set the entries that differ from the default, one a slot
@@ -63,11 +61,10 @@ pub record AddsRecord (command : Command) (old new : List ℕ) : Type 0 where
   pub entries : SameEntries (keymap new) (changed (keymap old) (command ∷ []))
 
 -- what a step may come to: the command's record is there, or the keymap is as before
-abbrev pub WorksOn : Command → List ℕ → WorkAnswer → List ℕ → Type 0
-WorksOn command old Settled new = AddsRecord command old new
-WorksOn command old Working new = SameEntries (keymap new) (keymap old)
-WorksOn command old Failed new = SameEntries (keymap new) (keymap old)
-WorksOn command old Idle new = ⊥
+abbrev pub ComesTo : Command → List ℕ → WorkAnswer → List ℕ → Type 0
+ComesTo command old Settled new = AddsRecord command old new
+ComesTo command old Idle new = ⊥
+ComesTo command old _ new = SameEntries (keymap new) (keymap old)
 
 -- the command needs as many steps as the flash said when it was accepted. The operation of the last one is its record, and
 -- each before is one of a turn, which is made where there is no room; a step that fails leaves words and active page as
@@ -96,10 +93,10 @@ pub record Works (start : List ℕ) (before : List Call) (command : Command) (ol
   pub usable : IsUsable old
   pub loses_nothing : LosesNothing old operation
   -- it was made as a whole, and its slot or page reads as intended; or it was torn, reads otherwise, and the command fails
-  pub attempts : Attempts old operation work new
+  pub attempts : Attempts old operation (work ≡ Idle) (work ≡ Failed) new
   -- which one it is, by the steps that were made for the command
   pub advances : Advances (accepted_image start before) (steps_since before) command old operation work new
-  pub outcome : WorksOn command old work new
+  pub outcome : ComesTo command old work new
   -- slots 0 stay sound, and of the active page at most the tail slot is touched, unless a header makes another page active
   pub sound : IsUsable new
   pub wears : Wears old new

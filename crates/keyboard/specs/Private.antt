@@ -1,23 +1,18 @@
 -- Only ties code to its definitions: contracts of the keyboard's private calls.
-use Rattle.std.specs.Prelude.{◌≡◌, ◌≢◌, ◌≤◌, ℕ, is_some, IsSome, None, Some, Result, Ok, Err, List, slice_index, if◌then◌else◌}
+use Rattle.std.specs.Prelude.{◌≡◌, ◌≤◌, ℕ, is_some, IsSome, None, Some, Result, Ok, Err, List, slice_index, if◌then◌else◌}
 use Rattle.layers.specs.declared.command.Command.{Command}
-use Rattle.page_turnover.specs.Operates.{Operates, MayOperate}
-use Rattle.page_turnover.specs.Usable.{IsUsable}
 use Rattle.control_ep.specs.declared.answer.EpAnswer.TheVariants.{Ack}
 use Rattle.control_ep.specs.declared.answer.Verdict.{Verdict}
 use Rattle.control_ep.specs.declared.answer.Verdict.TheVariants.{Done, Working, Busy, Refused}
 use Rattle.control_ep.specs.Answers.{judged_answer}
 use Rattle.keymap_store.specs.declared.store.Work.{Work as WorkAnswer}
-use Rattle.keymap_store.specs.declared.store.Work.TheVariants.{Idle, Failed}
 use Rattle.keymap_store.specs.declared.store.Taken.{Taken}
 use Rattle.keymap_store.specs.declared.store.Taken.TheVariants as Takens
 use Rattle.keymap_store.specs.declared.store.SubmitRefusal.{SubmitRefusal}
 use Rattle.keymap_store.specs.declared.store.SubmitRefusal.TheVariants as Refusals
 use Rattle.control_ep.specs.declared.why.Why.TheVariants.{Unsound, Worn}
-use Rattle.keymap_store.specs.Store.{Mirrors}
 use Rattle.keymap_store.specs.Left.{left, Needs}
-use Rattle.keymap_store.specs.Next.{AttemptsNext, next_operation_of}
-use Rattle.keymap_store.specs.Works.{WorksAs, WritesAs, CountsDown}
+use Rattle.keymap_store.specs.Works.{WorkLeaves, CountsDown}
 use Rattle.keymap_store.specs.Value.{StoreValue}
 use Rattle.keyboard.specs.Calls.{keymap}
 use Rattle.keyboard.specs.Feature.{command_in, FeatureAnswer}
@@ -53,11 +48,5 @@ pub record Judges (image bytes : List ℕ) (verdict : Verdict) (old new : Keyboa
 
 -- the store makes a step of the flash work: what it promises of it
 pub record Operating (image : List ℕ) (old : StoreValue) (work : WorkAnswer) (after : List ℕ) (new : StoreValue) : Type 0 where
-  pub mirrors : Mirrors after new
-  pub works : WorksAs image old work after new
-  pub attempts : AttemptsNext (next_operation_of image old) image work after
-  pub writes : WritesAs image old.job work after
+  pub leaves : WorkLeaves image old work after new
   pub down : CountsDown work (left image old) (left after new)
-  pub operates : work ≢ Idle → work ≢ Failed → Operates image after
-  pub torn : work ≡ Failed → MayOperate image after
-  pub sound : IsUsable image → IsUsable after

@@ -12,7 +12,7 @@ ghost use Rattle.control_ep.specs.declared.answer.EpAnswer.{EpAnswer};
 ghost use Rattle.key_reports.specs.Past.{keys_after, consumer_after, answer_after};
 ghost use Rattle.page_turnover.specs.Next.{on_flash};
 ghost use Rattle.keymap_store.specs.declared.store.Work.{Work};
-ghost use Rattle.keymap_store.specs.Works.{CountsAs};
+ghost use Rattle.page_turnover.specs.Steps.{CountsAs};
 ghost use Rattle.keyboard.specs.Calls.{Call, Scanned, SetUp, Out, In, Polled, Worked, BusReset, image_after, keymap};
 ghost use Rattle.keyboard.specs.Effects.{leds_after, selected, protocol_after};
 ghost use Rattle.keyboard.specs.Commands.{accepted, settled_of};
@@ -223,7 +223,7 @@ impl Keyboard {
         // it still runs on its flash
         ensures runs_on { RunsOn (F.image flash.new) self.new }
         // at most one operation is made, and none where the answer is Idle
-        ensures counts { CountsAs result (F.operations flash.old) (F.operations flash.new) (F.faults flash.old) (F.faults flash.new) }
+        ensures counts { CountsAs (result ≡ Work.Idle) (result ≡ Work.Failed) (F.operations flash.old) (F.operations flash.new) (F.faults flash.old) (F.faults flash.new) }
         // the operation is made on this flash
         ensures operated { (start : List ℕ) (past : List Call) → StandsFor start past self.old → image_after start past ≡ F.image flash.old
             → result ≢ Work.Idle → MakesSuch start past result (F.image flash.new) (λ operation. F.operates flash.old (on_flash operation) flash.new) }

@@ -62,7 +62,7 @@ filled image new page seq n f h = record {
   current = f.format_is ∙ h.current;
   free = λ t a b.
       let tail = tail_by image page n (omega arith) h.free in
-      rw (f.same page seq tail.tail t h.is_active tail.is_tail b (λ e. omega (arith, tail.by))) (h.free t (omega arith) b);
+      rw (f.same page tail.tail t (record { seq = seq; is_active = h.is_active; is_tail = tail.is_tail }) b (λ e. omega (arith, tail.by))) (h.free t (omega arith) b);
 }
 
 -- each append takes at most one of them

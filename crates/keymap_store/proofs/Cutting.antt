@@ -155,7 +155,7 @@ tail_touched (Some place) old log word operation new d e n m a f =
     let h = held_active old log place d e in
     let s = some_operation _ operation n in
     let p = rw (← s) at m in
-    fills (tail_filled old place.page place.seq place.tail new h.is_active h.is_tail a f p.rest)
+    fills (tail_filled old place.page place.tail new (record { seq = place.seq; is_active = h.is_active; is_tail = h.is_tail }) a f p.rest)
 
 cut_append : (old new : List ℕ) (store : StoreValue) (command : Command) (operation : Operation) → Mirrors old store → store.job ≡ Appending command → next_operation_of old store ≡ Some operation → IsImage new → MayMake old operation new → CutLeaves old store operation new
 cut_append old new store command operation m e n i t =

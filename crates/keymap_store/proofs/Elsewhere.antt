@@ -10,7 +10,7 @@ use Rattle.page_turnover.specs.declared.log.stepping.Step.TheVariants.{Idle, Mov
 use Rattle.page_turnover.specs.Value.{LogValue, Task, Rest, Append, Wait, Copy, Seal}
 use Rattle.page_turnover.specs.Log.{Describes}
 use Rattle.page_turnover.specs.Active.{active, format}
-use Rattle.page_turnover.specs.Words.{IsTail, HasRoom}
+use Rattle.page_turnover.specs.Words.{IsTail, IsActiveTail, HasRoom}
 use Rattle.page_turnover.specs.Turn.{target_page}
 use Rattle.page_turnover.specs.Next.{turn_operation, next_operation, Makes, MayMake}
 use Rattle.page_turnover.specs.Steps.{Keeps, AttemptsNext}
@@ -29,28 +29,26 @@ pub torn_in_target : (ready : Bool) (old : List ℕ) (slot word : ℕ) (new : Li
 torn_in_target true old slot word new m = slot_in_page old (target_page old) slot new m.rest
 torn_in_target false old slot word new m = m.rest
 
-attempted_in_target : (ready : Bool) (old : List ℕ) (slot word : ℕ) (step : Step) (new : List ℕ) → AttemptsNext (Some (turn_operation ready old slot word)) old step new → OnePage old (target_page old) new
+attempted_in_target : (ready : Bool) (old : List ℕ) (slot word : ℕ) (step : Step) (new : List ℕ) → AttemptsNext (Some (turn_operation ready old slot word)) old (step ≡ Idle) (step ≡ Failed) new → OnePage old (target_page old) new
 attempted_in_target ready old slot word Idle new a = absurd (a.not_idle refl)
 attempted_in_target ready old slot word Moved new a = made_in_target ready old slot word new (a.done (λ f. cc)).0
 attempted_in_target ready old slot word Committed new a = made_in_target ready old slot word new (a.done (λ f. cc)).0
-attempted_in_target ready old slot word Failed new a = torn_in_target ready old slot word new (a.failed refl).0
+attempted_in_target ready old slot word Failed new a = torn_in_target ready old slot word new (a.torn refl).0
 
 -- a turn touches its target alone
 abbrev pub IsOfTurn : Task → Type 0
-IsOfTurn Rest = ⊥
-IsOfTurn (Append word) = ⊥
-IsOfTurn (Wait target) = ⊥
 IsOfTurn (Copy target word) = Unit {0}
 IsOfTurn (Seal target) = Unit {0}
+IsOfTurn _ = ⊥
 
-in_target : (task : Task) (old : List ℕ) (log : LogValue) (step : Step) (new : List ℕ) → log.task ≡ task → IsOfTurn task → AttemptsNext (next_operation old log) old step new → OnePage old (target_page old) new
+in_target : (task : Task) (old : List ℕ) (log : LogValue) (step : Step) (new : List ℕ) → log.task ≡ task → IsOfTurn task → AttemptsNext (next_operation old log) old (step ≡ Idle) (step ≡ Failed) new → OnePage old (target_page old) new
 in_target Rest old log step new e t a = absurd t
 in_target (Append word) old log step new e t a = absurd t
 in_target (Wait target) old log step new e t a = absurd t
 in_target (Copy target word) old log step new e t a = attempted_in_target _ old _ word step new (rw e at a)
 in_target (Seal target) old log step new e t a = attempted_in_target _ old 0 _ step new (rw e at a)
 
-pub turn_in_target : (old : List ℕ) (log : LogValue) (step : Step) (new : List ℕ) → IsOfTurn log.task → AttemptsNext (next_operation old log) old step new → OnePage old (target_page old) new
+pub turn_in_target : (old : List ℕ) (log : LogValue) (step : Step) (new : List ℕ) → IsOfTurn log.task → AttemptsNext (next_operation old log) old (step ≡ Idle) (step ≡ Failed) new → OnePage old (target_page old) new
 turn_in_target old log step new t a = in_target log.task old log step new refl t a
 
 -- so it spares the active page
@@ -76,13 +74,13 @@ one_tail image page a b s t =
     ]
 
 -- a program of the tail slot
-pub tail_filled : (old : List ℕ) (page seq tail : ℕ) (new : List ℕ) → active old ≡ Some (page, seq) → IsTail old page tail → active new ≡ active old → format new ≡ format old → OneSlot old page tail new → Fills old new
-tail_filled old page seq tail new e t a f o = record {
+pub tail_filled : (old : List ℕ) (page tail : ℕ) (new : List ℕ) → IsActiveTail old page tail → active new ≡ active old → format new ≡ format old → OneSlot old page tail new → Fills old new
+tail_filled old page tail new t a f o = record {
   active_is = a;
   format_is = f;
-  same = λ p q u s is_active is_tail l n.
-      let samepage : p ≡ page = same_page old p q page seq is_active e in
-      let there : IsTail old page u = rw samepage at is_tail in
-      let v : u ≡ tail = omega (arith, one_tail old page u tail there t, one_tail old page tail u t there) in
+  same = λ p u s other l n.
+      let samepage : p ≡ page = same_page old p other.seq page t.seq other.is_active t.is_active in
+      let there : IsTail old page u = rw samepage at other.is_tail in
+      let v : u ≡ tail = omega (arith, one_tail old page u tail there t.is_tail, one_tail old page tail u t.is_tail there) in
       o.others p s l (λ x y. n (y ∙ sym v));
 }

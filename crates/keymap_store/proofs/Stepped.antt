@@ -12,7 +12,7 @@ use Rattle.page_turnover.specs.Log.{Describes}
 use Rattle.page_turnover.specs.Words.{HasRoom}
 use Rattle.page_turnover.specs.Turn.{IsPending, target_page}
 use Rattle.page_turnover.specs.Next.{next_operation, append_operation}
-use Rattle.page_turnover.specs.Steps.{EndsAs, Moves, Keeps, CommitsWord, Commits, AttemptsNext as AttemptsStep}
+use Rattle.page_turnover.specs.Steps.{EndsAs, Moves, Keeps, CommitsWord, Commits, AttemptsNext}
 use Rattle.page_turnover.proofs.Describing.{held_active}
 use Rattle.keymap_store.specs.declared.store.Job.TheVariants.{Appending, Turning}
 use Rattle.keymap_store.specs.declared.store.Work.{Work}
@@ -21,19 +21,26 @@ use Rattle.keymap_store.specs.Value.{StoreValue}
 use Rattle.keymap_store.specs.Keymap.{entries_of}
 use Rattle.keymap_store.specs.Store.{Mirrors, OffersBelow}
 use Rattle.keymap_store.specs.Offers.{IsOffered}
-use Rattle.keymap_store.specs.Next.{next_operation_of, AttemptsNext}
+use Rattle.keymap_store.specs.Next.{next_operation_of}
 use Rattle.keymap_store.specs.Turnovers.{stays, turns, Wears, over, spares, fills}
 use Rattle.keymap_store.specs.Works.{WritesAs, IsPlacedAt, IsTornAt}
 use Rattle.keymap_store.proofs.Working.{appending, appended_word, placed, keeps_of, prepares, turned}
 use Rattle.keymap_store.proofs.Elsewhere.{IsOfTurn, turn_in_target, turn_spares, tail_filled}
 
-attempt_done : (operation : Option Operation) (old : List ℕ) (step : Step) (work : Work) (new : List ℕ) → AttemptsStep operation old step new → step ≢ Steps.Idle → step ≢ Steps.Failed → work ≢ Idle → work ≢ Failed → AttemptsNext operation old work new
-attempt_done None old step work new a i f w g = absurd (i a.0)
-attempt_done (Some operation) old step work new a i f w g = record { not_idle = w; done = λ x. a.done f; failed = λ x. absurd (g x) }
+-- a step of the log, and a call of `work`, that attempts the operation
+abbrev pub AttemptsStep : Option Operation → List ℕ → Step → List ℕ → Type 0
+AttemptsStep operation old step new = AttemptsNext operation old (step ≡ Steps.Idle) (step ≡ Steps.Failed) new
 
-attempt_failed : (operation : Option Operation) (old : List ℕ) (step : Step) (new : List ℕ) → AttemptsStep operation old step new → step ≡ Steps.Failed → AttemptsNext operation old Failed new
+abbrev pub AttemptsWork : Option Operation → List ℕ → Work → List ℕ → Type 0
+AttemptsWork operation old work new = AttemptsNext operation old (work ≡ Idle) (work ≡ Failed) new
+
+attempt_done : (operation : Option Operation) (old : List ℕ) (step : Step) (work : Work) (new : List ℕ) → AttemptsStep operation old step new → step ≢ Steps.Idle → step ≢ Steps.Failed → work ≢ Idle → work ≢ Failed → AttemptsWork operation old work new
+attempt_done None old step work new a i f w g = absurd (i a.0)
+attempt_done (Some operation) old step work new a i f w g = record { not_idle = w; done = λ x. a.done f; torn = λ x. absurd (g x) }
+
+attempt_failed : (operation : Option Operation) (old : List ℕ) (step : Step) (new : List ℕ) → AttemptsStep operation old step new → step ≡ Steps.Failed → AttemptsWork operation old Failed new
 attempt_failed None old step new a e = let z = a.0 in cc
-attempt_failed (Some operation) old step new a e = record { not_idle = λ x. cc; done = λ x. absurd (x refl); failed = λ x. a.failed e }
+attempt_failed (Some operation) old step new a e = record { not_idle = λ x. cc; done = λ x. absurd (x refl); torn = λ x. a.torn e }
 
 -- the operation of an append, and of a turn that was offered what it wants
 pub append_next : (old : List ℕ) (store : StoreValue) (command : Command) → Mirrors old store → store.job ≡ Appending command → next_operation_of old store ≡ next_operation old store.log
@@ -46,16 +53,16 @@ turn_next old store log from o = ap (λ (l : LogValue). next_operation old l) (s
 pub turn_asks : (old : List ℕ) (store : StoreValue) (log : LogValue) (from : ℕ) (operation : Operation) → Mirrors old store → IsOffered (entries_of old) old store.log log from → next_operation_of old store ≡ Some operation → next_operation old log ≡ Some operation
 turn_asks old store log from operation m o e = sym (turn_next old store log from o) ∙ e
 
-pub append_settled : (old : List ℕ) (store : StoreValue) (command : Command) (step : Step) (new : List ℕ) → Mirrors old store → store.job ≡ Appending command → AttemptsStep (next_operation old store.log) old step new → step ≡ Steps.Committed → AttemptsNext (next_operation_of old store) old Settled new
+pub append_settled : (old : List ℕ) (store : StoreValue) (command : Command) (step : Step) (new : List ℕ) → Mirrors old store → store.job ≡ Appending command → AttemptsStep (next_operation old store.log) old step new → step ≡ Steps.Committed → AttemptsWork (next_operation_of old store) old Settled new
 append_settled old store command step new m e a s = rw (append_next old store command m e) (attempt_done (next_operation old store.log) old step Settled new a (λ x. cc) (λ x. cc) (λ x. cc) (λ x. cc))
 
-pub append_failed : (old : List ℕ) (store : StoreValue) (command : Command) (step : Step) (new : List ℕ) → Mirrors old store → store.job ≡ Appending command → AttemptsStep (next_operation old store.log) old step new → step ≡ Steps.Failed → AttemptsNext (next_operation_of old store) old Failed new
+pub append_failed : (old : List ℕ) (store : StoreValue) (command : Command) (step : Step) (new : List ℕ) → Mirrors old store → store.job ≡ Appending command → AttemptsStep (next_operation old store.log) old step new → step ≡ Steps.Failed → AttemptsWork (next_operation_of old store) old Failed new
 append_failed old store command step new m e a s = rw (append_next old store command m e) (attempt_failed (next_operation old store.log) old step new a s)
 
-pub turn_working : (old : List ℕ) (store : StoreValue) (log : LogValue) (from : ℕ) (step : Step) (new : List ℕ) → Mirrors old store → IsOffered (entries_of old) old store.log log from → AttemptsStep (next_operation old log) old step new → step ≢ Steps.Idle → step ≢ Steps.Failed → AttemptsNext (next_operation_of old store) old Working new
+pub turn_working : (old : List ℕ) (store : StoreValue) (log : LogValue) (from : ℕ) (step : Step) (new : List ℕ) → Mirrors old store → IsOffered (entries_of old) old store.log log from → AttemptsStep (next_operation old log) old step new → step ≢ Steps.Idle → step ≢ Steps.Failed → AttemptsWork (next_operation_of old store) old Working new
 turn_working old store log from step new m o a i f = rw (turn_next old store log from o) (attempt_done (next_operation old log) old step Working new a i f (λ x. cc) (λ x. cc))
 
-pub turn_failed : (old : List ℕ) (store : StoreValue) (log : LogValue) (from : ℕ) (step : Step) (new : List ℕ) → Mirrors old store → IsOffered (entries_of old) old store.log log from → AttemptsStep (next_operation old log) old step new → step ≡ Steps.Failed → AttemptsNext (next_operation_of old store) old Failed new
+pub turn_failed : (old : List ℕ) (store : StoreValue) (log : LogValue) (from : ℕ) (step : Step) (new : List ℕ) → Mirrors old store → IsOffered (entries_of old) old store.log log from → AttemptsStep (next_operation old log) old step new → step ≡ Steps.Failed → AttemptsWork (next_operation_of old store) old Failed new
 turn_failed old store log from step new m o a s = rw (turn_next old store log from o) (attempt_failed (next_operation old log) old step new a s)
 
 -- a turn that was offered something is at a copy or its seal
@@ -74,8 +81,8 @@ torn_for : (active : Option ActivePage) (old : List ℕ) (log : LogValue) (comma
 torn_for None old log command step new d e a s = let z = a.0 in cc
 torn_for (Some place) old log command step new d e a s =
     let held = held_active old log place d e in
-    let f = a.failed s in
-    record { page = place.page; seq = place.seq; tail = place.tail; is_active = held.is_active; is_tail = held.is_tail; torn = f.0; unread = f.1 }
+    let f = a.torn s in
+    record { page = place.page; tail = place.tail; place = record { seq = place.seq; is_active = held.is_active; is_tail = held.is_tail }; torn = f.0; unread = f.1 }
 
 torn_at : (old : List ℕ) (store : StoreValue) (command : Command) (step : Step) (new : List ℕ) → Mirrors old store → store.job ≡ Appending command → AttemptsStep (next_operation old store.log) old step new → step ≡ Steps.Failed → IsTornAt old command new
 torn_at old store command step new m e a s =
@@ -84,10 +91,10 @@ torn_at old store command step new m e a s =
 
 -- what an append does to the active page
 appended_wears : (old new : List ℕ) (command : Command) → IsPlacedAt old command new → CommitsWord old (word_of command) new → Wears old new
-appended_wears old new command p c = fills (tail_filled old p.page p.seq p.tail new p.is_active p.is_tail c.active_is c.format_is p.programs.rest)
+appended_wears old new command p c = fills (tail_filled old p.page p.tail new p.place c.active_is c.format_is p.programs.rest)
 
 torn_wears : (old new : List ℕ) (command : Command) → IsTornAt old command new → Keeps old new → Wears old new
-torn_wears old new command t k = fills (tail_filled old t.page t.seq t.tail new t.is_active t.is_tail k.active_is k.format_is t.torn.rest)
+torn_wears old new command t k = fills (tail_filled old t.page t.tail new t.place k.active_is k.format_is t.torn.rest)
 
 -- what each answer says of the flash
 pub append_writes : (old : List ℕ) (store : StoreValue) (command : Command) (step : Step) (new : List ℕ) (after : LogValue) → Mirrors old store → store.job ≡ Appending command → step ≡ Steps.Committed → EndsAs old store.log step new after → Commits old store.log.task new → WritesAs old store.job Settled new

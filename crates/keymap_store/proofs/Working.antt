@@ -138,7 +138,7 @@ placed old store command step new after m e s ends =
     let S : Task → Type 0 = λ t. StepsFor t old store.log step new after in
     let a : Appends old store.log (word_of command) step new after = subst S j.task_is (ends.done (λ f. cc)) in
     let held = held_active old store.log a.place m.log_is a.is_active in
-    record { page = a.place.page; seq = a.place.seq; tail = a.place.tail; is_active = held.is_active; is_tail = held.is_tail; programs = a.programmed }
+    record { page = a.place.page; tail = a.place.tail; place = record { seq = a.place.seq; is_active = held.is_active; is_tail = held.is_tail }; programs = a.programmed }
 
 -- a step of a turn that commits nothing
 pub prepares : (old : List ℕ) (before : Task) (new : List ℕ) (after : Task) → Moves old before new after → OnePage old (target_page old) new → Prepares old new

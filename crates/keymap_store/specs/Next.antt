@@ -1,12 +1,10 @@
 -- Believed: the flash operation that a store makes next.
-use Rattle.std.specs.Prelude.{◌≡◌, ◌≢◌, ℕ, List, Option, Some, None, length, slice_index, nat_lt, if◌then◌else◌}
+use Rattle.std.specs.Prelude.{ℕ, List, Option, length, slice_index, nat_lt, if◌then◌else◌}
 use Rattle.layers.specs.Copies.{copies_below, places}
 use Rattle.page_turnover.specs.declared.operation.Operation.{Operation}
 use Rattle.page_turnover.specs.Value.{LogValue, Task, Wait, Copy, Seal}
 use Rattle.page_turnover.specs.Turn.{copied}
-use Rattle.page_turnover.specs.Next.{next_operation, Makes, MayMake, ReadsBack}
-use Rattle.keymap_store.specs.declared.store.Work.{Work}
-use Rattle.keymap_store.specs.declared.store.Work.TheVariants.{Idle, Failed}
+use Rattle.page_turnover.specs.Next.{next_operation}
 use Rattle.keymap_store.specs.Keymap.{entries_of}
 use Rattle.keymap_store.specs.Value.{StoreValue}
 
@@ -28,14 +26,3 @@ with_task log task = record log { task = task }
 -- the operation that `work` makes, if any
 abbrev pub next_operation_of : List ℕ → StoreValue → Option Operation
 next_operation_of image store = next_operation image (with_task store.log (next_task (entries_of image) store.log.task))
-
--- the operation is whole and its target reads as intended; or it is torn, its target reads otherwise, and the answer is Failed
-pub record Attempts (old : List ℕ) (operation : Operation) (work : Work) (new : List ℕ) : Type 0 where
-  pub not_idle : work ≢ Idle
-  pub done : work ≢ Failed → Makes old operation new × ReadsBack operation new
-  pub failed : work ≡ Failed → MayMake old operation new × (ReadsBack operation new → ⊥)
-
--- the operation that is next is made, and none where there is none
-abbrev pub AttemptsNext : Option Operation → List ℕ → Work → List ℕ → Type 0
-AttemptsNext (Some operation) old work new = Attempts old operation work new
-AttemptsNext None old work new = (work ≡ Idle) × (new ≡ old)

@@ -4,7 +4,7 @@ use Rattle.layers.specs.Copies.{AreCopies, places}
 use Rattle.flash_model.specs.Image.{slot_at}
 use Rattle.flash_model.specs.Operations.{OnePage}
 use Rattle.page_turnover.specs.Active.{active, format}
-use Rattle.page_turnover.specs.Words.{words, IsTail, FreeFrom, HasRoom}
+use Rattle.page_turnover.specs.Words.{words, IsActiveTail, FreeFrom, HasRoom}
 use Rattle.page_turnover.specs.Turn.{target_page, next_seq}
 use Rattle.page_turnover.specs.Steps.{Keeps}
 use Rattle.keymap_store.specs.Keymap.{entries_of}
@@ -39,7 +39,7 @@ pub record Spares (old new : List ℕ) : Type 0 where
 pub record Fills (old new : List ℕ) : Type 0 where
   pub active_is : active new ≡ active old
   pub format_is : format new ≡ format old
-  pub same : (page seq tail s : ℕ) → active old ≡ Some (page, seq) → IsTail old page tail → s < 512 → (s ≡ tail → ⊥) → slot_at new page s ≡ slot_at old page s
+  pub same : (page tail s : ℕ) → IsActiveTail old page tail → s < 512 → (s ≡ tail → ⊥) → slot_at new page s ≡ slot_at old page s
 
 -- what an operation of a store, whole or torn, does to the active page
 pub data Wears (old new : List ℕ) : Type 0 where

@@ -1,5 +1,5 @@
 -- Believed: what the answers of `work` mean.
-use Rattle.std.specs.Prelude.{◌≡◌, ◌≢◌, ◌+◌, ◌%◌, ◌^◌, ◌≤◌, ◌⊎◌, ◌↔◌, ℕ, List, [], ◌∷◌, ◌++◌, Option, None, Some, IsSome}
+use Rattle.std.specs.Prelude.{◌≡◌, ◌≢◌, ◌+◌, ◌≤◌, ◌↔◌, ℕ, List, [], ◌∷◌, ◌++◌, Option, None, Some, IsSome}
 use Rattle.layers.specs.declared.command.Command.{Command}
 use Rattle.layers.specs.Commands.{word_of}
 use Rattle.layers.specs.Entries.{changed}
@@ -8,16 +8,18 @@ use Rattle.records.specs.declared.Slot.TheVariants.{Good}
 use Rattle.records.specs.Slots.{encoded, slot_of}
 use Rattle.flash_model.specs.Image.{slot_at}
 use Rattle.flash_model.specs.Operations.{Programs, MayProgram, OnePage}
-use Rattle.page_turnover.specs.Active.{active}
-use Rattle.page_turnover.specs.Words.{words, IsTail}
+use Rattle.page_turnover.specs.Words.{words, IsActiveTail}
 use Rattle.page_turnover.specs.Turn.{target_page}
-use Rattle.page_turnover.specs.Steps.{Keeps}
+use Rattle.page_turnover.specs.Steps.{Keeps, AttemptsNext}
+use Rattle.page_turnover.specs.Operates.{Operates, MayOperate}
+use Rattle.page_turnover.specs.Usable.{IsUsable}
 use Rattle.keymap_store.specs.declared.store.Job.{Job}
 use Rattle.keymap_store.specs.declared.store.Job.TheVariants.{Resting, Appending, Turning}
 use Rattle.keymap_store.specs.declared.store.Work.{Work}
 use Rattle.keymap_store.specs.declared.store.Work.TheVariants.{Idle, Working, Settled, Failed}
 use Rattle.keymap_store.specs.Value.{StoreValue}
-use Rattle.keymap_store.specs.Store.{working}
+use Rattle.keymap_store.specs.Store.{Mirrors, working}
+use Rattle.keymap_store.specs.Next.{next_operation_of}
 use Rattle.keymap_store.specs.Turnovers.{Turns, Wears}
 
 -- the command works on, and the keymap is as before
@@ -52,14 +54,6 @@ WorksAs old before Working new after = WorksOn before after
 WorksAs old before Settled new after = Settles before after
 WorksAs old before Failed new after = Fails before after
 
--- one operation is made, or none if the answer is Idle; Failed is a fault, and a fault may have read back as done
-pub record CountsAs (work : Work) (operations operations_after faults faults_after : ℕ) : Type 0 where
-  pub one : work ≢ Idle → operations_after ≡ (operations + 1) % 2 ^ 64
-  pub none : work ≡ Idle → operations_after ≡ operations
-  pub fault : work ≡ Failed → faults_after ≡ (faults + 1) % 2 ^ 64
-  pub no_fault : work ≡ Idle → faults_after ≡ faults
-  pub read_back : work ≢ Failed → (faults_after ≡ faults) ⊎ (faults_after ≡ (faults + 1) % 2 ^ 64)
-
 -- the record of the command that worked is the last word
 abbrev pub IsAppendedFor : List ℕ → Option Command → List ℕ → Type 0
 IsAppendedFor old None new = ⊥
@@ -72,10 +66,8 @@ IsAppended old job new = IsAppendedFor old (working job) new
 -- the record is programmed into the tail slot of the active page
 pub record IsPlacedAt (old : List ℕ) (command : Command) (new : List ℕ) : Type 0 where
   pub page : ℕ
-  pub seq : ℕ
   pub tail : ℕ
-  pub is_active : active old ≡ Some (page, seq)
-  pub is_tail : IsTail old page tail
+  pub place : IsActiveTail old page tail
   pub programs : Programs old page tail (encoded (word_of command)) new
 
 -- the record of the command that worked is programmed so
@@ -90,10 +82,8 @@ IsPlaced old job new = IsPlacedFor old (working job) new
 -- the record's program was torn, and the slot does not read as the record
 pub record IsTornAt (old : List ℕ) (command : Command) (new : List ℕ) : Type 0 where
   pub page : ℕ
-  pub seq : ℕ
   pub tail : ℕ
-  pub is_active : active old ≡ Some (page, seq)
-  pub is_tail : IsTail old page tail
+  pub place : IsActiveTail old page tail
   pub torn : MayProgram old page tail (encoded (word_of command)) new
   pub unread : slot_of (slot_at new page tail) ≡ Good (word_of command) → ⊥
 
@@ -112,6 +102,21 @@ pub record WritesAs (old : List ℕ) (job : Job) (work : Work) (new : List ℕ) 
   pub kept : work ≡ Failed → Keeps old new
   pub fails : work ≡ Failed → FailsFor old job new
   pub wears : work ≢ Idle → Wears old new
+
+-- what a call of `work` leaves of the flash and of the store
+pub record WorkLeaves (old : List ℕ) (before : StoreValue) (work : Work) (new : List ℕ) (after : StoreValue) : Type 0 where
+  -- the keymap is that of the flash's image again
+  pub mirrors : Mirrors new after
+  -- what the answer means for the command and the keymap
+  pub works : WorksAs old before work new after
+  -- the operation that was next is made; Failed exactly where it does not read as intended
+  pub attempts : AttemptsNext (next_operation_of old before) old (work ≡ Idle) (work ≡ Failed) new
+  -- what the answer says of the flash
+  pub writes : WritesAs old before.job work new
+  pub operates : work ≢ Idle → work ≢ Failed → Operates old new
+  pub torn : work ≡ Failed → MayOperate old new
+  -- no slot 0 becomes unsound
+  pub sound : IsUsable old → IsUsable new
 
 -- a call that answers Working leaves one operation less to do, Settled is the answer to the last one, and Idle to none
 pub record CountsDown (work : Work) (before after : ℕ) : Type 0 where

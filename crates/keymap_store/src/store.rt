@@ -88,12 +88,12 @@ impl Model for Store {
 impl Store {
     ghost use Rattle.keymap_store.specs.Store.{Mirrors, working};
     ghost use Rattle.keymap_store.specs.Submits.{Submits};
-    ghost use Rattle.keymap_store.specs.Next.{next_operation_of, AttemptsNext};
-    ghost use Rattle.keymap_store.specs.Works.{WorksAs, WritesAs, CountsAs, CountsDown};
+    ghost use Rattle.keymap_store.specs.Next.{next_operation_of};
+    ghost use Rattle.keymap_store.specs.Works.{WorkLeaves, CountsDown};
     ghost use Rattle.keymap_store.specs.Left.{left, Needs};
     ghost use Rattle.page_turnover.specs.declared.operation.Operation.{Operation};
     ghost use Rattle.page_turnover.specs.Next.{on_flash};
-    ghost use Rattle.page_turnover.specs.Operates.{Operates, MayOperate};
+    ghost use Rattle.page_turnover.specs.Steps.{CountsAs};
 
     /// Reads log and keymap of a flash, and changes nothing.
     pub fn mount<F: NorFlash>(flash: &F) -> Store
@@ -134,10 +134,15 @@ impl Store {
     /// active one is not blank: at most 387.
     #[tactic(auto, using(crate::proofs::Counting::few_left))]
     pub fn submit(&mut self, command: Command) -> Result<Taken, SubmitRefusal>
+        // when each answer comes
         ensures submits { (image : List ℕ) → Mirrors image self.old → Submits image self.old.job command result }
+        // the keymap is still that of the flash's image
         ensures mirrors { (image : List ℕ) → Mirrors image self.old → Mirrors image self.new }
+        // a command that works is this one, and changes the keymap only once it is settled
         ensures taken { result ≡ Ok Taken.Working → (working self.new.job ≡ Some command) × (self.new.keymap ≡ self.old.keymap) }
+        // every other answer changes nothing
         ensures unchanged { result ≢ Ok Taken.Working → self.new ≡ self.old }
+        // how many flash operations it needs
         ensures needs { (image : List ℕ) → Mirrors image self.old → result ≡ Ok Taken.Working → Needs image (left image self.new) }
         ensures few { (image : List ℕ) → left image self.new ≤ 387 }
     {
@@ -180,24 +185,15 @@ impl Store {
     #[tactic(auto, using(crate::proofs::Counting::few_left, crate::proofs::Working::rests_if_unusable))]
     pub fn work<F: NorFlash>(&mut self, flash: &mut F) -> Work
         requires { Mirrors (F.image flash.old) self.old }
-        // the keymap is that of the flash's image again
-        ensures mirrors { Mirrors (F.image flash.new) self.new }
-        // what the answer means for the command and the keymap
-        ensures works { WorksAs (F.image flash.old) self.old result (F.image flash.new) self.new }
-        // the operation that was next is made; Failed exactly where it does not read as intended
-        ensures attempts { AttemptsNext (next_operation_of (F.image flash.old) self.old) (F.image flash.old) result (F.image flash.new) }
-        // what the answer says of the flash
-        ensures writes { WritesAs (F.image flash.old) self.old.job result (F.image flash.new) }
-        ensures operates { result ≢ Work.Idle → result ≢ Work.Failed → Operates (F.image flash.old) (F.image flash.new) }
-        ensures torn { result ≡ Work.Failed → MayOperate (F.image flash.old) (F.image flash.new) }
-        // a flash with an unsound slot 0 is never written, and no other gets one
-        ensures sound { IsUsable (F.image flash.old) → IsUsable (F.image flash.new) }
+        // what the answer means for the command, the keymap and the flash
+        ensures leaves { WorkLeaves (F.image flash.old) self.old result (F.image flash.new) self.new }
+        // a flash with an unsound slot 0 is never written
         ensures unusable { (IsUsable (F.image flash.old) → ⊥) → result ≡ Work.Idle }
         // what the flash says of that operation
         ensures operated { (operation : Operation) → next_operation_of (F.image flash.old) self.old ≡ Some operation → F.operates flash.old (on_flash operation) flash.new }
         ensures untouched { result ≡ Work.Idle → flash.new ≡ flash.old }
         // how many operations are made, and are left to make
-        ensures counts { CountsAs result (F.operations flash.old) (F.operations flash.new) (F.faults flash.old) (F.faults flash.new) }
+        ensures counts { CountsAs (result ≡ Work.Idle) (result ≡ Work.Failed) (F.operations flash.old) (F.operations flash.new) (F.faults flash.old) (F.faults flash.new) }
         ensures down { CountsDown result (left (F.image flash.old) self.old) (left (F.image flash.new) self.new) }
         ensures faultless { F.is_faultless flash.old → F.is_faultless flash.new × (result ≢ Work.Failed) }
     {
@@ -212,15 +208,9 @@ impl Store {
     fn append<F: NorFlash>(&mut self, flash: &mut F, command: Command) -> Work
         requires mirrors { Mirrors (F.image flash.old) self.old }
         requires job { self.old.job ≡ Job.Appending command }
-        ensures mirrors { Mirrors (F.image flash.new) self.new }
-        ensures works { WorksAs (F.image flash.old) self.old result (F.image flash.new) self.new }
-        ensures attempts { AttemptsNext (next_operation_of (F.image flash.old) self.old) (F.image flash.old) result (F.image flash.new) }
-        ensures writes { WritesAs (F.image flash.old) self.old.job result (F.image flash.new) }
-        ensures operates { result ≢ Work.Idle → result ≢ Work.Failed → Operates (F.image flash.old) (F.image flash.new) }
-        ensures torn { result ≡ Work.Failed → MayOperate (F.image flash.old) (F.image flash.new) }
-        ensures sound { IsUsable (F.image flash.old) → IsUsable (F.image flash.new) }
+        ensures leaves { WorkLeaves (F.image flash.old) self.old result (F.image flash.new) self.new }
         ensures operated { (operation : Operation) → next_operation_of (F.image flash.old) self.old ≡ Some operation → F.operates flash.old (on_flash operation) flash.new }
-        ensures counts { CountsAs result (F.operations flash.old) (F.operations flash.new) (F.faults flash.old) (F.faults flash.new) }
+        ensures counts { CountsAs (result ≡ Work.Idle) (result ≡ Work.Failed) (F.operations flash.old) (F.operations flash.new) (F.faults flash.old) (F.faults flash.new) }
         ensures faultless { F.is_faultless flash.old → F.is_faultless flash.new × (result ≢ Work.Failed) }
         ensures some { (result ≢ Work.Idle) × (result ≢ Work.Working) }
     {
@@ -242,15 +232,9 @@ impl Store {
     fn turn<F: NorFlash>(&mut self, flash: &mut F, command: Command, from: u16) -> Work
         requires mirrors { Mirrors (F.image flash.old) self.old }
         requires job { self.old.job ≡ Job.Turning command from }
-        ensures mirrors { Mirrors (F.image flash.new) self.new }
-        ensures works { WorksAs (F.image flash.old) self.old result (F.image flash.new) self.new }
-        ensures attempts { AttemptsNext (next_operation_of (F.image flash.old) self.old) (F.image flash.old) result (F.image flash.new) }
-        ensures writes { WritesAs (F.image flash.old) self.old.job result (F.image flash.new) }
-        ensures operates { result ≢ Work.Idle → result ≢ Work.Failed → Operates (F.image flash.old) (F.image flash.new) }
-        ensures torn { result ≡ Work.Failed → MayOperate (F.image flash.old) (F.image flash.new) }
-        ensures sound { IsUsable (F.image flash.old) → IsUsable (F.image flash.new) }
+        ensures leaves { WorkLeaves (F.image flash.old) self.old result (F.image flash.new) self.new }
         ensures operated { (operation : Operation) → next_operation_of (F.image flash.old) self.old ≡ Some operation → F.operates flash.old (on_flash operation) flash.new }
-        ensures counts { CountsAs result (F.operations flash.old) (F.operations flash.new) (F.faults flash.old) (F.faults flash.new) }
+        ensures counts { CountsAs (result ≡ Work.Idle) (result ≡ Work.Failed) (F.operations flash.old) (F.operations flash.new) (F.faults flash.old) (F.faults flash.new) }
         ensures faultless { F.is_faultless flash.old → F.is_faultless flash.new × (result ≢ Work.Failed) }
         ensures some { (result ≢ Work.Idle) × (result ≢ Work.Settled) }
         ensures fewer { result ≡ Work.Working → left (F.image flash.new) self.new + 1 ≡ left (F.image flash.old) self.old }

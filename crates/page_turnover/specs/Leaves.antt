@@ -11,12 +11,11 @@ use Rattle.page_turnover.specs.Steps.{Keeps, CommitsWord, CommitsTurn}
 
 -- what an operation does whose target reads as intended: a record and a header commit, an erase and a copy change no word
 abbrev pub IsEffect : List ℕ → Task → Operation → List ℕ → Type 0
-IsEffect old Rest operation new = ⊥
 IsEffect old (Append word) operation new = CommitsWord old word new
-IsEffect old (Wait target) operation new = ⊥
 IsEffect old (Copy target word) operation new = Keeps old new
 IsEffect old (Seal target) (Program page slot word) new = CommitsTurn old (Seal target) new
 IsEffect old (Seal target) (Erase page) new = Keeps old new
+IsEffect old _ operation new = ⊥
 
 -- an erase makes no header that its page did not have
 abbrev pub MakesNoHeader : List ℕ → Operation → List ℕ → Type 0

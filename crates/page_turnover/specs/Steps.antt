@@ -95,11 +95,9 @@ pub record CommitsTurn (old : List ℕ) (before : Task) (new : List ℕ) : Type 
 
 -- what a commit does to the words
 abbrev pub Commits : List ℕ → Task → List ℕ → Type 0
-Commits old Rest new = ⊥
 Commits old (Append word) new = CommitsWord old word new
-Commits old (Wait target) new = ⊥
-Commits old (Copy target word) new = ⊥
 Commits old (Seal target) new = CommitsTurn old (Seal target) new
+Commits old _ new = ⊥
 
 -- how a step ends: with its effect, or Failed, after which nothing is under way and the words are as before
 pub record EndsAs (old : List ℕ) (before : LogValue) (step : Step) (new : List ℕ) (after : LogValue) : Type 0 where
@@ -109,21 +107,23 @@ pub record EndsAs (old : List ℕ) (before : LogValue) (step : Step) (new : List
   pub rests : step ≡ Failed → after.task ≡ Rest
   pub kept : step ≡ Failed → Keeps old new
 
--- the operation is whole and its target reads as intended; or it is torn, its target reads otherwise, and the step is Failed
-pub record AttemptsStep (old : List ℕ) (operation : Operation) (step : Step) (new : List ℕ) : Type 0 where
-  pub not_idle : step ≢ Idle
-  pub done : step ≢ Failed → Makes old operation new × ReadsBack operation new
-  pub failed : step ≡ Failed → MayMake old operation new × (ReadsBack operation new → ⊥)
+-- An answer says that nothing was to do (it is idle), that the operation failed, or, where it is neither, that it is done.
 
--- a step makes the operation that is next, and none where nothing is
-abbrev pub AttemptsNext : Option Operation → List ℕ → Step → List ℕ → Type 0
-AttemptsNext (Some operation) old step new = AttemptsStep old operation step new
-AttemptsNext None old step new = (step ≡ Idle) × (new ≡ old)
+-- the operation is whole and its target reads as intended; or it is torn, its target reads otherwise, and the answer is failed
+pub record Attempts (old : List ℕ) (operation : Operation) (idle failed : Type 0) (new : List ℕ) : Type 0 where
+  pub not_idle : idle → ⊥
+  pub done : (failed → ⊥) → Makes old operation new × ReadsBack operation new
+  pub torn : failed → MayMake old operation new × (ReadsBack operation new → ⊥)
 
--- a step makes one operation, or none if it answers Idle; Failed is a fault, and a fault may have read back as done
-pub record CountsAs (step : Step) (operations operations_after faults faults_after : ℕ) : Type 0 where
-  pub one : step ≢ Idle → operations_after ≡ (operations + 1) % 2 ^ 64
-  pub none : step ≡ Idle → operations_after ≡ operations
-  pub fault : step ≡ Failed → faults_after ≡ (faults + 1) % 2 ^ 64
-  pub no_fault : step ≡ Idle → faults_after ≡ faults
-  pub read_back : step ≢ Failed → (faults_after ≡ faults) ⊎ (faults_after ≡ (faults + 1) % 2 ^ 64)
+-- the operation that is next is made, and none where nothing is
+abbrev pub AttemptsNext : Option Operation → List ℕ → Type 0 → Type 0 → List ℕ → Type 0
+AttemptsNext (Some operation) old idle failed new = Attempts old operation idle failed new
+AttemptsNext None old idle failed new = idle × (new ≡ old)
+
+-- one operation is made, or none if the answer is idle; a failed one is a fault, and a fault may have read back as done
+pub record CountsAs (idle failed : Type 0) (operations operations_after faults faults_after : ℕ) : Type 0 where
+  pub one : (idle → ⊥) → operations_after ≡ (operations + 1) % 2 ^ 64
+  pub none : idle → operations_after ≡ operations
+  pub fault : failed → faults_after ≡ (faults + 1) % 2 ^ 64
+  pub no_fault : idle → faults_after ≡ faults
+  pub read_back : (failed → ⊥) → (faults_after ≡ faults) ⊎ (faults_after ≡ (faults + 1) % 2 ^ 64)

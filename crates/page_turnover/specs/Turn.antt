@@ -32,10 +32,10 @@ pub record CanTurn (image : List ℕ) : Type 0 where
   pub usable : IsUsable image
   pub numbered : next_seq image < 2 ^ 28
 
+-- the slot holds a word
 abbrev pub IsGood : Slot → Type 0
 IsGood (Good word) = Unit {0}
-IsGood Free = ⊥
-IsGood Spoiled = ⊥
+IsGood _ = ⊥
 
 -- a page with a Good word in each of the slots 1 to n, and Free elsewhere
 pub record HoldsCopies (image : List ℕ) (page n : ℕ) : Type 0 where
@@ -78,56 +78,38 @@ UnderWay image (Seal target) = Turning image target
 
 -- the words that a turn has copied: those in the first slots of its target
 abbrev pub copies : List ℕ → Task → List ℕ
-copies image Rest = []
-copies image (Append word) = []
 copies image (Wait target) = words_up_to image (target_page image) (copied target)
 copies image (Copy target word) = words_up_to image (target_page image) (copied target)
 copies image (Seal target) = words_up_to image (target_page image) (copied target)
+copies image _ = []
 
 -- the word that was offered and is not copied yet
 abbrev pub offered : Task → List ℕ
-offered Rest = []
-offered (Append word) = []
-offered (Wait target) = []
 offered (Copy target word) = word ∷ []
-offered (Seal target) = []
+offered _ = []
 
 -- a turn waits for a copy or its seal
 abbrev pub IsWaiting : Task → Type 0
-IsWaiting Rest = ⊥
-IsWaiting (Append word) = ⊥
 IsWaiting (Wait target) = Unit {0}
-IsWaiting (Copy target word) = ⊥
-IsWaiting (Seal target) = ⊥
+IsWaiting _ = ⊥
 
 -- a step has something to do
 abbrev pub IsPending : Task → Type 0
 IsPending Rest = ⊥
-IsPending (Append word) = Unit {0}
 IsPending (Wait target) = ⊥
-IsPending (Copy target word) = Unit {0}
-IsPending (Seal target) = Unit {0}
+IsPending _ = Unit {0}
 
 -- a turn waits and has made fewer than 511 copies
 abbrev pub CanOffer : Task → Type 0
-CanOffer Rest = ⊥
-CanOffer (Append word) = ⊥
 CanOffer (Wait target) = copied target < 511
-CanOffer (Copy target word) = ⊥
-CanOffer (Seal target) = ⊥
+CanOffer _ = ⊥
 
 -- a waiting turn that was offered a copy, or its seal
 abbrev pub with_copy : Task → ℕ → Task
-with_copy Rest word = Rest
-with_copy (Append other) word = Append other
 with_copy (Wait target) word = Copy target word
-with_copy (Copy target other) word = Copy target other
-with_copy (Seal target) word = Seal target
+with_copy task word = task
 
 -- a turn that waits gets its seal
 abbrev pub with_seal : Task → Task
-with_seal Rest = Rest
-with_seal (Append word) = Append word
 with_seal (Wait target) = Seal target
-with_seal (Copy target word) = Copy target word
-with_seal (Seal target) = Seal target
+with_seal task = task

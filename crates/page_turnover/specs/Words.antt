@@ -46,9 +46,8 @@ pub record IsTail (image : List ℕ) (page tail : ℕ) : Type 0 where
   pub free : FreeFrom image page tail
   pub used : 1 < tail → slot_of (slot_at image page (tail - 1)) ≡ Free → ⊥
 
--- the tail of the active page
-pub record IsActiveTail (image : List ℕ) (tail : ℕ) : Type 0 where
-  pub page : ℕ
+-- this is the active page, with this tail
+pub record IsActiveTail (image : List ℕ) (page tail : ℕ) : Type 0 where
   pub seq : ℕ
   pub is_active : active image ≡ Some (page, seq)
   pub is_tail : IsTail image page tail

@@ -1,8 +1,8 @@
 //! A log over the pages of a flash.
 
-ghost use Rattle.std.specs.Prelude.{◌≡◌, ◌≤◌, ◌↔◌, ℕ, List, Option, Some, None, IsTrue, MatchResult, MatchOption, IsOk, false};
+ghost use Rattle.std.specs.Prelude.{◌≡◌, ◌≤◌, ◌↔◌, ℕ, List, Option, Some, None, IsTrue, MatchResult, MatchOption, IsSomeAnd, IsOk, false};
 ghost use Rattle.page_turnover.specs.Active.{active, format};
-ghost use Rattle.page_turnover.specs.Words.{words, HasRoom, IsActiveTail};
+ghost use Rattle.page_turnover.specs.Words.{words, HasRoom, IsTail};
 ghost use Rattle.page_turnover.specs.Usable.{IsUsable, IsFirstUnsound};
 ghost use Rattle.page_turnover.specs.Value.{Rest};
 ghost use Rattle.page_turnover.specs.Log.{IsHeld};
@@ -154,7 +154,7 @@ impl Log {
 
     /// The tail of the active page: one more than its greatest slot that is not Free, 1 to 512.
     pub fn tail(&self) -> Option<usize>
-        ensures { (image : List ℕ) → Describes image self.now → MatchOption result (active image ≡ None) (λ tail. IsActiveTail image tail) }
+        ensures { (image : List ℕ) → Describes image self.now → MatchOption result (active image ≡ None) (λ tail. IsSomeAnd (active image) (λ place. IsTail image place.0 tail)) }
     {
         match self.active {
             Some(active) => Some(active.tail),

@@ -9,7 +9,7 @@ use Rattle.keymap_store.specs.declared.store.Work.TheVariants.{Idle, Working, Se
 use Rattle.host.specs.Calls.{HostCall}
 use Rattle.keyboard.specs.Calls.{Call, image_after}
 use Rattle.keyboard.specs.Commands.{working}
-use Rattle.keyboard.specs.Operated.{WorksOn}
+use Rattle.keyboard.specs.Operated.{ComesTo}
 use Rattle.keyboard.specs.Lawful.{WorkedOn}
 use Rattle.world.specs.declared.event.Event.{Event}
 use Rattle.world.specs.declared.event.Event.TheVariants.{Scan, Setup, OutPacket, InPacket, Poll, Work, WorkFault, Cut, CutInWork, BusReset, Entry, SlotAt, Leds}

@@ -60,7 +60,7 @@ impl Log {
         // the log describes the flash again, and has done what was pending, or nothing of it
         ensures ends { EndsAs (F.image flash.old) self.old result (F.image flash.new) self.new }
         // the operation that was next is made; Failed exactly where it does not read as intended
-        ensures attempts { AttemptsNext (next_operation (F.image flash.old) self.old) (F.image flash.old) result (F.image flash.new) }
+        ensures attempts { AttemptsNext (next_operation (F.image flash.old) self.old) (F.image flash.old) (result ≡ Step.Idle) (result ≡ Step.Failed) (F.image flash.new) }
         ensures untouched { result ≡ Step.Idle → flash.new ≡ flash.old }
         // what the answers mean for the words
         ensures moved { result ≡ Step.Moved → Moves (F.image flash.old) self.old.task (F.image flash.new) self.new.task }
@@ -72,7 +72,7 @@ impl Log {
         ensures operates { result ≢ Step.Idle → result ≢ Step.Failed → Operates (F.image flash.old) (F.image flash.new) }
         ensures torn { result ≡ Step.Failed → MayOperate (F.image flash.old) (F.image flash.new) }
         ensures fills { FillsAtMostOne (F.image flash.old) (F.image flash.new) }
-        ensures counts { CountsAs result (F.operations flash.old) (F.operations flash.new) (F.faults flash.old) (F.faults flash.new) }
+        ensures counts { CountsAs (result ≡ Step.Idle) (result ≡ Step.Failed) (F.operations flash.old) (F.operations flash.new) (F.faults flash.old) (F.faults flash.new) }
         ensures faultless { F.is_faultless flash.old → F.is_faultless flash.new × (result ≢ Step.Failed) }
         // what this flash says of that operation
         ensures operated { (operation : Operation) → next_operation (F.image flash.old) self.old ≡ Some operation → F.operates flash.old (on_flash operation) flash.new }

@@ -1,4 +1,4 @@
-use Rattle.std.proofs.Common.{◌∙◌, sym, ap}
+use Rattle.std.proofs.Common.{◌∙◌, sym, ap, refl}
 use Rattle.page_turnover.proofs.Effects.{not_idle}
 use Rattle.keymap_store.specs.Keymap.{entries_of}
 use Rattle.keymap_store.specs.Left.{turn_left}
@@ -40,95 +40,72 @@ unreachable-requires g c =
     let s = c.offer_next-from.ensures.stands old (entries_of old) m.keymap_is m.log_is j.offers in
     not_idle old c.offer_next-from.new.log c.step.result new c.step.new.self c.in-Idle.is s.pending c.step.ensures.ends
 
-pub returns-in-Moved-clause-mirrors : goal.returns-in-Moved-clause-mirrors
-returns-in-Moved-clause-mirrors g c =
-    let old = g.F.NorFlash.image c.args.flash.now in
-    let new = g.F.NorFlash.image c.step.new.flash in
-    let m = rw (← c.self.view_is) at c.requires.mirrors in
-    let j = turning old _ c.args.command c.args.from m (rw (← c.self.view_is) at c.requires.job) in
-    let s = c.offer_next-from.ensures.stands old (entries_of old) m.keymap_is m.log_is j.offers in
-    turn_moves old _ c.args.command c.offer_next-from.result c.offer_next-from.new.log c.step.result new c.step.new.self m j.no_room c.offer_next-from.ensures.within s.describes s.offers c.in-Moved.is c.step.ensures.ends (c.step.ensures.moved c.in-Moved.is)
-    (in_target old _ c.offer_next-from.new.log c.offer_next-from.result c.step.result new s c.step.ensures.attempts)
-
-pub returns-in-Committed-clause-mirrors : goal.returns-in-Committed-clause-mirrors
-returns-in-Committed-clause-mirrors g c =
-    let old = g.F.NorFlash.image c.args.flash.now in
-    let new = g.F.NorFlash.image c.step.new.flash in
-    let m = rw (← c.self.view_is) at c.requires.mirrors in
-    let j = turning old _ c.args.command c.args.from m (rw (← c.self.view_is) at c.requires.job) in
-    let s = c.offer_next-from.ensures.stands old (entries_of old) m.keymap_is m.log_is j.offers in
-    turn_commits old _ c.args.command c.word.result c.offer_next-from.result c.offer_next-from.new.log new c.step.new.self c.begin_append.new.self m s.offers (c.step.ensures.committed c.in-Committed.is)
-    (c.begin_append.ensures.describes new c.step.ensures.ends.describes) c.begin_append.ensures.pending c.word.ensures.value c.word.ensures.read_back
-
-pub returns-in-Failed-clause-mirrors : goal.returns-in-Failed-clause-mirrors
-returns-in-Failed-clause-mirrors g c =
-    let old = g.F.NorFlash.image c.args.flash.now in
-    let new = g.F.NorFlash.image c.step.new.flash in
-    let m = rw (← c.self.view_is) at c.requires.mirrors in
-    failed old _ c.offer_next-from.new.log c.step.result new c.step.new.self m c.in-Failed.is c.step.ensures.ends
-
-pub returns-in-Moved-clause-attempts : goal.returns-in-Moved-clause-attempts
-returns-in-Moved-clause-attempts g c =
-    let old = g.F.NorFlash.image c.args.flash.now in
-    let new = g.F.NorFlash.image c.step.new.flash in
-    let m = rw (← c.self.view_is) at c.requires.mirrors in
-    let j = turning old _ c.args.command c.args.from m (rw (← c.self.view_is) at c.requires.job) in
-    let s = c.offer_next-from.ensures.stands old (entries_of old) m.keymap_is m.log_is j.offers in
-    let made = c.in-Moved.is in
-    rw (← c.self.view_is) (turn_working old _ c.offer_next-from.new.log c.offer_next-from.result c.step.result new m s c.step.ensures.attempts (λ x. cc) (λ x. cc))
-
-pub returns-in-Committed-clause-attempts : goal.returns-in-Committed-clause-attempts
-returns-in-Committed-clause-attempts g c =
-    let old = g.F.NorFlash.image c.args.flash.now in
-    let new = g.F.NorFlash.image c.step.new.flash in
-    let m = rw (← c.self.view_is) at c.requires.mirrors in
-    let j = turning old _ c.args.command c.args.from m (rw (← c.self.view_is) at c.requires.job) in
-    let s = c.offer_next-from.ensures.stands old (entries_of old) m.keymap_is m.log_is j.offers in
-    let made = c.in-Committed.is in
-    rw (← c.self.view_is) (turn_working old _ c.offer_next-from.new.log c.offer_next-from.result c.step.result new m s c.step.ensures.attempts (λ x. cc) (λ x. cc))
-
-pub returns-in-Failed-clause-attempts : goal.returns-in-Failed-clause-attempts
-returns-in-Failed-clause-attempts g c =
-    let old = g.F.NorFlash.image c.args.flash.now in
-    let new = g.F.NorFlash.image c.step.new.flash in
-    let m = rw (← c.self.view_is) at c.requires.mirrors in
-    let j = turning old _ c.args.command c.args.from m (rw (← c.self.view_is) at c.requires.job) in
-    let s = c.offer_next-from.ensures.stands old (entries_of old) m.keymap_is m.log_is j.offers in
-    rw (← c.self.view_is) (turn_failed old _ c.offer_next-from.new.log c.offer_next-from.result c.step.result new m s c.step.ensures.attempts c.in-Failed.is)
-
-pub returns-in-Moved-clause-writes : goal.returns-in-Moved-clause-writes
-returns-in-Moved-clause-writes g c =
-    let old = g.F.NorFlash.image c.args.flash.now in
-    let new = g.F.NorFlash.image c.step.new.flash in
-    let m = rw (← c.self.view_is) at c.requires.mirrors in
-    let j = turning old _ c.args.command c.args.from m (rw (← c.self.view_is) at c.requires.job) in
-    let s = c.offer_next-from.ensures.stands old (entries_of old) m.keymap_is m.log_is j.offers in
-    rw (← c.self.view_is) (turn_prepares old _ c.offer_next-from.new.log c.offer_next-from.result c.step.result new c.step.new.self m s c.step.ensures.attempts (c.step.ensures.moved c.in-Moved.is))
-
-pub returns-in-Committed-clause-writes : goal.returns-in-Committed-clause-writes
-returns-in-Committed-clause-writes g c =
-    let old = g.F.NorFlash.image c.args.flash.now in
-    let new = g.F.NorFlash.image c.step.new.flash in
-    let m = rw (← c.self.view_is) at c.requires.mirrors in
-    let j = turning old _ c.args.command c.args.from m (rw (← c.self.view_is) at c.requires.job) in
-    let s = c.offer_next-from.ensures.stands old (entries_of old) m.keymap_is m.log_is j.offers in
-    rw (← c.self.view_is) (turn_over old _ c.offer_next-from.new.log c.offer_next-from.result c.step.result new j.no_room m s c.step.ensures.attempts (c.step.ensures.committed c.in-Committed.is))
-
-pub returns-in-Failed-clause-writes : goal.returns-in-Failed-clause-writes
-returns-in-Failed-clause-writes g c =
+pub returns-in-Moved-clause-leaves : goal.returns-in-Moved-clause-leaves
+returns-in-Moved-clause-leaves g c =
     let old = g.F.NorFlash.image c.args.flash.now in
     let new = g.F.NorFlash.image c.step.new.flash in
     let m = rw (← c.self.view_is) at c.requires.mirrors in
     let e = rw (← c.self.view_is) at c.requires.job in
     let j = turning old _ c.args.command c.args.from m e in
     let s = c.offer_next-from.ensures.stands old (entries_of old) m.keymap_is m.log_is j.offers in
-    rw (← c.self.view_is) (turn_fails old _ m c.args.command c.args.from c.offer_next-from.new.log c.offer_next-from.result c.step.result new c.step.new.self e c.in-Failed.is c.step.ensures.ends s c.step.ensures.attempts)
+    let log = c.offer_next-from.new.log in
+    let from = c.offer_next-from.result in
+    let made = c.in-Moved.is in
+    let moves = c.step.ensures.moved made in
+    rw (← c.self.view_is) (record {
+      mirrors = turn_moves old _ c.args.command from log c.step.result new c.step.new.self m j.no_room c.offer_next-from.ensures.within s.describes s.offers made c.step.ensures.ends moves
+      (in_target old _ log from c.step.result new s c.step.ensures.attempts);
+      works = record { some = rw e tt; same_command = rw e refl; same_keymap = refl };
+      attempts = turn_working old _ log from c.step.result new m s c.step.ensures.attempts (λ x. cc) (λ x. cc);
+      writes = turn_prepares old _ log from c.step.result new c.step.new.self m s c.step.ensures.attempts moves;
+      operates = λ idle failed. c.step.ensures.operates (λ x. cc) (λ x. cc);
+      torn = λ f. cc;
+      sound = c.step.ensures.usable;
+    })
 
-pub returns-in-Moved-clause-operates : goal.returns-in-Moved-clause-operates
-returns-in-Moved-clause-operates g c idle failed = let made = c.in-Moved.is in c.step.ensures.operates (λ e. cc) (λ e. cc)
+pub returns-in-Committed-clause-leaves : goal.returns-in-Committed-clause-leaves
+returns-in-Committed-clause-leaves g c =
+    let old = g.F.NorFlash.image c.args.flash.now in
+    let new = g.F.NorFlash.image c.step.new.flash in
+    let m = rw (← c.self.view_is) at c.requires.mirrors in
+    let e = rw (← c.self.view_is) at c.requires.job in
+    let j = turning old _ c.args.command c.args.from m e in
+    let s = c.offer_next-from.ensures.stands old (entries_of old) m.keymap_is m.log_is j.offers in
+    let log = c.offer_next-from.new.log in
+    let from = c.offer_next-from.result in
+    let made = c.in-Committed.is in
+    let commits = c.step.ensures.committed made in
+    rw (← c.self.view_is) (record {
+      mirrors = turn_commits old _ c.args.command c.word.result from log new c.step.new.self c.begin_append.new.self m s.offers commits
+      (c.begin_append.ensures.describes new c.step.ensures.ends.describes) c.begin_append.ensures.pending c.word.ensures.value c.word.ensures.read_back;
+      works = record { some = rw e tt; same_command = rw e refl; same_keymap = refl };
+      attempts = turn_working old _ log from c.step.result new m s c.step.ensures.attempts (λ x. cc) (λ x. cc);
+      writes = turn_over old _ log from c.step.result new j.no_room m s c.step.ensures.attempts commits;
+      operates = λ idle failed. c.step.ensures.operates (λ x. cc) (λ x. cc);
+      torn = λ f. cc;
+      sound = c.step.ensures.usable;
+    })
 
-pub returns-in-Committed-clause-operates : goal.returns-in-Committed-clause-operates
-returns-in-Committed-clause-operates g c idle failed = let made = c.in-Committed.is in c.step.ensures.operates (λ e. cc) (λ e. cc)
+pub returns-in-Failed-clause-leaves : goal.returns-in-Failed-clause-leaves
+returns-in-Failed-clause-leaves g c =
+    let old = g.F.NorFlash.image c.args.flash.now in
+    let new = g.F.NorFlash.image c.step.new.flash in
+    let m = rw (← c.self.view_is) at c.requires.mirrors in
+    let e = rw (← c.self.view_is) at c.requires.job in
+    let j = turning old _ c.args.command c.args.from m e in
+    let s = c.offer_next-from.ensures.stands old (entries_of old) m.keymap_is m.log_is j.offers in
+    let log = c.offer_next-from.new.log in
+    let from = c.offer_next-from.result in
+    let fails = c.in-Failed.is in
+    rw (← c.self.view_is) (record {
+      mirrors = failed old _ log c.step.result new c.step.new.self m fails c.step.ensures.ends;
+      works = record { some = rw e tt; gone = refl; same_keymap = refl };
+      attempts = turn_failed old _ log from c.step.result new m s c.step.ensures.attempts fails;
+      writes = turn_fails old _ m c.args.command c.args.from log from c.step.result new c.step.new.self e fails c.step.ensures.ends s c.step.ensures.attempts;
+      operates = λ idle failed. absurd (failed refl);
+      torn = λ f. c.step.ensures.torn fails;
+      sound = c.step.ensures.usable;
+    })
 
 pub returns-in-Moved-clause-fewer : goal.returns-in-Moved-clause-fewer
 returns-in-Moved-clause-fewer g c working =
@@ -152,9 +129,6 @@ returns-in-Committed-clause-fewer g c working =
     let s = c.offer_next-from.ensures.stands old (entries_of old) m.keymap_is m.log_is j.offers in
     rw (← c.self.view_is) (sym (committed_left c.offer_next-from.result old c.offer_next-from.new.log c.step.result new c.step.new.self s.describes.task_is s.offers c.in-Committed.is c.step.ensures.ends)
     ∙ ap (turn_left old) c.offer_next-from.ensures.target ∙ sym (turning_left old _ c.args.command c.args.from m e))
-
-pub returns-in-Failed-clause-torn : goal.returns-in-Failed-clause-torn
-returns-in-Failed-clause-torn g c f = c.step.ensures.torn c.in-Failed.is
 
 pub returns-in-Moved-clause-operated : goal.returns-in-Moved-clause-operated
 returns-in-Moved-clause-operated g c operation e =

@@ -4,4 +4,4 @@ use Rattle.page_turnover.proofs.log.Log.tail.Goals as goal
 pub returns-in-Some : goal.returns-in-Some
 returns-in-Some c image d =
     let h = held_active image c.args.self.now c.in-Some.active d (rw (← c.self.view_is) c.in-Some.is) in
-    record { page = c.in-Some.active.page; seq = c.in-Some.active.seq; is_active = h.is_active; is_tail = h.is_tail }
+    rw h.is_active h.is_tail
