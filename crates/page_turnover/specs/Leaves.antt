@@ -4,7 +4,7 @@ use Rattle.page_turnover.specs.declared.operation.Operation.{Operation}
 use Rattle.page_turnover.specs.declared.operation.Operation.TheVariants.{Program, Erase}
 use Rattle.page_turnover.specs.Header.{HasHeader}
 use Rattle.page_turnover.specs.Usable.{IsUsable}
-use Rattle.page_turnover.specs.Value.{LogValue, Task, Rest, Append, Wait, Copy, Seal}
+use Rattle.page_turnover.specs.Value.{LogValue, Task, Append, Copy, Seal}
 use Rattle.page_turnover.specs.Next.{Makes, ReadsBack}
 use Rattle.page_turnover.specs.Operates.{MayOperate, FillsAtMostOne}
 use Rattle.page_turnover.specs.Steps.{Keeps, CommitsWord, CommitsTurn}

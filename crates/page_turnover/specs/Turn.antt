@@ -1,7 +1,7 @@
 -- Believed: the page that a turn writes, and how far it is. From IsGood to UnderWay, but for copied, only ties code.
 use Rattle.std.specs.Prelude.{◌≡◌, ℕ, ◌+◌, ◌%◌, ◌^◌, ◌<◌, ◌≤◌, List, [], ◌∷◌, Option, Some, None}
 use Rattle.records.specs.declared.Slot.{Slot}
-use Rattle.records.specs.declared.Slot.TheVariants.{Free, Good, Spoiled}
+use Rattle.records.specs.declared.Slot.TheVariants.{Free, Good}
 use Rattle.records.specs.Slots.{slot_of}
 use Rattle.flash_model.specs.Image.{slot_at, page_count}
 use Rattle.page_turnover.specs.Value.{Target, Unread, Holds, Task, Rest, Append, Wait, Copy, Seal}

@@ -30,7 +30,7 @@ returns-in-Failed-clause-leaves g c =
     let fails = c.in-Failed.is in
     rw (← c.self.view_is) (record {
       mirrors = failed old _ _ c.step.result new c.step.new.self m fails c.step.ensures.ends;
-      works = record { some = rw j tt; gone = refl; same_keymap = refl };
+      works = record { some = rw j refl; gone = refl; same_keymap = refl };
       attempts = append_failed old _ c.args.command c.step.result new m j c.step.ensures.attempts fails;
       writes = append_fails old _ c.args.command c.step.result new c.step.new.self m j fails c.step.ensures.ends c.step.ensures.attempts;
       operates = λ idle failed. absurd (failed refl);

@@ -55,7 +55,7 @@ returns-in-Moved-clause-leaves g c =
     rw (← c.self.view_is) (record {
       mirrors = turn_moves old _ c.args.command from log c.step.result new c.step.new.self m j.no_room c.offer_next-from.ensures.within s.describes s.offers made c.step.ensures.ends moves
       (in_target old _ log from c.step.result new s c.step.ensures.attempts);
-      works = record { some = rw e tt; same_command = rw e refl; same_keymap = refl };
+      works = record { some = rw e refl; same_command = rw e refl; same_keymap = refl };
       attempts = turn_working old _ log from c.step.result new m s c.step.ensures.attempts (λ x. cc) (λ x. cc);
       writes = turn_prepares old _ log from c.step.result new c.step.new.self m s c.step.ensures.attempts moves;
       operates = λ idle failed. c.step.ensures.operates (λ x. cc) (λ x. cc);
@@ -78,7 +78,7 @@ returns-in-Committed-clause-leaves g c =
     rw (← c.self.view_is) (record {
       mirrors = turn_commits old _ c.args.command c.word.result from log new c.step.new.self c.begin_append.new.self m s.offers commits
       (c.begin_append.ensures.describes new c.step.ensures.ends.describes) c.begin_append.ensures.pending c.word.ensures.value c.word.ensures.read_back;
-      works = record { some = rw e tt; same_command = rw e refl; same_keymap = refl };
+      works = record { some = rw e refl; same_command = rw e refl; same_keymap = refl };
       attempts = turn_working old _ log from c.step.result new m s c.step.ensures.attempts (λ x. cc) (λ x. cc);
       writes = turn_over old _ log from c.step.result new j.no_room m s c.step.ensures.attempts commits;
       operates = λ idle failed. c.step.ensures.operates (λ x. cc) (λ x. cc);
@@ -99,7 +99,7 @@ returns-in-Failed-clause-leaves g c =
     let fails = c.in-Failed.is in
     rw (← c.self.view_is) (record {
       mirrors = failed old _ log c.step.result new c.step.new.self m fails c.step.ensures.ends;
-      works = record { some = rw e tt; gone = refl; same_keymap = refl };
+      works = record { some = rw e refl; gone = refl; same_keymap = refl };
       attempts = turn_failed old _ log from c.step.result new m s c.step.ensures.attempts fails;
       writes = turn_fails old _ m c.args.command c.args.from log from c.step.result new c.step.new.self e fails c.step.ensures.ends s c.step.ensures.attempts;
       operates = λ idle failed. absurd (failed refl);
