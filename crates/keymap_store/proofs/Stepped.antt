@@ -24,7 +24,7 @@ use Rattle.keymap_store.specs.Offers.{IsOffered}
 use Rattle.keymap_store.specs.Next.{next_operation_of}
 use Rattle.keymap_store.specs.Turnovers.{stays, turns, Wears, over, spares, fills}
 use Rattle.keymap_store.specs.Works.{WritesAs, IsPlacedAt, IsTornAt}
-use Rattle.keymap_store.proofs.Working.{appending, appended_word, placed, keeps_of, prepares, turned}
+use Rattle.keymap_store.proofs.Working.{appending, appended_word, placed, prepares, turned}
 use Rattle.keymap_store.proofs.Elsewhere.{IsOfTurn, turn_in_target, turn_spares, tail_filled}
 
 -- a step of the log, and a call of `work`, that attempts the operation
@@ -126,7 +126,7 @@ turn_prepares old store log from step new after m o a moves = record {
   placed = λ f. cc;
   kept = λ f. cc;
   fails = λ f. cc;
-  wears = λ f. spares (turn_spares old log new o.describes (keeps_of old log.task new after.task moves) (in_target old store.log log from step new o a));
+  wears = λ f. spares (turn_spares old log new o.describes moves.keeps (in_target old store.log log from step new o a));
 }
 
 pub turn_over : (old : List ℕ) (store : StoreValue) (log : LogValue) (from : ℕ) (step : Step) (new : List ℕ) → (HasRoom old → ⊥) → Mirrors old store → IsOffered (entries_of old) old store.log log from → AttemptsStep (next_operation old log) old step new → Commits old log.task new → WritesAs old store.job Working new

@@ -99,13 +99,10 @@ turn_few image store command from m e =
     few_copies (entries_of image) from image store.log.task j.within m.log_is.task_is j.offers
 
 -- a turn that goes on
-pub keeps_of : (old : List ℕ) (before : Task) (new : List ℕ) (after : Task) → Moves old before new after → Keeps old new
-keeps_of old before new after m = record { words_are = m.words_are; active_is = m.active_is; format_is = m.format_is }
-
 pub turn_moves : (old : List ℕ) (store : StoreValue) (command : Command) (from : ℕ) (log : LogValue) (step : Step) (new : List ℕ) (after : LogValue) → Mirrors old store → (HasRoom old → ⊥) → from ≤ places → Describes old log → OffersBelow (entries_of old) from old log.task → step ≡ Moved
     → EndsAs old log step new after → Moves old log.task new after.task → OnePage old (target_page old) new → Mirrors new (record { log = after; keymap = store.keymap; job = Turning command from })
 turn_moves old store command from log step new after m n l d o s ends moves in_target =
-    let k = keeps_of old log.task new after.task moves in
+    let k = moves.keeps in
     record {
       log_is = ends.describes;
       keymap_is = keymap_kept old new store.keymap k m.keymap_is;
@@ -142,7 +139,7 @@ placed old store command step new after m e s ends =
 
 -- a step of a turn that commits nothing
 pub prepares : (old : List ℕ) (before : Task) (new : List ℕ) (after : Task) → Moves old before new after → OnePage old (target_page old) new → Prepares old new
-prepares old before new after m o = record { keeps = keeps_of old before new after m; elsewhere = o }
+prepares old before new after m o = record { keeps = m.keeps; elsewhere = o }
 
 -- the commit of a turn
 pub turned : (from : ℕ) (old : List ℕ) (task : Task) (new : List ℕ) → (HasRoom old → ⊥) → OffersBelow (entries_of old) from old task → Commits old task new → OnePage old (target_page old) new → TurnsOver old new

@@ -34,9 +34,7 @@ moves_erase old before target pending step new after d i shown same m =
     let none_before : copies old (pending target) ≡ [] = rw m.unread (shown old Unread ∙ words_none old (target_page old)) in
     let task : after.task ≡ pending (Holds 0) = rw m.next refl in
     record {
-      words_are = words_kept old new k;
-      active_is = k.active_is;
-      format_is = format_kept old new k;
+      keeps = record { words_are = words_kept old new k; active_is = k.active_is; format_is = format_kept old new k };
       copies_are = rw (task, none, none_before, same (Holds 0) target) refl;
     }
 
@@ -49,9 +47,7 @@ moves_copy old before target word step new after d c i m =
     let more : words_up_to new (target_page old) (copied target + 1) ≡ words_up_to old (target_page old) (copied target) ++ word ∷ [] =
     copied_words old new (target_page old) (copied target) word c.few c.fits d.whole i (target_inside old d.whole) h m.programmed in
     record {
-      words_are = words_kept old new k;
-      active_is = k.active_is;
-      format_is = format_kept old new k;
+      keeps = record { words_are = words_kept old new k; active_is = k.active_is; format_is = format_kept old new k };
       copies_are = rw (task, target_kept old new k) (append-nil (words_up_to new (target_page old) (copied target + 1)) ∙ more);
     }
 

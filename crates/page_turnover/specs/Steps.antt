@@ -73,11 +73,9 @@ pub record Keeps (old new : List ℕ) : Type 0 where
   pub active_is : active new ≡ active old
   pub format_is : format new ≡ format old
 
--- a step that commits nothing leaves the words and the active page, and no copy is lost or made twice
+-- a step that commits nothing leaves the words and the active page as they were, and no copy is lost or made twice
 pub record Moves (old : List ℕ) (before : Task) (new : List ℕ) (after : Task) : Type 0 where
-  pub words_are : words new ≡ words old
-  pub active_is : active new ≡ active old
-  pub format_is : format new ≡ format old
+  pub keeps : Keeps old new
   pub copies_are : copies new after ++ offered after ≡ copies old before ++ offered before
 
 -- the word comes after the words before, on the same active page

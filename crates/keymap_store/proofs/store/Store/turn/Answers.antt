@@ -3,7 +3,7 @@ use Rattle.page_turnover.proofs.Effects.{not_idle}
 use Rattle.keymap_store.specs.Keymap.{entries_of}
 use Rattle.keymap_store.specs.Left.{turn_left}
 use Rattle.keymap_store.proofs.Counting.{moved_left, committed_left, turning_left}
-use Rattle.keymap_store.proofs.Working.{turning, turn_few, turn_moves, turn_room, turn_commits, keeps_of, failed}
+use Rattle.keymap_store.proofs.Working.{turning, turn_few, turn_moves, turn_room, turn_commits, failed}
 use Rattle.keymap_store.proofs.Stepped.{turn_asks, turn_working, turn_failed, in_target, turn_prepares, turn_over, turn_fails}
 use Rattle.keymap_store.proofs.store.Store.turn.Goals as goal
 
@@ -116,7 +116,7 @@ returns-in-Moved-clause-fewer g c working =
     let j = turning old _ c.args.command c.args.from m e in
     let s = c.offer_next-from.ensures.stands old (entries_of old) m.keymap_is m.log_is j.offers in
     let moves = c.step.ensures.moved c.in-Moved.is in
-    rw (← c.self.view_is) (moved_left c.offer_next-from.result old c.offer_next-from.new.log c.step.result new c.step.new.self c.offer_next-from.ensures.within s.describes.task_is s.offers c.in-Moved.is c.step.ensures.ends (keeps_of old c.offer_next-from.new.log.task new c.step.new.self.task moves)
+    rw (← c.self.view_is) (moved_left c.offer_next-from.result old c.offer_next-from.new.log c.step.result new c.step.new.self c.offer_next-from.ensures.within s.describes.task_is s.offers c.in-Moved.is c.step.ensures.ends moves.keeps
     ∙ ap (turn_left old) c.offer_next-from.ensures.target ∙ sym (turning_left old _ c.args.command c.args.from m e))
 
 pub returns-in-Committed-clause-fewer : goal.returns-in-Committed-clause-fewer
