@@ -24,7 +24,7 @@ use Rattle.keyboard.specs.Fate.{Fate, works, settled, failed, fate, fate_after, 
 use Rattle.keyboard.specs.Commands.{accepts, working}
 use Rattle.keyboard.specs.Endpoint.{verdict_told, with_out, ep_calls, stage_after}
 use Rattle.keyboard.specs.Lawful.{IsAnswered, OutAnswer}
-use Rattle.keyboard.specs.Acknowledged.{SameTransfer, Spares, NoneAcceptedWrites, KeepsAcknowledged}
+use Rattle.keyboard.specs.Acknowledged.{SameTransfer, DoesNotWrite, NoneAcceptedWrites, KeepsAcknowledged}
 use Rattle.keyboard.proofs.Accepting.{fate-more, ended_by-failed, ended_by-idle, ended_by-working}
 use Rattle.keyboard.proofs.Changing.{changes-false}
 use Rattle.keyboard.proofs.Served.{Serves, serves}
@@ -34,7 +34,7 @@ use Rattle.keyboard.proofs.Sessions.{Orderly, orderly, working_after, after_stay
 -- the entry has the code, and the command that works, if one does, leaves it
 record Stored (start : List ℕ) (past : List Call) (layer key code : ℕ) : Type 0 where
   entry_is : keymap (image_after start past) layer key ≡ code
-  left_alone : Spares layer key (working start past)
+  left_alone : DoesNotWrite layer key (working start past)
 
 -- the working command leaves the entry
 left_by : (start : List ℕ) (past : List Call) (layer key code : ℕ) (command : Command) → Stored start past layer key code → working start past ≡ Some command → written command layer key ≡ None
@@ -42,7 +42,7 @@ left_by start past layer key code command s w = rw w at s.left_alone
 
 -- a call more keeps it, if the command that it accepts leaves the entry
 stored_more : (start : List ℕ) (before : List Call) (call : Call) (layer key code : ℕ) → layer < layers → key < keys → Orderly start before → Effect start before call
-    → Spares layer key (accepts before call) → Stored start before layer key code → Stored start (call ∷ before) layer key code
+    → DoesNotWrite layer key (accepts before call) → Stored start before layer key code → Stored start (call ∷ before) layer key code
 stored_more start before call layer key code l k o (stays n a e) leaves s =
     let w : working start (call ∷ before) ≡ working start before = working_after start before call (working start before) (after_stays start before call o n a e) in
     record { entry_is = e layer key l k ∙ s.entry_is; left_alone = rw w s.left_alone }
@@ -103,7 +103,7 @@ told_at_packet start before call layer key code asked l k gives o (takes command
 
 -- a later call
 told_more : (start : List ℕ) (past : List Call) (call : Call) (before between : List Call) (layer key code : ℕ) (asked : Command) → layer < layers → key < keys → written asked layer key ≡ Some code → Orderly start past → Effect start past call
-    → Spares layer key (accepts past call) → Told start past before between layer key code asked → Told start (call ∷ past) before (call ∷ between) layer key code asked
+    → DoesNotWrite layer key (accepts past call) → Told start past before between layer key code asked → Told start (call ∷ past) before (call ∷ between) layer key code asked
 told_more start past call before between layer key code asked l k gives o effect leaves (is_stored s) = is_stored (stored_more start past call layer key code l k o effect leaves s)
 told_more start past call before between layer key code asked l k gives o effect leaves (has_failed f) =
     has_failed (fate-more (keymap (image_after start before)) asked call between ∙ ap (ended_by call) f ∙ ended_by-failed call)
@@ -388,7 +388,7 @@ NoneAcceptedWrites-later (call ∷ later) earlier past layer key n = NoneAccepte
 NoneAcceptedWrites-sooner : (later earlier past : List Call) (layer key : ℕ) → NoneAcceptedWrites (later ++ earlier) past layer key → NoneAcceptedWrites later (earlier ++ past) layer key
 NoneAcceptedWrites-sooner [] earlier past layer key n = tt
 NoneAcceptedWrites-sooner (call ∷ later) earlier past layer key n =
-    (subst (λ (xs : List Call). Spares layer key (accepts xs call)) (append_assoc later earlier past) n.0, NoneAcceptedWrites-sooner later earlier past layer key n.1)
+    (subst (λ (xs : List Call). DoesNotWrite layer key (accepts xs call)) (append_assoc later earlier past) n.0, NoneAcceptedWrites-sooner later earlier past layer key n.1)
 
 -- the command was settled when the empty packet came
 pub settled_here : (start : List ℕ) (between before : List Call) (call : Call) (asked : Command) → SameTransfer between → accepts before call ≡ Some asked → EachCall IsAnswered start (between ++ call ∷ before)

@@ -21,15 +21,15 @@ SameTransfer (BusReset ∷ before) = ⊥
 SameTransfer (_ ∷ before) = SameTransfer before
 
 -- a command does not write the entry, where there is one
-abbrev pub Spares : ℕ → ℕ → Option Command → Type 0
-Spares layer key None = Unit {0}
-Spares layer key (Some command) = written command layer key ≡ None
+abbrev pub DoesNotWrite : ℕ → ℕ → Option Command → Type 0
+DoesNotWrite layer key None = Unit {0}
+DoesNotWrite layer key (Some command) = written command layer key ≡ None
 
 -- none of the commands that these calls, newest first, accepted on top of a past writes the entry
 abbrev pub NoneAcceptedWrites : List Call → List Call → ℕ → ℕ → Type 0
 NoneAcceptedWrites [] past layer key = Unit {0}
 NoneAcceptedWrites (call ∷ before) past layer key =
-    Spares layer key (accepts (before ++ past) call) × NoneAcceptedWrites before past layer key
+    DoesNotWrite layer key (accepts (before ++ past) call) × NoneAcceptedWrites before past layer key
 
 -- a command that gives the entry this code was accepted, an IN packet of its transfer was answered by the empty packet,
 -- and no command was accepted since that would write the entry, not even one that failed; whatever else came

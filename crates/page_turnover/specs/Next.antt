@@ -31,11 +31,10 @@ append_operation None word = None
 
 -- a copy goes to the slot after the copies made, and the header, of format 2, to slot 0
 abbrev pub operation_for : Task → List ℕ → LogValue → Option Operation
-operation_for Rest image log = None
 operation_for (Append word) image log = append_operation log.active word
-operation_for (Wait target) image log = None
 operation_for (Copy target word) image log = Some (turn_operation (is_ready image target) image (copied target + 1) word)
 operation_for (Seal target) image log = Some (turn_operation (is_ready image target) image 0 (header_word 2 (next_seq image)))
+operation_for _ image log = None
 
 -- the operation that the next step makes, if any
 abbrev pub next_operation : List ℕ → LogValue → Option Operation

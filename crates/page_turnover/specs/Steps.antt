@@ -57,11 +57,10 @@ pub record Seals (old : List ℕ) (before : LogValue) (target : Target) (step : 
 
 -- what a step that is not Failed does for a task: at most one operation, the log after it, and its answer
 abbrev pub StepsFor : Task → List ℕ → LogValue → Step → List ℕ → LogValue → Type 0
-StepsFor Rest old before step new after = Idles old before step new after
 StepsFor (Append word) old before step new after = Appends old before word step new after
-StepsFor (Wait target) old before step new after = Idles old before step new after
 StepsFor (Copy target word) old before step new after = ErasesTarget old before target (λ t. Copy t word) step new after ⊎ Copies old before target word step new after
 StepsFor (Seal target) old before step new after = ErasesTarget old before target Seal step new after ⊎ Seals old before target step new after
+StepsFor _ old before step new after = Idles old before step new after
 
 -- what a step does, by what is under way
 abbrev pub Steps : List ℕ → LogValue → Step → List ℕ → LogValue → Type 0

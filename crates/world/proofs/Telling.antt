@@ -28,7 +28,7 @@ use Rattle.world.proofs.Here.{Here, here}
 -- none of a session's commands writes the entry
 abbrev NoneWrites : List Call → ℕ → ℕ → Type 0
 NoneWrites [] layer key = Unit {0}
-NoneWrites (call ∷ before) layer key = keyboard.Spares layer key (accepts before call) × NoneWrites before layer key
+NoneWrites (call ∷ before) layer key = keyboard.DoesNotWrite layer key (accepts before call) × NoneWrites before layer key
 
 abbrev AllLeave : List Accepted → ℕ → ℕ → Type 0
 AllLeave [] layer key = Unit {0}
@@ -38,7 +38,7 @@ AllLeave-append : (xs ys : List Accepted) (layer key : ℕ) → AllLeave xs laye
 AllLeave-append [] ys layer key h k = k
 AllLeave-append (one ∷ xs) ys layer key h k = (h.0, AllLeave-append xs ys layer key h.1 k)
 
-with_left : (entries : ℕ → ℕ → ℕ) (after : List Call) (o : Option Command) (layer key : ℕ) → keyboard.Spares layer key o → AllLeave (accepted_with entries after o) layer key
+with_left : (entries : ℕ → ℕ → ℕ) (after : List Call) (o : Option Command) (layer key : ℕ) → keyboard.DoesNotWrite layer key o → AllLeave (accepted_with entries after o) layer key
 with_left entries after None layer key l = tt
 with_left entries after (Some command) layer key l = (l, tt)
 
@@ -78,7 +78,7 @@ stored now layer key code l k h (from_start e n) =
     (orderly now.first now.past h).kept layer key l k ∙ left_code (accepted now.first now.past) (keymap now.first) layer key code (all_left now.first now.past layer key n) e
 
 -- a call more
-knows_call : (first : List ℕ) (past : List Call) (call : Call) (layer key code : ℕ) → keyboard.Spares layer key (accepts past call) → Knows (record { first = first; past = past }) layer key code
+knows_call : (first : List ℕ) (past : List Call) (call : Call) (layer key code : ℕ) → keyboard.DoesNotWrite layer key (accepts past call) → Knows (record { first = first; past = past }) layer key code
     → Knows (record { first = first; past = call ∷ past }) layer key code
 knows_call first past call layer key code n (from_start e m) = from_start e (n, m)
 knows_call first past call layer key code n (in_session a) =
@@ -94,14 +94,14 @@ knows_call first past call layer key code n (in_session a) =
       accepted = a.accepted;
       writes = a.writes;
       same_transfer = a.same_transfer;
-      not_since = (subst (λ (xs : List Call). keyboard.Spares layer key (accepts xs call)) a.past_is n, a.not_since);
+      not_since = (subst (λ (xs : List Call). keyboard.DoesNotWrite layer key (accepts xs call)) a.past_is n, a.not_since);
     })
 
-worked_leaves : (past : List Call) (work : WorkAnswer) (image : List ℕ) (layer key : ℕ) → keyboard.Spares layer key (accepts past (KeyboardWorked work image))
+worked_leaves : (past : List Call) (work : WorkAnswer) (image : List ℕ) (layer key : ℕ) → keyboard.DoesNotWrite layer key (accepts past (KeyboardWorked work image))
 unfolding accepts
 worked_leaves past work image layer key = tt
 
-in_leaves : (past : List Call) (layer key : ℕ) → keyboard.Spares layer key (accepts past (In (EpPacket (record { items = [] }))))
+in_leaves : (past : List Call) (layer key : ℕ) → keyboard.DoesNotWrite layer key (accepts past (In (EpPacket (record { items = [] }))))
 unfolding accepts
 in_leaves past layer key = tt
 
@@ -118,7 +118,7 @@ after_step now work image layer key code l k h a s =
 
 -- a step more
 knows_more : (now : Session) (heard : List HostCall) (old : SimValue) (event : Event) (answer : Answer) (refused : Bool) (new : SimValue) (layer key code : ℕ) → layer < layers → key < keys
-    → Here now old → Answered now heard old event answer refused new → keyboard.Spares layer key (accepts_by (kind_of event answer new.image) now.past) → Knows now layer key code
+    → Here now old → Answered now heard old event answer refused new → keyboard.DoesNotWrite layer key (accepts_by (kind_of event answer new.image) now.past) → Knows now layer key code
     → Knows (session_with (kind_of event answer new.image) new.image now) layer key code
 knows_more now heard old (Scan scan) answer refused new layer key code l k h a n s = knows_call now.first now.past (Scanned scan) layer key code n s
 knows_more now heard old (Setup bytes) answer refused new layer key code l k h a n s = knows_call now.first now.past (SetUp bytes) layer key code n s
@@ -149,7 +149,7 @@ NoneAcceptedWrites-sooner : (start : SimValue) (later earlier past : List Step) 
     → NoneAcceptedWrites start later (earlier ++ past) layer key
 NoneAcceptedWrites-sooner start [] earlier past layer key n = tt
 NoneAcceptedWrites-sooner start (step ∷ later) earlier past layer key n =
-    (subst (λ (xs : List Step). keyboard.Spares layer key (accepts_here start xs step)) (append_assoc later earlier past) n.0, NoneAcceptedWrites-sooner start later earlier past layer key n.1)
+    (subst (λ (xs : List Step). keyboard.DoesNotWrite layer key (accepts_here start xs step)) (append_assoc later earlier past) n.0, NoneAcceptedWrites-sooner start later earlier past layer key n.1)
 
 -- any steps more
 knows_after : (start : SimValue) (later past : List Step) (layer key code : ℕ) → layer < layers → key < keys → EachStep IsAnswered start (later ++ past) → NoneAcceptedWrites start later past layer key
@@ -176,7 +176,7 @@ same_more (Polled answer) between g s = s
 same_more (KeyboardWorked work image) between g s = s
 same_more KeyboardReset between g s = absurd g
 
-since_more : (now : Session) (k : Kind) (image : List ℕ) (past : List Call) (packet : Call) (layer key : ℕ) → GoesOn k → keyboard.Spares layer key (accepts_by k now.past) → Since now past packet layer key
+since_more : (now : Session) (k : Kind) (image : List ℕ) (past : List Call) (packet : Call) (layer key : ℕ) → GoesOn k → keyboard.DoesNotWrite layer key (accepts_by k now.past) → Since now past packet layer key
     → Since (session_with k image now) past packet layer key
 since_more now starts image past packet layer key g n s = absurd g
 since_more now looks image past packet layer key g n s = record { between = s.between; past_is = s.past_is; same = s.same; none = s.none }
@@ -184,7 +184,7 @@ since_more now (calls call) image past packet layer key g n s = record {
   between = call ∷ s.between;
   past_is = ap (λ (xs : List Call). call ∷ xs) s.past_is;
   same = same_more call s.between g s.same;
-  none = (subst (λ (xs : List Call). keyboard.Spares layer key (accepts xs call)) s.past_is n, s.none);
+  none = (subst (λ (xs : List Call). keyboard.DoesNotWrite layer key (accepts xs call)) s.past_is n, s.none);
 }
 
 since_between : (start : SimValue) (between rest : List Step) (past : List Call) (packet : Call) (layer key : ℕ) → SameTransfer between → NoneAcceptedWrites start between rest layer key

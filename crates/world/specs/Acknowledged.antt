@@ -4,7 +4,7 @@ use Rattle.flash_model.specs.Sim.{SimValue}
 use Rattle.layers.specs.Codes.{layers, keys}
 use Rattle.layers.specs.Entries.{written}
 use Rattle.layers.specs.declared.command.Command.{Command}
-use Rattle.keyboard.specs.Acknowledged.{Spares}
+use Rattle.keyboard.specs.Acknowledged.{DoesNotWrite}
 use Rattle.keyboard.specs.Calls.{Call, SetUp, BusReset, keymap}
 use Rattle.keyboard.specs.Commands.{accepts}
 use Rattle.world.specs.declared.event.Event.TheVariants.{InPacket}
@@ -37,7 +37,7 @@ SameTransfer (step ∷ before) = GoesOn (kind step) × SameTransfer before
 abbrev pub NoneAcceptedWrites : SimValue → List Step → List Step → ℕ → ℕ → Type 0
 NoneAcceptedWrites start [] past layer key = Unit {0}
 NoneAcceptedWrites start (step ∷ before) past layer key =
-    Spares layer key (accepts_here start (before ++ past) step) × NoneAcceptedWrites start before past layer key
+    DoesNotWrite layer key (accepts_here start (before ++ past) step) × NoneAcceptedWrites start before past layer key
 
 -- a command that gives the entry this code was accepted, an IN packet of its transfer was answered by the empty packet, and
 -- no command was accepted since that would write the entry, not even one that failed; whatever else came: other transfers,
