@@ -10,7 +10,7 @@ use Rattle.control_ep.specs.declared.answer.DeviceView.{DeviceView}
 use Rattle.control_ep.specs.Transfers.{Transfer, Reads, Takes, Sets, Stage, Rest, Sending, Taking, Status}
 use Rattle.control_ep.specs.Calls.{EpCall}
 use Rattle.control_ep.specs.Requests.{request_of, transfer_of}
-use Rattle.control_ep.specs.Stage.{LastSetup, NoSetup, RefusedFor, Begins, outcome_of, calls_since, last_setup, first_stall, Progress, progress_of, CommandState, NoCommand, Works, Settled, Failed, until_confirmed, after_command, stage_in, stage_with as stage_by, unless_stalled, stage}
+use Rattle.control_ep.specs.Stage.{LastSetup, NoSetup, outcome_of, calls_since, last_setup, first_stall, Progress, progress_of, CommandState, NoCommand, Works, Settled, Failed, until_confirmed, after_command, stage_in, stage_with as stage_by, unless_stalled, stage}
 use Rattle.control_ep.specs.Answers.{out_step}
 use Rattle.keymap_store.specs.declared.store.Work.TheVariants as Work
 use Rattle.keyboard.specs.Calls.{Call, Scanned, SetUp, Out, In, Polled, Worked, BusReset, setup_of, image_after, keymap}
