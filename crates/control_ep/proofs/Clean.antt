@@ -1,5 +1,6 @@
 -- What holds of the look-backs where each call was answered by the tables.
 use Rattle.std.proofs.Common.{◌≡◌, ◌≢◌, ℕ, ◌||◌, not, nat_lt, if◌then◌else◌, length, Bool, true, false, cond, List, [], ◌∷◌, Option, Some, None, Result, Ok, Err, refl, sym, ap, ◌∙◌}
+use Rattle.std.specs.List.{list_any}
 use Rattle.control_ep.specs.declared.why.Why.TheVariants.{UnknownReport, ShortData, LongData}
 use Rattle.control_ep.specs.declared.answer.OutStep.{OutStep}
 use Rattle.control_ep.specs.Requests.{length_of, id_of}
@@ -8,9 +9,9 @@ use Rattle.control_ep.specs.declared.answer.EpAnswer.{EpAnswer}
 use Rattle.control_ep.specs.declared.answer.OutStep.TheVariants.{Offer}
 use Rattle.control_ep.specs.declared.answer.Verdict.{Verdict}
 use Rattle.control_ep.specs.declared.answer.Verdict.TheVariants.{Done, Working, Busy, Refused}
-use Rattle.control_ep.specs.Transfers.{HostReport, LedsWithId, LedsAlone, FeatureData, Transfer, Takes, Stage, Rest, Sending, Taking, Waiting, Status, Stalled}
+use Rattle.control_ep.specs.Transfers.{HostReport, LedsWithId, LedsAlone, FeatureData, Takes, Stage, Rest, Sending, Taking, Waiting, Status, Stalled}
 use Rattle.control_ep.specs.Calls.{EpCall, Setup, Out, Judged, In, Settle, Fail, Reset}
-use Rattle.control_ep.specs.Stage.{LastSetup, Begins, calls_since, last_setup, first_stall, is_empty_packet, is_ack, acknowledges, is_taken, CommandState, NoCommand, Works, Settled, Failed, state_after, command_state, is_confirmed, Progress, progress_of, after_command, unless_stalled, stage}
+use Rattle.control_ep.specs.Stage.{LastSetup, Begins, calls_since, last_setup, first_stall, is_empty_packet, is_ack, acknowledges, CommandState, NoCommand, Works, Settled, Failed, state_after, command_state, is_empty_in, Progress, progress_of, after_command, unless_stalled, stage}
 use Rattle.control_ep.specs.Answers.{in_answer, has_id, content, received_report, report_step, out_step, judged_answer}
 use Rattle.control_ep.specs.Stands.{is_offered, AllAnswered}
 use Rattle.control_ep.proofs.Stages.{stage_by, stage-is, taking_is, IsTaking, IsWaiting}
@@ -152,37 +153,37 @@ clean_working acked start taken state confirmed a t c = record {
   confirmed_after = λ kind length s e. let f = unconfirmed start taken state confirmed kind length s t c in cc;
 }
 
-clean_judged : (verdict : Verdict) (answer : EpAnswer) (past : List EpCall) → answer ≡ judged_answer verdict → is_taken (calls_since past) ≡ false
-    → IsClean (last_setup past) (is_taken (calls_since past)) (command_state (calls_since past)) (is_confirmed (calls_since past))
-    → IsClean (last_setup past) (is_ack answer || is_taken (calls_since past)) (command_state (Judged verdict answer ∷ calls_since past)) (is_confirmed (calls_since past))
-clean_judged Done answer past a t c = clean_out (is_ack answer) (last_setup past) (is_taken (calls_since past)) (command_state (calls_since past)) (is_confirmed (calls_since past)) c
+clean_judged : (verdict : Verdict) (answer : EpAnswer) (past : List EpCall) → answer ≡ judged_answer verdict → list_any acknowledges (calls_since past) ≡ false
+    → IsClean (last_setup past) (list_any acknowledges (calls_since past)) (command_state (calls_since past)) (list_any is_empty_in (calls_since past))
+    → IsClean (last_setup past) (is_ack answer || list_any acknowledges (calls_since past)) (command_state (Judged verdict answer ∷ calls_since past)) (list_any is_empty_in (calls_since past))
+clean_judged Done answer past a t c = clean_out (is_ack answer) (last_setup past) (list_any acknowledges (calls_since past)) (command_state (calls_since past)) (list_any is_empty_in (calls_since past)) c
 clean_judged Working answer past a t c =
-    clean_working (is_ack answer) (last_setup past) (is_taken (calls_since past)) (command_state (calls_since past)) (is_confirmed (calls_since past)) (ap is_ack a) t c
-clean_judged Busy answer past a t c = clean_out (is_ack answer) (last_setup past) (is_taken (calls_since past)) (command_state (calls_since past)) (is_confirmed (calls_since past)) c
+    clean_working (is_ack answer) (last_setup past) (list_any acknowledges (calls_since past)) (command_state (calls_since past)) (list_any is_empty_in (calls_since past)) (ap is_ack a) t c
+clean_judged Busy answer past a t c = clean_out (is_ack answer) (last_setup past) (list_any acknowledges (calls_since past)) (command_state (calls_since past)) (list_any is_empty_in (calls_since past)) c
 clean_judged (Refused why) answer past a t c =
-    clean_out (is_ack answer) (last_setup past) (is_taken (calls_since past)) (command_state (calls_since past)) (is_confirmed (calls_since past)) c
+    clean_out (is_ack answer) (last_setup past) (list_any acknowledges (calls_since past)) (command_state (calls_since past)) (list_any is_empty_in (calls_since past)) c
 
-pub clean : (past : List EpCall) → AllAnswered past → IsClean (last_setup past) (is_taken (calls_since past)) (command_state (calls_since past)) (is_confirmed (calls_since past))
+pub clean : (past : List EpCall) → AllAnswered past → IsClean (last_setup past) (list_any acknowledges (calls_since past)) (command_state (calls_since past)) (list_any is_empty_in (calls_since past))
 clean [] all = record { idle = λ _. refl; confirmed_after = λ kind length s e. cc }
 clean (Setup setup view ∷ past) all = record { idle = λ _. refl; confirmed_after = λ kind length s e. cc }
 clean (Reset ∷ past) all = record { idle = λ _. refl; confirmed_after = λ kind length s e. cc }
 clean (Out packet step ∷ past) all =
-    clean_out (acknowledges (Out packet step)) (last_setup past) (is_taken (calls_since past)) (command_state (calls_since past)) (is_confirmed (calls_since past)) (clean past all.1)
+    clean_out (acknowledges (Out packet step)) (last_setup past) (list_any acknowledges (calls_since past)) (command_state (calls_since past)) (list_any is_empty_in (calls_since past)) (clean past all.1)
 clean (Judged verdict answer ∷ past) all =
     clean_judged verdict answer past all.0.1 (offered_taking past all.1 all.0.0).not_taken (clean past all.1)
 clean (In answer effect ∷ past) all =
-    clean_in (is_empty_packet answer) (last_setup past) (is_taken (calls_since past)) (command_state (calls_since past)) (is_confirmed (calls_since past))
+    clean_in (is_empty_packet answer) (last_setup past) (list_any acknowledges (calls_since past)) (command_state (calls_since past)) (list_any is_empty_in (calls_since past))
     (λ kind length s e. empty_packet_in (first_stall (calls_since past)) (last_setup past) (progress_of (calls_since past)) answer kind length s (all.0.0 ∙ ap in_answer (stage-is past)) e)
     (clean past all.1)
 clean (Settle ∷ past) all =
-    clean_end Settled (last_setup past) (is_taken (calls_since past)) (command_state (calls_since past)) (is_confirmed (calls_since past)) (λ e. cc) (clean past all.1)
+    clean_end Settled (last_setup past) (list_any acknowledges (calls_since past)) (command_state (calls_since past)) (list_any is_empty_in (calls_since past)) (λ e. cc) (clean past all.1)
 clean (Fail ∷ past) all =
-    clean_end Failed (last_setup past) (is_taken (calls_since past)) (command_state (calls_since past)) (is_confirmed (calls_since past)) (λ e. cc) (clean past all.1)
+    clean_end Failed (last_setup past) (list_any acknowledges (calls_since past)) (command_state (calls_since past)) (list_any is_empty_in (calls_since past)) (λ e. cc) (clean past all.1)
 
 -- a report that is still to be taken was not confirmed
-pub taking_unconfirmed : (past : List EpCall) (kind : HostReport) → AllAnswered past → LookedBack kind past → is_confirmed (calls_since past) ≡ false
+pub taking_unconfirmed : (past : List EpCall) (kind : HostReport) → AllAnswered past → LookedBack kind past → list_any is_empty_in (calls_since past) ≡ false
 taking_unconfirmed past kind all t =
-    unconfirmed (last_setup past) (is_taken (calls_since past)) (command_state (calls_since past)) (is_confirmed (calls_since past)) kind t.length t.begins t.not_taken (clean past all)
+    unconfirmed (last_setup past) (list_any acknowledges (calls_since past)) (command_state (calls_since past)) (list_any is_empty_in (calls_since past)) kind t.length t.begins t.not_taken (clean past all)
 
 not_confirmed : (confirmed : Bool) → (confirmed ≡ true → ⊥) → confirmed ≡ false
 not_confirmed true n = absurd (n refl)
@@ -190,6 +191,6 @@ not_confirmed false n = refl
 
 -- nor was one whose command works
 pub waiting_unconfirmed : (past : List EpCall) → AllAnswered past → IsWaiting (first_stall (calls_since past)) (last_setup past) (progress_of (calls_since past))
-    → is_confirmed (calls_since past) ≡ false
+    → list_any is_empty_in (calls_since past) ≡ false
 waiting_unconfirmed past all w =
-    not_confirmed (is_confirmed (calls_since past)) (λ e. ((clean past all).confirmed_after w.taken w.length w.begins e).1 w.works)
+    not_confirmed (list_any is_empty_in (calls_since past)) (λ e. ((clean past all).confirmed_after w.taken w.length w.begins e).1 w.works)

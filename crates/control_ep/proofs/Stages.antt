@@ -1,12 +1,12 @@
 -- How one more call changes the stage.
 use Rattle.std.specs.Option.{option_or}
-use Rattle.std.proofs.Common.{◌≡◌, ℕ, ◌==◌, Bool, true, false, cond, List, Option, Some, None, Result, Ok, Err, refl}
+use Rattle.std.proofs.Common.{◌≡◌, ℕ, ◌==◌, Bool, true, false, cond, List, Option, Some, None, refl}
 use Rattle.control_ep.specs.declared.why.Why.{Why}
 use Rattle.control_ep.specs.declared.answer.EpAnswer.TheVariants.{Stall}
 use Rattle.control_ep.specs.declared.answer.OutStep.TheVariants.{Answered}
 use Rattle.control_ep.specs.declared.answer.Effect.{Effect}
 use Rattle.control_ep.specs.declared.answer.Effect.TheVariants.{Nothing}
-use Rattle.control_ep.specs.Transfers.{HostReport, Transfer, Reads, Takes, Sets, Stage, Rest, Sending, Taking, Waiting, Status}
+use Rattle.control_ep.specs.Transfers.{HostReport, Reads, Takes, Sets, Stage, Rest, Sending, Taking, Waiting, Status}
 use Rattle.control_ep.specs.Calls.{EpCall}
 use Rattle.control_ep.specs.Stage.{LastSetup, NoSetup, RefusedFor, Begins, calls_since, last_setup, first_stall, CommandState, NoCommand, Works, Settled, Failed, state_after, Progress, progress_of, stage_with, until_confirmed, after_command, unless_stalled, stage}
 use Rattle.control_ep.specs.Answers.{in_answer, out_step}

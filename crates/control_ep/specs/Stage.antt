@@ -1,5 +1,6 @@
 -- Believed: the stage of the transfer under way, by looking back over the calls, newest first.
-use Rattle.std.specs.Prelude.{ℕ, ◌+◌, ◌==◌, ◌||◌, Bool, true, false, List, [], ◌∷◌, if◌then◌else◌, Option, Some, None, Result, Ok, Err}
+use Rattle.std.specs.Prelude.{ℕ, ◌+◌, ◌==◌, Bool, true, false, List, [], ◌∷◌, length, if◌then◌else◌, Option, Some, None, Result, Ok, Err}
+use Rattle.std.specs.List.{list_any}
 use Rattle.std.specs.Option.{option_or}
 use Rattle.control_ep.specs.declared.why.Why.{Why}
 use Rattle.control_ep.specs.declared.why.Why.TheVariants.{FlashFault}
@@ -63,11 +64,6 @@ abbrev pub is_empty_out : EpCall → Bool
 is_empty_out (Out [] _) = true
 is_empty_out _ = false
 
--- an empty OUT packet came
-abbrev pub is_closed : List EpCall → Bool
-is_closed [] = false
-is_closed (call ∷ before) = is_empty_out call || is_closed before
-
 -- how many IN packets came
 abbrev pub count_in : List EpCall → ℕ
 count_in [] = 0
@@ -85,11 +81,6 @@ acknowledges (Out _ (Answered answer)) = is_ack answer
 acknowledges (Out _ (Leds _)) = true
 acknowledges (Judged _ answer) = is_ack answer
 acknowledges _ = false
-
--- an OUT packet was acknowledged
-abbrev pub is_taken : List EpCall → Bool
-is_taken [] = false
-is_taken (call ∷ before) = acknowledges call || is_taken before
 
 -- what became of the command of a feature report: there is none, it works, it is settled, or it failed
 pub data CommandState : Type 0 where
@@ -111,25 +102,15 @@ command_state (Settle ∷ before) = state_after (command_state before) Settled
 command_state (Fail ∷ before) = state_after (command_state before) Failed
 command_state (_ ∷ before) = command_state before
 
--- there is no byte
-abbrev pub is_nil : List ℕ → Bool
-is_nil [] = true
-is_nil (_ ∷ _) = false
-
 -- an answer is the empty packet
 abbrev pub is_empty_packet : EpAnswer → Bool
-is_empty_packet (Packet packet) = is_nil packet.items
+is_empty_packet (Packet packet) = length packet.items == 0
 is_empty_packet _ = false
 
 -- the call is an IN packet that the empty packet answered
 abbrev pub is_empty_in : EpCall → Bool
 is_empty_in (In answer _) = is_empty_packet answer
 is_empty_in _ = false
-
--- an IN packet was answered by the empty packet
-abbrev pub is_confirmed : List EpCall → Bool
-is_confirmed [] = false
-is_confirmed (call ∷ before) = is_empty_in call || is_confirmed before
 
 -- the status stage, until its packet was given
 abbrev pub until_confirmed : Bool → Effect → Stage
@@ -145,20 +126,25 @@ after_command Settled confirmed = until_confirmed confirmed Nothing
 
 -- what the calls since the last SETUP tell
 pub record Progress : Type 0 where
+  -- an empty OUT packet came
   pub closed : Bool
+  -- how many IN packets came
   pub sent : ℕ
+  -- an OUT packet was acknowledged
   pub taken : Bool
+  -- what became of the command
   pub command : CommandState
+  -- an IN packet was answered by the empty packet
   pub confirmed : Bool
 
 -- these calls, newest first, tell this
 abbrev pub progress_of : List EpCall → Progress
 progress_of calls = record {
-  closed = is_closed calls;
+  closed = list_any is_empty_out calls;
   sent = count_in calls;
-  taken = is_taken calls;
+  taken = list_any acknowledges calls;
   command = command_state calls;
-  confirmed = is_confirmed calls;
+  confirmed = list_any is_empty_in calls;
 }
 
 -- the stage of a transfer none of whose packets was stalled

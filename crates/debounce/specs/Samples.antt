@@ -14,15 +14,19 @@ abbrev pub run_of : Bool → List Bool → ℕ
 run_of x [] = 0
 run_of x (y ∷ ys) = if same x y then run_of x ys + 1 else 0
 
--- the value of the latest five equal consecutive samples, newest first; up if there are none
+-- how many equal samples in a row make a value
+abbrev pub samples_needed : ℕ
+samples_needed = 5
+
+-- the value of the latest `samples_needed` equal consecutive samples, newest first; up if there are none
 unfoldable pub debounced : List Bool → Bool
 debounced [] = false
-debounced (x ∷ xs) = if nat_le 5 (run_of x (x ∷ xs)) then x else debounced xs
+debounced (x ∷ xs) = if nat_le samples_needed (run_of x (x ∷ xs)) then x else debounced xs
 
--- how many of the latest samples are equal, newest first, counted to five
+-- how many of the latest samples are equal, newest first, counted to `samples_needed`
 unfoldable pub equal_latest : List Bool → ℕ
 equal_latest [] = 0
-equal_latest (x ∷ xs) = min 5 (run_of x (x ∷ xs))
+equal_latest (x ∷ xs) = min samples_needed (run_of x (x ∷ xs))
 
 -- the samples of a key in these scans, both newest first
 abbrev pub samples : List Scan → ℕ → List Bool

@@ -1,6 +1,7 @@
 -- The selected entry is one, where each call passes.
 use Rattle.std.proofs.Common.{◌≡◌, ℕ, ◌+◌, ◌<◌, ◌==◌, Bool, true, false, nat_lt, if◌then◌else◌, is_some, drop, slice_index, get_or, Option, Some, None, unwrap_or, Result, Ok, Err, List, [], ◌∷◌, refl, sym, ap, ◌∙◌, subst, arith}
 use Rattle.std.proofs.lemmas.Bool.Decides.{nat_tests}
+use Rattle.std.specs.Option.{option_map}
 use Rattle.layers.specs.Codes.{layers, keys}
 use Rattle.control_ep.specs.declared.why.Why.{Why}
 use Rattle.control_ep.specs.declared.why.Why.TheVariants.{BadLayer, BadKey}
@@ -81,7 +82,7 @@ by_number packet entry true e i s = s (is_zero (slice_index packet 1) e)
 by_number packet entry false e i s = i
 
 by_report : (packet : List ℕ) (entry : Entry) (report : Option HostReport) → IsEntry entry → (report ≡ Some FeatureData → slice_index packet 1 ≡ 0 → IsEntry (record { layer = slice_index packet 2; key = slice_index packet 3 }))
-    → IsEntry (unwrap_or (entry_in_report (sent_as packet report)) entry)
+    → IsEntry (unwrap_or (entry_in_report (option_map (sent_as packet) report)) entry)
 by_report packet entry None i s = i
 by_report packet entry (Some LedsWithId) i s = i
 by_report packet entry (Some LedsAlone) i s = i

@@ -4,15 +4,15 @@ use Rattle.flash_model.specs.Sim.{SimValue}
 use Rattle.judge.specs.Records.{call_of, calls_of}
 use Rattle.world.specs.Kinds.{Step, Kind, starts, calls, looks}
 use Rattle.world.specs.History as history
-use Rattle.judge.specs.declared.history.recorded.Recorded.{Recorded}
+use Rattle.judge.specs.declared.history.recorded.RecordedStep.{RecordedStep}
 use Rattle.judge.specs.declared.history.sessions.Kind.{Kind as KindFound}
 use Rattle.judge.specs.declared.history.sessions.Kind.TheVariants.{Starts, Calls, Looks}
 use Rattle.judge.specs.declared.history.sessions.Session.{Session}
 
-abbrev pub step_of : Recorded → Step
+abbrev pub step_of : RecordedStep → Step
 step_of r = record { event = r.event; answer = r.answer; flash = r.flash; refused = r.refused }
 
-abbrev pub steps_of : List Recorded → List Step
+abbrev pub steps_of : List RecordedStep → List Step
 steps_of past = map step_of past
 
 abbrev pub kind_in : KindFound → Kind

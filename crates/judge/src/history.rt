@@ -1,6 +1,6 @@
 //! Recorded histories of a keyboard with its host and its flash, judged by looking back.
 //!
-//! A history is a `Start` and a list of `Recorded` steps, the newest first: each an event that
+//! A history is a `Start` and a list of `RecordedStep`s, the newest first: each an event that
 //! `World::run` took, its answer, and the flash after it. `first_wrong` finds the first step that does
 //! not pass. It splits the history into sessions at the power cuts, has each call of a session judged by
 //! the module `session`, and looks back over the whole of it for what is kept across them: what a restart
@@ -20,4 +20,4 @@ pub mod time;
 pub mod usages;
 
 pub use lawful::{all_told, first_wrong};
-pub use recorded::{Recorded, Start};
+pub use recorded::{RecordedStep, Start};

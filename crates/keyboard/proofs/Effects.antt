@@ -1,5 +1,6 @@
 -- What a call does to the commands and the keymap, while it is answered as it has to be.
 use Rattle.std.proofs.Common.{◌≡◌, ℕ, true, false, Bool, not, if◌then◌else◌, nat_lt, length, is_some, Option, Some, None, Result, Ok, Err, List, [], ◌∷◌, refl, ap, subst, drop}
+use Rattle.std.specs.Option.{option_map}
 use Rattle.std.specs.Result.{result_ok}
 use Rattle.layers.specs.Entries.{changed}
 use Rattle.layers.specs.declared.command.Command.{Command}
@@ -54,7 +55,7 @@ read_ok : (read : Result Command KeymapError) (command : Command) → result_ok 
 read_ok (Ok c) command e = cc
 read_ok (Err error) command e = cc
 
-accepts_named : (report : Option HostReport) (packet : List ℕ) (command : Command) → command_in_report (sent_as packet report) ≡ Some command
+accepts_named : (report : Option HostReport) (packet : List ℕ) (command : Command) → command_in_report (option_map (sent_as packet) report) ≡ Some command
     → (report ≡ Some FeatureData) × (command_in (drop 1 packet) ≡ Ok command)
 accepts_named None packet command e = cc
 accepts_named (Some LedsWithId) packet command e = cc

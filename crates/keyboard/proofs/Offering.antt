@@ -1,5 +1,6 @@
 -- A feature report that was offered: its verdict, and the keyboard after it.
 use Rattle.std.proofs.Common.{◌≡◌, ℕ, ◌+◌, ◌<◌, ◌≤◌, ◌==◌, ◌^◌, IsSome, is_some, slice_index, drop, if◌then◌else◌, true, false, Option, Some, None, Result, Ok, Err, List, [], ◌∷◌, refl, ap, sym, ◌∙◌, subst, arith, inl, inr}
+use Rattle.std.specs.Option.{option_map}
 use Rattle.std.specs.Result.{result_ok}
 use Rattle.std.proofs.lemmas.List.{get_or-drop}
 use Rattle.std.proofs.lemmas.Bool.Decides.{nat_tests}
@@ -175,7 +176,7 @@ unacked past packet (Packet p) n = refl
 unacked past packet (Stall why) n = refl
 
 feature_taken : (past : List Call) (packet : List ℕ) → report_named (setup_of past) ≡ Some FeatureData → report_taken past (Out packet Ack) ≡ Some (record { report = FeatureData; bytes = packet })
-feature_taken past packet n = ap (λ (r : Option HostReport). sent_as packet r) n
+feature_taken past packet n = ap (option_map (sent_as packet)) n
 
 entry_when : (packet : List ℕ) (sent : Option SentReport) → sent ≡ Some (record { report = FeatureData; bytes = packet }) → slice_index packet 1 ≡ 0
     → entry_in_report sent ≡ Some (record { layer = slice_index packet 2; key = slice_index packet 3 })

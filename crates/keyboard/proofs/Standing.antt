@@ -1,5 +1,6 @@
 -- A keyboard stands for one call more.
 use Rattle.std.proofs.Common.{◌≡◌, ℕ, ◌%◌, ◌^◌, is_some, not, nat_lt, length, slice_index, drop, if◌then◌else◌, unwrap_or, Bool, true, false, Option, Some, None, Result, Ok, Err, List, [], ◌∷◌, refl, ap, sym, ◌∙◌, subst}
+use Rattle.std.specs.Option.{option_map}
 use Rattle.layers.specs.declared.command.Command.{Command}
 use Rattle.debounce.specs.declared.Scan.{Scan}
 use Rattle.reports.specs.declared.Protocol.{Protocol}
@@ -232,7 +233,7 @@ received_as FeatureData packet step e =
 
 -- an OUT packet that is answered by the endpoint itself takes no report
 closing_takes : (past : List Call) (packet : List ℕ) (answer : EpAnswer) → report_named (setup_of past) ≡ None → report_taken past (Out packet answer) ≡ None
-closing_takes past packet Ack n = ap (λ (r : Option HostReport). sent_as packet r) n
+closing_takes past packet Ack n = ap (option_map (sent_as packet)) n
 closing_takes past packet Nak n = refl
 closing_takes past packet (Packet p) n = refl
 closing_takes past packet (Stall why) n = refl

@@ -5,6 +5,7 @@ use Rattle.layers.specs.Entries.{written}
 use Rattle.layers.specs.declared.code.KeymapError.{KeymapError}
 use Rattle.layers.specs.declared.command.Command.{Command}
 use Rattle.layers.proofs.LastWriter.{changed-one}
+use Rattle.std.specs.List.{list_any}
 use Rattle.control_ep.specs.declared.why.Why.{Why}
 use Rattle.control_ep.specs.declared.answer.EpAnswer.{EpAnswer}
 use Rattle.control_ep.specs.declared.answer.EpAnswer.TheVariants.{Ack, Nak, Packet, Stall}
@@ -12,7 +13,7 @@ use Rattle.control_ep.specs.declared.answer.OutStep.{OutStep}
 use Rattle.control_ep.specs.declared.answer.OutStep.TheVariants.{Answered, Leds, Offer}
 use Rattle.control_ep.specs.Transfers.{LedsWithId, LedsAlone, FeatureData, Takes, Stage, Rest, Sending, Taking, Waiting, Status, Stalled}
 use Rattle.control_ep.specs.Calls.{EpCall, Judged, Out as EpOut}
-use Rattle.control_ep.specs.Stage.{Begins, calls_since, last_setup, first_stall, is_ack, is_taken, is_confirmed, command_state, CommandState, NoCommand, Works, Settled, Failed, state_after, progress_of, after_command, unless_stalled, stage}
+use Rattle.control_ep.specs.Stage.{Begins, calls_since, last_setup, first_stall, is_ack, acknowledges, is_empty_in, command_state, CommandState, NoCommand, Works, Settled, Failed, state_after, progress_of, after_command, unless_stalled, stage}
 use Rattle.control_ep.specs.Answers.{out_step, in_answer, received_report, report_step}
 use Rattle.control_ep.proofs.Stages.{stage-is, taking_is, IsTaking}
 use Rattle.control_ep.proofs.Clean.{received_is}
@@ -133,7 +134,7 @@ told_between start (next ∷ between) before call layer key code asked l k gives
 record TakenBy (calls : List EpCall) (state : CommandState) : Type 0 where
   length : ℕ
   begins : last_setup calls ≡ Begins (Takes FeatureData) length
-  taken : is_taken (calls_since calls) ≡ true
+  taken : list_any acknowledges (calls_since calls) ≡ true
   command : command_state (calls_since calls) ≡ state
 
 or_false : (a b : Bool) → (a || b) ≡ false → b ≡ false
@@ -146,7 +147,7 @@ or_true false b e = e
 
 -- before a report is taken no command was begun
 abbrev Untaken : List EpCall → Type 0
-Untaken calls = is_taken (calls_since calls) ≡ false → command_state (calls_since calls) ≡ NoCommand
+Untaken calls = list_any acknowledges (calls_since calls) ≡ false → command_state (calls_since calls) ≡ NoCommand
 
 untaken_judged : (changing : Bool) (bytes packet : List ℕ) (answer : EpAnswer) (calls : List EpCall) → Untaken calls
     → Untaken (Judged (verdict_told changing answer) answer ∷ EpOut packet (Offer bytes) ∷ calls)
@@ -156,7 +157,7 @@ untaken_judged changing bytes packet (Packet p) calls u e = u e
 untaken_judged changing bytes packet (Stall why) calls u e = u e
 
 untaken_out : (step : OutStep) (packet : List ℕ) (entries : ℕ → ℕ → ℕ) (answer : EpAnswer) (calls : List EpCall) → Untaken calls → Untaken (with_out step packet entries answer calls)
-untaken_out (Answered a) packet entries answer calls u e = u (or_false (is_ack a) (is_taken (calls_since calls)) e)
+untaken_out (Answered a) packet entries answer calls u e = u (or_false (is_ack a) (list_any acknowledges (calls_since calls)) e)
 untaken_out (Leds leds) packet entries answer calls u e = cc
 untaken_out (Offer bytes) packet entries answer calls u e = untaken_judged (changes_by entries (command_in bytes)) bytes packet answer calls u e
 
@@ -245,7 +246,7 @@ taken_at_packet start before packet answer asked s a =
 
 -- the stage of such a transfer
 taken_stage : (calls : List EpCall) (state : CommandState) → TakenBy calls state
-    → stage calls ≡ unless_stalled (first_stall (calls_since calls)) (after_command state (is_confirmed (calls_since calls)))
+    → stage calls ≡ unless_stalled (first_stall (calls_since calls)) (after_command state (list_any is_empty_in (calls_since calls)))
 taken_stage calls state t = stage-is calls ∙ rw (t.begins, t.taken, t.command) refl
 
 -- a further packet is stalled
@@ -263,12 +264,12 @@ taken_answered : (step : OutStep) (packet : List ℕ) (entries : ℕ → ℕ →
     → TakenBy (with_out step packet entries answer calls) state
 taken_answered step packet entries answer answered calls state s t =
     subst (λ (x : OutStep). TakenBy (with_out x packet entries answer calls) state) (sym s)
-    (record { length = t.length; begins = t.begins; taken = or_true (is_ack answered) (is_taken (calls_since calls)) t.taken; command = t.command })
+    (record { length = t.length; begins = t.begins; taken = or_true (is_ack answered) (list_any acknowledges (calls_since calls)) t.taken; command = t.command })
 
 taken_out : (packet : List ℕ) (entries : ℕ → ℕ → ℕ) (answer : EpAnswer) (calls : List EpCall) (state : CommandState) → TakenBy calls state
     → TakenBy (with_out (out_step (stage calls) packet) packet entries answer calls) state
 taken_out packet entries answer calls state t =
-    let stalls = stalls_out (first_stall (calls_since calls)) state (is_confirmed (calls_since calls)) packet in
+    let stalls = stalls_out (first_stall (calls_since calls)) state (list_any is_empty_in (calls_since calls)) packet in
     taken_answered (out_step (stage calls) packet) packet entries answer stalls.0 calls state (ap (λ (now : Stage). out_step now packet) (taken_stage calls state t) ∙ stalls.1) t
 
 settled_state : (changing : Bool) (f : Fate) (image : List ℕ) → state_after (state_told changing f) Settled ≡ state_told changing (ended_by (Worked Work.Settled image) f)
@@ -345,7 +346,7 @@ told_settled start between before packet answer asked same s a e =
     let calls : List EpCall = ep_calls start (between ++ Out packet answer ∷ before) in
     let state : CommandState = state_told changing (fate_after between) in
     let t : TakenBy calls state = taken_between start between before packet answer asked same s a in
-    let ended = ended_state (first_stall (calls_since calls)) state (is_confirmed (calls_since calls)) (e ∙ ap in_answer (taken_stage calls state t)) in
+    let ended = ended_state (first_stall (calls_since calls)) state (list_any is_empty_in (calls_since calls)) (e ∙ ap in_answer (taken_stage calls state t)) in
     settled_fate changing (fate_after between) ended.0 ended.1
 
 settled_not_works : (f : Fate) → f ≡ works → f ≡ settled → ⊥

@@ -33,7 +33,7 @@ NoneAcceptedWrites (call ∷ before) past layer key =
 
 -- a command that gives the entry this code was accepted, an IN packet of its transfer was answered by the empty packet,
 -- and no command was accepted since that would write the entry, not even one that failed; whatever else came
-pub record IsAcknowledged (past : List Call) (layer key code : ℕ) : Type 0 where
+pub record IsAcknowledgedInSession (past : List Call) (layer key code : ℕ) : Type 0 where
   pub in_layers : layer < layers
   pub in_keys : key < keys
   pub before : List Call
@@ -50,7 +50,7 @@ pub record IsAcknowledged (past : List Call) (layer key code : ℕ) : Type 0 whe
 -- what the host was told is stored is what the flash says
 abbrev pub KeepsAcknowledged : List ℕ → List Call → Type 0
 KeepsAcknowledged start past =
-    (layer key code : ℕ) → IsAcknowledged past layer key code → keymap (image_after start past) layer key ≡ code
+    (layer key code : ℕ) → IsAcknowledgedInSession past layer key code → keymap (image_after start past) layer key ≡ code
 
 -- the command that was accepted on top of these calls is confirmed: an IN packet of its transfer was answered by the empty packet
 pub record IsConfirmed (past before : List Call) (command : Command) : Type 0 where

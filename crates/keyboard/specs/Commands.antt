@@ -1,5 +1,6 @@
 -- Believed: the commands of a session: which were accepted, in order, and what has become of each.
-use Rattle.std.specs.Prelude.{ℕ, Option, None, Some, List, [], ◌∷◌, ◌++◌, drop}
+use Rattle.std.specs.Prelude.{ℕ, Option, None, Some, List, [], ◌∷◌, ◌++◌, drop, map}
+use Rattle.std.specs.Option.{option_or, option_and_then}
 use Rattle.std.specs.Result.{result_ok}
 use Rattle.layers.specs.declared.command.Command.{Command}
 use Rattle.control_ep.specs.Transfers.{HostReport, FeatureData}
@@ -20,8 +21,7 @@ command_of _ bytes = None
 
 -- the command in the report that a call took, if it took one and there is a command in it
 abbrev pub command_in_report : Option SentReport → Option Command
-command_in_report None = None
-command_in_report (Some sent) = command_of sent.report sent.bytes
+command_in_report taken = option_and_then (λ sent. command_of sent.report sent.bytes) taken
 
 -- a command is accepted where a feature report with it is acknowledged
 unfoldable pub accepts : List Call → Call → Option Command
@@ -58,15 +58,10 @@ abbrev pub unless_failed : Fate → Accepted → List Accepted → List Accepted
 unless_failed failed one later = later
 unless_failed _ one later = one ∷ later
 
--- the later command that works, if one does; else this one, if it works
-abbrev pub working_one : Accepted → Option Command → Option Command
-working_one one (Some later) = Some later
-working_one one None = if_works one.fate one.command
-
 -- the last of these commands that works, if one does
 abbrev pub working_of : List Accepted → Option Command
 working_of [] = None
-working_of (one ∷ later) = working_one one (working_of later)
+working_of (one ∷ later) = option_or (working_of later) (if_works one.fate one.command)
 
 -- the command that works after these calls, if one does: the keyboard is busy then
 unfoldable pub working : List ℕ → List Call → Option Command
@@ -84,5 +79,4 @@ standing_of (one ∷ later) = unless_failed one.fate one (standing_of later)
 
 -- the commands, without what became of them
 abbrev pub commands_of : List Accepted → List Command
-commands_of [] = []
-commands_of (one ∷ later) = one.command ∷ commands_of later
+commands_of all = map (λ one. one.command) all

@@ -1,6 +1,7 @@
 -- Believed: what the host has set: LEDs, the selected entry, the protocol and the idle values, read off the answers that
 -- were given and the SETUP packets that they belong to.
 use Rattle.std.specs.Prelude.{ℕ, ◌%◌, ◌/◌, ◌^◌, ◌==◌, ◌&&◌, if◌then◌else◌, Option, None, Some, unwrap_or, Result, Ok, List, [], ◌∷◌, slice_index}
+use Rattle.std.specs.Option.{option_map, option_and_then, option_map_or}
 use Rattle.reports.specs.declared.Protocol.{Protocol}
 use Rattle.reports.specs.declared.Protocol.TheVariants.{Report}
 use Rattle.control_ep.specs.declared.why.Why.{Why}
@@ -30,22 +31,20 @@ report_of_request request =
 
 -- the report that a SETUP packet names by SET_REPORT, if there is such a packet and it names one
 unfoldable pub report_named : Option (List ℕ) → Option HostReport
-report_named None = None
-report_named (Some setup) = report_of_request (request_of setup)
+report_named setup = option_and_then (λ bytes. report_of_request (request_of bytes)) setup
 
 -- a report that the host has sent: which one its SETUP packet named, and its bytes
 pub record SentReport : Type 0 where
   pub report : HostReport
   pub bytes : List ℕ
 
--- a packet as the report that was named, if one was
-abbrev pub sent_as : List ℕ → Option HostReport → Option SentReport
-sent_as packet None = None
-sent_as packet (Some report) = Some (record { report = report; bytes = packet })
+-- a packet as a report
+abbrev pub sent_as : List ℕ → HostReport → SentReport
+sent_as packet report = record { report = report; bytes = packet }
 
 -- the report that a call took: an OUT packet that was acknowledged, of a transfer that names a report
 abbrev pub report_taken : List Call → Call → Option SentReport
-report_taken before (Out packet Ack) = sent_as packet (report_named (setup_of before))
+report_taken before (Out packet Ack) = option_map (sent_as packet) (report_named (setup_of before))
 report_taken before _ = None
 
 -- the LEDs of a report, bits 0 to 4 (HUT page 08h), and none of a feature report
@@ -56,8 +55,7 @@ leds_of FeatureData bytes = None
 
 -- the LEDs of the report that a call took, if it took one that has LEDs
 abbrev pub leds_in : Option SentReport → Option ℕ
-leds_in None = None
-leds_in (Some sent) = leds_of sent.report sent.bytes
+leds_in taken = option_and_then (λ sent. leds_of sent.report sent.bytes) taken
 
 -- the LEDs: those of the latest output report since the start or the latest bus reset, else none
 unfoldable pub leds_after : List Call → ℕ
@@ -78,8 +76,7 @@ entry_of _ bytes = None
 
 -- the entry that is selected by the report that a call took, if it took one that selects
 abbrev pub entry_in_report : Option SentReport → Option Entry
-entry_in_report None = None
-entry_in_report (Some sent) = entry_of sent.report sent.bytes
+entry_in_report taken = option_and_then (λ sent. entry_of sent.report sent.bytes) taken
 
 -- the selected entry: that of the latest such report since the start, else key 0 of layer 0
 unfoldable pub selected : List Call → Entry
@@ -101,8 +98,7 @@ effect_of_request request =
 
 -- what a SETUP packet asks for by SET_IDLE or SET_PROTOCOL, if there is one
 unfoldable pub effect_asked : Option (List ℕ) → Effect
-effect_asked None = Nothing
-effect_asked (Some setup) = effect_of_request (request_of setup)
+effect_asked setup = option_map_or (λ bytes. effect_of_request (request_of bytes)) setup Nothing
 
 -- what an answer to an IN packet brings about: the empty packet of its status stage ends a request without data
 abbrev pub effect_told : List Call → EpAnswer → Effect

@@ -1,7 +1,8 @@
 -- Believed: a fetch of the report descriptor that came through.
 use Rattle.std.specs.Prelude.{◌≡◌, ℕ, ◌≤◌, true, List, [], ◌∷◌, ◌++◌, length}
+use Rattle.std.specs.Int.{div_ceil}
 use Rattle.host.specs.Calls.{HostCall, was_set_up, got_packet}
-use Rattle.host.specs.Kept.{asks_for_report, wanted_length}
+use Rattle.host.specs.Kept.{asks_for_report, wanted_length, text_length}
 
 -- these calls are packets for which memory was there
 abbrev pub AreTaken : List HostCall → Type 0
@@ -9,8 +10,12 @@ AreTaken [] = Unit {0}
 AreTaken (got_packet packet taken ∷ before) = (taken ≡ true) × AreTaken before
 AreTaken (_ ∷ before) = ⊥
 
--- after what a host was told before, it saw a SETUP packet that asks for at least 99 bytes of the report descriptor, and then
--- its 13 packets, before any other SETUP packet, a bus reset or a cut
+-- in how many packets of eight bytes the keyboard's report descriptor comes; the last one has fewer
+abbrev pub text_packets : ℕ
+text_packets = div_ceil text_length 8
+
+-- after what a host was told before, it saw a SETUP packet that asks for at least the 99 bytes of the report descriptor, and
+-- then its 13 packets, before any other SETUP packet, a bus reset or a cut
 pub record IsFetched (told host : List HostCall) : Type 0 where
   pub later : List HostCall
   pub packets : List HostCall
@@ -18,6 +23,6 @@ pub record IsFetched (told host : List HostCall) : Type 0 where
   pub before : List HostCall
   pub split : host ≡ later ++ (packets ++ (was_set_up setup ∷ before ++ told))
   pub asks : asks_for_report setup ≡ true
-  pub enough : 99 ≤ wanted_length setup
-  pub count : length packets ≡ 13
+  pub enough : text_length ≤ wanted_length setup
+  pub count : length packets ≡ text_packets
   pub taken : AreTaken packets

@@ -9,8 +9,8 @@ use Rattle.host.specs.Calls.{HostCall}
 use Rattle.keyboard.specs.Calls.{Call, Worked as KeyboardWorked, image_after, keymap, EachCall}
 use Rattle.keyboard.specs.Commands.{accepted, working, settled_of}
 use Rattle.keyboard.specs.Lawful.{WorkedOn, IsAnswered as IsCallAnswered}
-use Rattle.keyboard.specs.Restart.{RestartsLegally as RestartsIn}
-use Rattle.keyboard.proofs.Restarting.{restarts_legally as restarts_in}
+use Rattle.keyboard.specs.Restart.{RestartsLegally}
+use Rattle.keyboard.proofs.Restarting.{restarts_legally}
 use Rattle.keyboard.proofs.Sessions.{orderly}
 use Rattle.keyboard.proofs.Working.{cuts_legally}
 use Rattle.world.specs.declared.event.Event.{Event}
@@ -20,17 +20,17 @@ use Rattle.world.specs.declared.event.Answer.TheVariants.{EntryIs}
 use Rattle.world.specs.Kinds.{Step, starts, kind_of}
 use Rattle.world.specs.History.{Session, session, host_calls, flash_after, EachStep}
 use Rattle.world.specs.Lawful.{Answered, IsAnswered}
-use Rattle.world.specs.Restart.{RestartsLegally, ShowsSettled}
+use Rattle.world.specs.Restart.{StartsLegally, ShowsSettled}
 use Rattle.world.proofs.Here.{Here, here}
 
 -- the power was cut inside a step of the flash work
 by_step : (first : List ℕ) (past : List Call) (w : Option Command) (work : WorkAnswer) (image : List ℕ) → EachCall IsCallAnswered first past
-    → IsCallAnswered first past (KeyboardWorked work image) → WorkedOn first past w work image → RestartsIn first past image
-by_step first past None work image h a (idle, same) = subst (λ (x : List ℕ). RestartsIn first past x) (sym same) (restarts_in first past h)
+    → IsCallAnswered first past (KeyboardWorked work image) → WorkedOn first past w work image → RestartsLegally first past image
+by_step first past None work image h a (idle, same) = subst (λ (x : List ℕ). RestartsLegally first past x) (sym same) (restarts_legally first past h)
 by_step first past (Some command) work image h a on = (cuts_legally first past work image h a on.attempts.not_idle).left
 
 legal_by : (now : Session) (heard : List HostCall) (old : SimValue) (event : Event) (answer : Answer) (refused : Bool) (new : SimValue) → Here now old
-    → Answered now heard old event answer refused new → kind_of event answer new.image ≡ starts → RestartsIn now.first now.past new.image
+    → Answered now heard old event answer refused new → kind_of event answer new.image ≡ starts → RestartsLegally now.first now.past new.image
 legal_by now heard old (Scan scan) answer refused new h a e = cc
 legal_by now heard old (Setup bytes) answer refused new h a e = cc
 legal_by now heard old (OutPacket packet) answer refused new h a e = cc
@@ -39,7 +39,7 @@ legal_by now heard old Poll answer refused new h a e = cc
 legal_by now heard old Work answer refused new h a e = cc
 legal_by now heard old (WorkFault mask) answer refused new h a e = cc
 legal_by now heard old Cut answer refused new h a e =
-    subst (λ (x : List ℕ). RestartsIn now.first now.past x) (h.image ∙ sym (ap (λ (f : SimValue). f.image) a.1.0)) (restarts_in now.first now.past h.lawful)
+    subst (λ (x : List ℕ). RestartsLegally now.first now.past x) (h.image ∙ sym (ap (λ (f : SimValue). f.image) a.1.0)) (restarts_legally now.first now.past h.lawful)
 legal_by now heard old (CutInWork mask) answer refused new h (work, e, w, r) s =
     by_step now.first now.past (working now.first now.past) work new.image h.lawful w.lawful w.lawful
 legal_by now heard old BusReset answer refused new h a e = cc
@@ -47,11 +47,11 @@ legal_by now heard old (Entry layer key) answer refused new h a e = cc
 legal_by now heard old (SlotAt page slot) answer refused new h a e = cc
 legal_by now heard old Leds answer refused new h a e = cc
 
-pub restarts_legally : (start : SimValue) (past : List Step) → EachStep IsAnswered start past → EachStep RestartsLegally start past
-restarts_legally start [] h = tt
-restarts_legally start (step ∷ before) h = (
+pub starts_legally : (start : SimValue) (past : List Step) → EachStep IsAnswered start past → EachStep StartsLegally start past
+starts_legally start [] h = tt
+starts_legally start (step ∷ before) h = (
   λ s. legal_by (session start before) (host_calls before) (flash_after start before) step.event step.answer step.refused step.flash (here start before h.1) h.0 s,
-  restarts_legally start before h.1,
+  starts_legally start before h.1,
 )
 
 shows_by : (now : Session) (heard : List HostCall) (old : SimValue) (event : Event) (answer : Answer) (refused : Bool) (new : SimValue) (layer key : ℕ) → Here now old

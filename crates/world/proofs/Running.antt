@@ -11,14 +11,14 @@ use Rattle.world.specs.History.{EachStep}
 use Rattle.world.specs.Lawful.{IsAnswered}
 use Rattle.world.specs.Readings.{ReadsWanted, KeepsServed}
 use Rattle.world.proofs.Hearing.{reads_wanted, keeps_served}
-use Rattle.world.specs.Restart.{RestartsLegally, ShowsSettled}
+use Rattle.world.specs.Restart.{StartsLegally, ShowsSettled}
 use Rattle.world.specs.Acknowledged.{KeepsAcknowledged}
 use Rattle.world.specs.Bounded.{StaysInTime}
 use Rattle.world.specs.Sound.{KeepsSound}
 use Rattle.world.specs.Value.{WorldValue}
 use Rattle.world.specs.Stands.{StandsFor, NoneRefused, EndsAfter, no_room, host_refused, Goes}
 use Rattle.world.specs.Private.{Takes, Went}
-use Rattle.world.proofs.Restarting.{restarts_legally, shows_settled}
+use Rattle.world.proofs.Restarting.{starts_legally, shows_settled}
 use Rattle.world.proofs.Sounding.{keeps_sound}
 use Rattle.world.proofs.Telling.{acknowledged}
 
@@ -126,8 +126,8 @@ goes_by P follows start past world events before after ok g = record {
 pub goes_answered : (start : SimValue) (past : List Step) (world : WorldValue) (events : List Event) (before after : List Answer) (ok : Bool) → Went start past world events before after ok → Goes (EachStep IsAnswered) start past world events before after ok
 goes_answered = goes_by (EachStep IsAnswered) (λ start past h. h)
 
-pub goes_restarts : (start : SimValue) (past : List Step) (world : WorldValue) (events : List Event) (before after : List Answer) (ok : Bool) → Went start past world events before after ok → Goes (EachStep RestartsLegally) start past world events before after ok
-goes_restarts = goes_by (EachStep RestartsLegally) restarts_legally
+pub goes_restarts : (start : SimValue) (past : List Step) (world : WorldValue) (events : List Event) (before after : List Answer) (ok : Bool) → Went start past world events before after ok → Goes (EachStep StartsLegally) start past world events before after ok
+goes_restarts = goes_by (EachStep StartsLegally) starts_legally
 
 pub goes_looks : (start : SimValue) (past : List Step) (world : WorldValue) (events : List Event) (before after : List Answer) (ok : Bool) → Went start past world events before after ok → Goes (EachStep ShowsSettled) start past world events before after ok
 goes_looks = goes_by (EachStep ShowsSettled) shows_settled

@@ -68,7 +68,7 @@ left_code (one ∷ later) entries layer key code h e =
 -- how the session that a history ends in knows of it: it was acknowledged in it; or the session's first keymap has the code,
 -- and none of its commands writes the entry
 data Knows (now : Session) (layer key code : ℕ) : Type 0 where
-  in_session : keyboard.IsAcknowledged now.past layer key code → Knows now layer key code
+  in_session : keyboard.IsAcknowledgedInSession now.past layer key code → Knows now layer key code
   from_start : keymap now.first layer key ≡ code → NoneWrites now.past layer key → Knows now layer key code
 
 stored : (now : Session) (layer key code : ℕ) → layer < layers → key < keys → EachCall IsCallAnswered now.first now.past → Knows now layer key code

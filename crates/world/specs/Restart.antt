@@ -7,16 +7,16 @@ use Rattle.layers.specs.declared.command.Command.{Command}
 use Rattle.keyboard.specs.Acknowledged.{IsConfirmed, IsSettled}
 use Rattle.keyboard.specs.Calls.{Call, keymap}
 use Rattle.keyboard.specs.Commands.{accepted, settled_of}
-use Rattle.keyboard.specs.Restart as keyboard
+use Rattle.keyboard.specs.Restart.{RestartsLegally}
 use Rattle.world.specs.declared.event.Event.TheVariants.{Entry}
 use Rattle.world.specs.declared.event.Answer.TheVariants.{EntryIs}
 use Rattle.world.specs.Kinds.{Step, starts, kind}
 use Rattle.world.specs.History.{session}
 
 -- what a start finds in the flash, after a cut between two operations or inside one, is legal by the session before
-abbrev pub RestartsLegally : SimValue → List Step → Step → Type 0
-RestartsLegally start before step =
-    kind step ≡ starts → keyboard.RestartsLegally (session start before).first (session start before).past step.flash.image
+abbrev pub StartsLegally : SimValue → List Step → Step → Type 0
+StartsLegally start before step =
+    kind step ≡ starts → RestartsLegally (session start before).first (session start before).past step.flash.image
 
 -- each command of the session that the host was told is stored is settled: the prefix that a legal restart keeps has it
 abbrev pub ConfirmsSettled : SimValue → List Step → Type 0

@@ -6,7 +6,7 @@ ghost use Rattle.world.specs.Kinds.{Step};
 ghost use Rattle.world.specs.History.{EachStep};
 ghost use Rattle.world.specs.Lawful.{IsLawful};
 ghost use Rattle.world.specs.Readings.{ReadsWanted, KeepsServed, GathersServed};
-ghost use Rattle.world.specs.Restart.{RestartsLegally, ConfirmsSettled, ShowsSettled};
+ghost use Rattle.world.specs.Restart.{StartsLegally, ConfirmsSettled, ShowsSettled};
 ghost use Rattle.world.specs.Acknowledged.{KeepsAcknowledged};
 ghost use Rattle.world.specs.Sound.{KeepsSound};
 
@@ -20,7 +20,7 @@ pub fn acknowledged_is_stored()
 /// since that did not fail, with each settled one among them; also where the power was cut inside a
 /// program or an erase.
 pub fn restarts_are_legal()
-    ensures { (start : SimValue) (history : List Step) → IsLawful start history → EachStep RestartsLegally start history }
+    ensures { (start : SimValue) (history : List Step) → IsLawful start history → EachStep StartsLegally start history }
 {}
 
 /// Each command that the host was told is stored is settled: so the prefix of the commands that a legal

@@ -13,7 +13,7 @@ ghost use Rattle.world.specs.Kinds.{Step, as_answer};
 ghost use Rattle.session_law.specs.Heard.{heard, with_heard};
 ghost use Rattle.world.specs.History.{EachStep};
 ghost use Rattle.world.specs.Lawful.{IsLawful, MayRefuse, is_no_memory};
-ghost use Rattle.world.specs.Restart.{RestartsLegally, ShowsSettled};
+ghost use Rattle.world.specs.Restart.{StartsLegally, ShowsSettled};
 ghost use Rattle.world.specs.Acknowledged.{KeepsAcknowledged};
 ghost use Rattle.world.specs.Readings.{ReadsWanted, KeepsServed};
 ghost use Rattle.world.specs.Bounded.{StaysInTime};
@@ -109,7 +109,7 @@ impl World {
         ensures answered { Runs IsLawful self.old self.new events.now answers.old.items answers.new.items (is_ok result) }
         // Each restart finds the keymap of the restart before, changed by a prefix of the commands accepted since that did
         // not fail, with each settled one among them; also where the power was cut inside a program or an erase.
-        ensures restarts { Runs (EachStep RestartsLegally) self.old self.new events.now answers.old.items answers.new.items (is_ok result) }
+        ensures restarts { Runs (EachStep StartsLegally) self.old self.new events.now answers.old.items answers.new.items (is_ok result) }
         // What the host was told is stored is in the flash until a later command is accepted that would write the entry, even
         // one that then fails.
         ensures acknowledged { Runs KeepsAcknowledged self.old self.new events.now answers.old.items answers.new.items (is_ok result) }

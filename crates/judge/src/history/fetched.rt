@@ -1,7 +1,7 @@
 //! What the host has gathered of report descriptors, by looking back over the SETUP packets and the
 //! packets of data.
 
-use crate::history::recorded::Recorded;
+use crate::history::recorded::RecordedStep;
 use world::{Answer, Event};
 
 /// The bytes of the keyboard's report descriptor.
@@ -18,7 +18,7 @@ pub struct Fetch {
 }
 
 /// What is being gathered after these steps, the newest first.
-pub fn gathering(past: &[Recorded]) -> Option<Fetch> {
+pub fn gathering(past: &[RecordedStep]) -> Option<Fetch> {
     match past {
         [] => None,
         [step, before @ ..] => match &step.event {
@@ -42,7 +42,7 @@ fn begun_by(setup: [u8; 8]) -> Option<Fetch> {
 }
 
 /// What is still being gathered after the answer of an IN packet.
-fn goes_on(fetch: Option<Fetch>, step: &Recorded) -> Option<Fetch> {
+fn goes_on(fetch: Option<Fetch>, step: &RecordedStep) -> Option<Fetch> {
     let Some(size) = packet_size(&step.answer) else {
         return fetch;
     };
@@ -75,7 +75,7 @@ fn is_last(fetch: Fetch, size: usize) -> bool {
 
 /// Whether the host keeps the keyboard's report descriptor after these steps, the newest first: all 99
 /// bytes of it were gathered in one transfer, and no growth was refused in its last packet.
-pub fn keeps_text(past: &[Recorded]) -> bool {
+pub fn keeps_text(past: &[RecordedStep]) -> bool {
     match past {
         [] => false,
         [step, before @ ..] => completes(before, step) || keeps_text(before),
@@ -83,7 +83,7 @@ pub fn keeps_text(past: &[Recorded]) -> bool {
 }
 
 /// Whether a step brings the last packet of the whole report descriptor.
-fn completes(before: &[Recorded], step: &Recorded) -> bool {
+fn completes(before: &[RecordedStep], step: &RecordedStep) -> bool {
     if !matches!(step.event, Event::InPacket) || step.refused {
         return false;
     }

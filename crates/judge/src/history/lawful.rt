@@ -3,7 +3,7 @@
 use crate::history::answers::{fits, work_told};
 use crate::history::fetched::{gathering, keeps_text};
 use crate::history::flash::{is_operated, slot_of};
-use crate::history::recorded::{Recorded, Start};
+use crate::history::recorded::{RecordedStep, Start};
 use crate::history::restart::{is_legal, settled_keymap};
 use crate::history::sessions::{Kind, Session, advance, at_start, copy_of, flash_after, kind_of};
 use crate::history::time::is_in_time;
@@ -22,7 +22,7 @@ use world::{Answer, Event, Reading};
 #[derive(Clone, Copy)]
 struct Before<'a> {
     session: &'a Session,
-    steps: &'a [Recorded],
+    steps: &'a [RecordedStep],
     flash: &'a SimFlash,
     armed: Option<&'a [u8]>,
 }
@@ -32,7 +32,7 @@ struct Before<'a> {
 pub fn first_wrong(
     alloc: Global,
     start: &Start,
-    past: &[Recorded],
+    past: &[RecordedStep],
 ) -> Result<Option<usize>, AllocError> {
     let mut session = at_start(alloc, start)?;
     let mut armed = start.armed.is_some();
@@ -54,7 +54,7 @@ pub fn all_told(events: usize, answers: usize, succeeded: bool) -> bool {
 fn judge(
     alloc: Global,
     start: &Start,
-    past: &[Recorded],
+    past: &[RecordedStep],
     session: &mut Session,
     armed: &mut bool,
 ) -> Result<Option<usize>, AllocError> {
@@ -91,7 +91,7 @@ fn mask_of(start: &Start) -> Option<&[u8]> {
 }
 
 /// Whether a step makes a flash operation.
-fn operates(alloc: Global, before: &Before, step: &Recorded) -> Result<bool, AllocError> {
+fn operates(alloc: Global, before: &Before, step: &RecordedStep) -> Result<bool, AllocError> {
     Ok(match &step.event {
         Event::Work | Event::WorkFault(_) => work_told(&step.answer) != Work::Idle,
         Event::CutInWork(_) => works(alloc, before)?,
@@ -110,7 +110,11 @@ fn works(alloc: Global, before: &Before) -> Result<bool, AllocError> {
 }
 
 /// Whether a step of the flash work leaves its command in time.
-fn is_in_time_after(alloc: Global, session: &Session, step: &Recorded) -> Result<bool, AllocError> {
+fn is_in_time_after(
+    alloc: Global,
+    session: &Session,
+    step: &RecordedStep,
+) -> Result<bool, AllocError> {
     match &step.event {
         Event::Work | Event::WorkFault(_) => {
             is_in_time(alloc, &session.first, session.calls.as_slice())
@@ -120,7 +124,7 @@ fn is_in_time_after(alloc: Global, session: &Session, step: &Recorded) -> Result
 }
 
 /// Whether a step passes.
-fn step_passes(alloc: Global, before: &Before, step: &Recorded) -> Result<bool, AllocError> {
+fn step_passes(alloc: Global, before: &Before, step: &RecordedStep) -> Result<bool, AllocError> {
     if !fits(&step.event, &step.answer) || !may_refuse(before, step) {
         return Ok(false);
     }
@@ -144,7 +148,7 @@ fn call_passes(alloc: Global, before: &Before, call: &Call) -> Result<bool, Allo
 
 /// Whether a growth of the host may have been refused: in a packet of data while it gathers, and in a
 /// report whose reading says so, and there only.
-fn may_refuse(before: &Before, step: &Recorded) -> bool {
+fn may_refuse(before: &Before, step: &RecordedStep) -> bool {
     match &step.answer {
         Answer::Packet(_) => !step.refused || gathering(before.steps).is_some(),
         Answer::Sent {
@@ -157,7 +161,7 @@ fn may_refuse(before: &Before, step: &Recorded) -> bool {
 
 /// Whether the flash is what the step makes of it: that of before, but for the next operation in a step
 /// of the flash work while a command works.
-fn flash_passes(alloc: Global, before: &Before, step: &Recorded) -> Result<bool, AllocError> {
+fn flash_passes(alloc: Global, before: &Before, step: &RecordedStep) -> Result<bool, AllocError> {
     match &step.event {
         Event::Work => works_on(alloc, before, before.armed, step),
         Event::WorkFault(mask) => works_on(alloc, before, Some(mask.as_slice()), step),
@@ -172,7 +176,7 @@ fn works_on(
     alloc: Global,
     before: &Before,
     armed: Option<&[u8]>,
-    step: &Recorded,
+    step: &RecordedStep,
 ) -> Result<bool, AllocError> {
     match work_told(&step.answer) {
         Work::Idle => Ok(same_image(before.flash, &step.flash)),
@@ -205,7 +209,7 @@ fn is_cut_short(
     alloc: Global,
     before: &Before,
     mask: &[u8],
-    step: &Recorded,
+    step: &RecordedStep,
 ) -> Result<bool, AllocError> {
     if !works(alloc, before)? {
         return Ok(same_image(before.flash, &step.flash));
@@ -234,7 +238,7 @@ fn restart_passes(alloc: Global, before: &Before, found: &SimFlash) -> Result<bo
 
 /// Whether a look shows what is there: an entry of the flash's keymap, which is the session's first one
 /// changed by the settled commands; a slot's bytes; the LEDs.
-fn look_passes(alloc: Global, before: &Before, step: &Recorded) -> Result<bool, AllocError> {
+fn look_passes(alloc: Global, before: &Before, step: &RecordedStep) -> Result<bool, AllocError> {
     let calls = before.session.calls.as_slice();
     Ok(match (&step.event, &step.answer) {
         (Event::Entry(layer, key), Answer::EntryIs(code)) => {
@@ -255,7 +259,7 @@ fn look_passes(alloc: Global, before: &Before, step: &Recorded) -> Result<bool, 
 
 /// Whether the host reads a report as it has to: not at all, exactly in report protocol where it keeps
 /// no descriptor; else the usages that are on in it, unless a growth was refused.
-fn reading_passes(alloc: Global, before: &Before, step: &Recorded) -> Result<bool, AllocError> {
+fn reading_passes(alloc: Global, before: &Before, step: &RecordedStep) -> Result<bool, AllocError> {
     let Answer::Sent { bytes, reading } = &step.answer else {
         return Ok(true);
     };

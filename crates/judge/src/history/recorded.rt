@@ -13,7 +13,7 @@ pub struct Start {
 /// One step of a history: an event that was taken, its answer, whether a growth of the host was refused
 /// in it, and the flash after it.
 #[derive(Drop)]
-pub struct Recorded {
+pub struct RecordedStep {
     pub event: Event,
     pub answer: Answer,
     pub refused: bool,

@@ -9,7 +9,7 @@ ghost use Rattle.world.specs.History.{image_after};
 ghost use Rattle.judge.specs.Histories.{step_of, steps_of, kind_in, IsSession};
 
 use crate::history::answers::work_told;
-use crate::history::recorded::{Recorded, Start};
+use crate::history::recorded::{RecordedStep, Start};
 use crate::session::Recorded as Call;
 use arrayvec::ArrayVec;
 use flash_model::SimFlash;
@@ -36,7 +36,7 @@ pub enum Kind {
 }
 
 /// The flash after these steps, the newest first.
-pub fn flash_after<'a>(start: &'a Start, past: &'a [Recorded]) -> &'a SimFlash
+pub fn flash_after<'a>(start: &'a Start, past: &'a [RecordedStep]) -> &'a SimFlash
     ensures { result.now.image ≡ image_after start.now.flash (steps_of past.now) }
 {
     match past {
@@ -58,7 +58,7 @@ pub fn at_start(alloc: Global, start: &Start) -> Result<Session, AllocError>
 
 /// Makes of a session the one that one more step leaves: a new one after a power cut, and else the same
 /// with the call that the step is to the keyboard. `AllocError` where there was no memory for it.
-pub fn advance(alloc: Global, session: &mut Session, step: &Recorded) -> Result<(), AllocError>
+pub fn advance(alloc: Global, session: &mut Session, step: &RecordedStep) -> Result<(), AllocError>
     ensures { OnOk result ((start : SimValue) (past : List Step) → IsSession start past session.old → IsSession start (step_of step.now ∷ past) session.new) }
 {
     match kind_of(alloc, step)? {
@@ -76,7 +76,7 @@ pub fn advance(alloc: Global, session: &mut Session, step: &Recorded) -> Result<
 }
 
 /// What a step is to the keyboard. `AllocError` where there was no memory for the flash after it.
-pub fn kind_of(alloc: Global, step: &Recorded) -> Result<Kind, AllocError>
+pub fn kind_of(alloc: Global, step: &RecordedStep) -> Result<Kind, AllocError>
     ensures { IfOk result (λ found. kind_in found ≡ kind (step_of step.now)) }
 {
     Ok(match &step.event {
@@ -99,7 +99,7 @@ pub fn kind_of(alloc: Global, step: &Recorded) -> Result<Kind, AllocError>
 }
 
 /// A step of the flash work, with the flash after it.
-fn worked(alloc: Global, step: &Recorded) -> Result<Kind, AllocError>
+fn worked(alloc: Global, step: &RecordedStep) -> Result<Kind, AllocError>
     ensures { IfOk result (λ found. kind_in found ≡ calls (keyboard_calls.Worked (work_told step.now.answer) step.now.flash.image)) }
 {
     let flash = copy_of(alloc, &step.flash)?;

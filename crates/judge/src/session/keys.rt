@@ -35,6 +35,9 @@ use std::alloc::{AllocError, Global};
 /// How many keys there are.
 const KEYS: u8 = 96;
 
+/// How many equal samples of a key in a row make a value.
+const SAMPLES_NEEDED: usize = 5;
+
 /// The scans, the newest first, the keys that are held, each with the code of its press, and what was
 /// asked of the poll rule, the newest first.
 #[derive(Drop)]
@@ -219,7 +222,7 @@ fn run_of(value: bool, scans: &[Scan], key: u8) -> usize
     }
 }
 
-/// Whether a key is down after these scans, the newest first: the value of the latest five equal
+/// Whether a key is down after these scans, the newest first: the value of the latest `SAMPLES_NEEDED` equal
 /// consecutive samples, and up before there were any.
 pub fn is_down(scans: &[Scan], key: u8) -> bool
     requires { key < keys }
@@ -229,7 +232,7 @@ pub fn is_down(scans: &[Scan], key: u8) -> bool
         [] => false,
         [newest, earlier @ ..] => {
             let sample = newest.has(key);
-            if run_of(sample, scans, key) >= 5 {
+            if run_of(sample, scans, key) >= SAMPLES_NEEDED {
                 sample
             } else {
                 is_down(earlier, key)

@@ -2,7 +2,7 @@
 
 use arrayvec::ArrayVec;
 use flash_model::{Mask, SimFlash};
-use judge::history::{Recorded, Start, all_told, first_wrong};
+use judge::history::{RecordedStep, Start, all_told, first_wrong};
 use std::alloc::Global;
 use std::process::Abort;
 use std::test::Fail;

@@ -241,7 +241,7 @@ fn begin(alloc: Global, state: &mut u32, pages: usize) -> Result<Rig, Fail> {
 }
 
 /// What a step shows: the place of the first of the things below that it is.
-fn shown(step: &Recorded) -> usize
+fn shown(step: &RecordedStep) -> usize
     ensures { result < 12 }
 {
     match (&step.event, &step.answer) {
@@ -305,7 +305,7 @@ fn history(
 }
 
 /// One more of each thing that a history showed.
-fn count(all: &mut [u32; 12], steps: &[Recorded]) {
+fn count(all: &mut [u32; 12], steps: &[RecordedStep]) {
     for step in steps {
         let place = shown(step);
         all[place] = all[place].wrapping_add(1);

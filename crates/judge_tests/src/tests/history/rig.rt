@@ -16,7 +16,7 @@ pub struct Rig {
     many: Box<World>,
     start: Box<Start>,
     /// The steps of the first, the oldest first.
-    steps: Vec<Recorded>,
+    steps: Vec<RecordedStep>,
 }
 
 /// Nothing of a rig is known where it is used: a test's proof has no part in its worlds.
@@ -87,7 +87,7 @@ impl Rig {
         self.one.run(from_ref(&event), &mut answers)?;
         let flash = flash_of(alloc, self.one.flash().image())?;
         let answer = answers.pop().ok_or("an event has no answer")?;
-        self.steps.push(Recorded {
+        self.steps.push(RecordedStep {
             event,
             answer,
             refused: false,
@@ -106,7 +106,7 @@ impl Rig {
     }
 
     /// The steps, the oldest first.
-    pub fn steps(&self) -> &[Recorded] {
+    pub fn steps(&self) -> &[RecordedStep] {
         self.steps.as_slice()
     }
 
