@@ -9,7 +9,7 @@ use std::marker::Model;
 const COPIED: usize = 23;
 
 /// Where the bytes are.
-#[derive(Drop)]
+#[derive(Debug, Drop)]
 pub(crate) enum Source {
     /// A descriptor, which is a constant.
     Lent(&'static [u8]),
@@ -18,7 +18,7 @@ pub(crate) enum Source {
 }
 
 /// The bytes that a read sends.
-#[derive(Drop)]
+#[derive(Debug, Drop)]
 pub(crate) struct ReadData {
     source: Source,
 }

@@ -21,7 +21,7 @@ use arrayvec::ArrayVec;
 use std::marker::Model;
 
 /// A read: its bytes, how many were asked for, and how many packets were sent.
-#[derive(Drop)]
+#[derive(Debug, Drop)]
 pub(crate) struct Sending {
     bytes: ReadData,
     asked: u16,
@@ -44,7 +44,7 @@ impl Sending {
 }
 
 /// Where the transfer stands.
-#[derive(Drop)]
+#[derive(Debug, Drop)]
 pub(crate) enum Stage {
     /// No transfer is under way.
     Rest,
@@ -61,7 +61,7 @@ pub(crate) enum Stage {
 }
 
 /// The control endpoint: the stage of the transfer on endpoint 0.
-#[derive(Drop)]
+#[derive(Debug, Drop)]
 pub struct ControlEp {
     stage: Stage,
 }

@@ -37,7 +37,7 @@ pub fn asks_for_input(setup: [u8; 8]) -> bool
 }
 
 /// The reports that SET_REPORT takes.
-#[derive(Clone, Copy)]
+#[derive(Clone, Copy, Debug)]
 pub(crate) enum HostReport {
     /// The LED byte after its Report ID.
     LedsWithId,

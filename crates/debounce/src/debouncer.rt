@@ -20,7 +20,7 @@ pub struct Edges {
 }
 
 /// The value of each key, up or down, after the scans that were fed.
-#[derive(Drop)]
+#[derive(Clone, Debug, Drop)]
 pub struct Debouncer {
     /// How many of the latest samples of a key are equal, counted to five: plane p has its bit p, at
     /// the place that the key has in a scan.

@@ -8,7 +8,7 @@ use crate::Scan;
 use std::marker::Model;
 
 /// The numbers of the keys of a scan that are left, in rising order.
-#[derive(Drop)]
+#[derive(Debug, Drop)]
 pub struct Keys {
     left: Scan,
 }

@@ -14,6 +14,9 @@ use crate::counts::place_usage;
 use crate::field::{Field, Kind};
 use crate::readers::{ReportFields, Usages};
 use crate::reports::{Link, Reports};
+use std::alloc::AllocError;
+use std::fmt;
+use std::fmt::Debug;
 use std::marker::Model;
 
 /// The fields of a report descriptor, their usages, and the lengths of its reports.
@@ -153,6 +156,25 @@ impl Descriptor {
     {
         let declared = self.reports.fields.get(field)?;
         place_usage(declared, self.ranges(field), self.counts(field), place)
+    }
+}
+
+impl Clone for Descriptor {
+    ghost is_clone = { λ d copy. copy ≡ d };
+
+    fn clone(&self) -> Result<Descriptor, AllocError> {
+        let reports = self.reports.clone()?;
+        Ok(Descriptor { reports })
+    }
+}
+
+impl Debug for Descriptor {
+    fn fmt<W: fmt::Write>(&self, f: &mut fmt::Formatter<W>) -> fmt::Result {
+        f.debug_struct("Descriptor")
+            .field("fields", &self.fields())
+            .field("ranges", &self.reports.ranges)
+            .field("uses_ids", &self.uses_ids())
+            .finish_non_exhaustive()
     }
 }
 

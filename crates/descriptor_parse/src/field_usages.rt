@@ -9,7 +9,7 @@ use crate::field::Field;
 use crate::readers::Usages;
 
 /// A field with its usages: the first and the last of each range, and how many usages the ranges up to each have.
-#[derive(Clone, Copy)]
+#[derive(Clone, Copy, Debug)]
 pub struct FieldUsages<'a> {
     pub field: Field,
     pub ranges: &'a [(u32, u32)],

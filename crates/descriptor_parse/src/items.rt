@@ -31,7 +31,7 @@ impl Item<'_> {
 }
 
 /// The items of a text, one after the other, ended by the first that is not whole.
-#[derive(Drop)]
+#[derive(Debug, Drop)]
 pub struct Items<'a> {
     rest: &'a [u8],
     offset: usize,

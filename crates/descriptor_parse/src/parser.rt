@@ -7,6 +7,8 @@ use crate::descriptor::Descriptor;
 use crate::fault::ParseError;
 use crate::reading::Reading;
 use std::alloc::Global;
+use std::fmt;
+use std::fmt::Debug;
 
 /// A parser of a report descriptor that comes in pieces, as it is read off the bus (HID 1.11, section 6.2.2).
 ///
@@ -71,5 +73,14 @@ impl Parser {
             Some(error) => Err(error),
             None => reading.finish(),
         }
+    }
+}
+
+impl Debug for Parser {
+    fn fmt<W: fmt::Write>(&self, f: &mut fmt::Formatter<W>) -> fmt::Result {
+        f.debug_struct("Parser")
+            .field("offset", &self.reading.offset)
+            .field("refused", &self.refused)
+            .finish_non_exhaustive()
     }
 }

@@ -12,6 +12,8 @@ use crate::descriptor::start_of;
 use crate::field::{Field, Kind};
 use crate::field_usages::FieldUsages;
 use crate::reports::Link;
+use std::fmt;
+use std::fmt::Debug;
 use std::marker::Model;
 
 /// The fields of one report, in order of declaration.
@@ -112,8 +114,18 @@ impl<'a> Iterator for ReportFields<'a> {
     }
 }
 
+impl Debug for ReportFields<'_> {
+    fn fmt<W: fmt::Write>(&self, f: &mut fmt::Formatter<W>) -> fmt::Result {
+        f.debug_struct("ReportFields")
+            .field("kind", &self.kind)
+            .field("id", &self.id)
+            .field("next", &self.next)
+            .finish_non_exhaustive()
+    }
+}
+
 /// The usages of a field one by one.
-#[derive(Drop)]
+#[derive(Debug, Drop)]
 pub struct Usages<'a> {
     /// The next usage and the last of the range in hand, if any is left of it.
     next: u32,

@@ -43,7 +43,7 @@ pub(crate) struct Link {
 }
 
 /// The fields so far with their usages, the bits of each report, and whether report IDs are used.
-#[derive(Drop)]
+#[derive(Clone, Drop)]
 pub(crate) struct Reports {
     pub(crate) totals: Totals,
     pub(crate) fields: Vec<Field>,

@@ -135,7 +135,7 @@ impl IdReports {
 }
 
 /// The bits of each report and its first field, by ID; a report that is not there has none.
-#[derive(Drop)]
+#[derive(Clone, Drop)]
 pub(crate) struct Totals {
     pub(crate) by_id: Vec<IdReports>,
 }

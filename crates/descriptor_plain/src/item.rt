@@ -6,7 +6,7 @@ ghost use Rattle.std.specs.Prelude.{◌≡◌, ◌≢◌, ◌≤◌, length};
 ///
 /// `offset` is that of the prefix, in bytes from the start of the text. `bytes` are the data: at most 4 bytes, except in
 /// a long item, where they come after its size and its tag.
-#[derive(Clone, Copy)]
+#[derive(Clone, Copy, Debug)]
 pub struct Plain<'a> {
     pub offset: usize,
     pub prefix: u8,

@@ -15,7 +15,7 @@ use std::alloc::{AllocError, Global};
 ///
 /// `items` are its whole items, the newest first. `cut_off` is `Truncated` at the offset of the item that the text ends
 /// within, and `None` where it ends after a whole one.
-#[derive(Drop)]
+#[derive(Debug, Drop)]
 pub struct PlainText<'a> {
     pub items: Vec<Plain<'a>>,
     pub cut_off: Option<ParseError>,

@@ -1,12 +1,15 @@
 //! A flash in memory, for runs without hardware.
 
 ghost use Rattle.std.specs.Prelude.{◌≡◌, ◌≢◌, None, Some, IsNone, IsErr, MatchOption, ◌+◌, ◌*◌, ◌%◌, ◌^◌, ◌<◌, ◌≤◌, ◌↔◌, ℕ, ◌⊎◌, List, length, IfOk, IsOk, OnErr, MatchResult, is_ok, if◌then◌else◌, replicate, slice_index, bit_and};
+ghost use Rattle.std.specs.Cmp.Rules.{comparing};
+ghost use Rattle.std.proofs.Common.{rules};
 ghost use Rattle.flash_model.specs.declared.TheConstants.{PAGE_SLOTS};
 ghost use Rattle.flash_model.specs.Image.{slot_at, page_count, IsImage};
 ghost use Rattle.flash_model.specs.ByMask.{ProgramsByMask, ErasesByMask};
 ghost use Rattle.flash_model.specs.FlashOperation.{programs, erases};
 ghost use Rattle.flash_model.specs.Operated.{IsOperated};
 ghost use Rattle.flash_model.specs.Operations.{Programs, MayProgram, Erases, MayErase};
+ghost use Rattle.flash_model.specs.Sim.{sim_eq};
 
 use crate::{FlashFault, Mask, NorFlash, PAGE_BYTES, SLOT_BYTES, masks};
 use std::alloc::Global;
@@ -23,8 +26,9 @@ pub enum FlashError {
     ImageSize,
 }
 
-/// A flash in memory. No operation of it fails, but that which comes after `fault_next`.
-#[derive(Debug, Drop)]
+/// A flash in memory. No operation of it fails, but that which comes after `fault_next`. Two are equal
+/// where their bytes, what is armed and both counts are.
+#[derive(Clone, Debug, Drop)]
 pub struct SimFlash {
     bytes: Vec<u8>,
     armed: Option<Mask>,
@@ -119,6 +123,23 @@ impl SimFlash {
         self.faults = self.faults.wrapping_add(1);
         self.armed = None;
     }
+}
+
+impl PartialEq for SimFlash {
+    ghost eq = { sim_eq };
+
+    ghost laws = { Prim.search (comparing, rules) depth 9 };
+
+    fn eq(&self, other: &SimFlash) -> bool {
+        self.bytes == other.bytes
+            && self.armed == other.armed
+            && self.operations == other.operations
+            && self.faults == other.faults
+    }
+}
+
+impl Eq for SimFlash {
+    ghost laws = { Prim.search (comparing, rules) depth 9 };
 }
 
 impl NorFlash for SimFlash {

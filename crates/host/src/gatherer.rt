@@ -18,7 +18,7 @@ const BOOT_LENGTH: usize = 8;
 ///
 /// It sees each SETUP packet and each packet of data that the keyboard answers. A GET_DESCRIPTOR of the report
 /// descriptor begins a gathering, and each packet is parsed as it comes. Only `packet` and `read` take memory.
-#[derive(Drop)]
+#[derive(Debug, Drop)]
 pub struct Host {
     alloc: Global,
     gathering: Option<Gathering>,

@@ -13,7 +13,7 @@ const TEXT_LENGTH: usize = 99;
 const PACKET_LENGTH: usize = 8;
 
 /// A text that is being gathered: how many bytes were asked for, how many came, and the parser that was fed them.
-#[derive(Drop)]
+#[derive(Debug, Drop)]
 pub(crate) struct Gathering {
     pub(crate) wanted: u16,
     pub(crate) length: usize,

@@ -20,7 +20,7 @@ use std::alloc::{AllocError, Global};
 use std::marker::Model;
 
 /// The keys of the device, and what the host was sent of them.
-#[derive(Drop)]
+#[derive(Debug, Drop)]
 pub struct KeyReports {
     debouncer: Debouncer,
     held: Held,

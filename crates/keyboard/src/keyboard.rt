@@ -34,7 +34,7 @@ use std::alloc::{AllocError, Global};
 use std::marker::Model;
 
 /// A keyboard of 96 keys on a NOR flash that keeps its keymap.
-#[derive(Drop)]
+#[derive(Debug, Drop)]
 pub struct Keyboard {
     ep: ControlEp,
     keys: KeyReports,

@@ -8,7 +8,7 @@ use std::marker::Model;
 
 /// The memory of a keyboard: room for the reports that wait for a poll. To take it is all that can be
 /// refused.
-#[derive(Drop)]
+#[derive(Debug, Drop)]
 pub struct Room {
     keys: KeyReports,
 }

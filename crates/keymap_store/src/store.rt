@@ -58,7 +58,7 @@ pub enum Work {
 }
 
 /// What a store has under way.
-#[derive(Clone, Copy)]
+#[derive(Clone, Copy, Debug)]
 pub enum Job {
     /// Nothing.
     Resting,
@@ -70,7 +70,7 @@ pub enum Job {
 }
 
 /// A keymap in RAM, kept equal to that of a flash's image.
-#[derive(Drop)]
+#[derive(Debug, Drop)]
 pub struct Store {
     log: Log,
     keymap: Keymap,

@@ -1,7 +1,7 @@
 -- The entries that words give are codes.
 use Rattle.std.specs.Option.{option_or}
-use Rattle.std.proofs.Common.{◌≡◌, ◌∙◌, ℕ, ◌<◌, ◌==◌, ◌&&◌, Bool, true, false, if◌then◌else◌, Option, Some, None, unwrap_or, List, [], ◌∷◌, IsTrue, refl, sym, ap}
-use Rattle.std.specs.Option.{option_map, option_and_then}
+use Rattle.std.proofs.Common.{◌≡◌, ◌∙◌, ℕ, ◌<◌, ◌==◌, ◌&&◌, Bool, true, false, if◌then◌else◌, Option, Some, None, unwrap_or, List, [], ◌∷◌, refl, sym}
+use Rattle.std.specs.Option.{option_and_then}
 use Rattle.layers.specs.Codes.{keys, is_code, default_code}
 use Rattle.layers.specs.Commands.{IsCommand, command_of}
 use Rattle.layers.specs.Formats.{word_of_format_1, command_of_format_1, command_in}

@@ -12,7 +12,7 @@ use crate::{Code, KeyNo, Keymap, LayerNo, Usages};
 use std::marker::Model;
 
 /// The code of each key that is held, and the usages that these codes name.
-#[derive(Drop)]
+#[derive(Clone, Debug, Drop)]
 pub struct Held {
     codes: [Option<Code>; KEYS],
     usages: Usages,

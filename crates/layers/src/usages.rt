@@ -1,6 +1,6 @@
 //! The usages of the keys that are held, as sets of bits.
 
-ghost use Rattle.std.specs.Prelude.{◌≡◌, ◌+◌, ◌*◌, ◌/◌, ◌<◌, ◌≤◌, ◌==◌, ◌||◌, ℕ, List, true, false, length, slice_index, MatchOption, IfSome, IsTrue, ◌↔◌};
+ghost use Rattle.std.specs.Prelude.{◌≡◌, ◌+◌, ◌*◌, ◌/◌, ◌<◌, ◌≤◌, ◌==◌, ◌||◌, ℕ, List, true, false, length, slice_index, MatchOption, IfSome};
 ghost use Rattle.std.specs.Int.{bit_at};
 ghost use Rattle.layers.specs.Codes.{names_key_usage, names_consumer};
 ghost use Rattle.layers.specs.Usages.{has_bit, has_key, has_consumer, IsNext, PassesNoneFrom, IsNextConsumer, HasNoConsumerFrom};
@@ -13,7 +13,7 @@ const CONSUMER_WORDS: usize = 16;
 
 /// A set of usages of the keyboard page 07h (HUT section 10), and one of usages 001h to 3FFh of the
 /// consumer page 0Ch (HUT section 15).
-#[derive(Clone, Copy)]
+#[derive(Clone, Copy, Debug, PartialEq, Eq)]
 pub struct Usages {
     keys: [u8; 32],
     consumer: [u64; CONSUMER_WORDS],
@@ -88,13 +88,6 @@ impl Usages {
         ensures within { IfSome result (λ usage. usage < 0x400) }
     {
         next_member(&self.consumer, from)
-    }
-
-    /// Whether both have the same usages.
-    pub fn same(&self, other: &Usages) -> bool
-        ensures { IsTrue result ↔ (self.now ≡ other.now) }
-    {
-        self.keys == other.keys && self.consumer == other.consumer
     }
 }
 

@@ -27,7 +27,7 @@ pub struct Unsound {
 }
 
 /// The page that holds the words of the log.
-#[derive(Clone, Copy)]
+#[derive(Clone, Copy, Debug)]
 pub struct ActivePage {
     pub page: usize,
     pub seq: u32,
@@ -38,7 +38,7 @@ pub struct ActivePage {
 }
 
 /// What is known of the page that a turn writes.
-#[derive(Clone, Copy)]
+#[derive(Clone, Copy, Debug)]
 pub enum Target {
     /// Nothing yet: where it is not blank it has to be erased.
     Unread,
@@ -47,7 +47,7 @@ pub enum Target {
 }
 
 /// What a log has under way.
-#[derive(Clone, Copy)]
+#[derive(Clone, Copy, Debug)]
 pub enum Task {
     /// Nothing.
     Rest,
@@ -72,7 +72,7 @@ pub enum Task {
 /// Of a flash with one unsound slot 0 (`usable`) the words are read, but nothing is ever written, so
 /// no header is lost that a damaged page may have had. No cut and no fault of an operation of a log
 /// makes a slot 0 unsound; whoever makes the device has to erase such a page by other means.
-#[derive(Drop)]
+#[derive(Debug, Drop)]
 pub struct Log {
     active: Option<ActivePage>,
     unsound: Option<usize>,

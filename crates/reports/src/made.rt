@@ -9,7 +9,7 @@ use layers::Usages;
 use std::marker::Model;
 
 /// The bytes of each report for one set of usages.
-#[derive(Drop)]
+#[derive(Debug, Drop)]
 pub(crate) struct Made {
     usages: Usages,
     boot: [u8; 8],
@@ -46,7 +46,7 @@ impl Made {
     pub(crate) fn set(&mut self, usages: &Usages)
         ensures { self.new ≡ usages.now }
     {
-        if !self.usages.same(usages) {
+        if self.usages != *usages {
             *self = Made::of(usages);
         }
     }

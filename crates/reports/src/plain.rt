@@ -15,7 +15,7 @@ use crate::{IdleId, Input, Protocol, Report};
 
 /// A call of a poller: a scan with the protocol in force and the bytes of each report before it and
 /// now, a poll with the protocol in force and its answer.
-#[derive(Drop)]
+#[derive(Debug, Drop)]
 pub enum Call {
     Ticked(Protocol, Wanted, Wanted),
     Polled(Protocol, Option<Report>),
@@ -25,7 +25,7 @@ pub enum Call {
 }
 
 /// The bytes that each report has at a scan or a poll.
-#[derive(Clone, Copy, Drop)]
+#[derive(Clone, Copy, Debug)]
 pub struct Wanted {
     pub boot: [u8; 8],
     pub one: [u8; 23],

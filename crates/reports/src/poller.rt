@@ -34,7 +34,7 @@ const ONE_UNUSED: [u8; 23] = [
 const TWO_UNUSED: [u8; 9] = [2, 0, 0, 0, 0, 0, 0, 0, 0];
 
 /// What was sent last of each report, the reports that wait, and the idle values.
-#[derive(Drop)]
+#[derive(Debug, Drop)]
 pub struct Poller {
     boot: Sent<8>,
     one: Sent<23>,
@@ -116,7 +116,7 @@ impl Poller {
             → self.new.queue ≡ queue (ticked protocol (wanted (has_key before.now) (has_consumer before.now))
             (wanted (has_key now.now) (has_consumer now.now)) ∷ past) }
     {
-        if before.same(now) {
+        if before == now {
             return;
         }
         self.made.set(before);

@@ -19,7 +19,7 @@ use std::marker::Model;
 const ROOM: usize = 8;
 
 /// At most eight reports; where one more comes, the oldest is dropped.
-#[derive(Drop)]
+#[derive(Debug, Drop)]
 pub(crate) struct Queue {
     ring: HeapCircularBuffer<Report>,
 }

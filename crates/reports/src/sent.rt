@@ -6,7 +6,7 @@ ghost use Rattle.std.specs.Str.{bytes_eq};
 use std::marker::Model;
 
 /// The bytes that were sent last of a report of N bytes, and how long ago.
-#[derive(Drop)]
+#[derive(Debug, Drop)]
 pub(crate) struct Sent<const N: usize> {
     bytes: [u8; N],
     /// The scans since then, counted to 65,535, which is more than any idle value needs.

@@ -9,7 +9,7 @@ use flash_model::{FlashFault, Mask, NorFlash, SLOT_BYTES, SimFlash};
 
 /// A simulated flash, and the mask that its next operation is to be torn by. The mask is armed when
 /// the operation comes: where none comes, what is armed already stays so.
-#[derive(Drop)]
+#[derive(Debug, Drop)]
 pub(crate) struct Bench {
     pub(crate) flash: SimFlash,
     pub(crate) tear: Option<Mask>,

@@ -32,7 +32,7 @@ use std::alloc::{AllocError, Global};
 use std::marker::Model;
 
 /// A keyboard on a simulated flash, and a host that reads its reports.
-#[derive(Drop)]
+#[derive(Debug, Drop)]
 pub struct World {
     keyboard: Keyboard,
     host: Host,

@@ -4,7 +4,7 @@ use flash_model::{Mask, SimFlash};
 use world::{Answer, Event};
 
 /// Where a history begins: the flash, and the mask that its first operation is torn by, if it is armed.
-#[derive(Drop)]
+#[derive(Debug, Drop)]
 pub struct Start {
     pub flash: SimFlash,
     pub armed: Option<Mask>,
@@ -12,7 +12,7 @@ pub struct Start {
 
 /// One step of a history: an event that was taken, its answer, whether a growth of the host was refused
 /// in it, and the flash after it.
-#[derive(Drop)]
+#[derive(Debug, Drop)]
 pub struct RecordedStep {
     pub event: Event,
     pub answer: Answer,

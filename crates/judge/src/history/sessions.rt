@@ -18,14 +18,14 @@ use std::alloc::{AllocError, Global};
 use world::{Answer, Event};
 
 /// A session: the flash that the keyboard started on, and its calls since, the newest first.
-#[derive(Drop)]
+#[derive(Debug, Drop)]
 pub struct Session {
     pub first: SimFlash,
     pub calls: Vec<Call>,
 }
 
 /// What a step is to the keyboard.
-#[derive(Drop)]
+#[derive(Debug, Drop)]
 pub enum Kind {
     /// The power was cut, between two flash operations or inside one, and it starts on its flash.
     Starts,

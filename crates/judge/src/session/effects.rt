@@ -14,7 +14,7 @@ use key_reports::IdleId;
 use keyboard::{EpAnswer, Protocol};
 
 /// The fields of a SETUP packet (USB 2.0 table 9-2).
-#[derive(Clone, Copy)]
+#[derive(Clone, Copy, Debug)]
 pub struct Request {
     /// bmRequestType.
     pub kind: u8,

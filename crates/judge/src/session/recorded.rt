@@ -5,7 +5,7 @@ use flash_model::SimFlash;
 use keyboard::{EpAnswer, Report, Scan, Work};
 
 /// A call of a keyboard with its answer and, after a step of the flash work, the flash.
-#[derive(Drop)]
+#[derive(Debug, Drop)]
 pub enum Recorded {
     /// A scan of the matrix.
     Scanned(Scan),

@@ -86,7 +86,7 @@ impl Session {
             "word" => Some(Told::Hex(command_of(rest)?.word())),
             "format" => read_word(rest),
             "same" => same(rest),
-            "empty" => Some(yes_or_no(Usages::none().same(&usages_of(rest)?))),
+            "empty" => Some(yes_or_no(Usages::none() == usages_of(rest)?)),
             "press" | "release" | "fill" | "set" | "reset" => self.change(word, rest, call),
             "copy" => Some(self.copy()),
             "changes" | "get" | "next" => self.ask_keymap(word, rest),
@@ -233,7 +233,7 @@ pub fn command_of_word(format: u8, word: u32) -> Option<Command> {
 
 fn same(rest: &str) -> Option<Told> {
     let (one, other) = rest.split_once(" > ")?;
-    Some(yes_or_no(usages_of(one)?.same(&usages_of(other)?)))
+    Some(yes_or_no(usages_of(one)? == usages_of(other)?))
 }
 
 /// The usages of held keys with these codes.

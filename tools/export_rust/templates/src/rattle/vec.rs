@@ -4,7 +4,7 @@ use super::alloc::Global;
 use alloc::collections::TryReserveError;
 
 /// A vector whose growth can be refused.
-#[derive(Debug, PartialEq, Eq)]
+#[derive(Clone, Debug, PartialEq, Eq)]
 pub struct Vec<T>(alloc::vec::Vec<T>);
 
 impl<T> Vec<T> {
