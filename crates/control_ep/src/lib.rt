@@ -9,13 +9,14 @@
 //! up in the calls since the SETUP packet. `keyboard` calls it, and tells it what the device is at
 //! that moment.
 //!
-//! **In a controller's firmware.** `setup` is called at each SETUP packet of a served request, `out` and
-//! `in_packet` at the OUT and IN tokens of endpoint 0; the answer goes onto the bus at once, and an
-//! effect is given with its packet. A controller that is handed IN packets before they are asked for
-//! calls `in_packet` when one is taken, and hands the next one over then. After a NAK the endpoint has to
-//! be armed again when what it waits for has come: after `settle` and `fail` for a command's status
-//! stage. A SETUP packet that is served elsewhere (SET_ADDRESS, SET_CONFIGURATION, GET_STATUS,
-//! CLEAR_FEATURE) ends the transfer of this endpoint: call `reset` first. At a bus reset call `reset`.
+//! **In a controller's firmware.** `setup` is called at each SETUP packet, `out` and `in_packet` at the
+//! OUT and IN tokens of endpoint 0; the answer goes onto the bus at once, and an effect is given with
+//! its packet. A controller that is handed IN packets before they are asked for calls `in_packet` when
+//! one is taken, and hands the next one over then. After a NAK the endpoint has to be armed again when
+//! what it waits for has come: after `settle` and `fail` for a command's status stage. A request that is
+//! served elsewhere (SET_ADDRESS, SET_CONFIGURATION, GET_STATUS, CLEAR_FEATURE) ends the transfer of this
+//! endpoint too: its SETUP packet is handed to `setup`, and what the endpoint would answer is left
+//! unused. At a bus reset call `reset`.
 #![tactic(auto)]
 
 mod answer;
