@@ -101,7 +101,7 @@ pub fn scan(state: &mut u32) -> Scan {
 }
 
 /// A mask: of all bits, of none, or of some, of up to eight bytes.
-pub fn mask(state: &mut u32) -> Mask {
+pub fn mask(state: &mut u32) -> Option<Mask> {
     let [a, b, c, _] = next(state).to_le_bytes();
     match a % 8 {
         0 => mask_of(&[0xFF]),

@@ -41,7 +41,7 @@ impl Model for Rig {
 impl Rig {
     /// A keyboard that starts on a flash.
     pub fn start(alloc: Global, flash: SimFlash) -> Result<Rig, Fail> {
-        let start = copy_of(alloc, &flash)?;
+        let start = flash.clone()?;
         let keyboard = Box::new(alloc, Keyboard::start(alloc, &flash)?)?;
         Ok(Rig {
             keyboard,
@@ -53,7 +53,7 @@ impl Rig {
 
     /// The power is cut: a new session begins.
     pub fn cut(&mut self, alloc: Global) -> Result<(), Fail> {
-        let start = copy_of(alloc, &self.flash)?;
+        let start = self.flash.clone()?;
         self.keyboard.restart(&self.flash);
         self.start = start;
         self.past = Vec::new(alloc);
@@ -63,7 +63,7 @@ impl Rig {
     /// The power is cut inside the next step of the flash work, which this mask tears: whether it may
     /// leave what it left. A new session begins.
     pub fn cut_in_work(&mut self, alloc: Global, mask: &[u8]) -> Result<bool, Fail> {
-        self.arm(mask);
+        self.arm(mask)?;
         let _work = self.step();
         self.disarm();
         let right = cut_leaves(alloc, &self.start, self.past.as_slice(), &self.flash)?;
@@ -100,7 +100,7 @@ impl Rig {
     pub fn out(&mut self, packet: &[u8]) -> Result<(), Fail> {
         let answer = self.keyboard.out(packet);
         let mut copy = ArrayVec::new();
-        let _fits = copy.try_extend_from_slice(packet);
+        copy.try_extend_from_slice(packet).ok().ok_or("a packet")?;
         self.record(Recorded::Out(copy, answer))
     }
 
@@ -121,10 +121,10 @@ impl Rig {
 
     /// A step of the flash work, which a mask tears, if there is one.
     pub fn work(&mut self, alloc: Global, mask: &[u8]) -> Result<(), Fail> {
-        self.arm(mask);
+        self.arm(mask)?;
         let work = self.step();
         self.disarm();
-        let flash = copy_of(alloc, &self.flash)?;
+        let flash = self.flash.clone()?;
         self.record(Recorded::Worked(work, flash))
     }
 
@@ -132,11 +132,12 @@ impl Rig {
         self.keyboard.work(&mut self.flash)
     }
 
-    fn arm(&mut self, bytes: &[u8]) {
-        let mask = mask_of(bytes);
+    fn arm(&mut self, bytes: &[u8]) -> Result<(), Fail> {
+        let mask = mask_of(bytes).ok_or("a mask")?;
         if !mask.is_empty() {
             self.flash.fault_next(mask);
         }
+        Ok(())
     }
 
     fn disarm(&mut self) {
@@ -156,14 +157,6 @@ impl Rig {
     pub fn count(&self) -> usize {
         self.past.len()
     }
-}
-
-/// A flash with the same bytes.
-fn copy_of(alloc: Global, flash: &SimFlash) -> Result<SimFlash, Fail> {
-    let mut bytes = Vec::new(alloc);
-    bytes.extend_from_slice(flash.image())?;
-    let copy = SimFlash::from_image(bytes)?;
-    Ok(copy)
 }
 
 /// A flash of these slots, page, number and bytes of each, and blank elsewhere.

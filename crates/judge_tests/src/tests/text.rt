@@ -6,11 +6,11 @@ use row_text::{eight, two};
 use std::alloc::Global;
 use std::test::Fail;
 
-/// A mask of these bytes.
-pub fn mask_of(bytes: &[u8]) -> Mask {
+/// A mask of these bytes; `None` where they are more than a mask holds.
+pub fn mask_of(bytes: &[u8]) -> Option<Mask> {
     let mut mask = Mask::new();
-    let _fits = mask.try_extend_from_slice(bytes);
-    mask
+    mask.try_extend_from_slice(bytes).ok()?;
+    Some(mask)
 }
 
 /// The reasons of a STALL that lines put in the place of others, by their numbers.

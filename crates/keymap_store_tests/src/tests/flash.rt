@@ -1,6 +1,6 @@
 //! What a flash in memory does, whole and torn.
 
-use flash_model::{FlashError, SimFlash};
+use flash_model::{FlashError, Mask, NorFlash, SimFlash};
 use rows::expect_rows;
 use std::alloc::Global;
 use std::process::Abort;
@@ -82,6 +82,25 @@ fn an_image_is_held_as_it_is(rt: HostRuntime) {
         page 1 = 5a
         page 2 = 5a",
     );
+}
+
+fn compare(rt: &impl Abort, one: &SimFlash, other: &SimFlash, equal: bool) {
+    assert_eq!(rt; one == other, equal);
+}
+
+#[test]
+fn equal_flashes_have_equal_bytes_mask_and_counts(rt: HostRuntime) {
+    let mut one = SimFlash::new(rt.alloc(), 2).expect(&rt, "a flash");
+    let mut other = SimFlash::new(rt.alloc(), 2).expect(&rt, "a flash");
+    compare(&rt, &one, &other, true);
+    one.fault_next(Mask::new());
+    compare(&rt, &one, &other, false);
+    one.disarm();
+    compare(&rt, &one, &other, true);
+    let _erased = one.erase_page(0);
+    compare(&rt, &one, &other, false);
+    let _erased = other.erase_page(1);
+    compare(&rt, &one, &other, true);
 }
 
 #[test]

@@ -1,7 +1,7 @@
 //! What is asked of a descriptor.
 
 use super::{Ranges, bytes, number, same, two};
-use descriptor_parse::{Descriptor, FieldUsages, Kind, parse};
+use descriptor_parse::{Descriptor, FieldUsages, Kind, Parser, parse};
 use std::alloc::Global;
 use std::fmt;
 use std::process::Abort;
@@ -67,8 +67,12 @@ impl fmt::Display for Lengths<'_> {
 /// - `ranges FIELD`: the ranges of its usages; `counts FIELD`: how many counts there are of them
 fn asks<R: AllocGlobal + Abort>(rt: &R, text: &str, rows: &str) {
     let descriptor = descriptor_of(rt, rt.alloc(), &bytes(rt, text));
+    ask_each(rt, rt.alloc(), &descriptor, rows);
+}
+
+fn ask_each(rt: &impl Abort, alloc: Global, of: &Descriptor, rows: &str) {
     for row in rows.lines() {
-        ask(rt, rt.alloc(), &descriptor, row);
+        ask(rt, alloc, of, row);
     }
 }
 
@@ -169,6 +173,33 @@ usages 5 0 1 = -
 ranges 3 = 000c0000-000c03ff
 ranges 4 = ff000002
 ranges 5 = -";
+
+#[test]
+fn a_copy_answers_as_its_original(rt: HostRuntime) {
+    let served = descriptor_of(&rt, rt.alloc(), &bytes(&rt, "SERVED"));
+    let copy = served.clone().expect(&rt, "memory");
+    ask_each(&rt, rt.alloc(), &copy, SERVED_REPORTS);
+    ask_each(&rt, rt.alloc(), &copy, SERVED_USAGES);
+}
+
+/// What a log shows of a descriptor, and of the parser that is fed it.
+#[test]
+fn a_descriptor_and_its_parser_in_a_log(rt: HostRuntime) {
+    let text = bytes(&rt, "05 07 09 01 19 05 29 07 15 00 25 01 75 01 95 06 81 02");
+    let shown = format!(in rt.alloc(); "{:?}", descriptor_of(&rt, rt.alloc(), &text));
+    assert_eq!(rt; shown.expect(&rt, "memory").as_str(), SHOWN);
+    let mut parser = Parser::new(rt.alloc());
+    assert_eq!(rt; parser.feed(&text), Ok(()));
+    let shown = format!(in rt.alloc(); "{parser:?}");
+    assert_eq!(rt;
+        shown.expect(&rt, "memory").as_str(),
+        "Parser { offset: 18, refused: None, .. }"
+    );
+}
+
+const SHOWN: &str =
+    "Descriptor { fields: [Field { kind: Input, id: 0, bit: 0, size: 1, count: 6, min: 0, max: 1, array: false }], \
+     ranges: [(458753, 458753), (458757, 458759)], uses_ids: false, .. }";
 
 /// Three fields of six, one and no usages.
 #[test]

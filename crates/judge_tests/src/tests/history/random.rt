@@ -3,7 +3,6 @@
 ghost use Rattle.std.specs.Prelude.{◌<◌};
 
 use super::super::random::{mask, next, packet, scan, setup};
-use super::super::text::mask_of;
 use super::*;
 use layers::{KeyNo, LayerNo};
 use row_text::good;
@@ -58,8 +57,8 @@ fn works(events: &mut Vec<Event>, state: &mut u32) -> Result<(), Fail> {
     };
     for _ in 0..count {
         match next(state) % 16 {
-            0 | 1 => events.push(Event::WorkFault(mask(state)))?,
-            2 => events.push(Event::CutInWork(mask(state)))?,
+            0 | 1 => events.push(Event::WorkFault(mask(state).ok_or("a mask")?))?,
+            2 => events.push(Event::CutInWork(mask(state).ok_or("a mask")?))?,
             3 => events.push(Event::InPacket)?,
             _ => events.push(Event::Work)?,
         }
@@ -174,7 +173,7 @@ fn add(events: &mut Vec<Event>, state: &mut u32) -> Result<(), Fail> {
             Ok(())
         }
         30 => {
-            events.push(Event::CutInWork(mask(state)))?;
+            events.push(Event::CutInWork(mask(state).ok_or("a mask")?))?;
             Ok(())
         }
         _ => {
@@ -231,7 +230,7 @@ fn image(alloc: Global, state: &mut u32, pages: usize) -> Result<Vec<u8>, Fail> 
 /// Worlds on a flash of so many pages, armed or not.
 fn begin(alloc: Global, state: &mut u32, pages: usize) -> Result<Rig, Fail> {
     let image = image(alloc, state, pages)?;
-    let armed = mask(state);
+    let armed = mask(state).ok_or("a mask")?;
     let mask = if next(state) % 4 == 0 {
         Some(armed.as_slice())
     } else {

@@ -151,7 +151,7 @@ impl Rig {
 fn world_on(alloc: Global, image: &[u8], armed: Option<&[u8]>) -> Result<Box<World>, Fail> {
     let mut flash = flash_of(alloc, image)?;
     if let Some(mask) = armed {
-        flash.fault_next(mask_of(mask));
+        flash.fault_next(mask_of(mask).ok_or("a mask")?);
     }
     let world = Box::new(alloc, World::new(alloc, flash)?)?;
     Ok(world)
@@ -160,16 +160,16 @@ fn world_on(alloc: Global, image: &[u8], armed: Option<&[u8]>) -> Result<Box<Wor
 /// What is noted of that flash.
 fn start_on(alloc: Global, image: &[u8], armed: Option<&[u8]>) -> Result<Box<Start>, Fail> {
     let flash = flash_of(alloc, image)?;
-    let armed = masked(armed);
+    let armed = masked(armed)?;
     let start = Box::new(alloc, Start { flash, armed })?;
     Ok(start)
 }
 
-fn masked(armed: Option<&[u8]>) -> Option<Mask> {
-    match armed {
-        Some(bytes) => Some(mask_of(bytes)),
-        None => None,
-    }
+fn masked(armed: Option<&[u8]>) -> Result<Option<Mask>, Fail> {
+    let Some(bytes) = armed else {
+        return Ok(None);
+    };
+    Ok(Some(mask_of(bytes).ok_or("a mask")?))
 }
 
 /// A flash of these bytes.

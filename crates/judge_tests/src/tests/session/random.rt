@@ -27,7 +27,7 @@ fn call(rig: &mut Rig, alloc: Global, state: &mut u32) -> Result<(), Fail> {
         }
         23 => rig.scan(scan(state)),
         24..=28 => rig.work(alloc, &[]),
-        29 | 30 => rig.work(alloc, mask(state).as_slice()),
+        29 | 30 => rig.work(alloc, mask(state).ok_or("a mask")?.as_slice()),
         _ => rig.reset(),
     }
 }
@@ -85,7 +85,7 @@ fn session(rig: &mut Rig, alloc: Global, state: &mut u32) -> Result<Option<u32>,
         rig.setup([0x21, 0x09, 0x03, 0x03, 0x00, 0x00, 0x06, 0x00])?;
         rig.out(packet(state).as_slice())?;
         if next(state) % 8 == 0 {
-            rig.work(alloc, mask(state).as_slice())?;
+            rig.work(alloc, mask(state).ok_or("a mask")?.as_slice())?;
         } else {
             rig.work(alloc, &[])?;
         }
@@ -98,7 +98,7 @@ fn session(rig: &mut Rig, alloc: Global, state: &mut u32) -> Result<Option<u32>,
         rig.cut(alloc)?;
         return Ok(if right { Some(made) } else { None });
     }
-    let cut = rig.cut_in_work(alloc, mask(state).as_slice())?;
+    let cut = rig.cut_in_work(alloc, mask(state).ok_or("a mask")?.as_slice())?;
     Ok(if right && cut { Some(made) } else { None })
 }
 

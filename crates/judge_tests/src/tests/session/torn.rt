@@ -15,7 +15,7 @@ const RANDOM: [usize; 3] = [1, 8, 4096];
 const SET_FEATURE: [u8; 8] = [0x21, 0x09, 0x03, 0x03, 0x00, 0x00, 0x06, 0x00];
 
 /// A mask: the ones of one byte come first.
-fn mask(number: usize, state: &mut u32) -> Mask {
+fn mask(number: usize, state: &mut u32) -> Option<Mask> {
     if let Some(byte) = MASKS.get(number) {
         return mask_of(&[*byte]);
     }
@@ -26,9 +26,9 @@ fn mask(number: usize, state: &mut u32) -> Mask {
     let mut mask = Mask::new();
     for _ in 0..count {
         let [_, byte, _, _] = next(state).to_le_bytes();
-        let _fits = mask.try_push(byte);
+        mask.try_push(byte).ok()?;
     }
-    mask
+    Some(mask)
 }
 
 /// The feature report that sets a key of layer 0.
@@ -38,7 +38,7 @@ fn sets(key: u8, code: u8) -> [u8; 6] {
 
 /// A keyboard on a flash that accepted a command and made so many steps for it.
 fn worked(alloc: Global, flash: &SimFlash, report: &[u8], steps: usize) -> Result<Rig, Fail> {
-    let mut rig = Rig::start(alloc, copy_of(alloc, flash)?)?;
+    let mut rig = Rig::start(alloc, flash.clone()?)?;
     rig.setup(SET_FEATURE)?;
     rig.out(report)?;
     for _ in 0..steps {
@@ -96,7 +96,7 @@ fn tear(
     state: &mut u32,
 ) -> Result<(), Fail> {
     for number in 0..10 {
-        let mask = mask(number, state);
+        let mask = mask(number, state).ok_or("a mask")?;
         let right = is_torn_right(alloc, run, report, steps, mask.as_slice())?;
         assert!(rt; right, "{steps} {number}");
     }
