@@ -1,10 +1,11 @@
 //! The entry on a chip without an operating system. Interrupts leave what they bring in a mailbox, and the main loop
 //! leaves what is to be sent in another. They stand for the registers and the interrupts of your chip.
 
-use crate::chip::{Cells, Chip, Event};
+use crate::chip::{Cells, Chip, Event, IDENTITY};
 use crate::flash::Flash;
+use crate::front::{Change, Endpoint1, PollAnswer};
 use core::sync::atomic::{AtomicU8, AtomicU16, Ordering};
-use wuzhikar::{EpAnswer, Report, Scan};
+use wuzhikar::{EpAnswer, Scan};
 
 /// A packet and what it is.
 pub struct Mailbox {
@@ -46,6 +47,12 @@ pub static ROWS: [AtomicU16; 6] = [const { AtomicU16::new(0) }; 6];
 pub static ENDPOINT_0: Mailbox = Mailbox::EMPTY;
 pub static ENDPOINT_1: Mailbox = Mailbox::EMPTY;
 
+/// The register of the device's address. A controller takes it once the packet in `ENDPOINT_0` is acknowledged.
+pub static ADDRESS: AtomicU8 = AtomicU8::new(0);
+
+/// What endpoint 1 is: 0 off, 1 ready from DATA0 on, 2 halted.
+pub static ENDPOINT_1_STATE: AtomicU8 = AtomicU8::new(0);
+
 /// The pins of the LEDs.
 pub static LEDS: AtomicU8 = AtomicU8::new(0);
 
@@ -79,10 +86,23 @@ impl Chip for Generic {
         }
     }
 
-    fn report(&mut self, report: Option<&Report>) {
-        match report {
-            Some(report) => ENDPOINT_1.put(1, report),
-            None => ENDPOINT_1.put(3, &[]),
+    fn report(&mut self, answer: &PollAnswer) {
+        match answer {
+            PollAnswer::Report(report) => ENDPOINT_1.put(1, report),
+            PollAnswer::Nak => ENDPOINT_1.put(3, &[]),
+            PollAnswer::Stall => ENDPOINT_1.put(4, &[]),
+            PollAnswer::Nothing => {}
+        }
+    }
+
+    fn change(&mut self, change: Change) {
+        match change {
+            Change::Reset => {
+                ADDRESS.store(0, Ordering::Relaxed);
+                ENDPOINT_1_STATE.store(Endpoint1::Off as u8, Ordering::Relaxed);
+            }
+            Change::Address(address) => ADDRESS.store(address, Ordering::Relaxed),
+            Change::Endpoint1(state) => ENDPOINT_1_STATE.store(state as u8, Ordering::Relaxed),
         }
     }
 
@@ -103,7 +123,7 @@ pub extern "C" fn main() -> ! {
     let mut chip = Generic;
     let mut flash = Flash::new(chip.flash());
     loop {
-        flash = crate::run(&mut chip, flash);
+        flash = crate::run(&mut chip, flash, &IDENTITY);
     }
 }
 

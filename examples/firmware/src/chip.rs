@@ -1,7 +1,18 @@
 //! A chip, and one that is played in memory: write your own in its place.
 
 use crate::flash::FlashController;
-use wuzhikar::{EpAnswer, Report, SLOT_BYTES, Scan};
+use crate::front::{Change, Identity, PollAnswer};
+use wuzhikar::{EpAnswer, SLOT_BYTES, Scan};
+
+/// What the keyboard is called: put your own here. Vendor 1209h, product 0001h is an ID for tests and not for products.
+pub const IDENTITY: Identity = Identity {
+    vendor_id: 0x1209,
+    product_id: 0x0001,
+    release: 0x0100,
+    manufacturer: "Example",
+    product: "Wuzhikar keyboard",
+    serial_number: "0001",
+};
 
 /// What the chip's interrupts have left for the main loop.
 #[cfg_attr(target_os = "none", allow(dead_code))] // nobody cuts the power in a program
@@ -37,8 +48,11 @@ pub trait Chip {
     /// Puts an answer of endpoint 0 onto the bus.
     fn answer(&mut self, answer: &EpAnswer);
 
-    /// Puts a report onto the bus, or a NAK.
-    fn report(&mut self, report: Option<&Report>);
+    /// Puts an answer of endpoint 1 onto the bus.
+    fn report(&mut self, answer: &PollAnswer);
+
+    /// Follows a change of the device: its address, or what endpoint 1 is.
+    fn change(&mut self, change: Change);
 
     /// Arms endpoint 0 again, which answered a NAK.
     fn arm(&mut self);
