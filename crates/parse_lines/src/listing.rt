@@ -3,6 +3,7 @@
 ghost use Rattle.std.specs.Prelude.{◌≡◌, ◌≢◌, ◌≤◌, ℕ, List, length, drop, Option, None, Some, IfOk, IfErr, IfSome, OnOk};
 ghost use Rattle.std.specs.Io.KnownBytes.{Appends};
 ghost use Rattle.text_io.specs.Printers.{Prints, printer_writer};
+ghost use Rattle.text_io.specs.Readers.{longest};
 ghost use Rattle.descriptor_parse.specs.declared.fault.ParseError.{ParseError};
 ghost use Rattle.descriptor_parse.specs.Faults.{IsFaultless};
 ghost use Rattle.descriptor_parse.specs.Items.{ItemValue};
@@ -10,21 +11,19 @@ ghost use Rattle.descriptor_parse.specs.ItemViews.{item_view};
 ghost use Rattle.parse_lines.specs.Contexts.{ContextStands, IsBeforeItems, NoneBefore};
 ghost use Rattle.parse_lines.specs.HexTexts.{SaysBytes};
 ghost use Rattle.parse_lines.specs.Listings.{IsListing, IsRefusedListing, bare_fault_line, end_lines, fault_item_line, has_come, head_bytes, item_lines, item_text, refused_lines};
-ghost use Rattle.parse_lines.specs.Readers.{longest};
 ghost use Rattle.parse_lines.specs.Texts.{IsSound, IsTextFault, IsRefusal};
 ghost use Rattle.parse_lines.specs.Values.{told_text};
 
 use crate::LinesError;
 use crate::context::Context;
 use crate::hex_text::bytes_of;
-use crate::input::read_text;
 use crate::lines::{Columns, ItemText, Line};
 use crate::text::{parsed, print_fault};
 use crate::words::words_of;
 use descriptor_parse::{Item, Items, ParseError};
 use std::alloc::Global;
 use std::io::{Read, Write};
-use text_io::{Printer, WriteError};
+use text_io::{Printer, WriteError, read_text};
 
 /// Reads a report descriptor in hex, and prints a line for each of its items (HID 1.11, section 6.2.2).
 ///

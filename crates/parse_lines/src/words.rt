@@ -7,7 +7,7 @@ ghost use Rattle.parse_lines.specs.Words.{data_name, is_input, main_words, globa
 ghost use Rattle.parse_lines.specs.Values.{value_text, words_text};
 
 use crate::names::{collection_name, other_name, page_name, usage_name};
-use crate::number::{signed, unsigned};
+use descriptor_parse::number::{signed, unsigned};
 use descriptor_parse::{GlobalTag, Item, Kind, LocalTag, MainTag, Tag};
 use std::fmt;
 
