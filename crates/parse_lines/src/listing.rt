@@ -17,7 +17,7 @@ ghost use Rattle.parse_lines.specs.Values.{told_text};
 use crate::LinesError;
 use crate::context::Context;
 use crate::hex_text::bytes_of;
-use crate::lines::{Columns, ItemText, Line};
+use crate::lines::{BareFaultLine, Columns, FaultItemLine, ItemLine, ItemText};
 use crate::text::{parsed, print_fault};
 use crate::words::words_of;
 use descriptor_parse::{Item, Items, ParseError};
@@ -75,14 +75,23 @@ fn print_items<W: Write>(alloc: Global, bytes: &[u8], writer: &mut W) -> Result<
     ensures fault_last { IfErr result (λ e. e ≢ LinesError.Output
         → Appends (W.contents writer.old) (W.contents writer.new) (refused_lines bytes.now e)) }
 {
-    match parsed(alloc, bytes) {
-        Ok(_) => print_listing(bytes, None, writer),
+    match judged(alloc, bytes) {
+        Ok(()) => print_listing(bytes, None, writer),
         Err(LinesError::Refused(error)) => {
             print_listing(bytes, Some(error), writer)?;
             print_fault(LinesError::Refused(error), writer)
         }
         Err(error) => print_fault(error, writer),
     }
+}
+
+/// Whether these bytes are a report descriptor without a fault; else why they are refused.
+fn judged(alloc: Global, bytes: &[u8]) -> Result<(), LinesError>
+    ensures faultless { OnOk result (IsFaultless bytes.now) }
+    ensures refused { IfErr result (λ e. IsRefusal bytes.now e) }
+{
+    parsed(alloc, bytes)?;
+    Ok(())
 }
 
 /// Prints the items up to this fault, if there is one.
@@ -118,9 +127,9 @@ fn put_items<W: Write>(
             Ok(item) => {
                 let told = item_text(text, &context, &item);
                 if has_come(fault, item.offset) {
-                    return put_fault(told, fault, printer);
+                    return put_fault(&told, fault, printer);
                 }
-                printer.print(&Line::Item(told))?;
+                printer.print(&ItemLine(&told))?;
                 context.take(&item);
             }
             Err(cut) => return put_end(text, fault, Some(cut.offset), printer),
@@ -176,16 +185,16 @@ fn from(text: &[u8], offset: usize) -> &[u8]
 
 /// Prints an item at which the fault has come.
 fn put_fault<W: Write>(
-    told: ItemText<'_>,
+    told: &ItemText<'_>,
     fault: Option<ParseError>,
     printer: &mut Printer<'_, W>,
 ) -> Result<(), WriteError>
-    ensures printed { OnOk result (Prints W.contents printer.old printer.new (fault_item_line (told_text told.entry) told.entry.columns.offset fault)) }
+    ensures printed { OnOk result (Prints W.contents printer.old printer.new (fault_item_line (told_text told.now) told.now.columns.offset fault)) }
     ensures same_writer { OnOk result (printer_writer printer.new ≡ printer_writer printer.old) }
 {
     match fault {
         Some(error) if error.offset == told.columns.offset => {
-            printer.print(&Line::FaultAtItem(told, error.fault))
+            printer.print(&FaultItemLine(told, error.fault))
         }
         Some(error) => put_bare(error, &[], printer),
         None => Ok(()),
@@ -227,5 +236,5 @@ fn put_bare<W: Write>(
         head: &[],
         data: bytes,
     };
-    printer.print(&Line::Fault(columns, error.fault))
+    printer.print(&BareFaultLine(columns, error.fault))
 }
