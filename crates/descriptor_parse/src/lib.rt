@@ -18,7 +18,7 @@ mod globals;
 pub mod items;
 pub mod laws;
 mod locals;
-mod number;
+pub mod number;
 pub mod parser;
 pub mod readers;
 mod reading;

@@ -6,7 +6,7 @@ ghost use Rattle.descriptor_parse.specs.Globals.{unsigned, signed};
 /// The number of up to four bytes, the least significant first.
 #[inline(always)]
 #[tactic(auto, using(crate::proofs::Numbers::unsigned_bytes, crate::proofs::Numbers::unsigned_one))]
-pub(crate) fn unsigned(bytes: &[u8]) -> u32
+pub fn unsigned(bytes: &[u8]) -> u32
     requires { length bytes.now ≤ 4 }
     ensures { result ≡ unsigned bytes.now }
 {
@@ -24,7 +24,7 @@ pub(crate) fn unsigned(bytes: &[u8]) -> u32
 
 /// The same in two's complement of as many bytes.
 #[tactic(auto, unfolding(crate::specs::Globals::signed))]
-pub(crate) fn signed(bytes: &[u8]) -> i64
+pub fn signed(bytes: &[u8]) -> i64
     requires { length bytes.now ≤ 4 }
     ensures { result ≡ signed bytes.now }
 {

@@ -4,7 +4,6 @@ pub mod HexTexts
 pub mod Listings
 pub mod Names
 pub mod Prints
-pub mod Readers
 pub mod Texts
 pub mod Values
 pub mod Words

@@ -1,12 +1,14 @@
 -- Believed: what a text in hex declares, and why it is refused.
 use Rattle.std.specs.Prelude.{◌≡◌, ◌≢◌, ℕ, ◌<◌, ◌≤◌, List, length, Option, IfSome, ⊤}
+use Rattle.text_io.specs.Readers.{longest}
+use Rattle.text_io.specs.declared.fault.ReadError.{ReadError}
+use Rattle.text_io.specs.declared.fault.ReadError.TheVariants as read
 use Rattle.descriptor_parse.specs.declared.fault.ParseFault.TheVariants as fault
 use Rattle.descriptor_parse.specs.Descriptor.{DescriptorValue, Describes}
 use Rattle.descriptor_parse.specs.Faults.{IsFaultless, IsFirstFault, MayWantMemory, all_items}
 use Rattle.descriptor_parse.specs.Fields.{fields, field_usages}
 use Rattle.parse_lines.specs.HexTexts.{SaysBytes, IsNoHex}
 use Rattle.parse_lines.specs.Prints.{field_lines}
-use Rattle.parse_lines.specs.Readers.{longest}
 use Rattle.parse_lines.specs.declared.fault.LinesError.{LinesError}
 use Rattle.parse_lines.specs.declared.fault.LinesError.TheVariants as error
 
@@ -37,6 +39,12 @@ abbrev pub IsRefusal : List ℕ → LinesError → Type 0
 IsRefusal bytes (error.Refused e) = (e.fault ≢ fault.Memory) × IsFirstFault bytes e
 IsRefusal bytes error.Memory = (offset : ℕ) × MayWantMemory bytes offset
 IsRefusal bytes _ = ⊥
+
+-- a text that is not read is refused
+abbrev pub unread : ReadError → LinesError
+unread read.TooLong = error.TooLong
+unread read.Input = error.Input
+unread read.Memory = error.Memory
 
 -- why a text, where it is known, is refused
 abbrev pub IsTextFault : Option (List ℕ) → LinesError → Type 0

@@ -11,8 +11,8 @@ ghost use Rattle.descriptor_parse.specs.declared.tag.GlobalTag.{GlobalTag};
 ghost use Rattle.parse_lines.specs.Contexts.{ContextStands, IsClean};
 ghost use Rattle.parse_lines.specs.Listings.{indent};
 
-use crate::number::{signed, unsigned};
 use arrayvec::ArrayVec;
+use descriptor_parse::number::{signed, unsigned};
 use descriptor_parse::{GlobalTag, Item, MainTag, Tag};
 
 /// The Globals that say how items read (HID 1.11, 6.2.2.7).

@@ -1,6 +1,10 @@
 //! Why lines are not printed.
 
+ghost use Rattle.std.specs.Prelude.{◌≡◌};
+ghost use Rattle.parse_lines.specs.Texts.{unread};
+
 use descriptor_parse::ParseError;
+use text_io::ReadError;
 use thiserror::Error;
 
 /// Why `parse_text`, `items_text` or `describe` ends before its last line.
@@ -24,4 +28,16 @@ pub enum LinesError {
     /// A request for memory was refused.
     #[error("out of memory")]
     Memory,
+}
+
+impl From<ReadError> for LinesError {
+    ghost from_gives = { λ e fault. fault ≡ unread e };
+
+    fn from(error: ReadError) -> LinesError {
+        match error {
+            ReadError::TooLong => LinesError::TooLong,
+            ReadError::Input => LinesError::Input,
+            ReadError::Memory => LinesError::Memory,
+        }
+    }
 }

@@ -10,11 +10,9 @@
 mod context;
 mod fault;
 mod hex_text;
-mod input;
 mod lines;
 mod listing;
 mod names;
-mod number;
 mod print;
 mod served;
 mod text;

@@ -1,8 +1,8 @@
 //! The lines of items.
 
-ghost use Rattle.std.specs.Prelude.{◌≡◌, ◌-◌, ◌*◌, Some};
+ghost use Rattle.std.specs.Prelude.{◌≡◌, ◌-◌, ◌*◌, ◌++◌, Some, codes};
 ghost use Rattle.parse_lines.specs.Listings.{columns, fault_words, line, mark, offset_gap, spaced_hex, spaces};
-ghost use Rattle.parse_lines.specs.Values.{columns_text, line_text, told_text};
+ghost use Rattle.parse_lines.specs.Values.{columns_text, told_text};
 
 use crate::words::Words;
 use descriptor_parse::ParseFault;
@@ -25,31 +25,44 @@ pub(crate) struct ItemText<'a> {
     pub(crate) words: Words,
 }
 
-/// A line of the listing.
-#[derive(Clone, Copy)]
-pub(crate) enum Line<'a> {
-    Item(ItemText<'a>),
-    /// An item at which a fault comes.
-    FaultAtItem(ItemText<'a>, ParseFault),
-    /// A fault that no item has.
-    Fault(Columns<'a>, ParseFault),
-}
+/// The line of an item.
+#[derive(Drop)]
+pub(crate) struct ItemLine<'a>(pub(crate) &'a ItemText<'a>);
 
-impl fmt::Display for Line<'_> {
-    ghost output = { λ l. Some (line (line_text l)) };
+impl fmt::Display for ItemLine<'_> {
+    ghost output = { λ l. Some (line (told_text l.0.now)) };
 
     fn fmt<W: fmt::Write>(&self, f: &mut fmt::Formatter<W>) -> fmt::Result {
-        match *self {
-            Line::Item(item) => writeln!(f, "{item}"),
-            Line::FaultAtItem(item, fault) => {
-                let mark = Mark(fault);
-                writeln!(f, "{item}  {mark}")
-            }
-            Line::Fault(columns, fault) => {
-                let mark = Mark(fault);
-                writeln!(f, "{columns}{mark}")
-            }
-        }
+        let item = self.0;
+        writeln!(f, "{item}")
+    }
+}
+
+/// The line of an item at which a fault comes.
+#[derive(Drop)]
+pub(crate) struct FaultItemLine<'a>(pub(crate) &'a ItemText<'a>, pub(crate) ParseFault);
+
+impl fmt::Display for FaultItemLine<'_> {
+    ghost output = { λ l. Some (line (told_text l.0.now ++ (codes "  " ++ mark l.1))) };
+
+    fn fmt<W: fmt::Write>(&self, f: &mut fmt::Formatter<W>) -> fmt::Result {
+        let item = self.0;
+        let mark = Mark(self.1);
+        writeln!(f, "{item}  {mark}")
+    }
+}
+
+/// The line of a fault that no item has.
+#[derive(Drop)]
+pub(crate) struct BareFaultLine<'a>(pub(crate) Columns<'a>, pub(crate) ParseFault);
+
+impl fmt::Display for BareFaultLine<'_> {
+    ghost output = { λ l. Some (line (columns_text l.0 ++ mark l.1)) };
+
+    fn fmt<W: fmt::Write>(&self, f: &mut fmt::Formatter<W>) -> fmt::Result {
+        let columns = &self.0;
+        let mark = Mark(self.1);
+        writeln!(f, "{columns}{mark}")
     }
 }
 
@@ -57,9 +70,9 @@ impl fmt::Display for ItemText<'_> {
     ghost output = { λ t. Some (told_text t) };
 
     fn fmt<W: fmt::Write>(&self, f: &mut fmt::Formatter<W>) -> fmt::Result {
-        let columns = self.columns;
+        let columns = &self.columns;
         let indent = Spaces(self.indent);
-        let words = self.words;
+        let words = &self.words;
         write!(f, "{columns}{indent}{words}")
     }
 }
@@ -105,7 +118,7 @@ impl fmt::Display for Spaces {
 
     fn fmt<W: fmt::Write>(&self, f: &mut fmt::Formatter<W>) -> fmt::Result {
         for place in 0..self.0 {
-            write!(f, " ")?;
+            f.write_str(" ")?;
         }
         Ok(())
     }

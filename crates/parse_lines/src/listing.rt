@@ -3,6 +3,7 @@
 ghost use Rattle.std.specs.Prelude.{◌≡◌, ◌≢◌, ◌≤◌, ℕ, List, length, drop, Option, None, Some, IfOk, IfErr, IfSome, OnOk};
 ghost use Rattle.std.specs.Io.KnownBytes.{Appends};
 ghost use Rattle.text_io.specs.Printers.{Prints, printer_writer};
+ghost use Rattle.text_io.specs.Readers.{longest};
 ghost use Rattle.descriptor_parse.specs.declared.fault.ParseError.{ParseError};
 ghost use Rattle.descriptor_parse.specs.Faults.{IsFaultless};
 ghost use Rattle.descriptor_parse.specs.Items.{ItemValue};
@@ -10,21 +11,19 @@ ghost use Rattle.descriptor_parse.specs.ItemViews.{item_view};
 ghost use Rattle.parse_lines.specs.Contexts.{ContextStands, IsBeforeItems, NoneBefore};
 ghost use Rattle.parse_lines.specs.HexTexts.{SaysBytes};
 ghost use Rattle.parse_lines.specs.Listings.{IsListing, IsRefusedListing, bare_fault_line, end_lines, fault_item_line, has_come, head_bytes, item_lines, item_text, refused_lines};
-ghost use Rattle.parse_lines.specs.Readers.{longest};
 ghost use Rattle.parse_lines.specs.Texts.{IsSound, IsTextFault, IsRefusal};
 ghost use Rattle.parse_lines.specs.Values.{told_text};
 
 use crate::LinesError;
 use crate::context::Context;
 use crate::hex_text::bytes_of;
-use crate::input::read_text;
-use crate::lines::{Columns, ItemText, Line};
+use crate::lines::{BareFaultLine, Columns, FaultItemLine, ItemLine, ItemText};
 use crate::text::{parsed, print_fault};
 use crate::words::words_of;
 use descriptor_parse::{Item, Items, ParseError};
 use std::alloc::Global;
 use std::io::{Read, Write};
-use text_io::{Printer, WriteError};
+use text_io::{Printer, WriteError, read_text};
 
 /// Reads a report descriptor in hex, and prints a line for each of its items (HID 1.11, section 6.2.2).
 ///
@@ -76,14 +75,23 @@ fn print_items<W: Write>(alloc: Global, bytes: &[u8], writer: &mut W) -> Result<
     ensures fault_last { IfErr result (λ e. e ≢ LinesError.Output
         → Appends (W.contents writer.old) (W.contents writer.new) (refused_lines bytes.now e)) }
 {
-    match parsed(alloc, bytes) {
-        Ok(_) => print_listing(bytes, None, writer),
+    match judged(alloc, bytes) {
+        Ok(()) => print_listing(bytes, None, writer),
         Err(LinesError::Refused(error)) => {
             print_listing(bytes, Some(error), writer)?;
             print_fault(LinesError::Refused(error), writer)
         }
         Err(error) => print_fault(error, writer),
     }
+}
+
+/// Whether these bytes are a report descriptor without a fault; else why they are refused.
+fn judged(alloc: Global, bytes: &[u8]) -> Result<(), LinesError>
+    ensures faultless { OnOk result (IsFaultless bytes.now) }
+    ensures refused { IfErr result (λ e. IsRefusal bytes.now e) }
+{
+    parsed(alloc, bytes)?;
+    Ok(())
 }
 
 /// Prints the items up to this fault, if there is one.
@@ -119,9 +127,9 @@ fn put_items<W: Write>(
             Ok(item) => {
                 let told = item_text(text, &context, &item);
                 if has_come(fault, item.offset) {
-                    return put_fault(told, fault, printer);
+                    return put_fault(&told, fault, printer);
                 }
-                printer.print(&Line::Item(told))?;
+                printer.print(&ItemLine(&told))?;
                 context.take(&item);
             }
             Err(cut) => return put_end(text, fault, Some(cut.offset), printer),
@@ -177,16 +185,16 @@ fn from(text: &[u8], offset: usize) -> &[u8]
 
 /// Prints an item at which the fault has come.
 fn put_fault<W: Write>(
-    told: ItemText<'_>,
+    told: &ItemText<'_>,
     fault: Option<ParseError>,
     printer: &mut Printer<'_, W>,
 ) -> Result<(), WriteError>
-    ensures printed { OnOk result (Prints W.contents printer.old printer.new (fault_item_line (told_text told.entry) told.entry.columns.offset fault)) }
+    ensures printed { OnOk result (Prints W.contents printer.old printer.new (fault_item_line (told_text told.now) told.now.columns.offset fault)) }
     ensures same_writer { OnOk result (printer_writer printer.new ≡ printer_writer printer.old) }
 {
     match fault {
         Some(error) if error.offset == told.columns.offset => {
-            printer.print(&Line::FaultAtItem(told, error.fault))
+            printer.print(&FaultItemLine(told, error.fault))
         }
         Some(error) => put_bare(error, &[], printer),
         None => Ok(()),
@@ -228,5 +236,5 @@ fn put_bare<W: Write>(
         head: &[],
         data: bytes,
     };
-    printer.print(&Line::Fault(columns, error.fault))
+    printer.print(&BareFaultLine(columns, error.fault))
 }

@@ -50,15 +50,15 @@ impl fmt::Display for FaultLine {
 
     fn fmt<W: fmt::Write>(&self, f: &mut fmt::Formatter<W>) -> fmt::Result {
         match self.0 {
-            LinesError::BadHexText => writeln!(f, "fault hex"),
+            LinesError::BadHexText => f.write_str("fault hex\n"),
             LinesError::Refused(refusal) => {
                 let number = refusal.fault.number();
                 let offset = refusal.offset;
                 writeln!(f, "fault parse {number} at {offset}")
             }
-            LinesError::TooLong => writeln!(f, "fault too long"),
-            LinesError::Input => writeln!(f, "fault input"),
-            LinesError::Memory => writeln!(f, "fault memory"),
+            LinesError::TooLong => f.write_str("fault too long\n"),
+            LinesError::Input => f.write_str("fault input\n"),
+            LinesError::Memory => f.write_str("fault memory\n"),
             LinesError::Output => Ok(()),
         }
     }
@@ -121,7 +121,7 @@ impl fmt::Display for Usages<'_> {
 
     fn fmt<W: fmt::Write>(&self, f: &mut fmt::Formatter<W>) -> fmt::Result {
         let Some((first, more)) = self.0.split_first() else {
-            return write!(f, "-");
+            return f.write_str("-");
         };
         let range = Range(*first);
         write!(f, "{range}")?;

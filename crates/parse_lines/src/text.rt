@@ -10,12 +10,11 @@ ghost use Rattle.parse_lines.specs.Prints.{fault_line, field_lines};
 
 use crate::LinesError;
 use crate::hex_text::bytes_of;
-use crate::input::read_text;
 use crate::print::{FaultLine, FieldLine};
 use descriptor_parse::{Descriptor, ParseFault, parse};
 use std::alloc::Global;
 use std::io::{Read, Write};
-use text_io::{Printer, WriteError};
+use text_io::{Printer, WriteError, read_text};
 
 /// Reads a report descriptor in hex, and prints a line for each of its fields (HID 1.11, section 6.2.2).
 ///

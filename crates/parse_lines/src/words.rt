@@ -4,10 +4,10 @@ ghost use Rattle.std.specs.Prelude.{◌≡◌, ◌≢◌, ◌≤◌, ◌<◌, �
 ghost use Rattle.descriptor_parse.specs.Tags.{tag_of};
 ghost use Rattle.descriptor_parse.specs.Globals.{unsigned, signed};
 ghost use Rattle.parse_lines.specs.Words.{data_name, is_input, main_words, global_words, local_words, usage_words, page_words, named, number, exponent, other_words, short_words, hex_number, flags_text, rare_flags, has_bit};
-ghost use Rattle.parse_lines.specs.Values.{value_text, words_text};
+ghost use Rattle.parse_lines.specs.Values.{said, value_text, words_text};
 
 use crate::names::{collection_name, other_name, page_name, usage_name};
-use crate::number::{signed, unsigned};
+use descriptor_parse::number::{signed, unsigned};
 use descriptor_parse::{GlobalTag, Item, Kind, LocalTag, MainTag, Tag};
 use std::fmt;
 
@@ -237,21 +237,33 @@ impl fmt::Display for Words {
 
     fn fmt<W: fmt::Write>(&self, f: &mut fmt::Formatter<W>) -> fmt::Result {
         let name = self.name;
-        match self.value {
-            Value::Nothing => write!(f, "{name}"),
-            Value::Name(text) => write!(f, "{name} ({text})"),
-            Value::Number(number) => write!(f, "{name} ({number})"),
+        let value = self.value;
+        match value {
+            Value::Nothing => f.write_str(name),
+            _ => write!(f, "{name} ({value})"),
+        }
+    }
+}
+
+impl fmt::Display for Value {
+    ghost output = { λ v. Some (said v) };
+
+    fn fmt<W: fmt::Write>(&self, f: &mut fmt::Formatter<W>) -> fmt::Result {
+        match *self {
+            Value::Nothing => Ok(()),
+            Value::Name(text) => f.write_str(text),
+            Value::Number(number) => write!(f, "{number}"),
             Value::Hex(number) => {
                 let hex = Hex(number);
-                write!(f, "{name} ({hex})")
+                write!(f, "{hex}")
             }
             Value::Vendor(page) => {
                 let hex = Hex(page);
-                write!(f, "{name} (Vendor-defined {hex})")
+                write!(f, "Vendor-defined {hex}")
             }
             Value::Flags(input, flags) => {
                 let flags = Flags(input, flags);
-                write!(f, "{name} ({flags})")
+                write!(f, "{flags}")
             }
         }
     }

@@ -1,15 +1,22 @@
 -- Taking the words of a line one by one.
-use Rattle.std.proofs.Common.{◌≡◌, ℕ, ◌+◌, ◌<◌, inl, inr, true, false, not, cond, List, [], ◌∷◌, length, take, drop, refl, ap, sym, ◌∙◌, arith, get_or, nat_lt, filter, add-one, suc}
+use Rattle.std.proofs.Common.{◌≡◌, ℕ, ◌+◌, ◌<◌, ◌≤◌, inl, inr, true, false, not, cond, List, [], ◌∷◌, length, take, drop, refl, ap, sym, ◌∙◌, arith, get_or, nat_lt, filter, add-one, suc}
 use Rattle.std.proofs.lemmas.Grind.{common_steps}
 use Rattle.std.proofs.lemmas.Bool.{cases_lt}
 use Rattle.std.proofs.lemmas.List.{take_all, drop_all}
 use Rattle.std.proofs.lemmas.List.Folds.{length-prefix_len}
 use Rattle.std.proofs.lemmas.List.Elements.{All-from_get_or}
-use Rattle.std.proofs.lemmas.List.Sums.{fails_before_first, passes_at_first, prefix_len-le-length}
-use Rattle.std.proofs.lemmas.List.Splits.{slice_split-cons_yes, slice_split_none, slice_split_first}
+use Rattle.std.proofs.lemmas.List.Sums.{fails_before_first, passes_at_first, prefix_len-le-length, length-filter, count_by-le-length}
+use Rattle.std.proofs.lemmas.List.Splits.{slice_split-cons_yes, slice_split_none, slice_split_first, length-slice_split}
 use Rattle.std.proofs.Math.Seq.{drop-cons}
 use Rattle.std.specs.List.{slice_split, prefix_len, position_or_len, All}
 use Rattle.script.specs.Words.{is_blank, words}
+
+-- a line has at most a word more than bytes
+pub length-words : (line : List ℕ) → length (words line) ≤ length line + 1
+unfolding words
+length-words line =
+    let pieces = slice_split is_blank line in
+    omega (arith, length-filter (λ w. nat_lt 0 (length w)) pieces, count_by-le-length (λ w. nat_lt 0 (length w)) pieces, length-slice_split is_blank line, count_by-le-length is_blank line)
 
 -- the test that keeps the pieces that are words
 abbrev pub kept : List (List ℕ) → List (List ℕ)

@@ -1,6 +1,6 @@
 //! A whole script: its lines, checked.
 
-ghost use Rattle.std.specs.Prelude.{◌≡◌, ◌≤◌, MatchOption, IfOk, IfErr, length, []};
+ghost use Rattle.std.specs.Prelude.{◌≡◌, ◌≤◌, MatchOption, IfOk, IfErr, OnOk, []};
 ghost use Rattle.std.specs.Str.Lines.{lines};
 ghost use Rattle.script.specs.Scripts.{words_in, Script, IsRefusal};
 ghost use Rattle.script.specs.Statements.{IsFault, Says};
@@ -21,15 +21,25 @@ pub struct Line<'t> {
 }
 
 /// What the lines of a script say to a device with a flash of this many pages. The caller gives at
-/// most 256 pages and at most 1,048,576 bytes of text. `Line` names the first line with a fault.
-/// `Memory` comes where a line that says something finds no room, before any line with a fault.
+/// most 256 pages. `Line` names the first line with a fault. `Memory` comes where a line that says
+/// something finds no room, before any line with a fault.
 pub fn read_lines(alloc: Global, pages: usize, text: &[u8]) -> Result<Vec<Line<'_>>, ScriptError>
-    requires few_pages { pages ≤ 256 }
-    requires short { length text.now ≤ 1048576 }
+    requires { pages ≤ 256 }
     ensures read { IfOk result (λ said. Script pages 1 (lines text.now) said.items) }
     ensures refused { IfErr result (λ e. IsRefusal pages (lines text.now) e) }
 {
     let mut said = Vec::new(alloc);
+    push_lines(pages, text, &mut said)?;
+    Ok(said)
+}
+
+/// Adds what the lines of a script say to a list that is empty.
+fn push_lines<'t>(pages: usize, text: &'t [u8], said: &mut Vec<Line<'t>>) -> Result<(), ScriptError>
+    requires few_pages { pages ≤ 256 }
+    requires empty { said.old.items ≡ [] }
+    ensures read { OnOk result (Script pages 1 (lines text.now) said.new.items) }
+    ensures refused { IfErr result (λ e. IsRefusal pages (lines text.now) e) }
+{
     let mut number = 0;
     for line in Lines::new(text) {
         number += 1;
@@ -46,7 +56,7 @@ pub fn read_lines(alloc: Global, pages: usize, text: &[u8]) -> Result<Vec<Line<'
             }),
         }
     }
-    Ok(said)
+    Ok(())
 }
 
 /// What a line says; `None` for a comment, which begins with `#`, and for a line without words.

@@ -1,7 +1,7 @@
 //! What a line of a script says.
 
-ghost use Rattle.std.specs.Prelude.{◌≡◌, ◌≢◌, ◌≤◌, ℕ, MatchOption, MatchResult, IfOk, IfErr, [], ◌∷◌};
-ghost use Rattle.script.specs.Statements.{spelling, Reads, IsFault, Says};
+ghost use Rattle.std.specs.Prelude.{◌≡◌, ◌≢◌, ◌≤◌, ◌↔◌, ℕ, MatchOption, IfOk, IfErr, IsTrue, []};
+ghost use Rattle.script.specs.Statements.{spelling, Takes, Reads, IsFault, Says};
 ghost use Rattle.script.specs.Words.{words};
 
 use crate::LineFault;
@@ -38,6 +38,26 @@ pub(crate) enum Keyword {
     Fetch,
 }
 
+/// All first words of lines.
+const KEYWORDS: [Keyword; 16] = [
+    Keyword::Scan,
+    Keyword::Scans,
+    Keyword::Poll,
+    Keyword::Setup,
+    Keyword::Out,
+    Keyword::In,
+    Keyword::Work,
+    Keyword::WorkFault,
+    Keyword::Cut,
+    Keyword::CutWork,
+    Keyword::Reset,
+    Keyword::Entry,
+    Keyword::Slot,
+    Keyword::Leds,
+    Keyword::Set,
+    Keyword::Fetch,
+];
+
 impl Keyword {
     /// The keyword that a word spells.
     fn read(word: &[u8]) -> Option<Keyword>
@@ -45,24 +65,57 @@ impl Keyword {
             ((k : Keyword) → spelling k ≢ word.now)
             (λ k. spelling k ≡ word.now) }
     {
-        match word {
-            b"scan" => Some(Keyword::Scan),
-            b"scans" => Some(Keyword::Scans),
-            b"poll" => Some(Keyword::Poll),
-            b"setup" => Some(Keyword::Setup),
-            b"out" => Some(Keyword::Out),
-            b"in" => Some(Keyword::In),
-            b"work" => Some(Keyword::Work),
-            b"workfault" => Some(Keyword::WorkFault),
-            b"cut" => Some(Keyword::Cut),
-            b"cutwork" => Some(Keyword::CutWork),
-            b"reset" => Some(Keyword::Reset),
-            b"entry" => Some(Keyword::Entry),
-            b"slot" => Some(Keyword::Slot),
-            b"leds" => Some(Keyword::Leds),
-            b"set" => Some(Keyword::Set),
-            b"fetch" => Some(Keyword::Fetch),
-            _ => None,
+        for keyword in KEYWORDS {
+            if keyword.spelling() == word {
+                return Some(keyword);
+            }
+        }
+        None
+    }
+
+    /// Whether these words may follow, by their number.
+    fn takes(self, rest: Words<'_>) -> bool
+        ensures { IsTrue result ↔ Takes self (words rest.entry.rest.now) }
+    {
+        let count = rest.count();
+        match self {
+            Keyword::Scan => count <= MOST_KEYS,
+            Keyword::Scans => 1 <= count && count <= MOST_KEYS + 1,
+            Keyword::Out => count <= 1,
+            Keyword::Setup | Keyword::WorkFault | Keyword::CutWork => count == 1,
+            Keyword::Entry | Keyword::Slot => count == 2,
+            Keyword::Set => count == 3,
+            Keyword::Poll
+            | Keyword::In
+            | Keyword::Work
+            | Keyword::Cut
+            | Keyword::Reset
+            | Keyword::Leds
+            | Keyword::Fetch => count == 0,
+        }
+    }
+
+    /// The word that spells a keyword.
+    fn spelling(self) -> &'static [u8]
+        ensures { result.now ≡ spelling self }
+    {
+        match self {
+            Keyword::Scan => b"scan",
+            Keyword::Scans => b"scans",
+            Keyword::Poll => b"poll",
+            Keyword::Setup => b"setup",
+            Keyword::Out => b"out",
+            Keyword::In => b"in",
+            Keyword::Work => b"work",
+            Keyword::WorkFault => b"workfault",
+            Keyword::Cut => b"cut",
+            Keyword::CutWork => b"cutwork",
+            Keyword::Reset => b"reset",
+            Keyword::Entry => b"entry",
+            Keyword::Slot => b"slot",
+            Keyword::Leds => b"leds",
+            Keyword::Set => b"set",
+            Keyword::Fetch => b"fetch",
         }
     }
 }
@@ -138,132 +191,114 @@ impl<'t> Statement<'t> {
         requires { pages ≤ 256 }
         ensures { Reads pages keyword (words rest.entry.rest.now) result }
     {
+        if !keyword.takes(rest) {
+            return Err(LineFault::WrongWords);
+        }
+        Statement::of(pages, keyword, rest)
+    }
+
+    /// The same, where so many words may follow.
+    fn of(pages: usize, keyword: Keyword, rest: Words<'t>) -> Result<Statement<'t>, LineFault>
+        requires few_pages { pages ≤ 256 }
+        requires taken { Takes keyword (words rest.rest.now) }
+        ensures { Reads pages keyword (words rest.entry.rest.now) result }
+    {
         match keyword {
             Keyword::Scan => scan(rest),
             Keyword::Scans => scans(rest),
-            Keyword::Poll => alone(rest, Action::Poll),
+            Keyword::Poll => Ok(Statement::One(Action::Poll)),
             Keyword::Setup => setup(rest),
             Keyword::Out => out(rest),
-            Keyword::In => alone(rest, Action::In),
-            Keyword::Work => alone(rest, Action::Work),
+            Keyword::In => Ok(Statement::One(Action::In)),
+            Keyword::Work => Ok(Statement::One(Action::Work)),
             Keyword::WorkFault => work_fault(rest),
-            Keyword::Cut => alone(rest, Action::Cut),
+            Keyword::Cut => Ok(Statement::One(Action::Cut)),
             Keyword::CutWork => cut_work(rest),
-            Keyword::Reset => alone(rest, Action::Reset),
+            Keyword::Reset => Ok(Statement::One(Action::Reset)),
             Keyword::Entry => entry(rest),
             Keyword::Slot => slot(pages, rest),
-            Keyword::Leds => alone(rest, Action::Leds),
+            Keyword::Leds => Ok(Statement::One(Action::Leds)),
             Keyword::Set => set(rest),
-            Keyword::Fetch => fetch(rest),
+            Keyword::Fetch => Ok(Statement::Fetch),
         }
     }
 }
 
 fn scan(rest: Words<'_>) -> Result<Statement<'_>, LineFault>
+    requires { Takes Keyword.Scan (words rest.rest.now) }
     ensures { (pages : ℕ) → Reads pages Keyword.Scan (words rest.entry.rest.now) result }
 {
-    rest.at_most(MOST_KEYS)?;
     Ok(Statement::One(Action::Scan(keys(rest)?)))
 }
 
 fn scans(mut rest: Words<'_>) -> Result<Statement<'_>, LineFault>
+    requires { Takes Keyword.Scans (words rest.rest.now) }
     ensures { (pages : ℕ) → Reads pages Keyword.Scans (words rest.entry.rest.now) result }
 {
-    let word = rest.word()?;
-    rest.at_most(MOST_KEYS)?;
-    let count = count(word)?;
+    let count = count(rest.word())?;
     let scan = keys(rest)?;
     Ok(Statement::Scans { count, scan })
 }
 
 fn setup(mut rest: Words<'_>) -> Result<Statement<'_>, LineFault>
+    requires { Takes Keyword.Setup (words rest.rest.now) }
     ensures { (pages : ℕ) → Reads pages Keyword.Setup (words rest.entry.rest.now) result }
 {
-    let packet = rest.word()?;
-    rest.end()?;
-    Ok(Statement::One(Action::Setup(bytes(packet)?)))
+    let packet = bytes(rest.word())?;
+    Ok(Statement::One(Action::Setup(packet)))
 }
 
 fn out(mut rest: Words<'_>) -> Result<Statement<'_>, LineFault>
+    requires { Takes Keyword.Out (words rest.rest.now) }
     ensures { (pages : ℕ) → Reads pages Keyword.Out (words rest.entry.rest.now) result }
 {
     let Some(word) = rest.next() else {
         return Ok(Statement::One(Action::Out(ArrayVec::new())));
     };
-    rest.end()?;
     Ok(Statement::One(Action::Out(packet(word)?)))
 }
 
-fn alone<'t>(rest: Words<'t>, action: Action<'t>) -> Result<Statement<'t>, LineFault>
-    ensures { MatchResult result
-        (λ s. (s ≡ Statement.One action.entry) × (words rest.entry.rest.now ≡ []))
-        (λ f. (f ≡ LineFault.WrongWords) × (words rest.entry.rest.now ≢ [])) }
-{
-    rest.end()?;
-    Ok(Statement::One(action))
-}
-
 fn work_fault(mut rest: Words<'_>) -> Result<Statement<'_>, LineFault>
+    requires { Takes Keyword.WorkFault (words rest.rest.now) }
     ensures { (pages : ℕ) → Reads pages Keyword.WorkFault (words rest.entry.rest.now) result }
 {
-    let mask = rest.word()?;
-    rest.end()?;
-    Ok(Statement::One(Action::WorkFault(MaskWord::read(mask)?)))
+    let mask = MaskWord::read(rest.word())?;
+    Ok(Statement::One(Action::WorkFault(mask)))
 }
 
 fn cut_work(mut rest: Words<'_>) -> Result<Statement<'_>, LineFault>
+    requires { Takes Keyword.CutWork (words rest.rest.now) }
     ensures { (pages : ℕ) → Reads pages Keyword.CutWork (words rest.entry.rest.now) result }
 {
-    let mask = rest.word()?;
-    rest.end()?;
-    Ok(Statement::One(Action::CutWork(MaskWord::read(mask)?)))
+    let mask = MaskWord::read(rest.word())?;
+    Ok(Statement::One(Action::CutWork(mask)))
 }
 
 fn entry(mut rest: Words<'_>) -> Result<Statement<'_>, LineFault>
+    requires { Takes Keyword.Entry (words rest.rest.now) }
     ensures { (pages : ℕ) → Reads pages Keyword.Entry (words rest.entry.rest.now) result }
 {
-    let layer = rest.word()?;
-    let key = rest.word()?;
-    rest.end()?;
-    let layer = LayerNo::read(byte(layer)?);
-    let key = KeyNo::read(byte(key)?);
-    match (layer, key) {
-        (Ok(layer), Ok(key)) => Ok(Statement::One(Action::Entry(layer, key))),
-        _ => Err(LineFault::BadNumber),
-    }
+    let layer = LayerNo::known(number(rest.word(), 4)? as u8);
+    let key = KeyNo::known(number(rest.word(), 96)? as u8);
+    Ok(Statement::One(Action::Entry(layer, key)))
 }
 
 fn slot(pages: usize, mut rest: Words<'_>) -> Result<Statement<'_>, LineFault>
-    requires { pages ≤ 256 }
+    requires few_pages { pages ≤ 256 }
+    requires taken { Takes Keyword.Slot (words rest.rest.now) }
     ensures { Reads pages Keyword.Slot (words rest.entry.rest.now) result }
 {
-    let page = rest.word()?;
-    let slot = rest.word()?;
-    rest.end()?;
-    let page = byte(page)?;
-    if usize::from(page) >= pages {
-        return Err(LineFault::BadNumber);
-    }
-    let slot = number(slot, 512)? as u16;
+    let page = number(rest.word(), pages as u32)? as u8;
+    let slot = number(rest.word(), 512)? as u16;
     Ok(Statement::One(Action::Slot { page, slot }))
 }
 
 fn set(mut rest: Words<'_>) -> Result<Statement<'_>, LineFault>
+    requires { Takes Keyword.Set (words rest.rest.now) }
     ensures { (pages : ℕ) → Reads pages Keyword.Set (words rest.entry.rest.now) result }
 {
-    let layer = rest.word()?;
-    let key = rest.word()?;
-    let code = rest.word()?;
-    rest.end()?;
-    let layer = byte(layer)?;
-    let key = byte(key)?;
-    let code = u16::from_be_bytes(bytes(code)?);
+    let layer = byte(rest.word())?;
+    let key = byte(rest.word())?;
+    let code = u16::from_be_bytes(bytes(rest.word())?);
     Ok(Statement::Set { layer, key, code })
-}
-
-fn fetch(rest: Words<'_>) -> Result<Statement<'_>, LineFault>
-    ensures { (pages : ℕ) → Reads pages Keyword.Fetch (words rest.entry.rest.now) result }
-{
-    rest.end()?;
-    Ok(Statement::Fetch)
 }

@@ -1,11 +1,9 @@
 //! Cutting a line into words.
 
-ghost use Rattle.std.specs.Prelude.{◌≡◌, ◌≢◌, ◌<◌, ◌≤◌, ◌∷◌, [], length, MatchResult};
+ghost use Rattle.std.specs.Prelude.{◌≡◌, ◌<◌, ◌∷◌, length};
 ghost use Rattle.std.specs.Iterator.{YieldsFirstBy, item_count};
 ghost use Rattle.std.specs.List.{position_or_len, prefix_len};
 ghost use Rattle.script.specs.Words.{is_blank, words};
-
-use crate::LineFault;
 
 /// What stands between the words of a line.
 fn is_blank(byte: u8) -> bool
@@ -42,39 +40,12 @@ impl<'a> Words<'a> {
         Words { rest: line }
     }
 
-    /// The next word; `WrongWords` where there is none.
-    pub(crate) fn word(&mut self) -> Result<&'a [u8], LineFault>
-        ensures { MatchResult result
-            (λ w. words self.old.rest.now ≡ w.now ∷ words self.new.rest.now)
-            (λ f. (f ≡ LineFault.WrongWords) × (words self.old.rest.now ≡ [])) }
+    /// The next word, where there is one.
+    pub(crate) fn word(&mut self) -> &'a [u8]
+        requires { 0 < length (words self.old.rest.now) }
+        ensures { words self.old.rest.now ≡ result.now ∷ words self.new.rest.now }
     {
-        self.next().ok_or(LineFault::WrongWords)
-    }
-
-    /// `WrongWords` where a word is left.
-    pub(crate) fn end(mut self) -> Result<(), LineFault>
-        ensures { MatchResult result
-            (λ _. words self.entry.rest.now ≡ [])
-            (λ f. (f ≡ LineFault.WrongWords) × (words self.entry.rest.now ≢ [])) }
-    {
-        match self.next() {
-            Some(_) => Err(LineFault::WrongWords),
-            None => Ok(()),
-        }
-    }
-
-    /// `WrongWords` where more than `most` words are left.
-    pub(crate) fn at_most(mut self, most: usize) -> Result<(), LineFault>
-        ensures { MatchResult result
-            (λ _. length (words self.entry.rest.now) ≤ most)
-            (λ f. (f ≡ LineFault.WrongWords) × (most < length (words self.entry.rest.now))) }
-    {
-        for _word in 0..most {
-            let Some(_) = self.next() else {
-                return Ok(());
-            };
-        }
-        self.end()
+        self.next().unwrap()
     }
 }
 

@@ -3,6 +3,10 @@ use Rattle.std.specs.Prelude.{ℕ, ◌<◌, List, length, Option, IfSome, ⊤}
 use Rattle.text_io.specs.declared.fault.ReadError.{ReadError}
 use Rattle.text_io.specs.declared.fault.ReadError.TheVariants as error
 
+-- the most bytes of a text that is read to be checked as a whole: of a script, or of a descriptor in hex
+abbrev pub longest : ℕ
+longest = 1048576
+
 -- why the text of a reader was not read, of which at most so many bytes were wanted; by what the reader has left, where that
 -- is known: TooLong only where it is more
 abbrev pub IsReadError : ℕ → Option (List ℕ) → ReadError → Type 0

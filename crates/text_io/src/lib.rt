@@ -15,4 +15,4 @@ mod read;
 pub use digits::{HexDigits, HexWord};
 pub use fault::{ReadError, WriteError};
 pub use print::Printer;
-pub use read::read_whole;
+pub use read::{read_text, read_whole};

@@ -2,7 +2,7 @@
 
 ghost use Rattle.std.specs.Prelude.{◌≡◌, ◌+◌, ◌≤◌, ℕ, List, length, IfOk, IfErr, IfSome, vec_len};
 ghost use Rattle.std.specs.Io.KnownBytes.{Consumes};
-ghost use Rattle.text_io.specs.Readers.{IsReadError};
+ghost use Rattle.text_io.specs.Readers.{IsReadError, longest};
 
 use crate::ReadError;
 use std::alloc::Global;
@@ -10,6 +10,21 @@ use std::io::Read;
 
 /// The most bytes that are asked of a reader at once.
 const PIECE: usize = 4096;
+
+/// The length of the longest text in bytes.
+const LONGEST: usize = 1_048_576;
+
+/// All that the reader gives, at most 1,048,576 bytes: a script, or a descriptor in hex.
+///
+/// The errors are those of [`read_whole`], and at most 1,048,577 bytes are taken from the reader.
+pub fn read_text<R: Read>(alloc: Global, reader: &mut R) -> Result<Vec<u8>, ReadError>
+    ensures read { IfOk result (λ text. IfSome (R.remaining reader.old) (λ all. text.items ≡ all)) }
+    ensures short { IfOk result (λ text. vec_len text ≤ longest) }
+    ensures refused { IfErr result (λ e. IsReadError longest (R.remaining reader.old) e) }
+    ensures few { (taken : List ℕ) × Consumes (R.remaining reader.old) (R.remaining reader.new) taken × (length taken ≤ longest + 1) }
+{
+    read_whole(alloc, reader, LONGEST)
+}
 
 /// All that the reader gives, at most `most` bytes.
 ///

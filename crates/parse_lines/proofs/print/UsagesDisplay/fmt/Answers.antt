@@ -5,7 +5,7 @@ use Rattle.parse_lines.proofs.print.UsagesDisplay.fmt.Goals as goal
 
 pub returns-in_default-clause-writes : goal.returns-in_default-clause-writes
 returns-in_default-clause-writes g c = λ plain ok.
-    has_written_of_eq _ _ _ _ _ (sym (usages-none c.args.self.now.0.now c.in_default.ensures.cases)) (c.write.ensures.writes plain ok)
+    has_written_of_eq _ _ _ _ _ (sym (usages-none c.args.self.now.0.now c.in_default.ensures.cases)) (c.write_str.ensures.writes plain ok)
 
 pub loop-next-init : goal.loop-next-init
 loop-next-init g c = λ plain.

@@ -1,7 +1,7 @@
 use Rattle.std.proofs.Common.{map}
 use Rattle.std.specs.Str.Lines.{lines}
 use Rattle.script.proofs.ScriptLemmas.{ReadSoFar}
-use Rattle.script.proofs.read.read_lines.Given as goal
+use Rattle.script.proofs.read.push_lines.Given as goal
 
 abbrev pub invariant-loop-line : goal.invariant-loop-line
 invariant-loop-line l =

@@ -3,7 +3,7 @@ use Rattle.std.specs.Str.Lines.{lines}
 use Rattle.script.proofs.LineLemmas.{length-lines}
 use Rattle.script.proofs.ScriptLemmas.{read_none, read_some}
 use Rattle.script.specs.declared.read.Line.{Line}
-use Rattle.script.proofs.read.read_lines.Goals as goal
+use Rattle.script.proofs.read.push_lines.Goals as goal
 
 pub overflow_add-number : goal.overflow_add-number
 overflow_add-number c =
