@@ -54,7 +54,7 @@ returns-in-Moved-clause-leaves g c =
     let moves = c.step.ensures.moved made in
     rw (← c.self.view_is) (record {
       mirrors = turn_moves old _ c.args.command from log c.step.result new c.step.new.self m j.no_room c.offer_next-from.ensures.within s.describes s.offers made c.step.ensures.ends moves
-      (in_target old _ log from c.step.result new s c.step.ensures.attempts);
+          (in_target old _ log from c.step.result new s c.step.ensures.attempts);
       works = record { some = rw e refl; same_command = rw e refl; same_keymap = refl };
       attempts = turn_working old _ log from c.step.result new m s c.step.ensures.attempts (λ x. cc) (λ x. cc);
       writes = turn_prepares old _ log from c.step.result new c.step.new.self m s c.step.ensures.attempts moves;
@@ -77,7 +77,7 @@ returns-in-Committed-clause-leaves g c =
     let commits = c.step.ensures.committed made in
     rw (← c.self.view_is) (record {
       mirrors = turn_commits old _ c.args.command c.word.result from log new c.step.new.self c.begin_append.new.self m s.offers commits
-      (c.begin_append.ensures.describes new c.step.ensures.ends.describes) c.begin_append.ensures.pending c.word.ensures.value c.word.ensures.read_back;
+          (c.begin_append.ensures.describes new c.step.ensures.ends.describes) c.begin_append.ensures.pending c.word.ensures.value c.word.ensures.read_back;
       works = record { some = rw e refl; same_command = rw e refl; same_keymap = refl };
       attempts = turn_working old _ log from c.step.result new m s c.step.ensures.attempts (λ x. cc) (λ x. cc);
       writes = turn_over old _ log from c.step.result new j.no_room m s c.step.ensures.attempts commits;
