@@ -1,23 +1,20 @@
--- Believed: what comes of reading a whole text, or an image.
-use Rattle.std.specs.Prelude.{ℕ, ◌<◌, List, length, Option, IfSome, ⊤}
+-- Believed: why a script is not read, and what comes of reading an image.
+use Rattle.std.specs.Prelude.{ℕ, List, Option, IfSome, ⊤}
+use Rattle.text_io.specs.declared.fault.ReadError.{ReadError}
+use Rattle.text_io.specs.declared.fault.ReadError.TheVariants as read
 use Rattle.flash_model.specs.Image.{IsImage}
 use Rattle.kbsim.specs.declared.fault.RunError.{RunError}
 use Rattle.kbsim.specs.declared.fault.RunError.TheVariants as error
 
--- the length of the longest script in bytes
-abbrev pub longest : ℕ
-longest = 1048576
+-- a script that is not read is not run
+abbrev pub unread : ReadError → RunError
+unread read.TooLong = error.TooLong
+unread read.Input = error.Input
+unread read.Memory = error.Memory
 
--- the length of the longest image in bytes: 8 pages
+-- the length of the largest image in bytes: 8 pages
 abbrev pub largest : ℕ
 largest = 32768
-
--- why at most so many bytes are refused, where these are known to be left in their reader
-abbrev pub IsReadingFault : ℕ → Option (List ℕ) → RunError → Type 0
-IsReadingFault most left error.TooLong = IfSome left (λ all. most < length all)
-IsReadingFault most left error.Input = ⊤
-IsReadingFault most left error.Memory = ⊤
-IsReadingFault most left _ = ⊥
 
 -- why there is no flash of an image, where its bytes are known
 abbrev pub IsImageFault : Option (List ℕ) → RunError → Type 0

@@ -1,9 +1,9 @@
 -- Believed: why a script is not run to its end.
 use Rattle.std.specs.Prelude.{ℕ, ◌<◌, ◌≤◌, ◌⊎◌, List, length, Option, IfSome, ⊤}
 use Rattle.std.specs.Str.Lines.{lines}
+use Rattle.text_io.specs.Readers.{longest}
 use Rattle.script.specs.Scripts.{Script, IsFirstFault}
 use Rattle.script.specs.declared.read.Line.{Line}
-use Rattle.kbsim.specs.Readers.{longest}
 use Rattle.kbsim.specs.declared.fault.RunError.{RunError}
 use Rattle.kbsim.specs.declared.fault.RunError.TheVariants as error
 

@@ -1,6 +1,10 @@
 //! Why a script is not run to its end.
 
+ghost use Rattle.std.specs.Prelude.{◌≡◌};
+ghost use Rattle.kbsim.specs.Readers.{unread};
+
 use script::LineFault;
+use text_io::ReadError;
 use thiserror::Error;
 
 /// Why a run ends before the end of its script.
@@ -27,4 +31,16 @@ pub enum RunError {
     /// A request for memory was refused.
     #[error("out of memory")]
     Memory,
+}
+
+impl From<ReadError> for RunError {
+    ghost from_gives = { λ e fault. fault ≡ unread e };
+
+    fn from(error: ReadError) -> RunError {
+        match error {
+            ReadError::TooLong => RunError::TooLong,
+            ReadError::Input => RunError::Input,
+            ReadError::Memory => RunError::Memory,
+        }
+    }
 }

@@ -7,10 +7,10 @@ ghost use Rattle.kbsim.specs.Outputs.{blank, holding};
 ghost use Rattle.kbsim.specs.Readers.{largest, IsImageFault};
 
 use crate::RunError;
-use crate::input::read_whole;
 use flash_model::{FlashError, PAGE_BYTES, SimFlash};
 use std::alloc::Global;
 use std::io::Read;
+use text_io::{ReadError, read_whole};
 
 /// The length of the largest image in bytes.
 const LARGEST: usize = 8 * PAGE_BYTES;
@@ -45,7 +45,8 @@ pub fn image_flash<R: Read>(alloc: Global, reader: &mut R) -> Result<SimFlash, R
 {
     match read_whole(alloc, reader, LARGEST) {
         Ok(image) => SimFlash::from_image(image).map_err(|_| RunError::Image),
-        Err(RunError::TooLong) => Err(RunError::Image),
-        Err(error) => Err(error),
+        Err(ReadError::TooLong) => Err(RunError::Image),
+        Err(ReadError::Input) => Err(RunError::Input),
+        Err(ReadError::Memory) => Err(RunError::Memory),
     }
 }

@@ -14,7 +14,6 @@ mod action;
 mod fault;
 mod fetch;
 mod flash;
-mod input;
 mod outcome;
 mod print;
 mod run;

@@ -5,19 +5,18 @@ ghost use Rattle.std.specs.Int.NonZero.{non_zero_u16_get};
 ghost use Rattle.std.specs.Str.Lines.{lines};
 ghost use Rattle.std.specs.Io.KnownBytes.{Appends};
 ghost use Rattle.text_io.specs.Printers.{Prints, given, printed, printer_writer};
+ghost use Rattle.text_io.specs.Readers.{longest};
 ghost use Rattle.flash_model.specs.Image.{page_count};
 ghost use Rattle.flash_model.specs.Sim.{SimValue};
 ghost use Rattle.world.specs.Stands.{StandsFor};
 ghost use Rattle.kbsim.specs.Outputs.{set_report, blank, IsFlashWork, LineRuns, IsRepeated, IsRefusedSet, IsTakenSet, IsRun, IsOutput, IsBegun, GoesOn, Takes, IsPassed};
 ghost use Rattle.kbsim.specs.Prints.{fault_line};
-ghost use Rattle.kbsim.specs.Readers.{longest};
 ghost use Rattle.kbsim.specs.Scripts.{IsEarly, IsSound, IsRunFault};
 ghost use Rattle.script.specs.Scripts.{Script};
 
 use crate::action::event_of;
 use crate::fetch::fetch;
 use crate::flash::blank_flash;
-use crate::input::{LONGEST, read_whole};
 use crate::outcome::Outcome;
 use crate::print::{FaultLine, PrintedLine};
 use crate::{Answer, Event, RunError, Work, World};
@@ -28,7 +27,7 @@ use std::alloc::{AllocError, Global};
 use std::io::{Read, Write};
 use std::num::NonZeroU16;
 use std::slice;
-use text_io::Printer;
+use text_io::{Printer, read_text};
 use world::Scan;
 
 /// The most steps that a command's flash work takes: an erase, a copy of each of the 384 entries,
@@ -96,9 +95,9 @@ pub fn run_on<R: Read, W: Write>(
         × ((text ≡ []) ⊎ IsBegun flash script text)
         × Appends (W.contents writer.old) (W.contents writer.new) (text ++ fault_line RunError.Memory)) }
 {
-    let text = match read_whole(alloc, reader, LONGEST) {
+    let text = match read_text(alloc, reader) {
         Ok(text) => text,
-        Err(error) => return Err(print_fault(error, writer)),
+        Err(error) => return Err(print_fault(error.into(), writer)),
     };
     let lines = match lines_of(alloc, flash.pages(), text.as_slice()) {
         Ok(lines) => lines,
