@@ -61,10 +61,9 @@ impl Gathering {
             mut parser,
         } = self;
         // A fault is told again at the end, and such a text is not kept.
-        if let Err(error) = parser.feed(packet)
-            && is_memory(error)
-        {
-            return Err(AllocError);
+        match parser.feed(packet) {
+            Err(error) if is_memory(error) => return Err(AllocError),
+            Ok(()) | Err(_) => {}
         }
         let length = length + packet.len();
         if packet.len() >= PACKET_LENGTH && length < wanted as usize {

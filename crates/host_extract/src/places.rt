@@ -109,10 +109,8 @@ fn value_at(field: &Field, bytes: &[u8], place: u16) -> i64
 fn push_named(out: &mut Vec<Found>, usage: Option<u32>, value: i64) -> Result<(), AllocError>
     ensures { OnOk result (out.new.items ≡ out.old.items ++ named usage value) }
 {
-    if let Some(usage) = usage
-        && usage % 0x1_0000 != 0
-    {
-        out.push(Found { usage, value })?;
+    match usage {
+        Some(usage) if usage % 0x1_0000 != 0 => out.push(Found { usage, value }),
+        Some(_) | None => Ok(()),
     }
-    Ok(())
 }
