@@ -110,7 +110,10 @@ fn push_named(out: &mut Vec<Found>, usage: Option<u32>, value: i64) -> Result<()
     ensures { OnOk result (out.new.items ≡ out.old.items ++ named usage value) }
 {
     match usage {
-        Some(usage) if usage % 0x1_0000 != 0 => out.push(Found { usage, value }),
+        Some(usage) if usage % 0x1_0000 != 0 => {
+            out.push(Found { usage, value })?;
+            Ok(())
+        }
         Some(_) | None => Ok(()),
     }
 }
