@@ -15,11 +15,11 @@ returns-then-length-wanted c fetch g =
       },
     )
 
-pub returns-in-Ok : goal.returns-in-Ok
-returns-in-Ok c fetch g =
+pub returns-in-Ok-finish : goal.returns-in-Ok-finish
+returns-in-Ok-finish c fetch g =
     let text = fetch.bytes ++ c.args.packet.now in
     let all = length-append fetch.bytes c.args.packet.now in
-    let (clean, describes) = c.in-Ok.ensures.answers text (c.feed.ensures.fed fetch.bytes g.parser) in
+    let (clean, describes) = c.in-Ok-finish.ensures.answers text (c.feed.ensures.fed fetch.bytes g.parser) in
     let end : is_end fetch c.args.packet.now ≡ true = elim c.else-packet-ge-PACKET_LENGTH.branch [
       | else-packet-ge-PACKET_LENGTH-via-then-packet-ge-PACKET_LENGTH+else-length-wanted w ↦ ends-full fetch c.args.packet.now
           (omega (arith, w.if-length-wanted.false, g.wanted, g.length, all))
