@@ -19,7 +19,9 @@ use Rattle.flash_model.specs.Image.{page_count}
 use Rattle.flash_model.specs.Sim.{SimValue}
 use Rattle.world.specs.Kinds.{Step}
 use Rattle.world.specs.History.{flash_after}
-use Rattle.world.specs.Stands.{StandsFor, NoneRefused, Goes, Runs}
+use Rattle.world.proofs.Promising.{promise}
+use Rattle.world.proofs.Timing.{stays_in_time}
+use Rattle.world.specs.Stands.{StandsFor, NoneRefused, LongerHistory, Runs}
 use Rattle.world.specs.Value.{WorldValue}
 use Rattle.keyboard.specs.Bounded.{most_steps}
 use Rattle.kbsim.proofs.WorkLemmas.{working_few}
@@ -80,7 +82,7 @@ step_is s e a f p q r n = rw (← p, ← q, ← r, ← n) refl
 pub took_one : (P : SimValue → List Step → Type 0) (old new : WorldValue) (e : Event) (before after rest : List Answer) (answer : Answer)
     → Runs P old new (e ∷ []) before after true → before ≡ [] → length after ≡ 1 → after ≡ rest ++ answer ∷ [] → Takes e answer old new
 took_one P old new e before after rest answer runs none one last start past stands =
-    let g : Goes P start past new (e ∷ []) before after true = runs start past stands in
+    let g : LongerHistory P start past new (e ∷ []) before after true = runs start past stands in
     let told : after ≡ map (λ (s : Step). s.answer) (reverse g.steps) = g.answers_are ∙ ap (λ (xs : List Answer). xs ++ map (λ (s : Step). s.answer) (reverse g.steps)) none in
     let count : length g.steps ≡ 1 = sym (length-reverse g.steps) ∙ sym (length-map (reverse g.steps) (λ (s : Step). s.answer)) ∙ sym (ap length told) ∙ one in
     let (s, is) = one_of g.steps count in
@@ -182,7 +184,7 @@ worked_off count old world new answer so_far takes done start past stands =
 pub worked_all : (count : ℕ) (old new : WorldValue) → count ≡ most_steps → WorkedSoFar count old new → GoesOn IsFlashWork old new
 worked_all count old new whole so_far start past stands =
     let (steps, (all, long), none, stood) = so_far start past stands in
-    let few : length steps < 387 = working_few start past steps stood.answered stood.in_time all in
+    let few : length steps < 387 = working_few start past steps stood.answered (stays_in_time start (steps ++ past) stood.answered) all in
     absurd (omega (arith, few, long, whole))
 
 -- the two ways in which a `set` goes
@@ -278,9 +280,8 @@ run_all start lines world first now so_far = (
   so_far.text,
   record {
     steps = so_far.steps;
-    answered = so_far.stands.answered;
+    promise = promise start so_far.steps so_far.stands.answered;
     none_refused = so_far.none_refused;
-    in_time = so_far.stands.in_time;
     prints = so_far.prints;
     leaves = so_far.stands.flash;
   },
@@ -305,7 +306,7 @@ stopped_at start lines i world first now so_far more =
 
 pub stopped_none : (start : SimValue) (lines : List Line) (first : Option (List ℕ)) → Stopped start lines first first
 stopped_none start lines first =
-    (0, [], start, inl refl, record { steps = []; answered = tt; none_refused = tt; in_time = tt; prints = (refl, refl); leaves = refl }, Appends-nil first)
+    (0, [], start, inl refl, record { steps = []; promise = promise start [] tt; none_refused = tt; prints = (refl, refl); leaves = refl }, Appends-nil first)
 
 -- what was printed when a run stopped, of the script that the reader gave
 pub begun : (start : SimValue) (known : Option (List ℕ)) (items : List ℕ) (said : List Line) (first now : Option (List ℕ)) (more : List ℕ)

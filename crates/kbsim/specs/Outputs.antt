@@ -11,9 +11,8 @@ use Rattle.world.specs.declared.event.Answer.{Answer}
 use Rattle.world.specs.declared.event.Answer.TheVariants.{Ack, Packet, Worked}
 use Rattle.keymap_store.specs.declared.store.Work.TheVariants.{Working}
 use Rattle.world.specs.Kinds.{Step}
-use Rattle.world.specs.History.{EachStep, flash_after}
-use Rattle.world.specs.Lawful.{IsLawful}
-use Rattle.world.specs.Bounded.{StaysInTime}
+use Rattle.world.specs.History.{flash_after}
+use Rattle.world.specs.Promise.{Promise}
 use Rattle.world.specs.Stands.{StandsFor, NoneRefused}
 use Rattle.world.specs.Value.{WorldValue}
 use Rattle.kbsim.specs.Actions.{IsEventOf}
@@ -117,14 +116,12 @@ holding image = record { image = image; armed = None; operations = 0; faults = 0
 abbrev pub blank : ℕ → SimValue
 blank pages = holding (replicate (4096 * pages) 255)
 
--- the lines print this text, and leave this flash: run on a device that started on the flash `start`, each event was
--- answered as it has to be, its flash operation with it, the host was refused no memory, and each command took no more
--- steps than are allowed
+-- the lines print this text, and leave this flash: run on a device that started on the flash `start`, they made a history of
+-- which the promise holds, and in which the host was refused no memory
 pub record IsRun (start : SimValue) (lines : List Line) (text : List ℕ) (after : SimValue) : Type 0 where
   pub steps : List Step
-  pub answered : IsLawful start steps
+  pub promise : Promise start steps
   pub none_refused : NoneRefused steps
-  pub in_time : EachStep StaysInTime start steps
   pub prints : Prints lines steps text
   pub leaves : after ≡ flash_after start steps
 

@@ -68,18 +68,18 @@ hearing start (step ∷ before) h =
     (hearing start before h.1)
 
 -- an answer that is no report
-clash : {A : Type 0} (answer other : Answer) (bytes : List ℕ) (reading : Reading) → answer ≡ other → bytes_told other ≡ None
+pub clash : {A : Type 0} (answer other : Answer) (bytes : List ℕ) (reading : Reading) → answer ≡ other → bytes_told other ≡ None
     → answer ≡ Sent (record { items = bytes }) reading → A
 clash answer other bytes reading a n e =
     let some_is_none = sym (ap bytes_told e) ∙ ap bytes_told a ∙ n in
     cc
 
-of_slot : {A : Type 0} (answer : Answer) (bytes : List ℕ) (reading : Reading) (image : List ℕ) (page slot : ℕ) → SlotAnswer image page slot answer
+pub of_slot : {A : Type 0} (answer : Answer) (bytes : List ℕ) (reading : Reading) (image : List ℕ) (page slot : ℕ) → SlotAnswer image page slot answer
     → answer ≡ Sent (record { items = bytes }) reading → A
 of_slot answer bytes reading image page slot (yes p a) e = clash answer (SlotIs (slot_at image page slot)) bytes reading a refl e
 of_slot answer bytes reading image page slot (no p a) e = clash answer NoSlot bytes reading a refl e
 
-of_endpoint : (answer : EpAnswer) → bytes_told (as_answer answer) ≡ None
+pub of_endpoint : (answer : EpAnswer) → bytes_told (as_answer answer) ≡ None
 of_endpoint ep.Ack = refl
 of_endpoint ep.Nak = refl
 of_endpoint (ep.Packet packet) = refl
@@ -89,7 +89,7 @@ abbrev reading_told : Answer → Reading
 reading_told (Sent bytes reading) = reading
 reading_told _ = Unread
 
-abbrev bytes_or_none : Option (List ℕ) → List ℕ
+abbrev pub bytes_or_none : Option (List ℕ) → List ℕ
 bytes_or_none (Some bytes) = bytes
 bytes_or_none None = []
 
@@ -141,7 +141,7 @@ keeps_served start past h =
     let k = kept_by (session start past) (host_calls past) (here start past h).lawful (hearing start past h) in
     where_fetched (host_calls past) k.0 k.1
 
-pub gathers_served : (start : SimValue) (past : List Step) → EachStep IsAnswered start past → GathersServed past
+pub gathers_served : (start : SimValue) (past : List Step) → EachStep IsAnswered start past → GathersServed start past
 gathers_served start past h fetch gathers =
     let heard = hearing start past h in
     gathered_is_served (session start past).first (session start past).past heard.told_before (host_calls past) fetch (here start past h).lawful heard.hears heard.none heard.keeps gathers

@@ -6,3 +6,8 @@ pub mod Running
 pub mod Telling
 pub mod Keeping
 pub mod Hearing
+pub mod Timing
+pub mod Moving
+pub mod Prefixes
+pub mod Wearing
+pub mod Promising

@@ -7,20 +7,11 @@ use Rattle.world.specs.declared.event.Event.{Event}
 use Rattle.world.specs.declared.event.Answer.{Answer}
 use Rattle.world.specs.declared.event.Told.{Told}
 use Rattle.world.specs.Kinds.{Step}
-use Rattle.world.specs.History.{EachStep}
-use Rattle.world.specs.Lawful.{IsAnswered}
-use Rattle.world.specs.Readings.{ReadsWanted, KeepsServed}
-use Rattle.world.proofs.Hearing.{reads_wanted, keeps_served}
-use Rattle.world.specs.Restart.{StartsLegally, ShowsSettled}
-use Rattle.world.specs.Acknowledged.{KeepsAcknowledged}
-use Rattle.world.specs.Bounded.{StaysInTime}
-use Rattle.world.specs.Sound.{KeepsSound}
+use Rattle.world.specs.Promise.{Promise}
 use Rattle.world.specs.Value.{WorldValue}
-use Rattle.world.specs.Stands.{StandsFor, NoneRefused, EndsAfter, no_room, host_refused, Goes}
+use Rattle.world.specs.Stands.{StandsFor, NoneRefused, EndsAfter, no_room, host_refused, LongerHistory}
 use Rattle.world.specs.Private.{Takes, Went}
-use Rattle.world.proofs.Restarting.{starts_legally, shows_settled}
-use Rattle.world.proofs.Sounding.{keeps_sound}
-use Rattle.world.proofs.Telling.{acknowledged}
+use Rattle.world.proofs.Promising.{promise}
 
 -- the first n events were taken, and the host was refused no memory in them
 pub record Going (start : SimValue) (past : List Step) (n : ℕ) (world : WorldValue) (events : List Event) (before after : List Answer) : Type 0 where
@@ -110,47 +101,15 @@ went_refused start past n world next events before after event told l e r g step
       ends = host_refused new g.steps refl r g.none;
     }
 
--- where something follows of each history that a world stands for, it holds of the run's
-goes_by : (P : SimValue → List Step → Type 0) → ((start : SimValue) (past : List Step) → EachStep IsAnswered start past → P start past)
-    → (start : SimValue) (past : List Step) (world : WorldValue) (events : List Event) (before after : List Answer) (ok : Bool) → Went start past world events before after ok → Goes P start past world events before after ok
-goes_by P follows start past world events before after ok g = record {
+-- so a run makes a longer history of which the promise holds
+pub runs_longer : (start : SimValue) (past : List Step) (world : WorldValue) (events : List Event) (before after : List Answer) (ok : Bool) → Went start past world events before after ok
+    → LongerHistory Promise start past world events before after ok
+runs_longer start past world events before after ok g = record {
   steps = g.steps;
   stands = g.stands;
   flash_is = g.stands.flash;
   events_are = g.events_are;
   answers_are = g.answers_are;
   ends = g.ends;
-  holds = follows start (g.steps ++ past) g.stands.answered;
-}
-
-pub goes_answered : (start : SimValue) (past : List Step) (world : WorldValue) (events : List Event) (before after : List Answer) (ok : Bool) → Went start past world events before after ok → Goes (EachStep IsAnswered) start past world events before after ok
-goes_answered = goes_by (EachStep IsAnswered) (λ start past h. h)
-
-pub goes_restarts : (start : SimValue) (past : List Step) (world : WorldValue) (events : List Event) (before after : List Answer) (ok : Bool) → Went start past world events before after ok → Goes (EachStep StartsLegally) start past world events before after ok
-goes_restarts = goes_by (EachStep StartsLegally) starts_legally
-
-pub goes_looks : (start : SimValue) (past : List Step) (world : WorldValue) (events : List Event) (before after : List Answer) (ok : Bool) → Went start past world events before after ok → Goes (EachStep ShowsSettled) start past world events before after ok
-goes_looks = goes_by (EachStep ShowsSettled) shows_settled
-
-pub goes_reads : (start : SimValue) (past : List Step) (world : WorldValue) (events : List Event) (before after : List Answer) (ok : Bool) → Went start past world events before after ok → Goes (EachStep ReadsWanted) start past world events before after ok
-goes_reads = goes_by (EachStep ReadsWanted) reads_wanted
-
-pub goes_keeps : (start : SimValue) (past : List Step) (world : WorldValue) (events : List Event) (before after : List Answer) (ok : Bool) → Went start past world events before after ok → Goes KeepsServed start past world events before after ok
-goes_keeps = goes_by KeepsServed keeps_served
-
-pub goes_acknowledged : (start : SimValue) (past : List Step) (world : WorldValue) (events : List Event) (before after : List Answer) (ok : Bool) → Went start past world events before after ok → Goes KeepsAcknowledged start past world events before after ok
-goes_acknowledged = goes_by KeepsAcknowledged acknowledged
-
-pub goes_sound : (start : SimValue) (past : List Step) (world : WorldValue) (events : List Event) (before after : List Answer) (ok : Bool) → Went start past world events before after ok → Goes KeepsSound start past world events before after ok
-goes_sound = goes_by KeepsSound keeps_sound
-
-pub goes_in_time : (start : SimValue) (past : List Step) (world : WorldValue) (events : List Event) (before after : List Answer) (ok : Bool) → Went start past world events before after ok → Goes (EachStep StaysInTime) start past world events before after ok
-goes_in_time start past world events before after ok g = record {
-  steps = g.steps;
-  stands = g.stands;
-  flash_is = g.stands.flash;
-  events_are = g.events_are;
-  answers_are = g.answers_are;
-  ends = g.ends;
-  holds = g.stands.in_time;
+  holds = promise start (g.steps ++ past) g.stands.answered;
 }

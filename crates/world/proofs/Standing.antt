@@ -14,7 +14,6 @@ use Rattle.keyboard.specs.Calls.{Call, Out, In, Worked as KeyboardWorked, image_
 use Rattle.keyboard.specs.Lawful as keyboard
 use Rattle.keyboard.specs.Stands as keyboard_stands
 use Rattle.keyboard.specs.Value.{KeyboardValue}
-use Rattle.keyboard.proofs.Timing.{is_in_time}
 use Rattle.world.specs.declared.event.Event.{Event}
 use Rattle.world.specs.declared.event.Event.TheVariants.{OutPacket, InPacket, Work, WorkFault, CutInWork, Entry}
 use Rattle.world.specs.declared.event.Answer.{Answer}
@@ -36,13 +35,11 @@ pub more : (start : SimValue) (past : List Step) (old : WorldValue) (event : Eve
     → StandsFor start (record { event = event; answer = answer; flash = new.flash; refused = refused } ∷ past) new
 more start past old event answer refused new k e s a d h =
     let device = subst (λ (x : Kind). let now = session_with x new.flash.image (session start past) in keyboard_stands.StandsFor now.first now.past new.keyboard) (sym e) d in
-    let now : Session = session_with (kind_of event answer new.flash.image) new.flash.image (session start past) in
     record {
       keyboard = device;
       host = subst (λ (x : Kind). host_stands.StandsFor (with_heard (heard_in x (not refused)) (host_calls past)) new.host) (sym e) h;
       flash = refl;
       answered = (a, s.answered);
-      in_time = (is_in_time now.first now.past new.keyboard device, s.in_time);
     }
 
 -- the flash that the session's calls leave is the world's

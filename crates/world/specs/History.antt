@@ -48,3 +48,8 @@ host_calls (step ∷ before) = with_heard (heard_in (kind step) (not step.refuse
 abbrev pub EachStep : (SimValue → List Step → Step → Type 0) → SimValue → List Step → Type 0
 EachStep P start [] = Unit {0}
 EachStep P start (step ∷ before) = P start before step × EachStep P start before
+
+-- something holds of a history at each of its points, from its first step on to its end
+abbrev pub EachPoint : (SimValue → List Step → Type 0) → SimValue → List Step → Type 0
+EachPoint P start [] = P start []
+EachPoint P start (step ∷ before) = P start (step ∷ before) × EachPoint P start before

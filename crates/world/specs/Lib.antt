@@ -4,9 +4,12 @@ pub mod Flash
 pub mod History
 pub mod Kinds
 pub mod Lawful
+pub mod Moments
+pub mod Promise
 pub mod Readings
 pub mod Restart
 pub mod Sound
 pub mod Stands
 pub mod Value
+pub mod Wear
 pub mod Private

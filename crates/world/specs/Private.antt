@@ -14,7 +14,7 @@ Takes event old told new =
     (start : SimValue) (past : List Step) → StandsFor start past old
     → StandsFor start (record { event = event; answer = told.answer; flash = new.flash; refused = told.refused } ∷ past) new
 
--- a run that is over: `Goes` without what follows
+-- a run that is over: a longer history without what follows
 pub record Went (start : SimValue) (past : List Step) (world : WorldValue) (events : List Event) (before after : List Answer) (ok : Bool) : Type 0 where
   pub steps : List Step
   pub stands : StandsFor start (steps ++ past) world

@@ -24,5 +24,5 @@ abbrev pub KeepsServed : SimValue → List Step → Type 0
 KeepsServed start past = Where (IsFetched [] (host_calls past)) (kept (host_calls past) ≡ Some report_bytes) (kept (host_calls past) ≡ None)
 
 -- over all sessions, what the host gathers, also of a fetch that is cut short, are the first bytes of that descriptor
-abbrev pub GathersServed : List Step → Type 0
-GathersServed past = (fetch : Fetch) → gathering (host_calls past) ≡ Some fetch → fetch.bytes ≡ take (length fetch.bytes) report_bytes
+abbrev pub GathersServed : SimValue → List Step → Type 0
+GathersServed start past = (fetch : Fetch) → gathering (host_calls past) ≡ Some fetch → fetch.bytes ≡ take (length fetch.bytes) report_bytes

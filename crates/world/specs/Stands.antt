@@ -6,8 +6,7 @@ use Rattle.host.specs.StandsFor as host_stands
 use Rattle.world.specs.declared.event.Event.{Event}
 use Rattle.world.specs.declared.event.Answer.{Answer}
 use Rattle.world.specs.Kinds.{Step}
-use Rattle.world.specs.History.{session, host_calls, flash_after, EachStep}
-use Rattle.world.specs.Bounded.{StaysInTime}
+use Rattle.world.specs.History.{session, host_calls, flash_after}
 use Rattle.world.specs.Lawful.{IsLawful}
 use Rattle.world.specs.Value.{WorldValue}
 
@@ -18,7 +17,6 @@ pub record StandsFor (start : SimValue) (past : List Step) (world : WorldValue) 
   pub host : host_stands.StandsFor (host_calls past) world.host
   pub flash : world.flash ≡ flash_after start past
   pub answered : IsLawful start past
-  pub in_time : EachStep StaysInTime start past
 
 -- in none of these steps was the host refused memory
 abbrev pub NoneRefused : List Step → Type 0
@@ -36,10 +34,9 @@ abbrev pub EndsAfter : Bool → List Step → List Event → Type 0
 EndsAfter true steps events = (length steps ≡ length events) × NoneRefused steps
 EndsAfter false steps events = StopsAfter steps events
 
--- on top of a history there are steps, newest first: they are the events that were taken, the answers appended are
--- theirs, the flash is the one after them, the world stands for the longer history (so each step was answered as it had to
--- be), and P holds of it
-pub record Goes (P : SimValue → List Step → Type 0) (start : SimValue) (past : List Step) (world : WorldValue) (events : List Event) (before after : List Answer) (ok : Bool) : Type 0 where
+-- a history goes on by steps, newest first: they are the events that were taken, the answers appended are theirs, the flash
+-- is the one after them, the world stands for the longer history, and P holds of it
+pub record LongerHistory (P : SimValue → List Step → Type 0) (start : SimValue) (past : List Step) (world : WorldValue) (events : List Event) (before after : List Answer) (ok : Bool) : Type 0 where
   pub steps : List Step
   pub stands : StandsFor start (steps ++ past) world
   pub flash_is : world.flash ≡ flash_after start (steps ++ past)
@@ -48,7 +45,7 @@ pub record Goes (P : SimValue → List Step → Type 0) (start : SimValue) (past
   pub ends : EndsAfter ok steps events
   pub holds : P start (steps ++ past)
 
--- so it goes on from each history that the world stood for
+-- from each history that the world stood for, the run makes such a longer one
 abbrev pub Runs : (SimValue → List Step → Type 0) → WorldValue → WorldValue → List Event → List Answer → List Answer → Bool → Type 0
 Runs P old new events before after ok =
-    (start : SimValue) (past : List Step) → StandsFor start past old → Goes P start past new events before after ok
+    (start : SimValue) (past : List Step) → StandsFor start past old → LongerHistory P start past new events before after ok

@@ -11,13 +11,7 @@ ghost use Rattle.flash_model.specs.Sim.{SimValue};
 ghost use Rattle.world.specs.declared.event.Event.TheVariants.{Scan as ScanEvent, Setup, OutPacket, InPacket, Poll, Work as WorkEvent, WorkFault, Cut, CutInWork, BusReset, Entry, SlotAt, Leds};
 ghost use Rattle.world.specs.Kinds.{Step, as_answer};
 ghost use Rattle.session_law.specs.Heard.{heard, with_heard};
-ghost use Rattle.world.specs.History.{EachStep};
-ghost use Rattle.world.specs.Lawful.{IsLawful, MayRefuse, is_no_memory};
-ghost use Rattle.world.specs.Restart.{StartsLegally, ShowsSettled};
-ghost use Rattle.world.specs.Acknowledged.{KeepsAcknowledged};
-ghost use Rattle.world.specs.Readings.{ReadsWanted, KeepsServed};
-ghost use Rattle.world.specs.Bounded.{StaysInTime};
-ghost use Rattle.world.specs.Sound.{KeepsSound};
+ghost use Rattle.world.specs.Lawful.{MayRefuse, is_no_memory};
 
 use crate::bench::Bench;
 use crate::event::{Answer, Event, Told};
@@ -54,6 +48,7 @@ impl Model for World {
 impl World {
     ghost use Rattle.host.specs.StandsFor as host_stands;
     ghost use Rattle.world.specs.History.{host_calls};
+    ghost use Rattle.world.specs.Promise.{Promise};
     ghost use Rattle.world.specs.Stands.{StandsFor, Runs};
     ghost use Rattle.world.specs.Private.{Takes, Went};
 
@@ -63,6 +58,8 @@ impl World {
     pub fn new(alloc: Global, flash: SimFlash) -> Result<World, AllocError>
         // it stands for no event, on this flash
         ensures starts { IfOk result (λ world. StandsFor flash [] world) }
+        // of which the promise holds
+        ensures promise { Promise flash [] }
         // the flash is as it was
         ensures untouched { IfOk result (λ world. world.flash ≡ flash) }
     {
@@ -104,26 +101,9 @@ impl World {
     /// taken, its answer is appended, and those after it were not taken. A keyboard takes no memory
     /// once it is there.
     pub fn run(&mut self, events: &[Event], answers: &mut Vec<Answer>) -> Result<(), AllocError>
-        // Each event is answered as it has to be, what is operated on the flash is lawful, and the host reads each report
-        // by what it has heard.
-        ensures answered { Runs IsLawful self.old self.new events.now answers.old.items answers.new.items (is_ok result) }
-        // Each restart finds the keymap of the restart before, changed by a prefix of the commands accepted since that did
-        // not fail, with each settled one among them; also where the power was cut inside a program or an erase.
-        ensures restarts { Runs (EachStep StartsLegally) self.old self.new events.now answers.old.items answers.new.items (is_ok result) }
-        // What the host was told is stored is in the flash until a later command is accepted that would write the entry, even
-        // one that then fails.
-        ensures acknowledged { Runs KeepsAcknowledged self.old self.new events.now answers.old.items answers.new.items (is_ok result) }
-        // Each look at an entry shows the session's first keymap changed by the settled commands.
-        ensures looks { Runs (EachStep ShowsSettled) self.old self.new events.now answers.old.items answers.new.items (is_ok result) }
-        // What the host reads in each report is what the keymap gives for the debounced keys, at the moment that the report is
-        // of. The report is unread only where report protocol is in force and the host keeps no descriptor.
-        ensures reads { Runs (EachStep ReadsWanted) self.old self.new events.now answers.old.items answers.new.items (is_ok result) }
-        // The host keeps the keyboard's report descriptor where a fetch of it came through, in whichever session; else none.
-        ensures keeps { Runs KeepsServed self.old self.new events.now answers.old.items answers.new.items (is_ok result) }
-        // A command is settled or fails within 387 steps of the flash work.
-        ensures in_time { Runs (EachStep StaysInTime) self.old self.new events.now answers.old.items answers.new.items (is_ok result) }
-        // Headers that are sound stay so, and with one that is not nothing is ever written.
-        ensures sound { Runs KeepsSound self.old self.new events.now answers.old.items answers.new.items (is_ok result) }
+        // From each history that the world stood for it makes a longer one, by the events that were taken with their answers,
+        // and the promise holds of that.
+        ensures promise { Runs Promise self.old self.new events.now answers.old.items answers.new.items (is_ok result) }
         // Ok says that all events were taken, and there is at most one answer for each.
         ensures all { OnOk result (vec_len answers.new ≡ vec_len answers.old + length events.now) }
         ensures at_most { vec_len answers.new ≤ vec_len answers.old + length events.now }

@@ -1,0 +1,45 @@
+-- A history in which each event is answered as it has to be keeps the promise.
+use Rattle.std.proofs.Common.{List, [], ◌∷◌}
+use Rattle.flash_model.specs.Sim.{SimValue}
+use Rattle.world.specs.Kinds.{Step}
+use Rattle.world.specs.History.{EachStep, EachPoint}
+use Rattle.world.specs.Lawful.{IsAnswered}
+use Rattle.world.specs.Restart.{ConfirmsSettled, StartsChanged}
+use Rattle.world.specs.Acknowledged.{KeepsAcknowledged}
+use Rattle.world.specs.Readings.{KeepsServed, GathersServed}
+use Rattle.world.specs.Sound.{KeepsSound}
+use Rattle.world.specs.Promise.{Promise}
+use Rattle.world.proofs.Hearing.{reads_wanted, keeps_served, gathers_served}
+use Rattle.world.proofs.Moving.{moves_on}
+use Rattle.world.proofs.Prefixes.{confirms_settled, starts_with_confirmed, starts_changed}
+use Rattle.world.proofs.Restarting.{starts_legally, shows_settled}
+use Rattle.world.proofs.Sounding.{keeps_sound}
+use Rattle.world.proofs.Telling.{acknowledged}
+use Rattle.world.proofs.Timing.{stays_in_time}
+use Rattle.world.proofs.Wearing.{wears_slowly}
+
+-- what follows at the end of each history holds at each point of one
+each_point : (P : SimValue → List Step → Type 0) → ((start : SimValue) (past : List Step) → EachStep IsAnswered start past → P start past)
+    → (start : SimValue) (past : List Step) → EachStep IsAnswered start past → EachPoint P start past
+each_point P follows start [] h = follows start [] h
+each_point P follows start (step ∷ before) h = (follows start (step ∷ before) h, each_point P follows start before h.1)
+
+pub promise : (start : SimValue) (history : List Step) → EachStep IsAnswered start history → Promise start history
+promise start history h = record {
+  answered = h;
+  restarts = starts_legally start history h;
+  acknowledged = each_point KeepsAcknowledged acknowledged start history h;
+  confirmed = record {
+    settled = each_point ConfirmsSettled confirms_settled start history h;
+    kept = starts_with_confirmed start history h;
+    changed = each_point StartsChanged starts_changed start history h;
+  };
+  looks = shows_settled start history h;
+  reads = reads_wanted start history h;
+  keeps = each_point KeepsServed keeps_served start history h;
+  gathered = each_point GathersServed gathers_served start history h;
+  moments = moves_on start history h;
+  in_time = stays_in_time start history h;
+  wears = wears_slowly start history h;
+  sound = each_point KeepsSound keeps_sound start history h;
+}

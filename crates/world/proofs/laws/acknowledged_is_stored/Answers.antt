@@ -1,5 +1,0 @@
-use Rattle.world.proofs.Telling.{acknowledged}
-use Rattle.world.proofs.laws.acknowledged_is_stored.Goals as goal
-
-pub returns : goal.returns
-returns c start history h = acknowledged start history h

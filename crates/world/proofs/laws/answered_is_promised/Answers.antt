@@ -1,0 +1,5 @@
+use Rattle.world.proofs.Promising.{promise}
+use Rattle.world.proofs.laws.answered_is_promised.Goals as goal
+
+pub returns : goal.returns
+returns c start history h = promise start history h

@@ -1,5 +1,0 @@
-use Rattle.world.proofs.Restarting.{shows_settled}
-use Rattle.world.proofs.laws.looks_show_settled.Goals as goal
-
-pub returns : goal.returns
-returns c start history h = shows_settled start history h
