@@ -4,6 +4,7 @@ pub mod Sounding
 pub mod Standing
 pub mod Running
 pub mod Telling
+pub mod Allowing
 pub mod Keeping
 pub mod Hearing
 pub mod Timing

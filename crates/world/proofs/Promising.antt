@@ -5,10 +5,11 @@ use Rattle.world.specs.Kinds.{Step}
 use Rattle.world.specs.History.{EachStep, EachPoint}
 use Rattle.world.specs.Lawful.{IsAnswered}
 use Rattle.world.specs.Restart.{ConfirmsSettled, StartsChanged}
-use Rattle.world.specs.Acknowledged.{KeepsAcknowledged}
+use Rattle.world.specs.Acknowledged.{KeepsStored}
 use Rattle.world.specs.Readings.{KeepsServed, GathersServed}
 use Rattle.world.specs.Sound.{KeepsSound}
 use Rattle.world.specs.Promise.{Promise}
+use Rattle.world.proofs.Allowing.{holds_allowed}
 use Rattle.world.proofs.Hearing.{reads_wanted, keeps_served, gathers_served}
 use Rattle.world.proofs.Moving.{moves_on}
 use Rattle.world.proofs.Prefixes.{confirms_settled, starts_with_confirmed, starts_changed}
@@ -24,11 +25,14 @@ each_point : (P : SimValue → List Step → Type 0) → ((start : SimValue) (pa
 each_point P follows start [] h = follows start [] h
 each_point P follows start (step ∷ before) h = (follows start (step ∷ before) h, each_point P follows start before h.1)
 
+keeps_stored : (start : SimValue) (history : List Step) → EachStep IsAnswered start history → KeepsStored start history
+keeps_stored start history h = record { told = acknowledged start history h; allowed = holds_allowed start history h }
+
 pub promise : (start : SimValue) (history : List Step) → EachStep IsAnswered start history → Promise start history
 promise start history h = record {
   answered = h;
   restarts = starts_legally start history h;
-  acknowledged = each_point KeepsAcknowledged acknowledged start history h;
+  acknowledged = each_point KeepsStored keeps_stored start history h;
   confirmed = record {
     settled = each_point ConfirmsSettled confirms_settled start history h;
     kept = starts_with_confirmed start history h;

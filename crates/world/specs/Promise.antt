@@ -5,7 +5,7 @@ use Rattle.world.specs.Kinds.{Step}
 use Rattle.world.specs.History.{EachStep, EachPoint}
 use Rattle.world.specs.Lawful.{IsAnswered}
 use Rattle.world.specs.Restart.{StartsLegally, KeepsConfirmed, ShowsSettled}
-use Rattle.world.specs.Acknowledged.{KeepsAcknowledged}
+use Rattle.world.specs.Acknowledged.{KeepsStored}
 use Rattle.world.specs.Readings.{ReadsWanted, KeepsServed, GathersServed}
 use Rattle.world.specs.Moments.{MovesOn}
 use Rattle.world.specs.Bounded.{StaysInTime}
@@ -18,9 +18,10 @@ pub record Promise (start : SimValue) (history : List Step) : Type 0 where
   -- Each start finds the keymap of the start before, changed by a prefix, in order, of the commands accepted since that did
   -- not fail; also where the power was cut inside a program or an erase. The prefix holds each settled one.
   pub restarts : EachStep StartsLegally start history
-  -- What the host was told is stored is what the flash says, at each moment, until a later command that is accepted writes
-  -- the entry.
-  pub acknowledged : EachPoint KeepsAcknowledged start history
+  -- What the host was told is stored is what the flash says, at each moment, while no later command writes the entry. Then the
+  -- entry holds that code or a later command's: of a settled one, told or not, its code alone; a failed one, and one that
+  -- works, change nothing; one that a cut caught adds its code to those that may stand there until a later one settles.
+  pub acknowledged : EachPoint KeepsStored start history
   -- Each command that the host was told is stored is settled, and so in the prefix that the next start keeps. The keymap of
   -- each start is the first one changed by all these prefixes in order.
   pub confirmed : KeepsConfirmed start history

@@ -38,7 +38,7 @@ StartsWithConfirmed start before step =
     kind step ≡ starts → (earlier : List Call) (command : Command) → IsConfirmed (session start before).past earlier command
     → (settled : IsSettled (session start before).first (session start before).past earlier command)
     × ((restart : RestartsLegally (session start before).first (session start before).past step.flash.image)
-        → SettledAfter (standing_of (accepted_before (session start before).first settled.since earlier)) command restart.kept)
+    → SettledAfter (standing_of (accepted_before (session start before).first settled.since earlier)) command restart.kept)
 
 -- these are all commands that the starts of a history kept, in order: of each session that ended, the prefix of a legal restart
 pub data AllKept (start : SimValue) : List Step → List Command → Type 0 where

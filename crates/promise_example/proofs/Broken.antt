@@ -1,0 +1,106 @@
+-- Each history breaks its field, computed from the definitions.
+use Rattle.std.proofs.Common.{◌≡◌, ℕ, List, [], ◌∷◌, ◌++◌, refl, sym, ◌∙◌, ap, arith}
+use Rattle.layers.specs.Entries.{last_written, changed, commands_in, entry_in}
+use Rattle.layers.specs.declared.command.Command.{Command}
+use Rattle.layers.specs.declared.command.Command.TheVariants.{SetKey}
+use Rattle.control_ep.specs.declared.answer.EpAnswer.TheVariants.{Ack as EpAck, Packet as EpPacket}
+use Rattle.world.specs.declared.event.Answer.TheVariants.{Ack, Packet}
+use Rattle.world.specs.declared.event.Event.TheVariants.{Setup, OutPacket, InPacket}
+use Rattle.page_turnover.specs.Active.{newer, newest, active, format}
+use Rattle.page_turnover.specs.Words.{words}
+use Rattle.keymap_store.specs.Keymap.{entries_of}
+use Rattle.layers.specs.Held.{any_below}
+use Rattle.host.specs.Kept.{gathering, kept}
+use Rattle.keyboard.specs.Acknowledged.{IsConfirmed, IsSettled}
+use Rattle.keyboard.specs.Calls.{Call, SetUp, Out, In, keymap}
+use Rattle.keyboard.specs.Commands.{Accepted, accepts, accepted, accepted_before}
+use Rattle.keyboard.specs.Effects.{report_named, protocol_after}
+use Rattle.keyboard.specs.Fate.{Fate, works, settled, changes}
+use Rattle.world.specs.Acknowledged.{IsAcknowledged, KeepsAcknowledged}
+use Rattle.world.specs.History.{EachStep}
+use Rattle.world.specs.Lawful.{IsAnswered}
+use Rattle.world.specs.Readings.{ReadsWanted, GathersServed}
+use Rattle.world.specs.Restart.{ConfirmsSettled, ShowsSettled}
+use Rattle.promise_example.specs.Histories.{blank, scan_is_refused, told_but_not_stored, entry_is_another, read_without_descriptor, gathered_zeros, set_feature, set_report, step}
+
+pub refused : EachStep IsAnswered blank scan_is_refused → ⊥
+refused h = (let done = h.0.0 in cc)
+
+default_code : keymap [] 0 0 ≡ 4
+unfolding last_written changed commands_in entry_in newer newest active format words entries_of
+default_code = refl
+
+four_not : (n : ℕ) → n ≡ 4 → n ≡ 5 → ⊥
+four_not n e f = omega (arith, e, f)
+
+abbrev set_key : Command
+set_key = SetKey 0 0 5
+
+acknowledges : IsAcknowledged blank told_but_not_stored 0 0 5
+unfolding accepts report_named
+acknowledges = record {
+  in_layers = omega arith;
+  in_keys = omega arith;
+  before = step (Setup set_feature) Ack ∷ [];
+  packet = step (OutPacket (record { items = set_report })) Ack;
+  between = [];
+  status = step InPacket (Packet (record { items = [] }));
+  after = [];
+  history_is = refl;
+  command = set_key;
+  accepted = refl;
+  writes = refl;
+  same_transfer = tt;
+  told = (refl, refl);
+  not_since = (tt, tt);
+}
+
+pub not_acknowledged : KeepsAcknowledged blank told_but_not_stored → ⊥
+not_acknowledged h = four_not (keymap [] 0 0) default_code (h 0 0 5 acknowledges)
+
+-- the same history as the keyboard sees it, without its last call, and without its last two
+abbrev asked : List Call
+asked = SetUp set_feature ∷ []
+
+abbrev told : List Call
+told = In (EpPacket (record { items = [] })) ∷ Out set_report EpAck ∷ asked
+
+confirms : IsConfirmed told asked set_key
+unfolding accepts report_named
+confirms = record { packet = Out set_report EpAck; between = []; after = []; past_is = refl; accepted = refl; same_transfer = tt }
+
+abbrev at_work : Accepted
+at_work = record { command = set_key; fate = works }
+
+abbrev done : Accepted
+done = record { command = set_key; fate = settled }
+
+still_works : accepted [] told ≡ at_work ∷ []
+unfolding accepted accepts report_named changes any_below last_written changed commands_in entry_in newer newest active format words entries_of
+still_works = refl
+
+abbrev first_fate : List Accepted → Fate
+first_fate [] = works
+first_fate (one ∷ later) = one.fate
+
+none_settled : (earlier later : List Accepted) → at_work ∷ [] ≡ earlier ++ done ∷ later → ⊥
+none_settled [] later e = (let same : works ≡ settled = ap first_fate e in cc)
+none_settled (one ∷ []) later e = cc
+none_settled (one ∷ two ∷ earlier) later e = cc
+
+pub not_confirmed : ConfirmsSettled blank told_but_not_stored → ⊥
+not_confirmed h =
+    let s : IsSettled [] told asked set_key = h asked set_key confirms in
+    none_settled (accepted_before [] s.since asked) s.settled_at.later (sym still_works ∙ s.settled_at.all_are)
+
+pub another : EachStep ShowsSettled blank entry_is_another → ⊥
+unfolding accepted last_written changed commands_in entry_in newer newest active format words entries_of
+another h = (let shown = h.0 0 0 (omega arith) (omega arith) refl in cc)
+
+pub unread : EachStep ReadsWanted blank read_without_descriptor → ⊥
+unfolding protocol_after kept
+unread h = (let read = h.0 _ _ refl in (let none = read.0 in cc))
+
+pub zeros : GathersServed blank gathered_zeros → ⊥
+unfolding gathering
+zeros h = (let first = h _ refl in cc)
