@@ -1,5 +1,6 @@
 -- Running the lines of a script, one by one.
 use Rattle.std.proofs.Common.{◌≡◌, ◌≢◌, true, false, ℕ, ◌+◌, ◌⊎◌, inl, inr, List, [], ◌∷◌, ◌++◌, map, reverse, length, take, get_or, ◌<◌, Option, None, Some, Result, Ok, Err, refl, ap, sym, subst, ◌∙◌, arith, append_assoc, append-nil, length-append}
+use Rattle.std.proofs.Math.Seq.{take-length}
 use Rattle.std.proofs.lemmas.List.{length-map, length-reverse, take_more}
 use Rattle.std.specs.Prelude.{IfOk, IfSome, alloc_error}
 use Rattle.std.specs.Str.Lines.{lines}
@@ -28,6 +29,8 @@ use Rattle.kbsim.proofs.WorkLemmas.{working_few}
 use Rattle.kbsim.specs.Outputs.{set_feature, set_report, AllWorking, IsFlashWork, ShowsStatus, IsRepeated, IsRefusedSet, IsTakenSet, LineRuns, Prints, GoesOn, Takes, IsPassed, IsRun, IsBegun}
 use Rattle.kbsim.specs.Prints.{printed_line}
 use Rattle.kbsim.specs.Actions.{IsEventOf}
+use Rattle.kbsim.specs.declared.fault.RunError.{RunError}
+use Rattle.kbsim.specs.declared.fault.RunError.TheVariants as error
 use Rattle.kbsim.specs.declared.outcome.Outcome.{Outcome}
 use Rattle.kbsim.specs.declared.outcome.Outcome.TheVariants.{Answered}
 use Rattle.script.specs.declared.read.Line.{Line}
@@ -288,6 +291,13 @@ run_all start lines world first now so_far = (
   so_far.appends,
 )
 
+-- the run of all lines
+pub run_whole : (start : SimValue) (lines : List Line) (i : ℕ) (world : WorldValue) (first now : Option (List ℕ)) → i ≡ length lines → RunSoFar start (take i lines) world first now
+    → (text : List ℕ) × IsRun start lines text world.flash × Appends first now text
+run_whole start lines i world first now whole so_far =
+    let all : take i lines ≡ lines = ap (λ (n : ℕ). take n lines) whole ∙ take-length lines in
+    run_all start lines world first now (subst (λ (xs : List Line). RunSoFar start xs world first now) all so_far)
+
 -- what was printed when a run stops at some line
 abbrev pub StoppedAt : SimValue → List Line → Option (List ℕ) → Option (List ℕ) → Type 0
 StoppedAt start lines first now =
@@ -307,6 +317,15 @@ stopped_at start lines i world first now so_far more =
 pub stopped_none : (start : SimValue) (lines : List Line) (first : Option (List ℕ)) → Stopped start lines first first
 stopped_none start lines first =
     (0, [], start, inl refl, record { steps = []; promise = promise start [] tt; none_refused = tt; prints = (refl, refl); leaves = refl }, Appends-nil first)
+
+-- and then a fault's line
+pub told_stopped : (start : SimValue) (lines : List Line) (first now after : Option (List ℕ)) (more : List ℕ) → Stopped start lines first now → Appends now after more
+    → (count : ℕ) × (text : List ℕ) × (left : SimValue) × ((text ≡ []) ⊎ (count < length lines)) × IsRun start (take count lines) text left × Appends first after (text ++ more)
+told_stopped start lines first now after more (count, text, left, fewer, run, appends) told = (count, text, left, fewer, run, Appends-trans first now after text more appends told)
+
+pub error_told : (told was : RunError) → (told ≡ was) ⊎ (told ≡ error.Output) → told ≡ error.Memory → (was ≡ error.Memory) × (told ≢ error.Output)
+error_told told was (inl e) m = (sym e ∙ m, λ o. cc)
+error_told told was (inr e) m = cc
 
 -- what was printed when a run stopped, of the script that the reader gave
 pub begun : (start : SimValue) (known : Option (List ℕ)) (items : List ℕ) (said : List Line) (first now : Option (List ℕ)) (more : List ℕ)

@@ -1,5 +1,5 @@
-use Rattle.std.proofs.Common.{◌∙◌}
-use Rattle.kbsim.proofs.OutputLemmas.{run_on, stopped_at}
+use Rattle.std.proofs.Common.{◌∙◌, arith}
+use Rattle.kbsim.proofs.OutputLemmas.{run_on, run_whole, stopped_at}
 use Rattle.kbsim.proofs.run.run_each.Goals as goal
 
 pub loop-line-preserved : goal.loop-line-preserved
@@ -12,3 +12,7 @@ loop-line-preserved g c = record {
 pub returns-in_default-clause-stopped : goal.returns-in_default-clause-stopped
 returns-in_default-clause-stopped g c is =
     λ start stands. stopped_at start c.args.lines.now c.loop-line.line-index c.loop-line.world _ _ (c.loop-line.invariant.ran start stands) c.loop-line-test.true
+
+pub returns-clause-printed : goal.returns-clause-printed
+returns-clause-printed g c start stands =
+    run_whole start c.args.lines.now c.loop-line.line-index c.loop-line.world _ _ (omega (arith, c.loop-line-test.false, c.loop-line.auto.line-index-end)) (c.loop-line.invariant.ran start stands)
