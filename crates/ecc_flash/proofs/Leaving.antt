@@ -1,0 +1,13 @@
+use Rattle.std.proofs.Common.{ℕ, List, Result, Ok, Err, MatchResult}
+use Rattle.flash_model.specs.Image.{IsImage}
+use Rattle.flash_model.specs.Operations.{Programs, MayProgram, Erases, MayErase}
+use Rattle.flash_model.proofs.ByMask.{whole_program, whole_erase}
+
+-- whatever the answer, it is an outcome of a torn operation
+pub program_left : {T E : Type 0} (r : Result T E) (old new : List ℕ) (p s : ℕ) (bytes : List ℕ) → MatchResult r (λ _. Programs old p s bytes new) (λ _. MayProgram old p s bytes new) → MayProgram old p s bytes new
+program_left (Ok x) old new p s bytes m = whole_program old p s bytes new m
+program_left (Err e) old new p s bytes m = m
+
+pub erase_left : {T E : Type 0} (r : Result T E) (old new : List ℕ) (p : ℕ) → IsImage old → MatchResult r (λ _. Erases old p new) (λ _. MayErase old p new) → MayErase old p new
+erase_left (Ok x) old new p i m = whole_erase old p new i m
+erase_left (Err e) old new p i m = m

@@ -1,0 +1,6 @@
+mod Law
+pub mod Readings
+pub mod Images
+pub mod OfCells
+pub mod Operating
+pub mod Leaving

@@ -1,0 +1,5 @@
+pub mod Units
+pub mod Reading
+pub mod Model
+pub mod Paired
+pub mod Cells
