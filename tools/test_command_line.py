@@ -188,7 +188,7 @@ class Examples(Calls):
         self.ends(0, printed, words, text)
 
     def test_scripts(self):
-        for name in ("stored_key", "scans", "driver"):
+        for name in ("stored_key", "scans", "driver", "cut"):
             with self.subTest(name):
                 self.example(["run"], f"{name}.kbs", f"{name}.expected")
 
