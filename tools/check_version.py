@@ -15,7 +15,8 @@ PLACES = [
     ("rust/Cargo.toml", rf'^version = "{NUMBER}"', False),
     ("rust/*/Cargo.toml", rf'^version = "{NUMBER}"', False),
     ("rust/kbsim/src/main.rs", rf'^const VERSION: &str = "(?:kbsim )?{NUMBER}', False),
-    ("docs/kbsim.1", rf'^\.TH KBSIM 1 .*"kbsim {NUMBER}"', False),
+    ("docs/kbsim.1", rf'^\.TH KBSIM 1 .*"kbsim {NUMBER}"', True),
+    ("tools/completions/src/main.rs", rf'^        \.version\("{NUMBER}"\)', True),
 ]
 
 

@@ -44,6 +44,7 @@ def steps_of_program(way, lacks):
     return [
         Step(f"command line, {named}", [*PYTHON, "tools/test_command_line.py", "--quiet"], lacks, way),
         Step(f"rows and long inputs, {named}", [*PYTHON, "tools/test_kbsim.py", "--quiet"], lacks, way),
+        Step(f"completions and man page, {named}", [*PYTHON, "tools/test_completions.py", "--quiet"], lacks, way),
     ]
 
 
@@ -51,6 +52,7 @@ STEPS = [
     Step("one version everywhere", [*PYTHON, "tools/check_version.py"]),
     Step("what the documents name", ["bin/check-docs"]),
     Step("how bin/kbsim chooses", [*PYTHON, "tools/test_door.py", "--quiet"]),
+    Step("the picture of a cut", [*PYTHON, "tools/draw_cut.py", "--check"]),
     Step("the exporter's own tests", [*PYTHON, "tools/export_rust/test_export.py", "--quiet"]),
     Step("gate", ["rt", "ci"], needs("rt")),
     *steps_of_program("proved", needs("rt")),
