@@ -96,6 +96,12 @@ class Door(unittest.TestCase):
         self.write("crates/low/src/lib.rt", "2\n")
         self.assertIn("nothing here can build it", self.call("run")[2])
 
+    def test_each_crate_of_plain_rust_is_compared_with_its_sources(self):
+        self.add_cargo()
+        os.makedirs(f"{self.top}/rust/other")
+        self.write("rust/other/SOURCES", f"{64 * '0'}  crates/kbsim_cli/src/main.rt\n")
+        self.assertIn("nothing here can build it", self.call("run")[2])
+
     def test_a_compiler_that_is_too_old_is_not_taken(self):
         self.add_cargo("1.84.1")
         self.assertIn("nothing here can build it", self.call("run")[2])
