@@ -1,4 +1,7 @@
-"""Tests of bin/kbsim: the rows of tests/, whose README.md says how they are written, and inputs too long for rows."""
+"""Tests of the program: the rows of tests/, whose README.md says how they are written, and inputs too long for rows.
+
+They run on the program that the variable KBSIM names, or else on bin/kbsim.
+"""
 
 import difflib
 import glob
@@ -10,6 +13,7 @@ import unittest
 from typing import NamedTuple
 
 ROOT = os.path.dirname(os.path.dirname(os.path.abspath(__file__)))
+KBSIM = os.environ.get("KBSIM", f"{ROOT}/bin/kbsim")
 
 
 def make_image(pages, slots, file):
@@ -23,7 +27,7 @@ class Program(unittest.TestCase):
     def prints(self, words, text, printed, status=0):
         """Compares what the program prints of a text, and its status."""
         given = text if isinstance(text, bytes) else text.encode()
-        ran = subprocess.run([f"{ROOT}/bin/kbsim", *words], input=given, stdout=subprocess.PIPE)
+        ran = subprocess.run([KBSIM, *words], input=given, stdout=subprocess.PIPE)
         if (ran.returncode, ran.stdout) == (status, printed.encode()):
             return
         told = ran.stdout.decode(errors="backslashreplace").split("\n")

@@ -1,3 +1,4 @@
+// SPDX-License-Identifier: MIT OR Apache-2.0
 /* A keyboard with its flash in memory, for the test of a host driver: one call for each thing that happens to a device.
  *
  * A call that is lent NULL, or a wrong length, answers BENCH_REFUSED, and the device has not seen it. A device is used by

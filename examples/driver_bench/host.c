@@ -1,3 +1,4 @@
+// SPDX-License-Identifier: MIT OR Apache-2.0
 /* A host as a stock Linux is one to this keyboard. It enumerates the device, gives key 0 another letter, cuts the power when
  * it was told that this is stored, and presses the key. What it gets goes to standard output. */
 #include <stdio.h>

@@ -1,3 +1,4 @@
+// SPDX-License-Identifier: MIT OR Apache-2.0
 //! The device: a keyboard beside a flash in memory.
 #![forbid(unsafe_code)]
 

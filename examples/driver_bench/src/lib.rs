@@ -1,3 +1,4 @@
+// SPDX-License-Identifier: MIT OR Apache-2.0
 //! The exported keyboard behind a C ABI, for the test of a host driver. `bench.h` says what each call answers.
 //!
 //! `device` is the keyboard beside its flash. Here stands the edge alone: what C hands over is looked at, and refused

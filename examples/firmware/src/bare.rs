@@ -1,3 +1,4 @@
+// SPDX-License-Identifier: MIT OR Apache-2.0
 //! The entry on a chip without an operating system. Interrupts leave what they bring in a mailbox, and the main loop
 //! leaves what is to be sent in another. They stand for the registers and the interrupts of your chip.
 

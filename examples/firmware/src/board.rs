@@ -1,3 +1,4 @@
+// SPDX-License-Identifier: MIT OR Apache-2.0
 //! The board: the keyboard beside its flash, and what the chip's interrupts call.
 
 use wuzhikar::{EpAnswer, Keyboard, NorFlash, Report, Scan, Work};

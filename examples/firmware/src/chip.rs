@@ -1,3 +1,4 @@
+// SPDX-License-Identifier: MIT OR Apache-2.0
 //! A chip, and one that is played in memory: write your own in its place.
 
 use crate::flash::FlashController;

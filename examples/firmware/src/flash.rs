@@ -1,3 +1,4 @@
+// SPDX-License-Identifier: MIT OR Apache-2.0
 //! The driver of the chip's flash: the four functions that the keyboard asks for.
 
 use wuzhikar::{FlashFault, NorFlash, PAGE_BYTES, SLOT_BYTES};

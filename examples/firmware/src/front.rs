@@ -1,3 +1,4 @@
+// SPDX-License-Identifier: MIT OR Apache-2.0
 //! The front of the keyboard: the standard requests of USB 2.0 chapter 9 that the keyboard leaves to its firmware.
 //!
 //! What a USB controller calls goes to `Front`. It serves addresses, configurations, status, the halt of endpoint 1,

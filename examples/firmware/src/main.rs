@@ -1,3 +1,4 @@
+// SPDX-License-Identifier: MIT OR Apache-2.0
 //! A keyboard's firmware on the exported crate.
 //!
 //! `flash` is the driver of the chip's flash, `board` the keyboard beside its flash, `front` the standard requests that

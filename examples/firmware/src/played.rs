@@ -1,3 +1,4 @@
+// SPDX-License-Identifier: MIT OR Apache-2.0
 //! A chip that is played: its events are a list, and what goes onto the bus is printed.
 
 use crate::chip::{Cells, Chip, Event};

@@ -1,3 +1,4 @@
+// SPDX-License-Identifier: MIT OR Apache-2.0
 //! The front before a keyboard on blank flash: here what the tests share, and packets in any order.
 
 mod keyboards;

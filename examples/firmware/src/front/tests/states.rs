@@ -1,3 +1,4 @@
+// SPDX-License-Identifier: MIT OR Apache-2.0
 //! What each state of the device is, and what leads from one to another.
 
 use super::*;

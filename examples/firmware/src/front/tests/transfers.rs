@@ -1,3 +1,4 @@
+// SPDX-License-Identifier: MIT OR Apache-2.0
 //! What is read, and how a transfer goes on and ends.
 
 use super::*;

@@ -1,0 +1,165 @@
+"""Runs all that can be checked on this machine, step by step. bin/test calls it, and CI runs bin/test.
+
+Each step says its name and its time. One that fails names the command that repeats it alone, and the steps after it go on. What
+needs something that is not installed is skipped by name. A summary stands at the end, and after it, where the Rattle toolchain
+is there and nothing else failed, the gate's line 'N passed, M failed'.
+"""
+
+import argparse
+import filecmp
+import os
+import shutil
+import subprocess
+import sys
+import time
+from typing import Callable, NamedTuple
+
+ROOT = os.path.dirname(os.path.dirname(os.path.abspath(__file__)))
+PYTHON = ["python3", "-B"]
+
+
+class Step(NamedTuple):
+    """A step: its name, its command, and what is missing for it (a sentence), if anything."""
+
+    name: str
+    command: list[str]
+    lacks: Callable[[], str] = lambda: ""
+    program: str = ""  # the way of bin/kbsim whose program the command is run on (the variable KBSIM)
+
+
+def needs(*tools, paths=()):
+    """What is missing of these tools and of these paths of the repository."""
+
+    def lacks():
+        absent = [tool for tool in tools if not shutil.which(tool)]
+        absent += [path for path in paths if not os.path.exists(f"{ROOT}/{path}")]
+        return f"{' and '.join(absent)} not there" if absent else ""
+
+    return lacks
+
+
+def steps_of_program(way, lacks):
+    """The rows of the program that was built in this way."""
+    named = {"proved": "the proved program", "plain": "plain Rust"}[way]
+    return [
+        Step(f"command line, {named}", [*PYTHON, "tools/test_command_line.py", "--quiet"], lacks, way),
+        Step(f"rows and long inputs, {named}", [*PYTHON, "tools/test_kbsim.py", "--quiet"], lacks, way),
+        Step(f"completions and man page, {named}", [*PYTHON, "tools/test_completions.py", "--quiet"], lacks, way),
+    ]
+
+
+STEPS = [
+    Step("one version everywhere", [*PYTHON, "tools/check_version.py"]),
+    Step("what the documents name", ["bin/check-docs"]),
+    Step("how bin/kbsim chooses", [*PYTHON, "tools/test_door.py", "--quiet"]),
+    Step("the picture of a cut", [*PYTHON, "tools/draw_cut.py", "--check"]),
+    Step("the exporter's own tests", [*PYTHON, "tools/export_rust/test_export.py", "--quiet"]),
+    Step("gate", ["rt", "ci"], needs("rt")),
+    *steps_of_program("proved", needs("rt")),
+    *steps_of_program("plain", needs("cargo", "rustc", paths=["rust/kbsim/SOURCES"])),
+    Step("refused growths", ["bin/refused-growth"], needs("rt")),
+]
+
+
+class Run:
+    """A run of some steps: what failed, what was skipped, and what the gate said last."""
+
+    def __init__(self):
+        self.failed, self.skipped, self.times, self.gate = [], [], [], ""
+
+    def take(self, step):
+        """Runs one step, or skips it."""
+        lacks = step.lacks()
+        if lacks:
+            print(f"-- {step.name}: skipped, {lacks}", flush=True)
+            self.skipped.append(f"{step.name} ({lacks})")
+            return
+        print(f"== {step.name}", flush=True)
+        begun = time.monotonic()
+        passed = run_gate(self) if step.name == "gate" else run(step)
+        spent = time.monotonic() - begun
+        self.times.append((spent, step.name))
+        print(f"   {step.name}: {'ok' if passed else 'FAILED'}, {spent:.1f} s", flush=True)
+        if not passed:
+            print(f"   alone: bin/test --only '{step.name}', which runs: {' '.join(step.command)}", flush=True)
+            self.failed.append(step.name)
+
+    def summary(self):
+        """The last lines."""
+        print(f"== summary: {len(self.times)} steps in {sum(spent for spent, _ in self.times):.0f} s")
+        for name in self.skipped:
+            print(f"   skipped: {name}")
+        for name in self.failed:
+            print(f"   FAILED: {name} (bin/test --only '{name}')")
+        if any(name.startswith("gate ") for name in self.skipped):
+            print("   the proofs were not checked: that needs the Rattle toolchain, whose command is rt")
+        if self.gate and self.failed in ([], ["gate"]):
+            print(self.gate)
+
+
+def run(step):
+    """Runs a step's command; whether it ended well."""
+    environment = dict(os.environ)
+    if step.program:
+        path = program(step.program)
+        if not path:
+            return False
+        environment["KBSIM"] = path
+    return subprocess.run(step.command, cwd=ROOT, env=environment).returncode == 0
+
+
+def program(way):
+    """The path of the program that was built in this way, which is built first where it has to be; empty where that failed."""
+    ran = subprocess.run(["bin/kbsim", "--way", way, "--path"], cwd=ROOT, stdout=subprocess.PIPE, text=True)
+    return ran.stdout.strip() if ran.returncode == 0 else ""
+
+
+def sources():
+    """The checksum of what a proof of the program reads."""
+    script = 'root=$1; . tools/sources.sh; sum_of_proved "$root"'
+    return subprocess.run(["bash", "-c", script, "-", ROOT], cwd=ROOT, check=True, stdout=subprocess.PIPE, text=True).stdout.strip()
+
+
+def run_gate(whole):
+    """Runs the gate, and keeps the program that it proved for bin/kbsim; whether it passed."""
+    # It runs the program on crates/kbsim_cli/stdin and compares what it prints: one example is that run.
+    for name, given in [("stored_key.kbs", "stdin"), ("stored_key.expected", "stdout")]:
+        if not filecmp.cmp(f"{ROOT}/examples/{name}", f"{ROOT}/crates/kbsim_cli/{given}", shallow=False):
+            print(f"examples/{name} is not crates/kbsim_cli/{given}")
+            return False
+    before = sources()
+    gate = subprocess.Popen(["rt", "ci"], cwd=ROOT, stdout=subprocess.PIPE, text=True)
+    for line in gate.stdout:
+        print(line, end="", flush=True)
+        whole.gate = line.strip() or whole.gate
+    if gate.wait() != 0:
+        return False
+    if sources() != before:
+        print("the sources changed while they were proved")
+        return False
+    script = f'root=$1; . tools/sources.sh; keep crates/kbsim_cli/out/kbsim_cli "proved-{before}"'
+    return subprocess.run(["bash", "-c", script, "-", ROOT], cwd=ROOT).returncode == 0
+
+
+def main():
+    words = argparse.ArgumentParser(description=__doc__, formatter_class=argparse.RawDescriptionHelpFormatter, prog="bin/test")
+    words.add_argument("--only", metavar="NAME", action="append", help="runs the step of this name alone; may come again")
+    words.add_argument("--list", action="store_true", help="prints the names of the steps")
+    given = words.parse_args()
+    names = [step.name for step in STEPS]
+    if given.list:
+        print("\n".join(names))
+        return
+    for name in given.only or []:
+        if name not in names:
+            words.error(f"no step is called {name!r}: --list prints their names")
+    whole = Run()
+    for step in STEPS:
+        if not given.only or step.name in given.only:
+            whole.take(step)
+    whole.summary()
+    sys.exit(1 if whole.failed else 0)
+
+
+if __name__ == "__main__":
+    main()

@@ -1,0 +1,38 @@
+# For bin/kbsim, bin/prove and bin/test: which sources the program is made from, and where its programs are kept.
+# root is the top of the repository.
+kept=$root/out/kbsim
+
+# its_crates FOLDER: the crates that the program stands on, and itself (crates.txt has the lowest first).
+its_crates() {
+    tac "$1/crates.txt" | awk -F: '
+        BEGIN { needed["kbsim_cli"] = 1 }
+        needed[$1] { print $1; count = split($2, below, " "); for (i = 1; i <= count; i++) needed[below[i]] = 1 }'
+}
+
+# sum_of FOLDER PATH..: one checksum of the names and bytes of all files there.
+sum_of() {
+    local folder=$1
+    shift
+    # (not each crate has each of the folders)
+    (cd "$folder" && { find "$@" \( -name target -o -name out \) -prune -o -type f -print0 2>/dev/null || true; } |
+        LC_ALL=C sort -z | xargs -0 -r sha256sum | sha256sum | cut -c1-24)
+}
+
+# sum_of_proved FOLDER: the checksum of all that a proof of the program reads in a copy of the repository.
+sum_of_proved() {
+    local names name paths=()
+    mapfile -t names < <(its_crates "$1")
+    for name in "${names[@]}"; do paths+=("crates/$name/src" "crates/$name/specs" "crates/$name/proofs"); done
+    {
+        for name in "${names[@]}"; do grep "^$name:" "$1/crates.txt"; done
+        sum_of "$1" "${paths[@]}"
+    } | sha256sum | cut -c1-24
+}
+
+# keep PROGRAM NAME: keeps a program under this name, whole or not at all.
+keep() {
+    local part
+    mkdir -p "$kept"
+    part=$(mktemp "$kept/part-XXXXXX")
+    cp "$1" "$part" && chmod 755 "$part" && mv "$part" "$kept/$2"
+}
