@@ -83,7 +83,10 @@ fn value_at(field: &Field, bytes: &[u8], place: u16) -> i64 {
 /// Adds what a usage with a value is read as: none if there is no usage, or one whose low half is 0.
 fn push_named(out: &mut crate::rattle::Vec<Found>, usage: Option<u32>, value: i64) -> Result<(), AllocError> {
     match usage {
-        Some(usage) if usage % 0x1_0000 != 0 => out.push_in(Found { usage, value }),
+        Some(usage) if usage % 0x1_0000 != 0 => {
+            out.push_in(Found { usage, value })?;
+            Ok(())
+        }
         Some(_) | None => Ok(()),
     }
 }
