@@ -55,7 +55,7 @@ mod tests {
     #[test]
     fn is_a_queue_of_the_newest_eight() {
         for calls in 0..3u32.pow(10) {
-            let mut ring = match HeapCircularBuffer::with_capacity(Global, ROOM) {
+            let mut ring = match HeapCircularBuffer::with_capacity((), ROOM) {
                 Ok(ring) => ring,
                 Err(never) => match never {},
             };

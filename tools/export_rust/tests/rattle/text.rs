@@ -6,11 +6,11 @@ use wuzhikar_reader::AllocError;
 use core::fmt;
 
 #[derive(Clone, Debug, PartialEq, Eq)]
-pub struct String(alloc::string::String);
+pub struct String(std::string::String);
 
 impl String {
     pub fn new(_alloc: Global) -> String {
-        String(alloc::string::String::new())
+        String(std::string::String::new())
     }
 
     pub fn push_str(&mut self, text: &str) -> Result<(), AllocError> {
@@ -19,7 +19,12 @@ impl String {
         Ok(())
     }
 
-    pub fn push(&mut self, character: char) -> Result<(), AllocError> {
+}
+
+impl PushIn<char> for String {
+    type Outcome = Result<(), AllocError>;
+
+    fn push_in(&mut self, character: char) -> Result<(), AllocError> {
         self.0.try_reserve(4).map_err(|_| AllocError)?;
         self.0.push(character);
         Ok(())
@@ -70,7 +75,7 @@ impl PartialEq<&str> for String {
 
 /// `format!` that memory may be refused.
 pub fn format(_alloc: Global, shown: fmt::Arguments<'_>) -> Result<String, AllocError> {
-    let mut text = String(alloc::string::String::new());
+    let mut text = String(std::string::String::new());
     fmt::Write::write_fmt(&mut text, shown).map_err(|_| AllocError)?;
     Ok(text)
 }
