@@ -222,3 +222,35 @@ impl core::fmt::Display for crate::FlashFault {
 }
 
 impl core::error::Error for crate::FlashFault {}
+
+#[cfg(all(test, feature = "sim"))]
+mod tests {
+    use super::*;
+    use crate::SimFlash;
+    use alloc::vec::Vec;
+
+    #[test]
+    fn a_log_refuses_what_it_cannot_take() {
+        let mut log = FlashLog::mount(SimFlash::blank(2).expect("memory"));
+        assert_eq!(log.append(5), Err(LogRefusal::NoRoom));
+        assert_eq!(log.copy(5), Err(LogRefusal::NotNow));
+        assert_eq!(log.end_copies(), Err(LogRefusal::NotNow));
+        assert_eq!(log.turn(), Ok(()));
+        assert_eq!(log.turn(), Err(LogRefusal::NotNow));
+        assert_eq!(log.append(5), Err(LogRefusal::NotNow));
+        assert_eq!(log.copy(5), Ok(()));
+        assert_eq!(log.copy(5), Err(LogRefusal::NotNow));
+        while !log.wants() {
+            assert_ne!(log.step(), Step::Failed);
+        }
+        assert_eq!(log.end_copies(), Ok(()));
+        while log.busy() {
+            assert_ne!(log.step(), Step::Failed);
+        }
+        assert_eq!(log.append(6), Ok(()));
+        assert_ne!(log.step(), Step::Failed);
+        assert_eq!(log.words().collect::<Vec<u32>>(), [5, 6]);
+        log.remount(|_| ());
+        assert_eq!(log.words().collect::<Vec<u32>>(), [5, 6]);
+    }
+}

@@ -133,3 +133,23 @@ impl<F: NorFlash> FlashKeyboard<F> {
         result
     }
 }
+
+#[cfg(test)]
+mod tests {
+    use super::*;
+
+    #[test]
+    fn keys_of_a_scan() {
+        let (Ok(first), Ok(last)) = (KeyNo::read(0), KeyNo::read(95)) else {
+            panic!("keys 0 and 95")
+        };
+        let scan = Scan::NONE.with_key(last, true).with_key(first, false);
+        assert_eq!(scan, Scan { rows: [0, 0, 0, 0, 0, 1 << 15] });
+        assert!(scan.has_key(last) && !scan.has_key(first));
+        let mut debouncer = Debouncer::new();
+        for _ in 0..5 {
+            debouncer.feed(scan);
+        }
+        assert!(debouncer.is_key_down(last) && !debouncer.is_key_down(first));
+    }
+}
