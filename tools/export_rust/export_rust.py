@@ -1,8 +1,8 @@
-"""Writes the device crates as one crate of plain Rust: `export-rust [--contracts] DIR`.
+"""Writes the proved source as plain Rust: `export-rust [--contracts] [--tests] [--crate NAME] [DIR]`.
 
 What is exported is the text of the proved sources without what proofs alone read: ghost items, clauses, laws, the prover's
-attributes and impls. Paths are changed, since the crates of the device and of its tests become modules of one. `rules.py` says what is known; anything
-else is refused with its file and line, and then nothing is written.
+attributes and impls. Each crate of the source becomes a module `parts::NAME` of one crate of plain Rust, and paths are
+changed. `rules.py` says what is known; anything else is refused with its file and line, and then nothing is written.
 """
 
 import argparse
@@ -11,31 +11,39 @@ import os
 import shutil
 import sys
 
+import by_hand
 import rules
 from items import Translator
 from lexing import Refused
 
 HERE = os.path.dirname(os.path.abspath(__file__))
 ROOT = os.path.dirname(os.path.dirname(HERE))
-TEMPLATES = os.path.join(HERE, "templates")
+RUST = os.path.join(ROOT, "rust")
 
 # The file that says of which sources a crate was exported.
 SOURCES = "SOURCES"
 
-# The file that says what was written; a folder that has it, and the rest as it says, may be written anew.
-WRITTEN = "WRITTEN"
+# What an export of a crate consists of: all else in its folder is written by hand.
+GENERATED = (SOURCES, "src/parts.rs", "src/parts")
 
 UNPROVED = "export-rust: no proof was checked: run `rt verdict` in the crates of a change, or bin/test (docs/USING.md)"
 
 BANNER = "// Exported from crates/{} by bin/export-rust. Edit that file instead.\n"
 
+PARTS = """// Written by bin/export-rust.
+//! The crates of the proved source, for the crates of this workspace. **No part of the promise**: what is here changes
+//! without a word, and has calls with a condition on their caller that nothing checks.
+#![allow(dead_code, unused_imports, unused_variables, clippy::all)]
+
+"""
+
 
 class Export:
-    """The files of an export, by their path in it, and what was read for them."""
+    """The generated files of one crate of plain Rust, by their path in its folder, and what was read for them."""
 
-    def __init__(self, root, contracts=False, crates=None):
-        self.root, self.contracts = root, contracts
-        self.crates = crates or rules.CRATES + rules.TEST_CRATES
+    def __init__(self, root, of, contracts=False, tests=False):
+        self.root, self.of, self.contracts, self.tests = root, of, contracts, tests
+        self.crates = of.crates + (of.tests if tests else ())
         self.files = {}
         self.digests = {}
         self.met = set()
@@ -44,17 +52,20 @@ class Export:
     def make(self):
         """Reads all crates. `faults` then says what was refused."""
         stands_on = read_crates(self.root)
+        held = {crate: held_by(self.of, crate) for crate in stands_on}
         for crate in self.crates:
-            for name in stands_on[crate]:
-                if name not in rules.STAND_INS and name not in rules.LIBRARIES and name not in self.crates:
+            for name in stands_on.get(crate, ()):
+                known = (rules.STAND_INS, rules.LIBRARIES, rules.DERIVING_LIBRARIES, rules.PROOF_CRATES)
+                if not held.get(name) and not any(name in of for of in known):
                     self.faults.append(f"crates.txt: {crate} stands on {name}, which is not exported")
-            neighbours = set(stands_on[crate]) & set(self.crates)
-            self.guarded(lambda: self.module(crate, "", neighbours, crate in rules.TEST_CRATES))
-        for crate, name in sorted(set(rules.OWED) - self.met):
-            self.faults.append(f"tools/export_rust/rules.py: OWED names {crate}::{name}, which has no condition")
-        for crate, name in sorted(rules.HIDDEN - self.met):
-            self.faults.append(f"tools/export_rust/rules.py: HIDDEN names {crate}::{name}, which is no public call")
-        self.templates()
+            neighbours = {name for name in stands_on.get(crate, ()) if held.get(name)}
+            hosted = self.of.allocs or crate in self.of.tests
+            self.guarded(lambda: self.module(crate, "", neighbours, hosted))
+        named = set(self.of.owed) | self.of.hidden | self.of.fallible_clones | set(self.of.derives)
+        for crate, name in sorted(named - self.met):
+            self.faults.append(f"tools/export_rust/rules.py: {self.of.name} names {crate}::{name}, which is not there, or needs no rule")
+        self.files["src/parts.rs"] = PARTS + "".join(declaration(self.of, crate) for crate in sorted(self.crates))
+        self.files[SOURCES] = "".join(f"{of}  crates/{source}\n" for source, of in sorted(self.digests.items()))
 
     def guarded(self, step):
         """Takes a step, and notes what it refuses."""
@@ -72,35 +83,24 @@ class Export:
         with open(os.path.join(self.root, "crates", source), encoding="utf-8") as file:
             text = file.read()
         self.digests[source] = digest(text.encode())
-        translator = Translator(crate, module, f"crates/{source}", neighbours, hosted, self.contracts)
+        translator = Translator(crate, module, f"crates/{source}", neighbours, self.of, hosted, self.contracts, self.tests)
         translator.open_module = lambda name, hosted: self.guarded(
             lambda: self.module(crate, translator.joined(name), neighbours, hosted))
         made = translator.translate(text)
         self.met |= translator.met
         if not has_code(made):
             return False
-        self.files[f"src/{crate}/{module}.rs" if module else f"src/{crate}.rs"] = BANNER.format(source) + made
+        self.files[f"src/parts/{crate}/{module}.rs" if module else f"src/parts/{crate}.rs"] = BANNER.format(source) + made
         return True
 
-    def templates(self):
-        """Adds what is written by hand, with the names of the crates filled in."""
-        modules = "\n".join(declaration(crate) for crate in self.crates)
-        for folder, _, names in os.walk(TEMPLATES):
-            for name in names:
-                path = os.path.join(folder, name)
-                with open(path, encoding="utf-8") as file:
-                    text = file.read()
-                text = text.replace("@MODULES@", modules).replace("@LIBRARIES@", "\n".join(rules.LIBRARIES.values()))
-                self.files[os.path.relpath(path, TEMPLATES)] = text
-
     def write(self, folder):
-        """Writes the crate, unless anything else than an earlier export would be lost."""
-        self.files[SOURCES] = "".join(f"{of}  crates/{source}\n" for source, of in sorted(self.digests.items()))
-        self.faults += lost(folder, self.files)
-        if self.faults:
-            return
-        shutil.rmtree(os.path.join(folder, "src"), ignore_errors=True)
-        self.files[WRITTEN] = "".join(f"{digest(text.encode())}  {name}\n" for name, text in sorted(self.files.items()))
+        """Writes the generated files of the crate into its folder, in place of those that were there."""
+        for name in GENERATED:
+            path = os.path.join(folder, name)
+            if os.path.isdir(path):
+                shutil.rmtree(path)
+            elif os.path.exists(path):
+                os.remove(path)
         for name, text in sorted(self.files.items()):
             path = os.path.join(folder, name)
             os.makedirs(os.path.dirname(path), exist_ok=True)
@@ -108,34 +108,18 @@ class Export:
                 file.write(text)
 
 
+def held_by(of, crate):
+    """The rules of the crate of plain Rust that holds a crate of the source, as seen from one above or itself."""
+    return of.holder(crate)
+
+
 def digest(content):
     return hashlib.sha256(content).hexdigest()
 
 
-def lost(folder, files):
-    """What a new export would take from a folder and no earlier one wrote as it stands, as faults."""
-    if not os.path.exists(folder) or not os.listdir(folder):
-        return []
-    if not os.path.exists(os.path.join(folder, WRITTEN)):
-        return [f"{folder}: is no earlier export, and not empty"]
-    with open(os.path.join(folder, WRITTEN), encoding="utf-8") as file:
-        written = {tuple(line.rstrip("\n").split("  ", 1)) for line in file}
-    names = {name for name in files if os.path.exists(os.path.join(folder, name))}
-    for inside, _, found in os.walk(os.path.join(folder, "src")):
-        names |= {os.path.relpath(os.path.join(inside, name), folder) for name in found}
-    faults = []
-    for name in sorted(names):
-        with open(os.path.join(folder, name), "rb") as file:
-            if (digest(file.read()), name) not in written:
-                faults.append(f"{os.path.join(folder, name)}: would be lost, and no export wrote it as it is; take it away")
-    return faults
-
-
-def declaration(crate):
-    """A crate as a module. Contracts alone use some imports, and other crates than these some calls."""
-    condition = "#[cfg(test)]\n" if crate in rules.TEST_CRATES else ""
-    visibility = "pub " if crate in rules.PUBLIC_CRATES else ""
-    return f"{condition}#[allow(dead_code, unused_imports)]\n{visibility}mod {crate};"
+def declaration(of, crate):
+    """A crate of the source as a module."""
+    return f"{'#[cfg(test)]' + chr(10) if crate in of.tests else ''}pub mod {crate};\n"
 
 
 def has_code(text):
@@ -154,22 +138,53 @@ def read_crates(root):
     return crates
 
 
-def main():
-    parser = argparse.ArgumentParser(prog="export-rust", description="Writes the keyboard as one crate of plain Rust.")
+def exports(root, contracts=False, tests=False, crates=rules.WORKSPACE):
+    """The exports of these crates of plain Rust, made."""
+    made = [Export(root, of, contracts, tests) for of in crates]
+    for export in made:
+        export.make()
+    return made
+
+
+def with_those_below(name):
+    """The crate of plain Rust of this name and those that it stands on, lowest first."""
+    of = next(of for of in rules.WORKSPACE if of.name == name)
+    return tuple(other for other in rules.WORKSPACE if other is of or other in of.below)
+
+
+def parse_words():
+    """What the command line asks for."""
+    parser = argparse.ArgumentParser(prog="export-rust", description="Writes the proved source as plain Rust, into rust/.")
     parser.add_argument("--contracts", action="store_true", help="write each contract into its function's docs")
-    parser.add_argument("dir", metavar="DIR", help="the folder of the crate: none yet, an empty one, or an earlier export, whose src is replaced whole")
-    options = parser.parse_args()
-    export = Export(ROOT, options.contracts)
-    export.make()
-    if not export.faults:
-        export.guarded(lambda: export.write(options.dir))
-    for fault in export.faults:
+    parser.add_argument("--tests", action="store_true", help="write the tests, too; not into rust/")
+    parser.add_argument("--crate", choices=[of.name for of in rules.WORKSPACE], help="write this crate alone, with those that it stands on")
+    parser.add_argument("dir", nargs="?", metavar="DIR", help="a folder for a workspace like rust/: none yet, or an empty one")
+    words = parser.parse_args()
+    if words.dir is None and (words.tests or words.crate or words.contracts):
+        parser.error("--contracts, --tests and --crate want a DIR")
+    return words
+
+
+def main():
+    words = parse_words()
+    crates = with_those_below(words.crate) if words.crate else rules.WORKSPACE
+    made = exports(ROOT, words.contracts, words.tests, crates)
+    faults = [fault for export in made for fault in export.faults]
+    folder = words.dir or RUST
+    if words.dir and os.path.exists(folder) and (not os.path.isdir(folder) or os.listdir(folder)):
+        faults.append(f"{folder}: is there, and no empty folder")
+    for fault in faults:
         print(f"export-rust: {fault}", file=sys.stderr)
-    if export.faults:
+    if faults:
         print("export-rust: nothing was written", file=sys.stderr)
         return 1
-    lines = sum(text.count("\n") for name, text in export.files.items() if name.endswith(".rs"))
-    print(f"export-rust: {options.dir}: {len(export.digests)} files of the source read, {lines} lines of Rust written")
+    if words.dir:
+        by_hand.copy(folder, [of.name for of in crates], words.tests)
+    for export in made:
+        export.write(os.path.join(folder, export.of.name))
+    read = len({source for export in made for source in export.digests})
+    lines = sum(text.count("\n") for export in made for name, text in export.files.items() if name.endswith(".rs"))
+    print(f"export-rust: {folder}: {read} files of the source read, {lines} lines of Rust written")
     print(UNPROVED, file=sys.stderr)
     return 0
 

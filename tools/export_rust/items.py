@@ -4,7 +4,8 @@ import re
 
 import rules
 from lexing import TRIVIA, Refused, Token, after, before, find, group_end, lex, text_at, trimmed
-from rewriting import Rewriter
+from deriving import clone_impl, error_impls
+from rewriting import MEMORY, Rewriter
 
 
 class Lead:
@@ -15,6 +16,7 @@ class Lead:
         self.docs = []
         self.attributes = []
         self.words = []         # of each attribute, also of one that is left out
+        self.shown = None       # the tokens of the attribute `error(..)`
 
     def is_test_module(self):
         return ["cfg", "(", "test", ")"] in self.words
@@ -26,19 +28,24 @@ class Lead:
 class Translator:
     """Translates one file. `module` is its path within the crate, "" for the crate's root."""
 
-    def __init__(self, crate, module, file, neighbours, hosted=False, contracts=False):
-        self.crate, self.module, self.contracts = crate, module, contracts
-        self.rewriter = Rewriter(crate, file, neighbours, hosted)
+    def __init__(self, crate, module, file, neighbours, holder, hosted=False, contracts=False, with_tests=False):
+        self.crate, self.module, self.contracts, self.with_tests = crate, module, contracts, with_tests
+        self.holder = holder                            # the rules of the crate that it becomes a part of
+        self.rewriter = Rewriter(crate, file, neighbours, holder, hosted)
         self.neighbours = neighbours
         self.open_module = lambda name, hosted: True    # whether anything is left of the file of a module
-        self.met = set()                                # the entries of OWED and HIDDEN that were met with
+        self.of = ""                                    # the type of the impl that is translated, or the trait
+        self.met = set()                                # the entries of the rules that were met with
 
     def refuse(self, token, why):
         self.rewriter.refuse(token, why)
 
     def translate(self, text):
         """The Rust for a file's text."""
-        return tidy(self.items(lex(text, self.rewriter.file), 0))
+        made = self.items(lex(text, self.rewriter.file), 0)
+        if self.rewriter.traits:
+            made += "\n" + "".join(f"#[allow(unused_imports)]\nuse {name};\n" for name in sorted(self.rewriter.traits))
+        return tidy(made)
 
     # Items
 
@@ -55,14 +62,21 @@ class Translator:
             if at == len(tokens):
                 out.append(lead.blanks)
                 break
-            if tokens[at].kind == "ghost":
-                text, end = None, at + 1
+            ghost = self.ghost_at(tokens, at)
+            if ghost is not None:
+                text, end = None, ghost + 1
             else:
                 end = end_of(tokens, at)
                 text = text_of(lead, tokens[at:end])
             out.append(self.assembled(lead, text, depth))
             at = end
         return "".join(out)
+
+    def ghost_at(self, tokens, at):
+        """Where the ghost part is that begins at `at`, maybe after `pub` or `pub(..)`, or None."""
+        if text_at(tokens, at) == "pub":
+            at += self.past_visibility(tokens[at:])
+        return at if at < len(tokens) and tokens[at].kind == "ghost" else None
 
     def assembled(self, lead, text, depth):
         """An item's text after its lead; of one that is left out the comments before it stay."""
@@ -100,6 +114,8 @@ class Translator:
             self.refuse(tokens[at], f"an inner attribute: {words[0]}")
         elif words[0] == "derive":
             lead.attributes += self.derive(tokens[at], words[2:-1])
+        elif words[0] == "error":
+            lead.shown = tokens[opening + 1:end - 1]
         elif words[0] in rules.KEPT_ATTRIBUTES:
             lead.attributes.append("".join(token.text for token in tokens[at:end]))
         else:
@@ -110,7 +126,7 @@ class Translator:
 
     def derive(self, token, words):
         """The derive of these names, if any of them is left."""
-        names = [word for word in words if word != "," and word not in rules.DROPPED_DERIVES]
+        names = [word for word in words if word not in {",", "Error"} | rules.DROPPED_DERIVES]
         for name in names:
             if name not in rules.DERIVES:
                 self.refuse(token, f"a derive that is not known: {name}")
@@ -157,12 +173,30 @@ class Translator:
         if kind in ("impl", "trait"):
             return self.implementation(tokens, depth)
         if kind in ("struct", "enum"):
-            return self.in_block(tokens, depth, self.fields)
+            return self.data_type(lead, tokens, depth)
         if kind == "fn":
             return self.function(lead, tokens)
         if kind in ("const", "static", "type"):
             return self.rewriter.code(tokens)
         return self.refuse(tokens[0], f"an item that is not known: {kind}")
+
+    def data_type(self, lead, tokens, depth):
+        """A struct or an enum, and what its derives write in Rattle and none of Rust's does."""
+        at = self.past_visibility(tokens)
+        key = (self.crate, text_at(tokens, after(tokens, at)))
+        derived = [word for words in lead.words if words[0] == "derive" for word in words]
+        text = self.in_block(tokens, depth, self.fields)
+        if key in self.holder.derives:
+            self.met.add(key)
+            lead.attributes.append(f"#[derive({', '.join(self.holder.derives[key])})]")
+        if "Error" in derived:
+            text += error_impls(self, tokens, lead)
+        if key in self.holder.fallible_clones:
+            self.met.add(key)
+            if "Clone" not in derived:
+                self.refuse(tokens[0], f"{key[1]}, which derives no `Clone`")
+            text += clone_impl(self, tokens, lead)
+        return text
 
     def in_block(self, tokens, depth, inside):
         """Code, with what its block holds translated by `inside`."""
@@ -182,10 +216,12 @@ class Translator:
         if name in self.neighbours:
             self.refuse(tokens[0], f"a module with the name of the crate {name}")
         key = (self.crate, self.joined(name))
-        hosted = self.rewriter.hosted or lead.is_test_module() or key in rules.HOSTED_MODULES \
-            or rules.MODULE_CONDITIONS.get(key) == "test"
-        if key in rules.MODULE_CONDITIONS:
-            lead.attributes.append(f"#[cfg({rules.MODULE_CONDITIONS[key]})]")
+        condition = self.holder.conditions.get(key)
+        if not self.with_tests and (condition == "test" or lead.is_test_module()):
+            return None
+        hosted = self.rewriter.hosted or lead.is_test_module() or key in self.holder.hosted or condition == "test"
+        if condition:
+            lead.attributes.append(f"#[cfg({condition})]")
         if text_at(tokens, after(tokens, name_at)) == ";":
             return self.rewriter.code(tokens) if self.open_module(name, hosted) else None
         outer, self.rewriter.hosted = self.rewriter.hosted, hosted
@@ -200,10 +236,12 @@ class Translator:
     def use(self, lead, tokens):
         """A `use`, under the condition of the module that it names."""
         words = [token.text for token in tokens if token.kind not in TRIVIA]
-        if words[-2] == rules.PROVER_TRAIT:
-            return None
         first = text_at(tokens, after(tokens, self.past_visibility(tokens)))
-        condition = rules.MODULE_CONDITIONS.get((self.crate, self.joined(first)))
+        if words[-2] == rules.PROVER_TRAIT or first in rules.DERIVING_LIBRARIES:
+            return None
+        condition = self.holder.conditions.get((self.crate, self.joined(first)))
+        if condition == "test" and not self.with_tests:
+            return None
         if condition:
             lead.attributes.append(f"#[cfg({condition})]")
         return self.rewriter.code(tokens)
@@ -216,7 +254,40 @@ class Translator:
             return None
         if "Drop" in implemented:
             self.refuse(tokens[0], "an `impl Drop`, which takes `self` in Rattle")
-        return self.in_block(tokens, depth, self.items)
+        if "Clone" in implemented:
+            tokens = self.without_clone(tokens)
+        self.of = self.subject(tokens)
+        text = self.in_block(tokens, depth, self.items)
+        self.of = ""
+        return text
+
+    def subject(self, tokens):
+        """The name of the type of an impl, or of a trait."""
+        head = tokens[:find(tokens, "{")]
+        at = find(head, "for") if find(head, "for") < len(head) else self.past_visibility(head)
+        at = after(head, at)
+        if text_at(head, at) == "<":
+            depth = 1
+            while depth:
+                at = after(head, at)
+                depth += (text_at(head, at) == "<") - (text_at(head, at) == ">")
+            at = after(head, at)
+        return text_at(head, at)
+
+    def without_clone(self, tokens):
+        """An `impl Clone for X`, whose `clone` may be refused in Rattle, as an `impl X` with `try_clone`."""
+        clone, to = find(tokens, "Clone"), find(tokens, "for")
+        if not self.holder.allocs or before(tokens, clone) != 0:
+            self.refuse(tokens[0], "an `impl Clone` where no memory may be taken, or with parameters")
+        brace = find(tokens, "{")
+        name = find(tokens[brace + 1:], "clone") + brace + 1
+        if name >= len(tokens) or text_at(tokens, before(tokens, name)) != "fn":
+            self.refuse(tokens[0], "an `impl Clone` without `clone`")
+        self.rewriter.traits.add(MEMORY)
+        function = [Token("word", "pub", tokens[name].line), Token("blank", " ", tokens[name].line), *tokens[before(tokens, name):name],
+                    tokens[name]._replace(text="try_clone")]
+        docs = [Token("outer", "/// A copy. `AllocError` where there is no memory for it.", tokens[name].line)]
+        return tokens[:clone] + tokens[after(tokens, to):before(tokens, name)] + docs + function + tokens[name + 1:]
 
     def fields(self, tokens, depth):
         """The fields of a struct, or the variants of an enum, without ghost fields."""
@@ -224,7 +295,7 @@ class Translator:
         def end_of(tokens, at):
             return min(find(tokens, ",", at) + 1, len(tokens))
 
-        return self.parts(tokens, depth, end_of, lambda lead, field: self.in_block(field, depth, self.fields))
+        return self.parts(tokens, depth, end_of, lambda lead, part: self.in_block(part, depth, self.fields))
 
     # Functions
 
@@ -238,11 +309,11 @@ class Translator:
             return None
         if lead.is_test():
             return self.test(tokens)
-        if any(clause.text.startswith("requires") for clause in clauses):
-            tokens = self.with_condition(lead, tokens, name)
-        if (self.crate, name) in rules.HIDDEN and self.is_public(tokens):
-            self.met.add((self.crate, name))
-            tokens = self.for_the_crate(tokens)
+        if name == "fmt":
+            tokens = self.formatter(tokens)
+        if self.of and self.is_public(tokens):
+            has_condition = any(clause.text.startswith("requires") for clause in clauses)
+            tokens = self.method(lead, tokens, (self.crate, f"{self.of}::{name}"), has_condition)
         if self.contracts:
             lead.docs += contract(clauses, bool(lead.docs))
         return self.rewriter.code(tokens)
@@ -265,15 +336,28 @@ class Translator:
         words = [token.text for token in tokens[self.past_visibility(tokens):] if token.kind not in TRIVIA]
         return words[0] == "fn" and words[2:] == ["(", ")", "{", "}"]
 
-    def with_condition(self, lead, tokens, name):
-        """A function that asks something of its caller: the docs say it, or only the crate may call it."""
-        if not self.is_public(tokens):
+    def method(self, lead, tokens, key, has_condition):
+        """A public method of a type. Of one that asks something of its caller the docs say it, or only the crate may
+        call it, as one that takes a type which has no name outside. (A function is reached by `parts` alone.)"""
+        if key in self.holder.owed and has_condition:
+            self.met.add(key)
+            lead.docs = [f"/// {self.holder.owed[key]}", "///"] + lead.docs
             return tokens
-        if (self.crate, name) not in rules.OWED:
-            return self.for_the_crate(tokens)
-        self.met.add((self.crate, name))
-        lead.docs = [f"/// {rules.OWED[self.crate, name]}", "///"] + lead.docs
-        return tokens
+        if key in self.holder.hidden:
+            self.met.add(key)
+        elif not has_condition:
+            return tokens
+        return self.for_the_crate(tokens)
+
+    def formatter(self, tokens):
+        """`fmt` without its parameter, the writer."""
+        opening = after(tokens, find(tokens, "fmt"))
+        words = [token.text for token in tokens[opening:opening + 9] if token.kind not in TRIVIA]
+        if words[:6] != ["<", "W", ":", "fmt", "::", "Write"]:
+            return tokens
+        tokens = tokens[:opening] + tokens[find(tokens, ">", opening) + 1:]
+        return [token._replace(text="'_") if token.text == "W" and text_at(tokens, n - 1) == "<" and text_at(tokens, n - 2) == "Formatter"
+                else token for n, token in enumerate(tokens)]
 
     def is_public(self, tokens):
         """Whether a function begins with a plain `pub`."""
@@ -318,4 +402,16 @@ def tidy(text):
         most = 1 if text_at(tokens, n - 1) == "{" or text_at(tokens, n + 1) == "}" else 2
         breaks = token.text.count("\n")
         out.append("\n" * min(breaks, most) + token.text[token.text.rfind("\n") + 1:] if breaks else token.text)
-    return "".join(out).strip("\n") + "\n"
+    return fenced("".join(out).strip("\n") + "\n")
+
+
+def fenced(text):
+    """Code in docs as text, where it says nothing else: it is Rattle's, and no example of Rust."""
+    opened = False
+    lines = text.split("\n")
+    for n, line in enumerate(lines):
+        if re.fullmatch(r"\s*//[/!] ```\w*", line):
+            if not opened and line.endswith("```"):
+                lines[n] = line + "text"
+            opened = not opened
+    return "\n".join(lines)

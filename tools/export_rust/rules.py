@@ -1,39 +1,120 @@
-"""What is exported, under which name, and which words are known."""
+"""What is exported to which crate, and which words are known."""
 
-# The crates of the device, lowest first.
-CRATES = ["flash_model", "records", "page_turnover", "layers", "keymap_store", "debounce", "reports", "key_reports",
-          "descriptor_build", "control_ep", "keyboard"]
+from dataclasses import dataclass, field
 
-# The crates of their tests, lowest first, which are modules of tests alone.
-TEST_CRATES = ["row_text", "keymap_store_tests", "key_reports_tests", "keyboard_tests"]
+HOSTED = 'feature = "sim"'
 
-# Modules that a maker may use by themselves; the other crates become private modules.
-PUBLIC_CRATES = {"page_turnover", "debounce", "control_ep"}
 
-HOSTED = 'any(test, feature = "sim")'
+@dataclass(frozen=True)
+class Rules:
+    """What becomes one crate of plain Rust, and how."""
 
-# Modules that stand under a condition in the export: those of the simulated flash, and a plain program that only tests run.
-MODULE_CONDITIONS = {
-    ("flash_model", "sim"): HOSTED,
-    ("flash_model", "masks"): HOSTED,
-    ("reports", "plain"): "test",
-}
+    name: str                       # the crate, and its folder in rust/
+    crates: tuple                   # the crates of the source that it holds, lowest first
+    below: tuple = ()               # the crates of plain Rust that it stands on
+    tests: tuple = ()               # the crates of tests that are exported into it to be run
+    allocs: bool = False            # whether its code may take memory
+    # Modules under a condition, by (crate, module), "test" for those that only tests run.
+    conditions: dict = field(default_factory=dict)
+    # Modules that may take memory, where the others may not.
+    hosted: frozenset = frozenset()
+    # Methods with a condition on their caller that stay public, by (crate, Type::name), and what the docs then say first.
+    owed: dict = field(default_factory=dict)
+    # Methods that take or give a type which has no name outside, by (crate, Type::name).
+    hidden: frozenset = frozenset()
+    # The trait of `calls`, which is written by hand, by which the crates above reach such methods, by (crate, Type::name).
+    calls: dict = field(default_factory=dict)
+    # Types of which `Clone` can be refused in the source, by (crate, name).
+    fallible_clones: frozenset = frozenset()
+    # What a type derives besides what it does in the source, by (crate, name).
+    derives: dict = field(default_factory=dict)
 
-# Modules that are run where memory can be had, over `templates/src/rattle`.
-HOSTED_MODULES = {("flash_model", "sim")}
+    @property
+    def library(self):
+        """The crate's name in paths."""
+        return self.name.replace("-", "_")
 
-# Crates of the registry, and the line of Cargo.toml of each.
-LIBRARIES = {"arrayvec": 'arrayvec = { version = "0.7", default-features = false }'}
+    def holder(self, crate):
+        """The rules of the crate of plain Rust that holds a crate of the source, here or below, or None."""
+        if crate in self.crates or crate in self.tests:
+            return self
+        return next((found for found in (rules.holder(crate) for rules in self.below) if found), None)
+
+
+SAME_FLASH = "**Needs** the flash that the log was mounted on, as the log left it. Nothing checks it: [`FlashLog`](crate::FlashLog) holds both."
+
+LOG = Rules(
+    name="wuzhikar-log",
+    crates=("flash_model", "records", "page_turnover"),
+    conditions={("flash_model", "sim"): HOSTED, ("flash_model", "masks"): HOSTED},
+    hosted=frozenset({("flash_model", "sim")}),
+    owed={("page_turnover", "Log::words"): SAME_FLASH, ("page_turnover", "Log::step"): SAME_FLASH},
+    hidden=frozenset({("flash_model", "SimFlash::new")}),
+    calls={("flash_model", "SimFlash::new"): "SimCalls", ("page_turnover", "Log::begin_append"): "LogCalls",
+           ("page_turnover", "Log::begin_turn"): "LogCalls", ("page_turnover", "Log::offer_copy"): "LogCalls",
+           ("page_turnover", "Log::seal"): "LogCalls"},
+    derives={("page_turnover", "Words"): ("Debug",)},
+)
+
+KEYBOARD = Rules(
+    name="wuzhikar",
+    crates=("layers", "keymap_store", "debounce", "reports", "key_reports", "descriptor_build", "control_ep", "keyboard"),
+    below=(LOG,),
+    tests=("row_text", "keymap_store_tests", "key_reports_tests", "keyboard_tests"),
+    conditions={("reports", "plain"): "test"},
+    owed={("keyboard", "Keyboard::work"): "**Needs** the flash that the keyboard last started or restarted on, as the keyboard left it. "
+                                "Nothing checks it: [`FlashKeyboard`](crate::FlashKeyboard) holds both."},
+    hidden=frozenset({("keyboard", "Keyboard::start"), ("keyboard", "Keyboard::start_in")}),
+    calls={("keyboard", "Keyboard::start"): "KeyboardCalls", ("keyboard", "Keyboard::start_in"): "KeyboardCalls", ("layers", "LayerNo::known"): "Known", ("layers", "KeyNo::known"): "Known",
+           ("debounce", "Scan::has"): "ScanCalls", ("debounce", "Scan::with"): "ScanCalls", ("debounce", "Debouncer::is_down"): "DebouncerCalls"},
+)
+
+READER = Rules(
+    name="wuzhikar-reader",
+    crates=("descriptor_parse", "host_extract"),
+    allocs=True,
+    hidden=frozenset({("descriptor_parse", "Parser::new")}),
+    calls={("descriptor_parse", "Parser::new"): "ParserCalls"},
+    fallible_clones=frozenset({("descriptor_parse", "Reports"), ("descriptor_parse", "Totals")}),
+    derives={("descriptor_parse", "Descriptor"): ("Clone", "PartialEq", "Eq"),
+             **{("descriptor_parse", name): ("PartialEq", "Eq")
+                for name in ("Reports", "Totals", "Link", "IdReports", "ReportBits", "FirstFields")}},
+)
+
+SIMULATOR = Rules(
+    name="kbsim",
+    crates=("host", "world", "text_io", "script", "kbsim", "parse_lines"),
+    below=(KEYBOARD, LOG, READER),
+    tests=("descriptor_plain", "host_tests", "script_tests", "kbsim_tests"),
+    allocs=True,
+    hidden=frozenset({("world", "World::new"), ("host", "Host::new")}),
+    fallible_clones=frozenset({("host", "UsageList"), ("host", "Reading")}),
+)
+
+# All crates of plain Rust that are made, lowest first.
+WORKSPACE = (LOG, KEYBOARD, READER, SIMULATOR)
+
+# Crates that are laws alone, of which nothing is left.
+PROOF_CRATES = {"session_law", "reading_law"}
+
+# Real crates of the registry that the source's code is written over.
+LIBRARIES = {"arrayvec"}
+
+# Crates of the registry that a derive and an attribute of the source stand for.
+DERIVING_LIBRARIES = {"thiserror"}
 
 # Crates that a module of `rattle` stands for.
-STAND_INS = {"circular_buffer"}
+STAND_INS = {"circular_buffer", "hex"}
 
-# Modules of Rattle's std that a module of `rattle` stands for; the first two are no part of a firmware.
-STD_HOSTED = {"process", "test"}
-STD_STAND_INS = {"alloc", "simd"} | STD_HOSTED
+# Modules of Rattle's std that a module of `rattle` stands for; the first two are for tests alone.
+STD_TESTS = {"process", "test"}
+STD_STAND_INS = {"alloc", "simd"} | STD_TESTS
 
 # Modules of Rattle's std whose parts are those of Rust's core.
 STD_CORE = {"array", "cmp", "convert", "fmt", "iter", "mem", "num", "ops", "option", "result", "slice", "str"}
+
+# Modules of Rattle's std whose parts are those of Rust's std, where memory may be taken.
+STD_HOSTED = {"io"}
 
 # The trait that only the prover reads.
 PROVER_TRAIT = "Model"
@@ -41,30 +122,27 @@ PROVER_TRAIT = "Model"
 DROPPED_ATTRIBUTES = {"tactic", "cycle"}
 KEPT_ATTRIBUTES = {"cfg", "test", "inline", "cold", "must_use", "repr", "non_exhaustive", "ignore", "default"}
 
-# Derives that mean the same in both languages; `Drop` says in Rattle what Rust does by itself.
+# Derives that mean the same in both languages; `Drop` says in Rattle what Rust does by itself, `Error` is written out.
 DERIVES = {"Clone", "Copy", "PartialEq", "Eq", "PartialOrd", "Ord", "Debug", "Default", "Hash"}
 DROPPED_DERIVES = {"Drop"}
 
-# Calls with a condition on their caller that stay public, and what the docs then say first. Every other public function
-# with a `requires` becomes `pub(crate)`; `templates/src/face.rs` has calls in their place that check or take a type.
-OWED = {
-    ("keyboard", "work"): "**Needs** the flash that the keyboard started on, as the keyboard left it. Nothing checks it.",
-    ("page_turnover", "words"): "**Needs** the flash that the log was mounted on, as the log left it. Nothing checks it.",
-    ("page_turnover", "step"): "**Needs** the flash that the log was mounted on, as the log left it. Nothing checks it.",
-}
-
-# Public calls that take or give a type which has no name outside of the export; they become `pub(crate)` too.
-HIDDEN = {("keyboard", "start_in")}
-
-# Methods that may fail in Rattle, or take an allocator, and do neither in Rust. On `self` they are a crate's own.
+# Methods that may fail in Rattle, or take an allocator, and do neither in Rust. On `self` they are a crate's own. Where
+# memory may be taken some have a like with its own name, of a trait of `rattle::memory`.
 REFUSED_METHODS = {"clone", "cloned", "push", "push_str", "insert", "collect", "to_vec", "to_owned", "to_string", "extend",
                    "extend_from_slice", "reserve", "resize", "sort", "cast_signed", "cast_unsigned", "expect", "try_collect"}
+MEMORY_METHODS = {"push": "push_in", "insert": "insert_in", "extend_from_slice": "extend_in", "reserve": "reserve_in",
+                  "clone": "try_clone", "collect": "collect_in"}
+
+# Calls of `Vec` that take an allocator, which are functions of `rattle::vec`.
+VEC_CALLS = {"new", "with_capacity"}
 
 # Words that no exported code has. The layout of types is each language's own.
 REFUSED_WORDS = {"unsafe", "async", "await", "extern", "union", "size_of", "size_of_val", "align_of", "transmute",
                  "HashMap", "String", "Box", "Rc", "Arc"}
 HOSTED_WORDS = {"Vec", "HostRuntime", "AllocGlobal"}
+TEST_WORDS = {"String"}
 
 # Macros that mean the same in both languages, and those that Rattle gives a runtime or an allocator.
 KEPT_MACROS = {"matches", "unreachable"}
 HOSTED_MACROS = {"assert", "assert_eq", "assert_ne", "panic"}
+WRITING_MACROS = {"write", "writeln"}

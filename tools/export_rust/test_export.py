@@ -9,27 +9,28 @@ import unittest
 sys.dont_write_bytecode = True
 
 import rules
-from export_rust import HERE, ROOT, UNPROVED, Export, digest
+from check import differing
+from export_rust import HERE, ROOT, UNPROVED, Export, exports
 from items import Translator
 from lexing import Refused
 from scripts import script
 
 
-def rust(text, crate="layers", hosted=False, contracts=False, left=True):
+def rust(text, crate="layers", of=rules.KEYBOARD, hosted=False, contracts=False, left=True, with_tests=False):
     """The Rust for a file of a crate that stands on `records`."""
-    translator = Translator(crate, "", "f.rt", {"records"}, hosted, contracts)
+    translator = Translator(crate, "", "f.rt", {"records"}, of, hosted, contracts, with_tests)
     translator.open_module = lambda name, hosted: left
     return translator.translate(text)
 
 
-def run(folder):
+def run(*words):
     """The exporter, run on a folder."""
-    return subprocess.run([sys.executable, "-B", os.path.join(HERE, "export_rust.py"), folder], capture_output=True, text=True)
+    return subprocess.run([sys.executable, "-B", os.path.join(HERE, "export_rust.py"), *words], capture_output=True, text=True)
 
 
 # A name, a source, its export.
 LEFT_OUT = [
-    ("a ghost use", "ghost use A.{◌≡◌, x};\n\nuse records::Slot;\n", "use crate::records::Slot;\n"),
+    ("a ghost use", "ghost use A.{◌≡◌, x};\n\nuse records::Slot;\n", "use wuzhikar_log::parts::records::Slot;\n"),
     ("clauses and comments on them",
      "/// Doc.\n#[tactic(auto, using(a::b))]\npub fn f(a: u8) -> u8\n    // why\n    ensures small { result < 2 }\n"
      "    // and\n    ensures { result ≡ a -- }\n }\n{\n    a\n}\n", "/// Doc.\npub fn f(a: u8) -> u8 {\n    a\n}\n"),
@@ -42,7 +43,7 @@ LEFT_OUT = [
     ("ghosts of a trait",
      "trait T {\n    /// Ghost.\n    ghost image: { Self → ℕ };\n\n    /// Runs.\n    fn a(&self) -> u8\n        ensures { result ≡ image self.now };\n}\n",
      "trait T {\n    /// Runs.\n    fn a(&self) -> u8;\n}\n"),
-    ("a law", "/// Law.\npub fn law()\n    ensures { a }\n{}\nuse crate::x;\n", "use crate::layers::x;\n"),
+    ("a law", "/// Law.\npub fn law()\n    ensures { a }\n{}\nuse crate::x;\n", "use crate::parts::layers::x;\n"),
     ("the root's tactic", "//! Root.\n#![tactic(auto)]\n\nconst A: u8 = 1;\n", "//! Root.\n\nconst A: u8 = 1;\n"),
 ]
 
@@ -58,7 +59,9 @@ KEPT = [
 ]
 
 CHANGED = [
-    ("a caller's condition", "pub fn f(a: u8) -> u8\n    requires { a < 2 }\n{\n    a\n}\n", "pub(crate) fn f(a: u8) -> u8 {\n    a\n}\n"),
+    ("a caller's condition", "impl S { pub fn f(a: u8) -> u8\n    requires { a < 2 }\n{\n    a\n} }\n", "impl S { pub(crate) fn f(a: u8) -> u8 {\n    a\n} }\n"),
+    ("a function's condition, which `parts` alone shows", "pub fn f(a: u8) -> u8\n    requires { a < 2 }\n{\n    a\n}\n", "pub fn f(a: u8) -> u8 {\n    a\n}\n"),
+    ("code in docs, which is Rattle's", "/// ```\n/// f(alloc)\n/// ```\nfn f() {}\n", "/// ```text\n/// f(alloc)\n/// ```\nfn f() {}\n"),
     ("core", "use std::fmt::Debug;\n", "use core::fmt::Debug;\n"),
     ("memory", "use std::alloc::{AllocError, Global};\n", "use crate::rattle::alloc::{AllocError, Global};\n"),
     ("a vector of lanes", "use std::simd::prelude::*;\n", "use crate::rattle::simd::prelude::*;\n"),
@@ -71,7 +74,9 @@ HOSTED = [
     ("a borrowed runtime", "fn a(rt: &impl Abort) { f().expect(rt, \"one\"); assert!(&rt; g()); }\n",
      "fn a(rt: &impl Abort) { f().expect(\"one\"); assert!(g()); }\n"),
     ("a vector", "fn a(rt: HostRuntime) -> Vec<u8> { vec![in rt.alloc(); 0u8; 4] }\n",
-     "fn a(rt: crate::rattle::HostRuntime) -> crate::rattle::Vec<u8> { crate::rattle::vec_in![rt.alloc(); 0u8; 4] }\n"),
+     "fn a(rt: crate::rattle::HostRuntime) -> crate::rattle::Vec<u8> { crate::rattle::vec::of(rt.alloc(), 0u8, 4) }\n"),
+    ("a vector's calls", "fn a(alloc: u8) { let mut v = Vec::new(alloc); v.push(1)?; }\n",
+     "fn a(alloc: u8) { let mut v = crate::rattle::vec::new(alloc); v.push_in(1)?; }\n\n#[allow(unused_imports)]\nuse crate::rattle::memory::*;\n"),
 ]
 
 REFUSED = [
@@ -139,14 +144,26 @@ class Forms(unittest.TestCase):
                 self.assertRegex(str(fault.exception), r"^f\.rt:3: ")
 
     def test_a_condition_that_stays_is_said_first(self):
-        source = "/// Works.\npub fn work(&mut self) -> u8\n    requires { a }\n{ 1 }\n"
-        said, blank, docs, _ = rust(source, crate="keyboard").split("\n", 3)
-        self.assertEqual((said, blank, docs), (f"/// {rules.OWED['keyboard', 'work']}", "///", "/// Works."))
+        source = "impl Keyboard {\n    /// Works.\n    pub fn work(&mut self) -> u8\n        requires { a }\n    { 1 }\n}\n"
+        made = [line.strip() for line in rust(source, crate="keyboard").split("\n")]
+        self.assertEqual(made[1:4], [f"/// {rules.KEYBOARD.owed['keyboard', 'Keyboard::work']}", "///", "/// Works."])
 
     def test_a_call_with_a_type_that_has_no_name_is_for_the_crate(self):
-        source = "pub fn start_in(room: Room) -> u8\n    ensures { a }\n{ 1 }\n"
-        self.assertEqual(rust(source, crate="keyboard"), "pub(crate) fn start_in(room: Room) -> u8 { 1 }\n")
-        self.assertEqual(rust(source, crate="layers"), "pub fn start_in(room: Room) -> u8 { 1 }\n")
+        source = "impl Keyboard { pub fn start_in(room: Room) -> u8\n    ensures { a }\n{ 1 } }\n"
+        self.assertEqual(rust(source, crate="keyboard"), "impl Keyboard { pub(crate) fn start_in(room: Room) -> u8 { 1 } }\n")
+        self.assertEqual(rust(source, crate="layers"), "impl Keyboard { pub fn start_in(room: Room) -> u8 { 1 } }\n")
+
+    def test_an_error_gets_its_text(self):
+        source = "use thiserror::Error;\n#[derive(Error)]\npub enum E {\n    #[error(\"at {0}\")]\n    A(u8),\n}\n"
+        made = rust(source, crate="script", of=rules.SIMULATOR)
+        self.assertIn("Self::A(_0) => write!(f, \"at {_0}\"),", made)
+        self.assertIn("impl core::error::Error for E {}", made)
+        self.assertNotIn("thiserror", made)
+
+    def test_a_call_of_another_crate_that_is_no_promise_goes_by_its_trait(self):
+        translator = Translator("keymap_store", "", "f.rt", {"page_turnover"}, rules.KEYBOARD)
+        made = translator.translate("fn f(log: &mut u8) { log.seal(); }\n")
+        self.assertIn("use wuzhikar_log::calls::LogCalls as _;", made)
 
     def test_contracts_are_docs_on_request(self):
         source = "/// Doc.\nfn f() -> u8\n    ensures one {\n        result ≡ 1 }\n{ 1 }\n"
@@ -159,38 +176,36 @@ class Forms(unittest.TestCase):
 
     def test_tests_see_the_runtime_and_the_rest_does_not(self):
         text = "#[cfg(test)]\nmod tests { fn a(rt: HostRuntime) {} }\n"
-        self.assertIn("crate::rattle::HostRuntime", rust(text))
+        self.assertIn("crate::rattle::HostRuntime", rust(text, with_tests=True))
+        self.assertEqual(rust(text).strip(), "")
         with self.assertRaises(Refused):
-            rust(text + "fn b(rt: HostRuntime) {}\n")
+            rust(text + "fn b(rt: HostRuntime) {}\n", with_tests=True)
 
 
 class Whole(unittest.TestCase):
     def test_the_sources_are_exported_the_same_each_time(self):
-        exports = []
-        for _ in range(2):
-            export = Export(ROOT)
-            export.make()
+        first, second = exports(ROOT), exports(ROOT)
+        for export, again in zip(first, second):
             self.assertEqual(export.faults, [])
-            exports.append(export.files)
-        self.assertEqual(exports[0], exports[1])
-        self.assertIn("    pub(crate) fn start_in<", exports[0]["src/keyboard/keyboard.rs"])
-        for name, text in exports[0].items():
-            code = "\n".join(line for line in text.split("\n") if not line.strip().startswith("//"))
-            self.assertNotRegex(code, r"\b(ghost|requires|ensures|Model)\b", name)
-            self.assertNotRegex(code, r"\bunsafe\b(?!_)", name)
+            self.assertEqual(export.files, again.files)
+            for name, text in export.files.items():
+                code = "\n".join(line for line in text.split("\n") if not line.strip().startswith("//"))
+                self.assertNotRegex(code, r"\b(ghost|requires|ensures|Model)\b", name)
+                self.assertNotRegex(code, r"\bunsafe\b(?!_)", name)
+        self.assertIn("    pub(crate) fn start_in<", first[1].files["src/parts/keyboard/keyboard.rs"])
 
     def test_a_fault_anywhere_writes_nothing(self):
         with tempfile.TemporaryDirectory() as folder:
             root = os.path.join(folder, "root")
             os.makedirs(os.path.join(root, "crates/layers/src"))
             with open(os.path.join(root, "crates.txt"), "w", encoding="utf-8") as file:
-                file.write("# Crates.\nlayers: records\n")
+                file.write("# Crates.\nlayers: nothing\n")
             with open(os.path.join(root, "crates/layers/src/lib.rt"), "w", encoding="utf-8") as file:
                 file.write("const A: u8 = 1;\nmod missing;\n\nfn f() { unsafe { } }\n")
-            export = Export(root, crates=["layers"])
+            export = Export(root, rules.Rules(name="made", crates=("layers",)))
             export.make()
             self.assertIn("crates/layers/src/lib.rt:4: `unsafe` is not exported", export.faults)
-            self.assertIn("crates.txt: layers stands on records, which is not exported", export.faults)
+            self.assertIn("crates.txt: layers stands on nothing, which is not exported", export.faults)
             self.assertTrue(any("missing.rt" in fault for fault in export.faults))
 
     def test_a_folder_with_other_files_is_refused(self):
@@ -202,36 +217,22 @@ class Whole(unittest.TestCase):
             self.assertIn("nothing was written", ended.stderr)
             self.assertEqual(os.listdir(folder), ["mine"])
 
-    def test_an_earlier_export_is_replaced_and_says_that_it_is_unproved(self):
+    def test_one_crate_comes_with_those_below_and_says_that_it_is_unproved(self):
         with tempfile.TemporaryDirectory() as folder:
-            os.makedirs(os.path.join(folder, "a/src/gone"))
-            old = {"Cargo.toml": "old", "src/gone/old.rs": "old"}
-            with open(os.path.join(folder, "a/WRITTEN"), "w", encoding="utf-8") as file:
-                file.write("".join(f"{digest(text.encode())}  {name}\n" for name, text in old.items()))
-            for name, text in [*old.items(), ("Cargo.lock", "mine")]:
-                with open(os.path.join(folder, "a", name), "w", encoding="utf-8") as file:
-                    file.write(text)
-            for _ in range(2):
-                ended = run(os.path.join(folder, "a"))
-                self.assertEqual((ended.returncode, ended.stderr), (0, UNPROVED + "\n"))
-            self.assertFalse(os.path.exists(os.path.join(folder, "a/src/gone")))
-            with open(os.path.join(folder, "a/Cargo.lock"), encoding="utf-8") as file:
-                self.assertEqual(file.read(), "mine")
+            ended = run("--crate", "wuzhikar", os.path.join(folder, "a"))
+            self.assertEqual((ended.returncode, ended.stderr), (0, UNPROVED + "\n"))
+            made = sorted(os.listdir(os.path.join(folder, "a")))
+            self.assertEqual(made, ["BY_HAND", "Cargo.toml", "README.md", "wuzhikar", "wuzhikar-log"])
 
-    def test_what_no_export_wrote_is_refused_by_name(self):
+    def test_what_differs_is_told_by_its_name(self):
         with tempfile.TemporaryDirectory() as folder:
-            self.assertEqual(run(folder).returncode, 0)
-            mine = {"src/mine.rs": "fn mine() {}\n", "src/rattle.rs": "changed\n", "Cargo.toml": "changed\n"}
-            for name, text in mine.items():
+            for name, text in {"BY_HAND": "BY_HAND\ngone\n", "made": "new\n", "stray": "", "target/x": "", "old": "a\nb\n"}.items():
+                os.makedirs(os.path.dirname(os.path.join(folder, name)), exist_ok=True)
                 with open(os.path.join(folder, name), "w", encoding="utf-8") as file:
                     file.write(text)
-            ended = run(folder)
-            self.assertEqual(ended.returncode, 1)
-            self.assertEqual(ended.stderr.count("would be lost"), 3)
-            for name, text in mine.items():
-                self.assertIn(f"{folder}/{name}: would be lost", ended.stderr)
-                with open(os.path.join(folder, name), encoding="utf-8") as file:
-                    self.assertEqual(file.read(), text)
+            told = list(differing(folder, {"made": "new\n", "old": "a\nc\n", "lost": ""}))
+            self.assertEqual([line.split(":")[0] for line in told], ["rust/gone", "rust/stray", "rust/lost", "rust/old"])
+            self.assertIn("rust/old:2:", told[3])
 
     def test_a_script_is_the_same_each_time(self):
         self.assertEqual(script(7), script(7))

@@ -2,7 +2,7 @@
 //! The device: a keyboard beside a flash in memory.
 #![forbid(unsafe_code)]
 
-use wuzhikar::{EpAnswer, Global, Keyboard, Report, Scan, SimFlash, Work};
+use wuzhikar::{EpAnswer, Keyboard, Report, Scan, SimFlash, Work};
 
 /// A keyboard and the flash that it started on. The flash is lent to nothing else.
 pub struct Bench {
@@ -13,7 +13,7 @@ pub struct Bench {
 impl Bench {
     /// A keyboard on erased pages. `None` where there is no such number of pages, or no memory.
     pub fn new(pages: usize) -> Option<Bench> {
-        let flash = SimFlash::new(Global, pages).ok()?;
+        let flash = SimFlash::blank(pages).ok()?;
         Some(Bench { keyboard: Keyboard::on(&flash), flash })
     }
 

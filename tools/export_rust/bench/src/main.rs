@@ -2,7 +2,7 @@
 //! the difference of two runs, divided by that of their counts. The kinds are the arms of `main`.
 
 use std::hint::black_box;
-use wuzhikar::{EpAnswer, Global, Keyboard, Scan, SimFlash, Work};
+use wuzhikar::{EpAnswer, Keyboard, Scan, SimFlash, Work};
 
 /// SET_REPORT of the feature report.
 const SET_FEATURE: [u8; 8] = [0x21, 0x09, 0x03, 0x03, 0x00, 0x00, 0x06, 0x00];
@@ -20,7 +20,7 @@ fn main() {
     let mut words = std::env::args().skip(1);
     let kind = words.next().expect("a kind of call");
     let count: u16 = words.next().expect("a count").parse().expect("a number");
-    let flash = SimFlash::new(Global, 2).expect("memory");
+    let flash = SimFlash::blank(2).expect("memory");
     let keyboard = Keyboard::on(&flash);
     let mut device = Device { keyboard, flash };
     match kind.as_str() {

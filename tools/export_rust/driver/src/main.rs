@@ -3,7 +3,7 @@
 //! `driver PAGES < SCRIPT`. Scripts are taken to be lawful: a fault ends the program.
 
 use std::io::{Read, Write};
-use wuzhikar::{EpAnswer, Global, KeyNo, Keyboard, LayerNo, Mask, NorFlash, Scan, SimFlash, Work};
+use wuzhikar::{EpAnswer, KeyNo, Keyboard, LayerNo, Mask, NorFlash, Scan, SimFlash, Work};
 
 /// SET_REPORT of the feature report.
 const SET_FEATURE: [u8; 8] = [0x21, 0x09, 0x03, 0x03, 0x00, 0x00, 0x06, 0x00];
@@ -15,7 +15,7 @@ struct Device {
 
 fn main() {
     let pages = std::env::args().nth(1).map_or(2, |pages| pages.parse().expect("a page count"));
-    let flash = SimFlash::new(Global, pages).expect("2 to 8 pages");
+    let flash = SimFlash::blank(pages).expect("2 to 8 pages");
     let keyboard = Keyboard::on(&flash);
     let mut device = Device { keyboard, flash };
     let mut script = String::new();

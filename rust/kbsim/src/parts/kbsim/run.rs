@@ -1,0 +1,296 @@
+// Exported from crates/kbsim/src/run.rt by bin/export-rust. Edit that file instead.
+//! Running a script.
+
+use crate::parts::kbsim::action::event_of;
+use crate::parts::kbsim::fetch::fetch;
+use crate::parts::kbsim::flash::blank_flash;
+use crate::parts::kbsim::outcome::Outcome;
+use crate::parts::kbsim::print::{FaultLine, PrintedLine};
+use crate::parts::kbsim::{Answer, Event, RunError, Work, World};
+use arrayvec::ArrayVec;
+use wuzhikar_log::parts::flash_model::{NorFlash, SimFlash};
+use crate::parts::script::{Action, Line, ScriptError, Statement, read_lines};
+use crate::rattle::alloc::{AllocError, Global};
+use std::io::{Read, Write};
+use core::num::NonZeroU16;
+use core::slice;
+use crate::parts::text_io::{Printer, read_text};
+use crate::parts::world::Scan;
+
+/// The most steps that a command's flash work takes: an erase, a copy of each of the 384 entries,
+/// a header and a record.
+const MOST_STEPS: u16 = 387;
+
+/// The SETUP packet of a feature report that carries a command.
+const SET_FEATURE: [u8; 8] = [0x21, 0x09, 0x03, 0x03, 0x00, 0x00, 0x06, 0x00];
+
+/// Runs the script that a reader gives, on a blank flash of this many pages, and prints a line
+/// for each of its lines.
+///
+/// The whole script is read, at most 1,048,576 bytes, and checked before the first event is run.
+/// The line of a fault is printed last, before the fault is returned.
+///
+/// `PageCount` comes where there are not 2 to 8 pages, before anything is read, and has no line.
+/// `Input` comes at any fault of the reader, an interruption too, and `TooLong` where it gives
+/// more bytes. Then comes `Line` with the first line that is not of the language. `Memory` comes
+/// wherever a request for memory is refused. `Output` comes where the writer fails or takes no
+/// byte; nothing is printed after it.
+pub fn run_script<R: Read, W: Write>(
+    alloc: Global,
+    pages: usize,
+    reader: &mut R,
+    writer: &mut W,
+) -> Result<(), RunError> {
+    let flash = match blank_flash(alloc, pages) {
+        Ok(flash) => flash,
+        Err(RunError::PageCount) => return Err(RunError::PageCount),
+        Err(error) => return Err(print_fault(error, writer)),
+    };
+    run_on(alloc, flash, reader, writer).map(|_| ())
+}
+
+/// Runs the script that a reader gives, on this flash, armed or not, and prints a line for each of
+/// its lines. The answer is the flash after the last line.
+///
+/// What is read, checked and printed, and each fault but `PageCount`, is as `run_script` says; the
+/// script is checked against the flash's number of pages.
+pub fn run_on<R: Read, W: Write>(
+    alloc: Global,
+    flash: SimFlash,
+    reader: &mut R,
+    writer: &mut W,
+) -> Result<SimFlash, RunError> {
+    let text = match read_text(alloc, reader) {
+        Ok(text) => text,
+        Err(error) => return Err(print_fault(error.into(), writer)),
+    };
+    let lines = match lines_of(alloc, flash.pages(), text.as_slice()) {
+        Ok(lines) => lines,
+        Err(error) => return Err(print_fault(error, writer)),
+    };
+    run_lines(alloc, flash, lines.as_slice(), writer)
+}
+
+/// Prints the line of a fault. The answer is the fault, or `Output` where the writer fails or takes
+/// no byte. `PageCount` and `Output` have no line.
+pub fn print_fault<W: Write>(error: RunError, writer: &mut W) -> RunError {
+    tell(&mut Printer::new(writer), error)
+}
+
+/// Runs the lines of a script on a flash, and gives the writer what they print. The answer is the
+/// flash after them.
+fn run_lines<W: Write>(
+    alloc: Global,
+    flash: SimFlash,
+    lines: &[Line<'_>],
+    writer: &mut W,
+) -> Result<SimFlash, RunError> {
+    let mut printer = Printer::new(writer);
+    let after = match perform(alloc, flash, lines, &mut printer) {
+        Ok(after) => after,
+        Err(error) => return Err(tell(&mut printer, error)),
+    };
+    match printer.finish() {
+        Ok(()) => Ok(after),
+        Err(_) => Err(RunError::Output),
+    }
+}
+
+/// Prints the line of a fault, and gives the writer all that was printed. The answer is the fault,
+/// or `Output`.
+fn tell<W: Write>(printer: &mut Printer<'_, W>, error: RunError) -> RunError {
+    if error == RunError::Output || printer.print(&FaultLine(error)).is_err() {
+        return RunError::Output;
+    }
+    if printer.finish().is_err() {
+        return RunError::Output;
+    }
+    error
+}
+
+/// What the lines of a script say.
+fn lines_of(alloc: Global, pages: usize, text: &[u8]) -> Result<crate::rattle::Vec<Line<'_>>, RunError> {
+    match read_lines(alloc, pages, text) {
+        Ok(lines) => Ok(lines),
+        Err(ScriptError::Line { line, fault }) => Err(RunError::Line { line, fault }),
+        Err(ScriptError::Memory) => Err(RunError::Memory),
+    }
+}
+
+/// Runs the lines of a script on a flash. The answer is the flash after them.
+fn perform<W: Write>(
+    alloc: Global,
+    flash: SimFlash,
+    lines: &[Line<'_>],
+    printer: &mut Printer<'_, W>,
+) -> Result<SimFlash, RunError> {
+    let mut world = world_on(alloc, flash)?;
+    let ended = run_each(&mut world, lines, &mut crate::rattle::vec::new(alloc), printer);
+    let after = world.into_flash();
+    ended.map(|()| after)
+}
+
+/// Runs the lines of a script on a device that was just started.
+fn run_each<W: Write>(
+    world: &mut World,
+    lines: &[Line<'_>],
+    answers: &mut crate::rattle::Vec<Answer>,
+    printer: &mut Printer<'_, W>,
+) -> Result<(), RunError> {
+    for line in lines {
+        let Ok(outcome) = run_line(world, &line.statement, answers) else {
+            return Err(RunError::Memory);
+        };
+        let shown = PrintedLine {
+            number: line.number,
+            outcome: &outcome,
+        };
+        let Ok(()) = printer.print(&shown) else {
+            return Err(RunError::Output);
+        };
+    }
+    Ok(())
+}
+
+/// A device that starts on a flash; `Memory` where it finds no room.
+fn world_on(alloc: Global, flash: SimFlash) -> Result<World, RunError> {
+    World::new(alloc, flash).map_err(|_| RunError::Memory)
+}
+
+/// Runs the events of a line. The outcome is what the line prints.
+fn run_line(
+    world: &mut World,
+    statement: &Statement<'_>,
+    answers: &mut crate::rattle::Vec<Answer>,
+) -> Result<Outcome, AllocError> {
+    match statement {
+        Statement::One(action) => act(world, action, answers),
+        Statement::Scans { count, scan } => {
+            let answer = repeat(world, *scan, *count, answers)?;
+            Ok(Outcome::Answered(answer))
+        }
+        Statement::Set { layer, key, code } => {
+            let answer = set(world, [*layer, *key], *code, answers)?;
+            Ok(Outcome::Answered(answer))
+        }
+        Statement::Fetch => fetch(world, answers),
+    }
+}
+
+/// Runs a line of one event. Each place where an `Event` is made is in a function of its own, or outside a loop: all of
+/// an `Event` is filled with zeros where a function that has one begins, with the mask of 4,096 bytes that it may hold.
+fn act(
+    world: &mut World,
+    action: &Action<'_>,
+    answers: &mut crate::rattle::Vec<Answer>,
+) -> Result<Outcome, AllocError> {
+    let answer = take(world, &event_of(action), answers)?;
+    Ok(Outcome::Answered(answer))
+}
+
+/// Takes one event. `AllocError` where there was no memory for its answer, or for the host, which
+/// then took the event all the same.
+pub(crate) fn take(
+    world: &mut World,
+    event: &Event,
+    answers: &mut crate::rattle::Vec<Answer>,
+) -> Result<Answer, AllocError> {
+    pass(world, event, answers)?;
+    answers.pop().ok_or(AllocError)
+}
+
+/// Takes one event, and leaves its answer alone in the list.
+fn pass(world: &mut World, event: &Event, answers: &mut crate::rattle::Vec<Answer>) -> Result<(), AllocError> {
+    answers.clear();
+    world.run(slice::from_ref(event), answers)?;
+    Ok(())
+}
+
+/// Takes a scan `count` times. Its event is built once, however often it is taken. The answer is the
+/// last one.
+fn repeat(
+    world: &mut World,
+    scan: Scan,
+    count: NonZeroU16,
+    answers: &mut crate::rattle::Vec<Answer>,
+) -> Result<Answer, AllocError> {
+    let event = Event::Scan(scan);
+    for _again in 1..count.get() {
+        pass(world, &event, answers)?;
+    }
+    take(world, &event, answers)
+}
+
+/// Sets an entry by a feature report, and takes the steps of its flash work. The answer is that
+/// of the packet that ended the transfer, `Ack` for a status stage that succeeded.
+fn set(
+    world: &mut World,
+    place: [u8; 2],
+    code: u16,
+    answers: &mut crate::rattle::Vec<Answer>,
+) -> Result<Answer, AllocError> {
+    // A SETUP packet is always acknowledged.
+    take(world, &Event::Setup(SET_FEATURE), answers)?;
+    let told = send(world, command(place, code), answers)?;
+    if !is_ack(&told) {
+        return Ok(told);
+    }
+    work_off(world, answers)?;
+    let status = ask(world, answers)?;
+    if is_success(&status) {
+        return Ok(Answer::Ack);
+    }
+    Ok(status)
+}
+
+/// Takes an OUT packet.
+pub(crate) fn send(
+    world: &mut World,
+    packet: ArrayVec<u8, 8>,
+    answers: &mut crate::rattle::Vec<Answer>,
+) -> Result<Answer, AllocError> {
+    take(world, &Event::OutPacket(packet), answers)
+}
+
+/// Takes an IN packet.
+fn ask(world: &mut World, answers: &mut crate::rattle::Vec<Answer>) -> Result<Answer, AllocError> {
+    take(world, &Event::InPacket, answers)
+}
+
+pub(crate) fn is_ack(answer: &Answer) -> bool {
+    matches!(answer, Answer::Ack)
+}
+
+/// Whether a status stage succeeded: it is the empty packet then.
+fn is_success(answer: &Answer) -> bool {
+    match answer {
+        Answer::Packet(bytes) => bytes.is_empty(),
+        _ => false,
+    }
+}
+
+/// Whether a step of the flash work needs another one.
+fn needs_more(answer: &Answer) -> bool {
+    matches!(answer, Answer::Worked(Work::Working))
+}
+
+/// Takes steps of the flash work until one needs no more.
+fn work_off(world: &mut World, answers: &mut crate::rattle::Vec<Answer>) -> Result<(), AllocError> {
+    let event = Event::Work;
+    for _step in 0..MOST_STEPS {
+        let answer = take(world, &event, answers)?;
+        if !needs_more(&answer) {
+            return Ok(());
+        }
+    }
+    Ok(())
+}
+
+/// The feature report that sets an entry to a code.
+fn command(place: [u8; 2], code: u16) -> ArrayVec<u8, 8> {
+    let [layer, key] = place;
+    let [low, high] = code.to_le_bytes();
+    let mut packet = ArrayVec::from([0x03, 0x01, layer, key, low, high, 0, 0]);
+    packet.truncate(6);
+    packet
+}

@@ -1,0 +1,24 @@
+// Exported from crates/parse_lines/src/lib.rt by bin/export-rust. Edit that file instead.
+//! Report descriptors as lines of text: the fields or the items of one that is given in hex, and the descriptors that the
+//! keyboard serves.
+//!
+//! [`parse_text`] reads hex digits and prints a line for each field that they declare (HID 1.11, section 6.2.2), and
+//! [`items_text`] a line for each item, up to the first fault. [`describe`] prints the descriptors of the keyboard. They
+//! go from any reader to any writer, and keep nothing. The promise is that the lines are exactly those of the text, and
+//! that a text which is refused is told by its first fault. The program `kbsim_cli` calls them.
+
+mod context;
+mod fault;
+mod hex_text;
+mod lines;
+mod listing;
+mod names;
+mod print;
+mod served;
+mod text;
+mod words;
+
+pub use fault::LinesError;
+pub use listing::items_text;
+pub use served::describe;
+pub use text::parse_text;

@@ -1,0 +1,82 @@
+// Exported from crates/parse_lines/src/text.rt by bin/export-rust. Edit that file instead.
+//! The fields of a report descriptor as lines.
+
+use crate::parts::parse_lines::LinesError;
+use crate::parts::parse_lines::hex_text::bytes_of;
+use crate::parts::parse_lines::print::{FaultLine, FieldLine};
+use wuzhikar_reader::parts::descriptor_parse::{Descriptor, ParseFault, parse};
+use crate::rattle::alloc::Global;
+use std::io::{Read, Write};
+use crate::parts::text_io::{Printer, WriteError, read_text};
+
+/// Reads a report descriptor in hex, and prints a line for each of its fields (HID 1.11, section 6.2.2).
+///
+/// The reader gives at most 1,048,576 bytes: hex digits in either case, two a byte. Spaces, tabs, CR and LF are
+/// dropped. A line is `KIND ID BIT SIZE COUNT MIN MAX FORM USAGES`: `input`, `output` or `feature`; the report ID, 0
+/// without one; the first bit, counted behind the ID byte; the bits of a place and the number of places; the logical
+/// extents; `variable` or `array`; the usages as they were declared, 8 hex digits each, as `first-last` or one number,
+/// joined by commas, `-` where there are none.
+///
+/// The line of a fault is printed last, before the fault is returned, and then no field is printed. `Input` comes at
+/// any fault of the reader, an interruption too, and `TooLong` where it gives more bytes, both before any of the text
+/// is checked. Then comes `BadHexText`, and then `Refused` with the first fault of the descriptor. `Memory` comes
+/// wherever a request for memory is refused. `Output` comes where the writer fails or takes no byte; nothing is
+/// printed after it.
+pub fn parse_text<R: Read, W: Write>(
+    alloc: Global,
+    reader: &mut R,
+    writer: &mut W,
+) -> Result<(), LinesError> {
+    match descriptor_of(alloc, reader) {
+        Ok(descriptor) => print_fields(&descriptor, writer),
+        Err(error) => print_fault(error, writer),
+    }
+}
+
+/// The descriptor that the reader's text declares.
+fn descriptor_of<R: Read>(alloc: Global, reader: &mut R) -> Result<Descriptor, LinesError> {
+    let text = read_text(alloc, reader)?;
+    let bytes = bytes_of(alloc, text)?;
+    parsed(alloc, bytes.as_slice())
+}
+
+/// The descriptor of these bytes.
+pub(crate) fn parsed(alloc: Global, bytes: &[u8]) -> Result<Descriptor, LinesError> {
+    match parse(alloc, bytes) {
+        Ok(descriptor) => Ok(descriptor),
+        Err(refusal) => match refusal.fault {
+            ParseFault::Memory => Err(LinesError::Memory),
+            _ => Err(LinesError::Refused(refusal)),
+        },
+    }
+}
+
+/// Prints a line for each field.
+fn print_fields<W: Write>(descriptor: &Descriptor, writer: &mut W) -> Result<(), LinesError> {
+    let mut printer = Printer::new(writer);
+    let printed = put_fields(descriptor, &mut printer);
+    if printed.is_err() || printer.finish().is_err() {
+        return Err(LinesError::Output);
+    }
+    Ok(())
+}
+
+fn put_fields<W: Write>(
+    descriptor: &Descriptor,
+    printer: &mut Printer<'_, W>,
+) -> Result<(), WriteError> {
+    for (place, field) in descriptor.fields().iter().enumerate() {
+        let ranges = descriptor.ranges(place);
+        printer.print(&FieldLine { field, ranges })?;
+    }
+    Ok(())
+}
+
+/// Prints the line of a fault, and answers the fault.
+pub(crate) fn print_fault<W: Write>(error: LinesError, writer: &mut W) -> Result<(), LinesError> {
+    let mut printer = Printer::new(writer);
+    if printer.print(&FaultLine(error)).is_err() || printer.finish().is_err() {
+        return Err(LinesError::Output);
+    }
+    Err(error)
+}

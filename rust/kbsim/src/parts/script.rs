@@ -1,0 +1,21 @@
+// Exported from crates/script/src/lib.rt by bin/export-rust. Edit that file instead.
+//! The language of scripts: what each line of a text says, or which fault it has.
+//!
+//! [`read_lines`] checks a whole script. Nothing is run here.
+//!
+//! Nothing is kept. The promise is that a script is read as just what its lines say, or refused for its first fault.
+//! `kbsim` calls it.
+
+mod fault;
+mod keys;
+mod lines;
+mod mask;
+mod number;
+mod read;
+mod statement;
+mod words;
+
+pub use fault::{LineFault, ScriptError};
+pub use mask::MaskWord;
+pub use read::{Line, read_lines};
+pub use statement::{Action, Statement};

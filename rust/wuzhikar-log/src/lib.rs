@@ -1,0 +1,33 @@
+//! A log of words over NOR flash that no loss of power spoils.
+//!
+//! [`FlashLog`] is the log with its flash; [`Log`] is the log alone, which is lent its flash at each call. What it stands
+//! on is the trait [`NorFlash`]: 2 to 8 pages of 512 slots of 8 bytes. Each word is kept beside its complement in a slot
+//! of its own; a full page is turned over to the next one, whose header is written last. Each call makes at most one
+//! operation of the flash, and after a loss of power in any of them a mount finds each word that was told to be there.
+//! No allocator is used.
+//!
+//! **Exported from a proved source.** What is in the hidden module `parts` is the text of crates that are proved in Rattle
+//! (Rust with contracts), without what the prover alone reads. The proofs speak of that source, and of a flash that does
+//! what [`NorFlash`] says of each call. What is written by hand in this crate is tested and not proved.
+#![no_std]
+#![forbid(unsafe_code)]
+#![warn(missing_debug_implementations)]
+
+#[cfg(feature = "sim")]
+extern crate alloc;
+#[cfg(test)]
+extern crate std;
+
+#[doc(hidden)]
+pub mod calls;
+mod face;
+#[doc(hidden)]
+pub mod parts;
+#[doc(hidden)]
+pub mod rattle;
+
+pub use crate::face::{FlashLog, LogRefusal};
+pub use crate::parts::flash_model::{FlashFault, NorFlash, PAGE_BYTES, PAGE_SLOTS, SLOT_BYTES};
+#[cfg(feature = "sim")]
+pub use crate::parts::flash_model::{FlashError, Mask, SimFlash};
+pub use crate::parts::page_turnover::{Log, Step, TurnRefusal, Unsound, Words};

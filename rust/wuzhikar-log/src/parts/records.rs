@@ -1,0 +1,59 @@
+// Exported from crates/records/src/lib.rt by bin/export-rust. Edit that file instead.
+//! What the eight bytes of a flash slot hold: a word beside its complement.
+//!
+//! A slot is a little-endian 32-bit word followed by the complement of that word. The complement
+//! tells a whole write from a torn one: a write that was cut short leaves a slot that is not Good,
+//! or that is Good with the word that was meant (`laws`).
+//!
+//! Nothing is kept. The promise is that what a program of a Free slot or an erase of a sound one
+//! leaves, where it is torn, is never read as another word. `page_turnover` calls it for each slot
+//! that it reads or writes.
+
+pub mod kernels;
+
+pub use kernels::{Kinds, all_ones, kinds8};
+
+/// What a slot of eight bytes holds.
+#[derive(Clone, Copy, Debug, PartialEq, Eq)]
+pub enum Slot {
+    /// Eight bytes FFh: erased, and not written since.
+    Free,
+    /// A word, followed by its complement.
+    Good(u32),
+    /// Anything else.
+    Spoiled,
+}
+
+/// The eight bytes of a slot that holds `word`: the word and then its complement, each in four
+/// bytes with the low byte first.
+pub fn encode(word: u32) -> [u8; 8] {
+    let [a, b, c, d] = word.to_le_bytes();
+    let [e, f, g, h] = (!word).to_le_bytes();
+    [a, b, c, d, e, f, g, h]
+}
+
+/// What these eight bytes hold: Free where all are FFh, Good where the last four are the
+/// complement of the first four, and Spoiled otherwise.
+pub fn classify(bytes: [u8; 8]) -> Slot {
+    let [a, b, c, d, e, f, g, h] = bytes;
+    let word = u32::from_le_bytes([a, b, c, d]);
+    let check = u32::from_le_bytes([e, f, g, h]);
+    if word == u32::MAX && check == u32::MAX {
+        Slot::Free
+    } else if check == !word {
+        Slot::Good(word)
+    } else {
+        Slot::Spoiled
+    }
+}
+
+/// Whether no bit position is clear in both halves of a slot, the first four bytes and the last.
+pub fn is_sound(bytes: [u8; 8]) -> bool {
+    let [a, b, c, d, e, f, g, h] = bytes;
+    covers(a, e) && covers(b, f) && covers(c, g) && covers(d, h)
+}
+
+/// Whether no bit position is clear in both bytes.
+fn covers(a: u8, b: u8) -> bool {
+    a | b == u8::MAX
+}

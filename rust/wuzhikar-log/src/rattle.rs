@@ -1,0 +1,15 @@
+//! What stands for parts of Rattle's library. Written by hand. **No part of the promise.**
+
+pub mod simd;
+
+#[cfg(feature = "sim")]
+pub mod vec;
+
+#[cfg(feature = "sim")]
+pub use ::alloc::vec::Vec;
+
+/// Memory.
+pub mod alloc {
+    /// What a call that asks for memory is given in the source: here the global allocator serves, which needs no value.
+    pub type Global = ();
+}

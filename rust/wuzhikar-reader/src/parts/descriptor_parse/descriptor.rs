@@ -1,0 +1,148 @@
+// Exported from crates/descriptor_parse/src/descriptor.rt by bin/export-rust. Edit that file instead.
+//! A report descriptor that was parsed.
+
+use crate::parts::descriptor_parse::counts::place_usage;
+use crate::parts::descriptor_parse::field::{Field, Kind};
+use crate::parts::descriptor_parse::readers::{ReportFields, Usages};
+use crate::parts::descriptor_parse::reports::{Link, Reports};
+use crate::rattle::alloc::AllocError;
+use core::fmt;
+use core::fmt::Debug;
+
+/// The fields of a report descriptor, their usages, and the lengths of its reports.
+#[derive(Clone, PartialEq, Eq)]
+pub struct Descriptor {
+    reports: Reports,
+}
+
+impl Descriptor {
+    pub(crate) fn new(reports: Reports) -> Descriptor {
+        let mut reports = reports;
+        reports.link();
+        Descriptor { reports }
+    }
+
+    /// The fields, in order of declaration.
+    pub fn fields(&self) -> &[Field] {
+        &self.reports.fields
+    }
+
+    /// Whether reports begin with a report ID (HID 1.11, 6.2.2.7).
+    pub fn uses_ids(&self) -> bool {
+        self.reports.has_ids
+    }
+
+    /// The bytes of a report, its ID byte included; `None` if there is no report of this kind and ID.
+    ///
+    /// The ID is 0 where none is used.
+    pub fn report_len(&self, kind: Kind, id: u8) -> Option<usize> {
+        let bits = self.reports.totals.bits(kind, id) as usize;
+        if bits == 0 {
+            return None;
+        }
+        let bytes = if bits % 8 == 0 {
+            bits / 8
+        } else {
+            bits / 8 + 1
+        };
+        if self.uses_ids() {
+            Some(bytes + 1)
+        } else {
+            Some(bytes)
+        }
+    }
+
+    /// The usages of a field as they were declared, first and last of each range; empty if there is no such field.
+    ///
+    /// A single usage is a range with equal ends.
+    pub fn ranges(&self, field: usize) -> &[(u32, u32)] {
+        let Some(link) = self.reports.links.get(field) else {
+            return &[];
+        };
+        part(
+            &self.reports.ranges,
+            start_of(&self.reports.links, field),
+            link.end,
+        )
+    }
+
+    /// How many usages a field has up to each of its ranges, the range itself among them; empty if there is no such field.
+    pub fn counts(&self, field: usize) -> &[u32] {
+        let Some(link) = self.reports.links.get(field) else {
+            return &[];
+        };
+        part(
+            &self.reports.counts,
+            start_of(&self.reports.links, field),
+            link.end,
+        )
+    }
+
+    /// The fields of one report with their usages, in order. The ID is 0 where none is used.
+    ///
+    /// The time is that of these fields alone, whatever other reports there are.
+    pub fn report(&self, kind: Kind, id: u8) -> ReportFields<'_> {
+        let reports = &self.reports;
+        ReportFields::new(
+            kind,
+            id,
+            reports.totals.first(kind, id),
+            &reports.fields,
+            &reports.links,
+            &reports.ranges,
+            &reports.counts,
+        )
+    }
+
+    /// The usages of a field one by one, as they were declared; none if there is no such field. There can be more than the
+    /// field has places, and tens of millions where the text declares wide ranges.
+    pub fn usages(&self, field: usize) -> Usages<'_> {
+        Usages::new(self.ranges(field))
+    }
+
+    /// The usage of a place of a variable field, or usage `place` of an array's list; `None` for what does not exist.
+    ///
+    /// In a variable field the last usage serves the places that are left (HID 1.11, 6.2.2.8). The time grows with the
+    /// logarithm of the number of the field's ranges.
+    pub fn usage(&self, field: usize, place: usize) -> Option<u32> {
+        let declared = self.reports.fields.get(field)?;
+        place_usage(declared, self.ranges(field), self.counts(field), place)
+    }
+}
+
+impl Descriptor {
+    /// A copy. `AllocError` where there is no memory for it.
+    pub fn try_clone(&self) -> Result<Descriptor, AllocError> {
+        let reports = self.reports.try_clone()?;
+        Ok(Descriptor { reports })
+    }
+}
+
+impl Debug for Descriptor {
+    fn fmt(&self, f: &mut fmt::Formatter<'_>) -> fmt::Result {
+        f.debug_struct("Descriptor")
+            .field("fields", &self.fields())
+            .field("ranges", &self.reports.ranges)
+            .field("uses_ids", &self.uses_ids())
+            .finish_non_exhaustive()
+    }
+}
+
+/// Where the usages of a field start.
+#[inline(always)]
+pub(crate) fn start_of(links: &[Link], field: usize) -> usize {
+    if field == 0 {
+        return 0;
+    }
+    links[field - 1].end
+}
+
+/// The elements from `start` to `end`, as far as there are any.
+fn part<T>(all: &[T], start: usize, end: usize) -> &[T] {
+    let (front, _) = all.split_at(end.min(all.len()));
+    let (_, wanted) = front.split_at(start.min(front.len()));
+    wanted
+}
+
+#[allow(unused_imports)]
+use crate::rattle::memory::*;

@@ -1,0 +1,125 @@
+// Exported from crates/descriptor_parse/src/items.rt by bin/export-rust. Edit that file instead.
+//! A text as the list of its items.
+
+use crate::parts::descriptor_parse::fault::{ParseError, ParseFault};
+use crate::parts::descriptor_parse::tag::Tag;
+
+/// The prefix of a long item.
+pub(crate) const LONG: u8 = 0xFE;
+
+/// An item of a report descriptor: the offset of its prefix in the text, the prefix, and the data.
+#[derive(Clone, Copy, Debug, PartialEq, Eq)]
+pub struct Item<'a> {
+    pub offset: usize,
+    pub prefix: u8,
+    pub bytes: &'a [u8],
+}
+
+impl Item<'_> {
+    /// What the item is, by its prefix.
+    pub fn tag(&self) -> Tag {
+        Tag::of(self.prefix)
+    }
+}
+
+/// The items of a text, one after the other, ended by the first that is not whole.
+#[derive(Debug)]
+pub struct Items<'a> {
+    rest: &'a [u8],
+    offset: usize,
+}
+
+impl<'a> Items<'a> {
+    /// The items of `text`.
+    pub fn new(text: &'a [u8]) -> Items<'a> {
+        Items {
+            rest: text,
+            offset: 0,
+        }
+    }
+}
+
+impl<'a> Iterator for Items<'a> {
+    type Item = Result<Item<'a>, ParseError>;
+
+    fn next(&mut self) -> Option<Result<Item<'a>, ParseError>> {
+        if self.rest.is_empty() {
+            return None;
+        }
+        match cut(self.offset, self.rest) {
+            Some((item, rest)) => {
+                self.offset += self.rest.len() - rest.len();
+                self.rest = rest;
+                Some(Ok(item))
+            }
+            None => {
+                self.rest = &[];
+                Some(Err(ParseError {
+                    fault: ParseFault::Truncated,
+                    offset: self.offset,
+                }))
+            }
+        }
+    }
+}
+
+/// The item at the front of a text that stands at `offset`, and the text after it; `None` where the text ends before it.
+#[inline(always)]
+pub(crate) fn cut(offset: usize, text: &[u8]) -> Option<(Item<'_>, &[u8])> {
+    let Some((prefix, more)) = text.split_first() else {
+        return None;
+    };
+    if *prefix == LONG {
+        return cut_long(offset, text);
+    }
+    let size = data_len(*prefix);
+    if more.len() < size {
+        return None;
+    }
+    let (bytes, rest) = more.split_at(size);
+    let item = Item {
+        offset,
+        prefix: *prefix,
+        bytes,
+    };
+    Some((item, rest))
+}
+
+/// The same of a text that may begin with a long item.
+#[inline(never)]
+fn cut_long(offset: usize, text: &[u8]) -> Option<(Item<'_>, &[u8])> {
+    let size = size_of_front(text);
+    if text.len() < size {
+        return None;
+    }
+    let prefix = text[0];
+    let (whole, rest) = text.split_at(size);
+    let bytes = &whole[head(prefix)..];
+    let item = Item {
+        offset,
+        prefix,
+        bytes,
+    };
+    Some((item, rest))
+}
+
+/// How many bytes the item at the front of a text takes.
+pub(crate) fn size_of_front(text: &[u8]) -> usize {
+    match text {
+        [LONG, size, ..] => 3 + *size as usize,
+        [LONG] => 3,
+        [prefix, ..] => 1 + data_len(*prefix),
+        [] => 1,
+    }
+}
+
+/// How many bytes of an item come before its data.
+fn head(prefix: u8) -> usize {
+    if prefix == LONG { 3 } else { 1 }
+}
+
+/// How many bytes of data follow the prefix of a short item.
+fn data_len(prefix: u8) -> usize {
+    // 0, 1, 2 and 4, by a shift.
+    (1 << (prefix % 4)) / 2
+}

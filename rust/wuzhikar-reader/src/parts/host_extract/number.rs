@@ -1,0 +1,67 @@
+// Exported from crates/host_extract/src/number.rt by bin/export-rust. Edit that file instead.
+//! The numbers in the bits of a report.
+
+/// The number that `size` bits make from `bit` on; bits past the end of the report are 0.
+#[inline(always)]
+pub(crate) fn number_at(bytes: &[u8], bit: u64, size: u8) -> u32 {
+    if size == 1 {
+        return bit_at(bytes, bit);
+    }
+    let window = window(bytes, bit / 8) >> (bit % 8);
+    (window & ((1 << size) - 1)) as u32
+}
+
+/// The same, sooner where the bits are those of one byte.
+#[inline(always)]
+pub(crate) fn byte_or_number_at(bytes: &[u8], bit: u64, size: u8) -> u32 {
+    if size == 8 && bit % 8 == 0 {
+        return byte_at(bytes, bit / 8);
+    }
+    number_at(bytes, bit, size)
+}
+
+/// A bit of the report, 0 or 1.
+fn bit_at(bytes: &[u8], bit: u64) -> u32 {
+    match bytes.get((bit / 8) as usize) {
+        Some(byte) => (*byte >> (bit % 8)) as u32 & 1,
+        None => 0,
+    }
+}
+
+/// A byte of the report, 0 past its end.
+fn byte_at(bytes: &[u8], place: u64) -> u32 {
+    match bytes.get(place as usize) {
+        Some(byte) => *byte as u32,
+        None => 0,
+    }
+}
+
+/// The number that five bytes make from `first` on, the low byte first; those past the end of the report are 0.
+fn window(bytes: &[u8], first: u64) -> u64 {
+    match bytes.get(first as usize..) {
+        Some([a, b, c, d, e, ..]) => u64::from_le_bytes([*a, *b, *c, *d, *e, 0, 0, 0]),
+        Some(rest) => unsigned(rest),
+        None => 0,
+    }
+}
+
+/// The number that at most four bytes make, the low byte first.
+fn unsigned(bytes: &[u8]) -> u64 {
+    match bytes {
+        [] => 0,
+        [a] => *a as u64,
+        [a, b] => u16::from_le_bytes([*a, *b]) as u64,
+        [a, b, c] => u32::from_le_bytes([*a, *b, *c, 0]) as u64,
+        [a, b, c, d, ..] => u32::from_le_bytes([*a, *b, *c, *d]) as u64,
+    }
+}
+
+/// The value of a number of `size` bits: in two's complement where the logical minimum is negative (HID 1.11, 5.8).
+pub(crate) fn value_under(minimum: i64, size: u8, number: u32) -> i64 {
+    let value = number as i64;
+    if minimum < 0 && number as u64 * 2 >= 1 << size {
+        value - (1 << size)
+    } else {
+        value
+    }
+}

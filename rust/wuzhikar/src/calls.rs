@@ -1,0 +1,74 @@
+//! Calls with a condition on their caller that nothing checks, and calls that take what stands for the source's allocator,
+//! for the crates of this workspace. Written by hand. **No part of the promise.**
+
+use crate::parts::debounce::{Debouncer, Scan};
+use crate::parts::keyboard::{Keyboard, Room};
+use crate::parts::layers::{KeyNo, LayerNo};
+use crate::rattle::alloc::{AllocError, Global};
+use wuzhikar_log::NorFlash;
+
+/// Numbers of layers and keys that are known to be some.
+pub trait Known {
+    /// **Needs** a number of a layer (0 to 3), or of a key (0 to 95).
+    fn known(number: u8) -> Self;
+}
+
+impl Known for LayerNo {
+    fn known(number: u8) -> LayerNo {
+        LayerNo::known(number)
+    }
+}
+
+impl Known for KeyNo {
+    fn known(number: u8) -> KeyNo {
+        KeyNo::known(number)
+    }
+}
+
+/// Calls of a scan by the numbers of keys.
+pub trait ScanCalls {
+    /// **Needs** a key of 0 to 95.
+    fn has(&self, key: u8) -> bool;
+    /// **Needs** a key of 0 to 95.
+    fn with(self, key: u8, on: bool) -> Self;
+}
+
+impl ScanCalls for Scan {
+    fn has(&self, key: u8) -> bool {
+        Scan::has(self, key)
+    }
+
+    fn with(self, key: u8, on: bool) -> Scan {
+        Scan::with(self, key, on)
+    }
+}
+
+/// Calls of a debouncer by the numbers of keys.
+pub trait DebouncerCalls {
+    /// **Needs** a key of 0 to 95.
+    fn is_down(&self, key: u8) -> bool;
+}
+
+impl DebouncerCalls for Debouncer {
+    fn is_down(&self, key: u8) -> bool {
+        Debouncer::is_down(self, key)
+    }
+}
+
+/// How a keyboard starts in the source.
+pub trait KeyboardCalls: Sized {
+    /// A keyboard on a flash.
+    fn start<F: NorFlash>(alloc: Global, flash: &F) -> Result<Self, AllocError>;
+    /// A keyboard on a flash, in this room.
+    fn start_in<F: NorFlash>(room: Room, flash: &F) -> Self;
+}
+
+impl KeyboardCalls for Keyboard {
+    fn start<F: NorFlash>(alloc: Global, flash: &F) -> Result<Keyboard, AllocError> {
+        Keyboard::start(alloc, flash)
+    }
+
+    fn start_in<F: NorFlash>(room: Room, flash: &F) -> Keyboard {
+        Keyboard::start_in(room, flash)
+    }
+}

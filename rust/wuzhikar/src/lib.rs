@@ -1,0 +1,61 @@
+//! The firmware core of a USB keyboard: four layers of 96 keys, kept on NOR flash so that an assignment which the
+//! computer was told is stored outlives every loss of power.
+//!
+//! [`FlashKeyboard`] is the device with its flash; [`Keyboard`] is the device alone, which is lent its flash where it works
+//! on it. Each call is one event: a scan of the matrix, a packet of endpoint 0, a poll of endpoint 1, a step of the flash
+//! work, a bus reset. It takes no memory and never waits.
+//!
+//! ```
+//! use wuzhikar::{EpAnswer, FlashFault, FlashKeyboard, NorFlash, Scan};
+//! # struct Blank;
+//! # impl NorFlash for Blank {
+//! #     fn pages(&self) -> usize { 2 }
+//! #     fn read_slot(&self, _page: usize, _slot: usize) -> [u8; 8] { [0xff; 8] }
+//! #     fn program_slot(&mut self, _page: usize, _slot: usize, _bytes: [u8; 8]) -> Result<(), FlashFault> { Err(FlashFault) }
+//! #     fn erase_page(&mut self, _page: usize) -> Result<(), FlashFault> { Err(FlashFault) }
+//! # }
+//! # let flash = Blank;
+//! let mut keyboard = FlashKeyboard::start(flash);
+//! for _ in 0..5 {
+//!     keyboard.scan(Scan { rows: [1, 0, 0, 0, 0, 0] });
+//! }
+//! let report = keyboard.poll().unwrap();
+//! assert_eq!(report[..3], [1, 0, 1]);
+//! assert!(matches!(keyboard.in_packet(), EpAnswer::Stall(_)));
+//! ```
+//!
+//! **Exported from a proved source.** What is in the hidden module `parts` is the text of crates that are proved in Rattle
+//! (Rust with contracts), without what the prover alone reads. The proofs speak of that source. No flash and no bus is
+//! covered: a driver has to do what [`NorFlash`] says of each call. What is written by hand in this crate is tested and
+//! not proved.
+//!
+//! [`debounce`] and [`control_ep`] can be used by themselves; the log that keeps the keymap is the crate [`wuzhikar_log`].
+#![cfg_attr(not(test), no_std)]
+#![forbid(unsafe_code)]
+#![warn(missing_debug_implementations)]
+
+#[doc(hidden)]
+pub mod calls;
+mod face;
+#[doc(hidden)]
+pub mod parts;
+#[doc(hidden)]
+pub mod rattle;
+
+pub use crate::face::FlashKeyboard;
+pub use crate::parts::keyboard::{EpAnswer, Keyboard, Protocol, Report, Scan, Why, Work};
+pub use crate::parts::layers::{Code, KeyNo, Keymap, KeymapError, LayerNo, Usages};
+pub use wuzhikar_log;
+#[cfg(feature = "sim")]
+pub use wuzhikar_log::{FlashError, Mask, SimFlash};
+pub use wuzhikar_log::{FlashFault, NorFlash, PAGE_BYTES, PAGE_SLOTS, SLOT_BYTES};
+
+/// Debouncing by itself: a key changes where five samples in a row say so.
+pub mod debounce {
+    pub use crate::parts::debounce::{Debouncer, Edges, Keys, Scan};
+}
+
+/// Control transfers by themselves: endpoint 0 of a device that has the keyboard's requests.
+pub mod control_ep {
+    pub use crate::parts::control_ep::{ControlEp, DeviceView, Effect, EpAnswer, OutStep, Verdict, Why, asks_for_input};
+}

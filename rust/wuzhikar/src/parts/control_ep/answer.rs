@@ -1,0 +1,80 @@
+// Exported from crates/control_ep/src/answer.rt by bin/export-rust. Edit that file instead.
+//! What comes in and goes out beside the packets themselves.
+
+use crate::parts::control_ep::Why;
+use arrayvec::ArrayVec;
+use crate::parts::reports::{IdleId, Protocol};
+
+/// The answer to a packet of endpoint 0 (USB 2.0 section 8.5.3).
+#[derive(Clone, Debug, PartialEq, Eq)]
+#[must_use]
+pub enum EpAnswer {
+    /// The packet is acknowledged.
+    Ack,
+    /// Not now: nothing has changed, and the host tries again.
+    Nak,
+    /// A data packet of at most 8 bytes.
+    Packet(ArrayVec<u8, 8>),
+    /// The transfer is refused, and each further packet of it for the same reason.
+    Stall(Why),
+}
+
+/// What an OUT packet comes to.
+#[derive(Clone, Debug, PartialEq, Eq)]
+#[must_use]
+pub enum OutStep {
+    /// The packet is answered.
+    Answered(EpAnswer),
+    /// An output report: the packet is acknowledged, and these are the LEDs, usages 01h to 05h of
+    /// page 08h in bits 0 to 4.
+    Leds(u8),
+    /// A feature report of six bytes without its Report ID: operation, layer, key, code low, code high.
+    /// Nothing has changed; the packet's answer is that of `ControlEp::verdict`.
+    Offer([u8; 5]),
+}
+
+/// What becomes of a feature report that was offered.
+#[derive(Clone, Copy, Debug, PartialEq, Eq)]
+pub enum Verdict {
+    /// It is done already: acknowledged, and the status packet is due.
+    Done,
+    /// Its command works, until `ControlEp::settle` or `ControlEp::fail`: acknowledged, and the status
+    /// packet is `Nak` until then.
+    Working,
+    /// Another command works: `Nak`, and the report can be sent again.
+    Busy,
+    /// It is refused: `Stall`.
+    Refused(Why),
+}
+
+/// What the status packet of a transfer brings about.
+#[derive(Clone, Copy, Debug, PartialEq, Eq)]
+pub enum Effect {
+    /// No change.
+    Nothing,
+    /// An idle value changes, in units of 4 ms, 0 for no repeats (HID 1.11 section 7.2.4).
+    Idle(IdleId, u8),
+    /// The protocol is chosen (HID 1.11 section 7.2.6).
+    SetProtocol(Protocol),
+}
+
+/// What a SETUP packet is answered from: the device at that moment.
+#[derive(Clone, Copy, Debug, PartialEq, Eq)]
+pub struct DeviceView {
+    /// Which reports exist, and the answer of GET_PROTOCOL.
+    pub protocol: Protocol,
+    /// The idle value of Report ID 1, in units of 4 ms.
+    pub idle_one: u8,
+    /// The idle value of Report ID 2, in units of 4 ms.
+    pub idle_two: u8,
+    /// The LEDs, bits 0 to 4.
+    pub leds: u8,
+    /// The feature report: its Report ID 3, 0, layer, key, code low, code high.
+    pub feature: [u8; 6],
+    /// The input report of Report ID 1, with the ID.
+    pub bitmap: [u8; 23],
+    /// The input report of Report ID 2, with the ID.
+    pub consumer: [u8; 9],
+    /// The boot input report.
+    pub boot: [u8; 8],
+}

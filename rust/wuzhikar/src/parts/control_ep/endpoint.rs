@@ -1,0 +1,217 @@
+// Exported from crates/control_ep/src/endpoint.rt by bin/export-rust. Edit that file instead.
+//! The control endpoint and the stages of its transfer.
+
+use crate::parts::control_ep::data::ReadData;
+use crate::parts::control_ep::packets::packet_at;
+use crate::parts::control_ep::report::received_report;
+use crate::parts::control_ep::request::{HostReport, Request, Transfer};
+use crate::parts::control_ep::{DeviceView, Effect, EpAnswer, OutStep, Verdict, Why};
+use arrayvec::ArrayVec;
+
+/// A read: its bytes, how many were asked for, and how many packets were sent.
+#[derive(Debug)]
+pub(crate) struct Sending {
+    bytes: ReadData,
+    asked: u16,
+    sent: u16,
+}
+
+impl Sending {
+    /// The next packet, and none where all were sent.
+    fn next_packet(&mut self) -> Option<ArrayVec<u8, 8>> {
+        let packet = packet_at(self.bytes.as_slice(), self.asked, self.sent);
+        if packet.is_some() {
+            self.sent += 1;
+        }
+        packet
+    }
+}
+
+/// Where the transfer stands.
+#[derive(Debug)]
+pub(crate) enum Stage {
+    /// No transfer is under way.
+    Rest,
+    /// A read.
+    Sending(Sending),
+    /// A report is expected.
+    Taking(HostReport),
+    /// A feature command works.
+    Waiting,
+    /// The status packet is due, with this effect.
+    Status(Effect),
+    /// A packet was stalled, and so is each further one.
+    Stalled(Why),
+}
+
+/// The control endpoint: the stage of the transfer on endpoint 0.
+#[derive(Debug)]
+pub struct ControlEp {
+    stage: Stage,
+}
+
+/// The stage that a transfer begins in.
+fn first_stage(transfer: Transfer, length: u16) -> Stage {
+    match transfer {
+        Transfer::Reads(_) if length == 0 => Stage::Status(Effect::Nothing),
+        Transfer::Reads(bytes) => Stage::Sending(Sending {
+            bytes,
+            asked: length,
+            sent: 0,
+        }),
+        Transfer::Takes(report) => Stage::Taking(report),
+        Transfer::Sets(effect) => Stage::Status(effect),
+    }
+}
+
+impl ControlEp {
+    /// An endpoint at its start: no transfer is under way, and an IN or OUT packet is answered by
+    /// `Stall(WrongStage)` until a SETUP packet comes.
+    pub fn new() -> ControlEp {
+        ControlEp { stage: Stage::Rest }
+    }
+
+    /// Takes a SETUP packet of 8 bytes (USB 2.0 sections 8.5.3 and 9.3), which is always acknowledged and
+    /// ends the transfer under way, also one that waits for a command. What is read is what `view` has
+    /// now; its input reports are looked at only where `asks_for_input` holds. A request that is refused
+    /// leaves the new transfer stalled, by the first of these that holds: `UnknownRequest` where
+    /// bmRequestType and bRequest are not served; `WrongInterface` where wIndex is not 0, but for requests
+    /// to the device; `UnknownDescriptor`, `UnknownReport` or `BadProtocol` where wValue names none;
+    /// `WrongLength` where wLength is not the report's length in SET_REPORT, or not 0 in SET_IDLE and
+    /// SET_PROTOCOL.
+    pub fn setup(&mut self, setup: [u8; 8], view: &DeviceView) {
+        self.begin(setup, view);
+    }
+
+    /// Takes an IN packet (USB 2.0 section 8.5.3): the next data packet of at most 8 bytes, the empty
+    /// packet of the status stage with what it brings about, `Nak` while the transfer's command works, or
+    /// a `Stall`, which leaves the transfer stalled: for the reason of a transfer that is stalled already
+    /// (`FlashFault` where its command failed), and with `WrongStage` where no IN packet is due.
+    ///
+    /// The answer is given at the token, and its effect with it: where a controller is handed packets
+    /// before they are asked for, the call is made when the packet is taken.
+    pub fn in_packet(&mut self) -> (EpAnswer, Effect) {
+        self.answer_in()
+    }
+
+    /// Takes an OUT packet (USB 2.0 section 8.5.3): an output report is taken, a feature report is offered
+    /// and changes nothing before its verdict, and an empty packet ends a read. Any other packet is
+    /// answered by a `Stall`, which leaves the transfer stalled: where a report is due, in this order,
+    /// with `ShortData` and `LongData` for another length than wLength, and `UnknownReport` for another
+    /// Report ID; for the reason of a transfer that is stalled already; else with `WrongStage`.
+    pub fn out(&mut self, packet: &[u8]) -> OutStep {
+        self.answer_out(packet)
+    }
+
+    /// The answer to the packet that `out` has just offered; to be called next after the offer. `Done`
+    /// and `Working` are `Ack`, `Busy` is `Nak` and leaves the report to be sent again, and `Refused` is
+    /// a `Stall` with its reason, which leaves the transfer stalled. Where no feature report is due the
+    /// verdict is out of place: a `Stall` with the reason of a transfer that is stalled already, else
+    /// with `WrongStage`, which stalls the transfer.
+    pub fn verdict(&mut self, verdict: Verdict) -> EpAnswer {
+        self.judge(verdict)
+    }
+
+    /// The command that works has settled: the status packet of its transfer is due, if the transfer
+    /// still waits for it. Any other transfer stays as it is.
+    pub fn settle(&mut self) {
+        self.end_command(Stage::Status(Effect::Nothing));
+    }
+
+    /// The command that works has failed: its transfer is stalled with `FlashFault`, if it still waits
+    /// for it. Any other transfer stays as it is.
+    pub fn fail(&mut self) {
+        self.end_command(Stage::Stalled(Why::FlashFault));
+    }
+
+    /// A bus reset (USB 2.0 section 7.1.7.5): no transfer is under way, as in an endpoint at its start.
+    pub fn reset(&mut self) {
+        *self = ControlEp::new();
+    }
+
+    /// Begins the transfer that a SETUP packet asks for, or stalls it.
+    fn begin(&mut self, setup: [u8; 8], view: &DeviceView) {
+        let request = Request::read(setup);
+        self.stage = match request.transfer(view) {
+            Ok(transfer) => first_stage(transfer, request.length),
+            Err(why) => Stage::Stalled(why),
+        };
+    }
+
+    /// The answer to an IN packet in this stage, and its effect.
+    fn answer_in(&mut self) -> (EpAnswer, Effect) {
+        match &mut self.stage {
+            Stage::Sending(sending) => match sending.next_packet() {
+                Some(packet) => (EpAnswer::Packet(packet), Effect::Nothing),
+                None => (self.stall(Why::WrongStage), Effect::Nothing),
+            },
+            Stage::Status(effect) => {
+                let effect = *effect;
+                self.stage = Stage::Rest;
+                (EpAnswer::Packet(ArrayVec::new()), effect)
+            }
+            Stage::Waiting => (EpAnswer::Nak, Effect::Nothing),
+            Stage::Stalled(why) => (EpAnswer::Stall(*why), Effect::Nothing),
+            Stage::Rest | Stage::Taking(_) => (self.stall(Why::WrongStage), Effect::Nothing),
+        }
+    }
+
+    /// What an OUT packet comes to in this stage.
+    fn answer_out(&mut self, packet: &[u8]) -> OutStep {
+        match &self.stage {
+            Stage::Sending(_) if packet.is_empty() => {
+                self.stage = Stage::Rest;
+                OutStep::Answered(EpAnswer::Ack)
+            }
+            Stage::Taking(report) => match received_report(*report, packet) {
+                Ok(OutStep::Leds(leds)) => {
+                    self.stage = Stage::Status(Effect::Nothing);
+                    OutStep::Leds(leds)
+                }
+                Ok(step) => step,
+                Err(why) => OutStep::Answered(self.stall(why)),
+            },
+            Stage::Stalled(why) => OutStep::Answered(EpAnswer::Stall(*why)),
+            Stage::Rest | Stage::Sending(_) | Stage::Status(_) | Stage::Waiting =>
+                OutStep::Answered(self.stall(Why::WrongStage)),
+        }
+    }
+
+    /// The answer of a verdict in this stage.
+    fn judge(&mut self, verdict: Verdict) -> EpAnswer {
+        match self.stage {
+            Stage::Taking(HostReport::Feature) => self.judge_report(verdict),
+            Stage::Stalled(why) => EpAnswer::Stall(why),
+            _ => self.stall(Why::WrongStage),
+        }
+    }
+
+    /// The answer of a verdict on a feature report that is due.
+    fn judge_report(&mut self, verdict: Verdict) -> EpAnswer {
+        match verdict {
+            Verdict::Done => self.acknowledge(Stage::Status(Effect::Nothing)),
+            Verdict::Working => self.acknowledge(Stage::Waiting),
+            Verdict::Busy => EpAnswer::Nak,
+            Verdict::Refused(why) => self.stall(why),
+        }
+    }
+
+    /// Stalls the transfer.
+    fn stall(&mut self, why: Why) -> EpAnswer {
+        self.stage = Stage::Stalled(why);
+        EpAnswer::Stall(why)
+    }
+
+    /// Acknowledges a report, after which the transfer goes on so.
+    fn acknowledge(&mut self, next: Stage) -> EpAnswer {
+        self.stage = next;
+        EpAnswer::Ack
+    }
+
+    /// The command that works has ended: a transfer that waits for it goes on so.
+    fn end_command(&mut self, next: Stage) {
+        if let Stage::Waiting = self.stage {
+            self.stage = next;
+        }
+    }
+}

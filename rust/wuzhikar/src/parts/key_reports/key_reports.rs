@@ -1,0 +1,99 @@
+// Exported from crates/key_reports/src/key_reports.rt by bin/export-rust. Edit that file instead.
+//! The debouncer, the held keys and the poller as one value.
+
+use crate::parts::key_reports::keys::take_edges;
+use crate::parts::debounce::{Debouncer, Scan};
+use crate::parts::layers::{Held, Keymap, Usages};
+use crate::parts::reports::{IdleId, Poller, Protocol, Report};
+use crate::rattle::alloc::{AllocError, Global};
+
+/// The keys of the device, and what the host was sent of them.
+#[derive(Debug)]
+pub struct KeyReports {
+    debouncer: Debouncer,
+    held: Held,
+    poller: Poller,
+}
+
+impl KeyReports {
+    /// Every key up, and nothing sent. Takes the memory of the reports that wait, and is refused where
+    /// there is none; no other call takes memory.
+    pub fn new(alloc: Global) -> Result<KeyReports, AllocError> {
+        let poller = Poller::new(alloc)?;
+        Ok(KeyReports {
+            debouncer: Debouncer::new(),
+            held: Held::new(),
+            poller,
+        })
+    }
+
+    /// Leaves what `new` gives: every key up, nothing sent, nothing waiting, and the idle values of the
+    /// start.
+    pub fn restart(&mut self) {
+        self.debouncer = Debouncer::new();
+        self.held = Held::new();
+        self.poller.reset();
+    }
+
+    /// Takes one scan, one millisecond after the last. The keys that the debounced scan releases are
+    /// released, then those that it presses are pressed, each by rising key and with this keymap. The
+    /// reports of the protocol whose bytes this changes wait for a poll.
+    pub fn scan(&mut self, scan: Scan, keymap: &Keymap, protocol: Protocol) {
+        let edges = self.debouncer.feed(scan);
+        let before = self.held.usages();
+        take_edges(&mut self.held, keymap, &edges);
+        let now = self.held.usages();
+        self.poller.tick(&before, &now, protocol);
+    }
+
+    /// The answer to a poll of endpoint 1: the report that has waited longest. Where none waits, the
+    /// report of the protocol whose bytes are not those last sent, else one whose idle time has passed
+    /// since then, or `None`. It then counts as sent.
+    pub fn poll(&mut self, protocol: Protocol) -> Option<Report> {
+        let usages = self.usages();
+        self.poller.poll(&usages, protocol)
+    }
+
+    /// The usages that the codes of the held keys name.
+    pub fn usages(&self) -> Usages {
+        self.held.usages()
+    }
+
+    /// The bytes that the boot report has now. To ask for them sends nothing.
+    pub fn boot(&self) -> [u8; 8] {
+        crate::parts::reports::boot(&self.usages())
+    }
+
+    /// The bytes that the report of ID 1 has now. To ask for them sends nothing.
+    pub fn bitmap(&self) -> [u8; 23] {
+        crate::parts::reports::bitmap(&self.usages())
+    }
+
+    /// The bytes that the report of ID 2 has now. To ask for them sends nothing.
+    pub fn consumer(&self) -> [u8; 9] {
+        crate::parts::reports::consumer(&self.usages())
+    }
+
+    /// Sets the idle value of a report, or of all, in units of 4 ms; 0 stands for no repeats (HID 1.11
+    /// section 7.2.4). The time that has passed since a report was sent still counts.
+    pub fn set_idle(&mut self, id: IdleId, duration: u8) {
+        self.poller.set_idle(id, duration);
+    }
+
+    /// The idle value of a report, in units of 4 ms; for all reports that of ID 1 (HID 1.11 section
+    /// 7.2.3).
+    pub fn idle(&self, id: IdleId) -> u8 {
+        self.poller.idle(id)
+    }
+
+    /// Counts nothing as sent, as at the start, and drops what waits; the keys and the idle values stay.
+    pub fn forget_sent(&mut self) {
+        self.poller.forget_sent();
+    }
+
+    /// Counts nothing as sent, drops what waits, and restores the idle values of the start; the keys
+    /// stay.
+    pub fn bus_reset(&mut self) {
+        self.poller.reset()
+    }
+}

@@ -1,0 +1,25 @@
+// Exported from crates/key_reports/src/keys.rt by bin/export-rust. Edit that file instead.
+//! The held keys after the edges of a scan.
+
+use crate::parts::debounce::{Edges, Scan};
+use crate::parts::layers::{Held, KeyNo, Keymap};
+
+/// Takes the edges of a scan: the releases, then the presses, each by rising number.
+pub(crate) fn take_edges(held: &mut Held, keymap: &Keymap, edges: &Edges) {
+    release_all(held, &edges.released);
+    press_all(held, keymap, &edges.pressed);
+}
+
+/// Releases these keys, by rising number.
+fn release_all(held: &mut Held, released: &Scan) {
+    for key in released.keys() {
+        held.release(KeyNo::known(key));
+    }
+}
+
+/// Presses these keys, by rising number.
+fn press_all(held: &mut Held, keymap: &Keymap, pressed: &Scan) {
+    for key in pressed.keys() {
+        held.press(keymap, KeyNo::known(key));
+    }
+}

@@ -1,0 +1,23 @@
+// Exported from crates/keyboard/src/feature.rt by bin/export-rust. Edit that file instead.
+//! What a feature report asks for.
+
+use crate::parts::control_ep::{Verdict, Why};
+use crate::parts::keymap_store::{SubmitRefusal, Taken};
+use crate::parts::layers::{Command, KeymapError};
+
+/// The command in a feature report's bytes after its ID, or the first of its numbers that is none.
+pub(crate) fn command_in(bytes: [u8; 5]) -> Result<Command, KeymapError> {
+    let [op, layer, key, low, high] = bytes;
+    Command::read(op, layer, key, u16::from_le_bytes([low, high]))
+}
+
+/// The verdict on a command, by what the store made of it.
+pub(crate) fn verdict_of(taken: Result<Taken, SubmitRefusal>) -> Verdict {
+    match taken {
+        Ok(Taken::Settled) => Verdict::Done,
+        Ok(Taken::Working) => Verdict::Working,
+        Err(SubmitRefusal::Busy) => Verdict::Busy,
+        Err(SubmitRefusal::Unsound) => Verdict::Refused(Why::Unsound),
+        Err(SubmitRefusal::Worn) => Verdict::Refused(Why::Worn),
+    }
+}

@@ -1,0 +1,238 @@
+// Exported from crates/keyboard/src/keyboard.rt by bin/export-rust. Edit that file instead.
+//! The keyboard and its calls.
+
+use crate::parts::keyboard::feature::{command_in, verdict_of};
+use crate::parts::keyboard::room::Room;
+use crate::parts::control_ep::{ControlEp, DeviceView, Effect, EpAnswer, OutStep, Verdict, Why, asks_for_input};
+use wuzhikar_log::parts::flash_model::NorFlash;
+use crate::parts::key_reports::{IdleId, KeyReports, Protocol, Report, Scan};
+use crate::parts::keymap_store::{Store, Work};
+use crate::parts::layers::{Command, KeyNo, Keymap, LayerNo, Usages};
+use crate::rattle::alloc::{AllocError, Global};
+
+/// A keyboard of 96 keys on a NOR flash that keeps its keymap.
+#[derive(Debug)]
+pub struct Keyboard {
+    ep: ControlEp,
+    keys: KeyReports,
+    store: Store,
+    protocol: Protocol,
+    leds: u8,
+    /// The entry that GET_REPORT of the feature report shows.
+    layer: LayerNo,
+    key: KeyNo,
+}
+
+impl Keyboard {
+    /// A keyboard as it starts on a flash, whose keymap it reads: report protocol, no LED on, every key
+    /// up, nothing sent, entry (0, 0) selected, and no transfer. `AllocError` where there was no room for
+    /// the reports that wait (`Room::take`); no other call takes memory.
+    pub(crate) fn start<F: NorFlash>(alloc: Global, flash: &F) -> Result<Keyboard, AllocError> {
+        let room = Room::take(alloc)?;
+        Ok(Keyboard::start_in(room, flash))
+    }
+
+    /// A keyboard as `start` gives it, in room that was taken before. Takes no memory, and nothing
+    /// refuses it.
+    pub(crate) fn start_in<F: NorFlash>(room: Room, flash: &F) -> Keyboard {
+        Keyboard {
+            ep: ControlEp::new(),
+            keys: room.into_keys(),
+            store: Store::mount(flash),
+            protocol: Protocol::Report,
+            leds: 0,
+            layer: LayerNo::known(0),
+            key: KeyNo::known(0),
+        }
+    }
+
+    /// Leaves what `start` gives on this flash. Takes no memory.
+    pub fn restart<F: NorFlash>(&mut self, flash: &F) {
+        self.ep = ControlEp::new();
+        self.keys.restart();
+        self.store = Store::mount(flash);
+        self.protocol = Protocol::Report;
+        self.leds = 0;
+        self.layer = LayerNo::known(0);
+        self.key = KeyNo::known(0);
+    }
+
+    /// Takes a scan of the matrix, one millisecond after the last. The debounced releases come first,
+    /// then the presses, each by rising key and with the keymap of this moment; then the reports that
+    /// this changes wait for a poll.
+    pub fn scan(&mut self, scan: Scan) {
+        self.keys.scan(scan, self.store.keymap(), self.protocol);
+    }
+
+    /// Takes a SETUP packet of endpoint 0, which is always acknowledged and ends the transfer under
+    /// way (USB 2.0 sections 8.5.3 and 9.3, HID 1.11 section 7). What is read is what the keyboard has
+    /// now; the flash work goes on.
+    pub fn setup(&mut self, packet: [u8; 8]) {
+        let view = if asks_for_input(packet) {
+            self.view()
+        } else {
+            self.view_beside_inputs()
+        };
+        self.ep.setup(packet, &view);
+    }
+
+    /// Takes an OUT packet of endpoint 0 (USB 2.0 section 8.5.3): the closing packet of a read, an
+    /// output report, whose LEDs are then on, or a feature report, which selects an entry for reading
+    /// or brings a command. A command that is acknowledged works until `work` answers Settled or
+    /// Failed, or is done where it changes nothing. `Nak` is for a feature report while a command
+    /// works. Each other packet is answered by a `Stall`, and so is each further one of the transfer.
+    pub fn out(&mut self, packet: &[u8]) -> EpAnswer {
+        self.answer_out(packet)
+    }
+
+    /// Takes an IN packet of endpoint 0 (USB 2.0 section 8.5.3): the next packet of a read, the empty
+    /// packet of the status stage, `Nak` while the transfer's command works, or a `Stall`. SET_IDLE
+    /// and SET_PROTOCOL act with the empty packet; SET_PROTOCOL, whatever it chooses, also forgets
+    /// what was sent and drops what waits.
+    pub fn in_packet(&mut self) -> EpAnswer {
+        let (answer, effect) = self.ep.in_packet();
+        match effect {
+            Effect::Nothing => {}
+            Effect::Idle(id, duration) => self.keys.set_idle(id, duration),
+            Effect::SetProtocol(protocol) => {
+                self.protocol = protocol;
+                self.keys.forget_sent();
+            }
+        }
+        answer
+    }
+
+    /// The answer to a poll of endpoint 1: the report that has waited longest. Where none waits, the
+    /// report of the protocol whose bytes are not those last sent, else one whose idle time has passed
+    /// since then, or `None`. It then counts as sent.
+    pub fn poll(&mut self) -> Option<Report> {
+        self.keys.poll(self.protocol)
+    }
+
+    /// **Needs** the flash that the keyboard last started or restarted on, as the keyboard left it. Nothing checks it: [`FlashKeyboard`](crate::FlashKeyboard) holds both.
+    ///
+    /// A step of the flash work: makes the one flash operation that the command at work needs next, or
+    /// none where no command works. A command is settled or fails by the 387th step. `Settled` lets
+    /// the status stage of its transfer follow, and `Failed` stalls it, if the transfer still waits.
+    /// The flash has to be the one that the keyboard started on.
+    pub fn work<F: NorFlash>(&mut self, flash: &mut F) -> Work {
+        let work = self.store.work(flash);
+        match work {
+            Work::Settled => self.ep.settle(),
+            Work::Failed => self.ep.fail(),
+            Work::Idle | Work::Working => {}
+        }
+        work
+    }
+
+    /// A bus reset (USB 2.0 section 7.1.7.5): the transfer ends, report protocol is in force, no LED is
+    /// on, nothing counts as sent, nothing waits, and the idle values are those of the start. The
+    /// keymap, the flash work, the keys and the selected entry stay.
+    pub fn bus_reset(&mut self) {
+        self.ep.reset();
+        self.keys.bus_reset();
+        self.protocol = Protocol::Report;
+        self.leds = 0;
+    }
+
+    /// The keymap: that of the flash's image.
+    pub fn keymap(&self) -> &Keymap {
+        self.store.keymap()
+    }
+
+    /// The usages that the codes of the held keys name.
+    pub fn usages(&self) -> Usages {
+        self.keys.usages()
+    }
+
+    /// The protocol in force (HID 1.11 section 7.2.5).
+    pub fn protocol(&self) -> Protocol {
+        self.protocol
+    }
+
+    /// The LEDs: usages 01h to 05h of page 08h in bits 0 to 4.
+    pub fn leds(&self) -> u8 {
+        self.leds
+    }
+
+    /// What a SETUP packet is answered from.
+    fn view(&self) -> DeviceView {
+        DeviceView {
+            bitmap: self.keys.bitmap(),
+            consumer: self.keys.consumer(),
+            boot: self.keys.boot(),
+            ..self.view_beside_inputs()
+        }
+    }
+
+    /// What a SETUP packet is answered from that asks for no input report.
+    fn view_beside_inputs(&self) -> DeviceView {
+        DeviceView {
+            protocol: self.protocol,
+            idle_one: self.keys.idle(IdleId::One),
+            idle_two: self.keys.idle(IdleId::Two),
+            leds: self.leds,
+            feature: self.feature(),
+            bitmap: [0; 23],
+            consumer: [0; 9],
+            boot: [0; 8],
+        }
+    }
+
+    /// The feature report with the selected entry.
+    fn feature(&self) -> [u8; 6] {
+        let code = self.store.keymap().get(self.layer, self.key);
+        let [low, high] = code.bits().to_le_bytes();
+        [3, 0, self.layer.number(), self.key.number(), low, high]
+    }
+
+    /// Takes an OUT packet and answers it.
+    fn answer_out(&mut self, packet: &[u8]) -> EpAnswer {
+        match self.ep.out(packet) {
+            OutStep::Answered(answer) => answer,
+            OutStep::Leds(leds) => {
+                self.leds = leds;
+                EpAnswer::Ack
+            }
+            OutStep::Offer(bytes) => {
+                let verdict = self.judge(bytes);
+                self.ep.verdict(verdict)
+            }
+        }
+    }
+
+    /// The verdict on a feature report, by its bytes after the ID.
+    fn judge(&mut self, bytes: [u8; 5]) -> Verdict {
+        if self.store.busy() {
+            return Verdict::Busy;
+        }
+        let [op, layer, key, _, _] = bytes;
+        if op == 0 {
+            return self.select(layer, key);
+        }
+        match command_in(bytes) {
+            Ok(command) => self.submit(&command),
+            Err(error) => Verdict::Refused(Why::from(error)),
+        }
+    }
+
+    /// Selects an entry for reading.
+    fn select(&mut self, layer: u8, key: u8) -> Verdict {
+        let layer = match LayerNo::read(layer) {
+            Ok(layer) => layer,
+            Err(error) => return Verdict::Refused(Why::from(error)),
+        };
+        let key = match KeyNo::read(key) {
+            Ok(key) => key,
+            Err(error) => return Verdict::Refused(Why::from(error)),
+        };
+        self.layer = layer;
+        self.key = key;
+        Verdict::Done
+    }
+
+    /// Hands a command to the store while none works.
+    fn submit(&mut self, command: &Command) -> Verdict {
+        verdict_of(self.store.submit(*command))
+    }
+}

@@ -1,0 +1,12 @@
+// Exported from crates/keymap_store/src/lib.rt by bin/export-rust. Edit that file instead.
+//! A keymap that lives in flash: in RAM it is the keymap of the flash's image, and a command is in
+//! flash before it is in RAM.
+//!
+//! A `Store` keeps the log of the flash, the keymap, and the command that works. The promise is
+//! that after every call the keymap in RAM is that of the flash's image, whatever was torn.
+//! `keyboard` calls it: `submit` takes a command, and each `work` makes at most one flash operation
+//! for it.
+
+mod store;
+
+pub use store::{Store, SubmitRefusal, Taken, Work};

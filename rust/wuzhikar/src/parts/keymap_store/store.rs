@@ -1,0 +1,222 @@
+// Exported from crates/keymap_store/src/store.rt by bin/export-rust. Edit that file instead.
+//! The keymap in RAM and in flash.
+
+use wuzhikar_log::parts::flash_model::NorFlash;
+use crate::parts::layers::{Command, Keymap};
+use wuzhikar_log::parts::page_turnover::{Log, Step};
+
+/// What became of a command that was taken.
+#[derive(Clone, Copy, Debug, PartialEq, Eq)]
+#[must_use]
+pub enum Taken {
+    /// It changes nothing, and is done.
+    Settled,
+    /// It works: it is done at the `work` that answers Settled.
+    Working,
+}
+
+/// Why a command was not taken.
+#[derive(Clone, Copy, Debug, PartialEq, Eq)]
+pub enum SubmitRefusal {
+    /// Another command works.
+    Busy,
+    /// Slot 0 of a page is not sound, so nothing is written.
+    Unsound,
+    /// The active page is full and has the greatest sequence number, 0FFFFFFFh.
+    Worn,
+}
+
+/// What a call of `work` did.
+#[derive(Clone, Copy, Debug, PartialEq, Eq)]
+#[must_use]
+pub enum Work {
+    /// No command works, and no flash operation was made.
+    Idle,
+    /// One flash operation was made, and the command works on.
+    Working,
+    /// The command's record is in flash, and the keymap is changed.
+    Settled,
+    /// The flash answered a fault, and its slot or page does not read as intended. The command is
+    /// gone, and the keymap is as before.
+    Failed,
+}
+
+/// What a store has under way.
+#[derive(Clone, Copy, Debug)]
+pub enum Job {
+    /// Nothing.
+    Resting,
+    /// The append of a command's record.
+    Appending(Command),
+    /// A turn to a page with the entries that differ from the default, which makes room for the
+    /// command; those below a place were offered.
+    Turning { command: Command, from: u16 },
+}
+
+/// A keymap in RAM, kept equal to that of a flash's image.
+#[derive(Debug)]
+pub struct Store {
+    log: Log,
+    keymap: Keymap,
+    job: Job,
+}
+
+impl Store {
+    /// Reads log and keymap of a flash, and changes nothing.
+    pub fn mount<F: NorFlash>(flash: &F) -> Store {
+        let log = Log::mount(flash);
+        let keymap = read_keymap(&log, flash);
+        Store {
+            log,
+            keymap,
+            job: Job::Resting,
+        }
+    }
+
+    /// The keymap: that of the flash's image.
+    pub fn keymap(&self) -> &Keymap {
+        &self.keymap
+    }
+
+    /// Whether a command works.
+    pub fn busy(&self) -> bool {
+        self.log.busy()
+    }
+
+    /// Takes a command. In this order: `Busy` where a command works, `Unsound` where slot 0 of a page
+    /// is not sound, Settled at once where the command changes nothing, `Worn` where there is no room
+    /// and the active page has the greatest sequence number, and else Working.
+    ///
+    /// There is room where the active page is of format 2 and its last slot is Free. A command that
+    /// works needs one flash operation with room. Without room it needs one for each entry that
+    /// differs from the default, two for header and record, and one more where the page after the
+    /// active one is not blank: at most 387.
+    pub fn submit(&mut self, command: Command) -> Result<Taken, SubmitRefusal> {
+        if self.log.busy() {
+            return Err(SubmitRefusal::Busy);
+        }
+        if self.log.usable().is_err() {
+            return Err(SubmitRefusal::Unsound);
+        }
+        // By reference, since it is passed on twice.
+        let command = &command;
+        if !self.keymap.changes(*command) {
+            return Ok(Taken::Settled);
+        }
+        if self.log.room() {
+            self.log.begin_append(command.word());
+            self.job = Job::Appending(*command);
+        } else {
+            match self.log.begin_turn() {
+                Ok(()) => {
+                    self.job = Job::Turning {
+                        command: *command,
+                        from: 0,
+                    };
+                }
+                Err(_) => return Err(SubmitRefusal::Worn),
+            }
+        }
+        Ok(Taken::Working)
+    }
+
+    /// Makes the one flash operation that the working command needs next, or none where no command
+    /// works. The flash has to be the one that the store was mounted on.
+    ///
+    /// With room the command's record is appended. Without room a turn comes first, whose copies are
+    /// the entries that differ from the default, by rising place, in format 2. `Failed` is answered
+    /// where the flash answers a fault and the operation's slot or page does not read as intended, and
+    /// only there. Each call that answers Working leaves one operation less to do, and Settled is the
+    /// answer to the last one: a command is settled or fails by the 387th call.
+    pub(crate) fn work<F: NorFlash>(&mut self, flash: &mut F) -> Work {
+        match self.job {
+            Job::Resting => Work::Idle,
+            Job::Appending(command) => self.append(flash, command),
+            Job::Turning { command, from } => self.turn(flash, command, from),
+        }
+    }
+
+    /// Appends the record of a command.
+    fn append<F: NorFlash>(&mut self, flash: &mut F, command: Command) -> Work {
+        match self.log.step(flash) {
+            Step::Committed => {
+                self.keymap.apply(command);
+                self.job = Job::Resting;
+                Work::Settled
+            }
+            Step::Failed => {
+                self.job = Job::Resting;
+                Work::Failed
+            }
+            Step::Idle | Step::Moved => unreachable!(),
+        }
+    }
+
+    /// Goes on with a turn; its commit makes room for the command.
+    fn turn<F: NorFlash>(&mut self, flash: &mut F, command: Command, from: u16) -> Work {
+        // By reference, since more than one way takes it.
+        let command = &command;
+        let from = offer_next(&mut self.log, &self.keymap, from);
+        match self.log.step(flash) {
+            Step::Moved => {
+                self.job = Job::Turning {
+                    command: *command,
+                    from,
+                };
+                Work::Working
+            }
+            Step::Committed => {
+                self.log.begin_append(command.word());
+                self.job = Job::Appending(*command);
+                Work::Working
+            }
+            Step::Failed => {
+                self.job = Job::Resting;
+                Work::Failed
+            }
+            Step::Idle => unreachable!(),
+        }
+    }
+}
+
+/// Offers a waiting turn the next entry at or after a place that differs from the default, or its
+/// seal where there is none, and says from which place on the next one is looked for.
+fn offer_next(log: &mut Log, keymap: &Keymap, from: u16) -> u16 {
+    if !log.wants() {
+        return from;
+    }
+    match keymap.next_changed(from) {
+        Some((place, command)) => {
+            let word = command.word();
+            log.offer_copy(word);
+            place + 1
+        }
+        None => {
+            log.seal();
+            from
+        }
+    }
+}
+
+/// The keymap of the words of a log.
+fn read_keymap<F: NorFlash>(log: &Log, flash: &F) -> Keymap {
+    let mut keymap = Keymap::standard();
+    let format = log.format();
+    for word in log.words(flash) {
+        if let Some(command) = command_in(format, word) {
+            keymap.apply(command);
+        }
+    }
+    keymap
+}
+
+/// The command that a word stands for on a page of this format.
+fn command_in(format: Option<u8>, word: u32) -> Option<Command> {
+    match format {
+        Some(1) => Command::from_format_1(word),
+        _ => Command::from_word(word),
+    }
+}
+
+#[allow(unused_imports)]
+use wuzhikar_log::calls::LogCalls as _;

@@ -1,0 +1,179 @@
+// Exported from crates/layers/src/code.rt by bin/export-rust. Edit that file instead.
+//! The numbers that a keymap is made of.
+
+/// Why a number names no part of a keymap.
+#[derive(Clone, Copy, Debug, PartialEq, Eq)]
+pub enum KeymapError {
+    /// The operation is none of 1, 2 and 3.
+    BadOperation,
+    /// The layer is 4 or more.
+    BadLayer,
+    /// The key is 96 or more.
+    BadKey,
+    /// The number is no code.
+    BadCode,
+}
+
+/// How many keys there are.
+pub(crate) const KEYS: usize = 96;
+
+/// The usages of page 07h that are codes, from `a` on.
+const KEY_FIRST: u16 = 0x0004;
+
+const KEY_LAST: u16 = 0x00A4;
+
+/// The modifiers among the usages of page 07h.
+const MODIFIER_FIRST: u16 = 0x00E0;
+
+const MODIFIER_LAST: u16 = 0x00E7;
+
+/// The codes of the consumer usages 001h to 3FFh: the usage above this number.
+const CONSUMER_BASE: u16 = 0x4000;
+
+const CONSUMER_FIRST: u16 = 0x4001;
+
+const CONSUMER_LAST: u16 = 0x43FF;
+
+/// The codes that activate layers 1 to 3: the layer above this number.
+const MOMENTARY_BASE: u16 = 0x5000;
+
+const MOMENTARY_FIRST: u16 = 0x5001;
+
+const MOMENTARY_LAST: u16 = 0x5003;
+
+/// What a key does, in 16 bits: 0000h nothing, 0001h what a lower active layer says, 0004h to
+/// 00A4h and 00E0h to 00E7h this usage of the keyboard page (HUT section 10), 4001h to 43FFh the
+/// usage 001h to 3FFh of the consumer page (HUT section 15), 5001h to 5003h to activate layer 1 to
+/// 3 while it is held. Nothing else is a code.
+#[derive(Clone, Copy, Debug, PartialEq, Eq)]
+pub struct Code {
+    bits: u16,
+}
+
+/// A layer, 0 to 3.
+#[derive(Clone, Copy, Debug, PartialEq, Eq)]
+pub struct LayerNo {
+    layer: u8,
+}
+
+/// A key, 0 to 95.
+#[derive(Clone, Copy, Debug, PartialEq, Eq)]
+pub struct KeyNo {
+    key: u8,
+}
+
+impl Code {
+    /// A key with this code does nothing.
+    pub const NONE: Code = Code { bits: 0x0000 };
+
+    /// A key with this code does what a lower active layer says.
+    pub const TRANSPARENT: Code = Code { bits: 0x0001 };
+
+    /// The code with these bits; `BadCode` where they are none.
+    pub fn read(bits: u16) -> Result<Code, KeymapError> {
+        match bits {
+            0x0000
+            | 0x0001
+            | KEY_FIRST..=KEY_LAST
+            | MODIFIER_FIRST..=MODIFIER_LAST
+            | CONSUMER_FIRST..=CONSUMER_LAST
+            | MOMENTARY_FIRST..=MOMENTARY_LAST => Ok(Code { bits }),
+            _ => Err(KeymapError::BadCode),
+        }
+    }
+
+    /// The default code of the entry at a place, 96 times the layer plus the key.
+    pub(crate) fn default_at(place: usize) -> Code {
+        match place {
+            0..88 => Code {
+                bits: 0x0004 + place as u16,
+            },
+            88..96 => Code {
+                bits: 0x00E0 + (place as u16 - 88),
+            },
+            _ => Code::TRANSPARENT,
+        }
+    }
+
+    /// The usage of page 07h that the code names, if it names one.
+    pub(crate) fn key_usage(self) -> Option<u8> {
+        match self.bits {
+            KEY_FIRST..=KEY_LAST | MODIFIER_FIRST..=MODIFIER_LAST => Some(self.bits as u8),
+            _ => None,
+        }
+    }
+
+    /// The usage of page 0Ch that the code names, if it names one.
+    pub(crate) fn consumer_usage(self) -> Option<u16> {
+        match self.bits {
+            CONSUMER_FIRST..=CONSUMER_LAST => Some(self.bits - CONSUMER_BASE),
+            _ => None,
+        }
+    }
+
+    /// Whether a key with this code activates the layer while it is held.
+    pub(crate) fn activates(self, layer: LayerNo) -> bool {
+        MOMENTARY_BASE + layer.layer as u16 == self.bits
+    }
+
+    /// The bits of the code.
+    pub fn bits(self) -> u16 {
+        self.bits
+    }
+}
+
+impl LayerNo {
+    /// The layer of this number; `BadLayer` where it is 4 or more.
+    pub fn read(layer: u8) -> Result<LayerNo, KeymapError> {
+        if layer < 4 {
+            Ok(LayerNo { layer })
+        } else {
+            Err(KeymapError::BadLayer)
+        }
+    }
+
+    /// The layer of a number that is known to be one.
+    pub(crate) fn known(layer: u8) -> LayerNo {
+        LayerNo { layer }
+    }
+
+    /// The layer of a place.
+    pub(crate) fn of_place(place: u16) -> LayerNo {
+        LayerNo {
+            layer: (place / 96) as u8,
+        }
+    }
+
+    /// The number of the layer, 0 to 3.
+    pub fn number(self) -> u8 {
+        self.layer
+    }
+}
+
+impl KeyNo {
+    /// The key of this number; `BadKey` where it is 96 or more.
+    pub fn read(key: u8) -> Result<KeyNo, KeymapError> {
+        if key < 96 {
+            Ok(KeyNo { key })
+        } else {
+            Err(KeymapError::BadKey)
+        }
+    }
+
+    /// The key of a number that is known to be one.
+    pub(crate) fn known(key: u8) -> KeyNo {
+        KeyNo { key }
+    }
+
+    /// The key of a place.
+    pub(crate) fn of_place(place: u16) -> KeyNo {
+        KeyNo {
+            key: (place % 96) as u8,
+        }
+    }
+
+    /// The number of the key, 0 to 95.
+    pub fn number(self) -> u8 {
+        self.key
+    }
+}

@@ -1,0 +1,212 @@
+// Exported from crates/reports/src/poller.rt by bin/export-rust. Edit that file instead.
+//! Which report a poll of the interrupt endpoint sends.
+
+use crate::parts::reports::made::Made;
+use crate::parts::reports::queue::{Queue, report_of};
+use crate::parts::reports::sent::Sent;
+use crate::parts::reports::{IdleId, Input, Protocol, Report};
+use crate::parts::layers::Usages;
+use crate::rattle::alloc::{AllocError, Global};
+
+/// The idle values at the start, in units of 4 ms: 500 ms for ID 1, and no repeats for ID 2.
+const IDLE_ONE: u8 = 125;
+
+const IDLE_TWO: u8 = 0;
+
+/// The bytes of each report for no usages.
+const BOOT_UNUSED: [u8; 8] = [0; 8];
+
+const ONE_UNUSED: [u8; 23] = [
+    1, 0, 0, 0, 0, 0, 0, 0, 0, 0, 0, 0, 0, 0, 0, 0, 0, 0, 0, 0, 0, 0, 0,
+];
+
+const TWO_UNUSED: [u8; 9] = [2, 0, 0, 0, 0, 0, 0, 0, 0];
+
+/// What was sent last of each report, the reports that wait, and the idle values.
+#[derive(Debug)]
+pub struct Poller {
+    boot: Sent<8>,
+    one: Sent<23>,
+    two: Sent<9>,
+    /// Which of the reports 1 and 2 was sent last.
+    sent_last: Option<Input>,
+    queue: Queue,
+    idle_one: u8,
+    idle_two: u8,
+    /// What was made last: for the usages that the latest scan or poll found, or for none since a reset.
+    /// No contract speaks of it.
+    made: Made,
+}
+
+impl Poller {
+    /// Nothing sent and nothing waiting, and the idle values 125 (500 ms) for ID 1 and 0 (no repeats)
+    /// for ID 2. Takes the memory of the queue, and is refused where there is none.
+    pub fn new(alloc: Global) -> Result<Poller, AllocError> {
+        let queue = Queue::new(alloc)?;
+        Ok(Poller {
+            boot: Sent::now(BOOT_UNUSED),
+            one: Sent::now(ONE_UNUSED),
+            two: Sent::now(TWO_UNUSED),
+            sent_last: None,
+            queue,
+            idle_one: IDLE_ONE,
+            idle_two: IDLE_TWO,
+            made: Made::of(&Usages::none()),
+        })
+    }
+
+    /// Takes the passing of one scan, one millisecond, which found the usages `now` after `before`.
+    /// Each report of the protocol whose bytes that changes waits from now on, ID 1 before ID 2. Of
+    /// more than eight that wait the oldest are dropped.
+    pub fn tick(&mut self, before: &Usages, now: &Usages, protocol: Protocol) {
+        self.grow_older();
+        self.push_changes(before, now, protocol);
+    }
+
+    fn grow_older(&mut self) {
+        self.boot.tick();
+        self.one.tick();
+        self.two.tick();
+    }
+
+    /// Lets the reports wait that a scan changed, and keeps the bytes that it made.
+    fn push_changes(&mut self, before: &Usages, now: &Usages, protocol: Protocol) {
+        if before == now {
+            return;
+        }
+        self.made.set(before);
+        let made = Made::of(now);
+        self.queue.push_changes(&self.made, &made, protocol);
+        self.made = made;
+    }
+
+    /// The answer to a poll: the report that has waited longest. Where none waits, the report of the
+    /// protocol whose bytes are not those last sent; else one whose idle value is not 0 and for which
+    /// as long has passed since it was sent; of two the one that was not sent last; else `None`. What
+    /// is answered then counts as sent.
+    pub fn poll(&mut self, usages: &Usages, protocol: Protocol) -> Option<Report> {
+        let answer = match self.queue.pop() {
+            Some(front) => Some(front),
+            None => self.due(usages, protocol),
+        };
+        self.count_as_sent(&answer);
+        answer
+    }
+
+    /// What the poll rule sends where no report waits.
+    fn due(&mut self, usages: &Usages, protocol: Protocol) -> Option<Report> {
+        self.made.set(usages);
+        match protocol {
+            Protocol::Boot => self.due_boot(self.made.boot()),
+            Protocol::Report => self.due_report(self.made.one(), self.made.two()),
+        }
+    }
+
+    fn due_boot(&self, boot: &[u8; 8]) -> Option<Report> {
+        if self.boot_is_due(boot) {
+            Some(report_of(boot))
+        } else {
+            None
+        }
+    }
+
+    fn boot_is_due(&self, boot: &[u8; 8]) -> bool {
+        self.boot.is_changed(boot) || self.boot.is_elapsed(self.idle_one)
+    }
+
+    fn due_report(&self, one: &[u8; 23], two: &[u8; 9]) -> Option<Report> {
+        match self.chosen(self.one.is_changed(one), self.two.is_changed(two)) {
+            Some(Input::One) => Some(report_of(one)),
+            Some(Input::Two) => Some(report_of(two)),
+            Some(Input::Boot) => None,
+            None => None,
+        }
+    }
+
+    /// Of the reports 1 and 2 one that is changed, else one that is elapsed.
+    fn chosen(&self, one_changed: bool, two_changed: bool) -> Option<Input> {
+        if one_changed || two_changed {
+            one_of_two(one_changed, two_changed, self.sent_last)
+        } else {
+            one_of_two(
+                self.one.is_elapsed(self.idle_one),
+                self.two.is_elapsed(self.idle_two),
+                self.sent_last,
+            )
+        }
+    }
+
+    /// Counts an answer as sent, if there is one: of the report that has as many bytes.
+    fn count_as_sent(&mut self, answer: &Option<Report>) {
+        let bytes = match answer {
+            Some(report) => report.as_slice(),
+            None => return,
+        };
+        if bytes.len() == BOOT_UNUSED.len() {
+            self.boot.send(bytes);
+        } else if bytes.len() == ONE_UNUSED.len() {
+            self.one.send(bytes);
+            self.sent_last = Some(Input::One);
+        } else if bytes.len() == TWO_UNUSED.len() {
+            self.two.send(bytes);
+            self.sent_last = Some(Input::Two);
+        }
+    }
+
+    /// Sets the idle value of a report, or of all, in units of 4 ms; 0 stands for no repeats (HID 1.11
+    /// section 7.2.4). The time that has passed since a report was sent still counts.
+    pub fn set_idle(&mut self, id: IdleId, duration: u8) {
+        match id {
+            IdleId::All => {
+                self.idle_one = duration;
+                self.idle_two = duration;
+            },
+            IdleId::One => self.idle_one = duration,
+            IdleId::Two => self.idle_two = duration,
+        }
+    }
+
+    /// The idle value of a report, in units of 4 ms; for all reports that of ID 1 (HID 1.11 section
+    /// 7.2.3).
+    pub fn idle(&self, id: IdleId) -> u8 {
+        match id {
+            IdleId::All | IdleId::One => self.idle_one,
+            IdleId::Two => self.idle_two,
+        }
+    }
+
+    /// Counts nothing as sent, as at the start, and drops what waits; the idle values stay.
+    pub fn forget_sent(&mut self) {
+        self.clear();
+    }
+
+    /// Leaves what `new` gives: nothing counts as sent, nothing waits, and the idle values are those of
+    /// the start. Takes no memory.
+    pub fn reset(&mut self) {
+        self.clear();
+        self.idle_one = IDLE_ONE;
+        self.idle_two = IDLE_TWO;
+        self.made = Made::of(&Usages::none());
+    }
+
+    fn clear(&mut self) {
+        self.boot.send(&BOOT_UNUSED);
+        self.one.send(&ONE_UNUSED);
+        self.two.send(&TWO_UNUSED);
+        self.sent_last = None;
+        self.queue.clear();
+    }
+}
+
+/// Of the reports 1 and 2 one that passes its test; if both do, the one that was not sent last.
+fn one_of_two(one: bool, two: bool, sent_last: Option<Input>) -> Option<Input> {
+    match (one, two) {
+        (true, true) => match sent_last {
+            Some(Input::One) => Some(Input::Two),
+            _ => Some(Input::One),
+        },
+        (true, false) => Some(Input::One),
+        (false, true) => Some(Input::Two),
+        (false, false) => None,
+    }
+}

@@ -1,0 +1,67 @@
+// Exported from crates/reports/src/queue.rt by bin/export-rust. Edit that file instead.
+//! The reports that wait to be sent.
+
+use crate::parts::reports::made::Made;
+use crate::parts::reports::{Protocol, Report};
+use crate::rattle::circular_buffer::HeapCircularBuffer;
+use crate::rattle::alloc::{AllocError, Global};
+
+/// How many reports can wait.
+const ROOM: usize = 8;
+
+/// At most eight reports; where one more comes, the oldest is dropped.
+#[derive(Debug)]
+pub(crate) struct Queue {
+    ring: HeapCircularBuffer<Report>,
+}
+
+impl Queue {
+    /// No report, and room for eight.
+    pub(crate) fn new(alloc: Global) -> Result<Queue, AllocError> {
+        let ring = HeapCircularBuffer::with_capacity(alloc, ROOM)?;
+        Ok(Queue { ring })
+    }
+
+    /// Appends the reports of the protocol whose bytes a scan changed, which found the usages of `now`
+    /// after those of `before`: ID 1 before ID 2.
+    pub(crate) fn push_changes(&mut self, before: &Made, now: &Made, protocol: Protocol) {
+        match protocol {
+            Protocol::Boot => self.push_change(before.boot(), now.boot()),
+            Protocol::Report => {
+                self.push_change(before.one(), now.one());
+                self.push_change(before.two(), now.two());
+            },
+        }
+    }
+
+    /// Appends the new bytes of a report where they are not the old ones.
+    fn push_change(&mut self, before: &[u8], now: &[u8]) {
+        if before != now {
+            self.push(report_of(now));
+        }
+    }
+
+    /// Appends a report.
+    fn push(&mut self, report: Report) {
+        self.ring.push_back(report);
+    }
+
+    /// Takes the report that has waited longest.
+    pub(crate) fn pop(&mut self) -> Option<Report> {
+        self.ring.pop_front()
+    }
+
+    /// Drops all reports.
+    pub(crate) fn clear(&mut self) {
+        self.ring.clear();
+    }
+}
+
+/// A report of these bytes.
+pub(crate) fn report_of(bytes: &[u8]) -> Report {
+    let mut report = Report::new();
+    match report.try_extend_from_slice(bytes) {
+        Ok(()) => report,
+        Err(_) => unreachable!(),
+    }
+}
