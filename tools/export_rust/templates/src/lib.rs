@@ -42,6 +42,7 @@ extern crate alloc;
 @MODULES@
 
 mod face;
+pub mod usb;
 mod rattle;
 
 pub use crate::face::LogRefusal;
