@@ -27,17 +27,21 @@ pub fn read(line: &str) -> Option<Vec<Act>> {
         }
         "wait" => vec![Act::Hold(Vec::new(), rest.parse().ok()?)],
         "cut" => vec![Act::Cut],
-        "tear" => vec![Act::Tear(
-            rest.as_bytes()
-                .chunks(2)
-                .map(|two| std::str::from_utf8(two).ok().and_then(|two| u8::from_str_radix(two, 16).ok()))
-                .collect::<Option<_>>()?,
-        )],
+        "tear" => vec![Act::Tear(mask(rest)?)],
         "say" => vec![Act::Say(rest.to_string())],
         "leds" => vec![Act::Leds],
         "end" => vec![Act::End],
         _ => return None,
     })
+}
+
+/// The bytes of a mask, two hex digits each, 1 to 4,096 of them.
+fn mask(text: &str) -> Option<Vec<u8>> {
+    let (digits, whole) = (text.bytes().all(|digit| digit.is_ascii_hexdigit()), text.len() % 2 == 0);
+    if !digits || !whole || text.is_empty() || text.len() > 2 * 4096 {
+        return None;
+    }
+    (0..text.len()).step_by(2).map(|at| u8::from_str_radix(&text[at..at + 2], 16).ok()).collect()
 }
 
 /// A key and whether Shift is held, by the default keymap and a host of the United States: key k is usage 04h + k.

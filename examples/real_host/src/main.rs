@@ -116,9 +116,19 @@ impl Run {
         self.plugs += 1;
         let (plug, mut from, events) = (self.plugs, socket.again()?, self.events.clone());
         std::thread::spawn(move || {
-            while let Ok(urb) = usbip::read_urb(&mut from) {
-                if events.send(Event::Urb(plug, urb)).is_err() {
-                    return;
+            loop {
+                match usbip::read_urb(&mut from) {
+                    Ok(urb) => {
+                        if events.send(Event::Urb(plug, urb)).is_err() {
+                            return;
+                        }
+                    }
+                    Err(error) => {
+                        if error.kind() == ErrorKind::InvalidData {
+                            eprintln!("real_host: {error}");
+                        }
+                        break;
+                    }
                 }
             }
             let _ = events.send(Event::Gone(plug));
@@ -173,7 +183,18 @@ impl Run {
     fn met(&mut self, taken: Result<()>) -> Result<()> {
         match taken {
             Err(error) if error.kind() == ErrorKind::ConnectionReset => self.replug(),
-            taken => taken,
+            taken => {
+                self.keep(taken);
+                Ok(())
+            }
+        }
+    }
+
+    /// A host that can't be written to has gone; the keyboard lives on.
+    fn keep(&mut self, told: Result<()>) {
+        if let Err(error) = told {
+            eprintln!("real_host: the host has gone: {error}");
+            self.wire = None;
         }
     }
 
@@ -195,11 +216,12 @@ impl Run {
         }
         self.left = self.left.saturating_sub(1);
         self.device.millisecond(self.scan);
-        match &mut self.wire {
-            Some((_, _, Wire::Usbip(wire))) => wire.poll(&mut self.device)?,
-            Some((_, _, Wire::Usbredir(wire))) => wire.poll(&mut self.device)?,
-            None => {}
-        }
+        let polled = match &mut self.wire {
+            Some((_, _, Wire::Usbip(wire))) => wire.poll(&mut self.device),
+            Some((_, _, Wire::Usbredir(wire))) => wire.poll(&mut self.device),
+            None => Ok(()),
+        };
+        self.keep(polled);
         Ok(true)
     }
 
@@ -221,7 +243,6 @@ impl Run {
                     };
                     self.met(taken)?;
                 }
-                Ok(Event::Guest(socket)) => self.guest(Socket::Pair(socket))?,
                 Ok(Event::Gone(plug)) => {
                     if self.wire.as_ref().is_some_and(|wire| wire.0 == plug) {
                         self.wire = None;
@@ -232,7 +253,11 @@ impl Run {
                     Some(acts) => self.hands.extend(acts),
                     None => eprintln!("no such line: {line}"),
                 },
+                Ok(Event::Plugged(_) | Event::Guest(_)) if self.wire.is_some() => {
+                    eprintln!("real_host: a second host was turned away: the keyboard is plugged in already");
+                }
                 Ok(Event::Plugged(socket)) => self.plug(Socket::Tcp(socket))?,
+                Ok(Event::Guest(socket)) => self.guest(Socket::Pair(socket))?,
                 Err(RecvTimeoutError::Timeout) => {
                     next += Duration::from_millis(1);
                     if !self.millisecond()? {

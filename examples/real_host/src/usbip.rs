@@ -49,7 +49,10 @@ pub fn read_urb(from: &mut impl Read) -> Result<Urb> {
             let length = word(&head, 24) as usize;
             let mut setup = [0; 8];
             setup.copy_from_slice(&head[40..]);
-            let mut data = vec![0; if to_host == 0 && length <= 65_536 { length } else { 0 }];
+            if length > 65_536 {
+                return Err(Error::new(ErrorKind::InvalidData, "an URB of more than 65,536 bytes"));
+            }
+            let mut data = vec![0; if to_host == 0 { length } else { 0 }];
             from.read_exact(&mut data)?;
             Ok(Urb::Submit { seq, to_host: to_host != 0, endpoint, length, setup, data })
         }
