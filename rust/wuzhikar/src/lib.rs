@@ -41,6 +41,7 @@ mod face;
 pub mod parts;
 #[doc(hidden)]
 pub mod rattle;
+pub mod usb;
 
 pub use crate::face::FlashKeyboard;
 pub use crate::parts::keyboard::{EpAnswer, Keyboard, Protocol, Report, Scan, Why, Work};

@@ -1,0 +1,206 @@
+// SPDX-License-Identifier: MIT OR Apache-2.0
+//! usbredir, protocol 0.7 (spice-space.org): the side of the device, for QEMU's `-device usb-redir`.
+//!
+//! A host asks by messages: a bus reset, a whole control transfer, and once to receive the packets of endpoint 1, which are
+//! pushed from then on. SET_CONFIGURATION and SET_INTERFACE come as messages of their own; SET_ADDRESS doesn't come.
+
+use crate::device::{Device, Ended, IDENTITY, plug};
+use std::io::{Error, ErrorKind, Read, Result, Write};
+use wuzhikar_device::{PacketSize, PollAnswer};
+
+const HELLO: u32 = 0;
+const DEVICE_CONNECT: u32 = 1;
+const DEVICE_DISCONNECT: u32 = 2;
+const RESET: u32 = 3;
+const INTERFACE_INFO: u32 = 4;
+const EP_INFO: u32 = 5;
+const SET_CONFIGURATION: u32 = 6;
+const GET_CONFIGURATION: u32 = 7;
+const CONFIGURATION_STATUS: u32 = 8;
+const SET_ALT_SETTING: u32 = 9;
+const GET_ALT_SETTING: u32 = 10;
+const ALT_SETTING_STATUS: u32 = 11;
+const START_INTERRUPT: u32 = 15;
+const STOP_INTERRUPT: u32 = 16;
+const INTERRUPT_STATUS: u32 = 17;
+const CANCEL: u32 = 21;
+const CONTROL: u32 = 100;
+const INTERRUPT: u32 = 103;
+
+/// Statuses.
+const SUCCESS: u8 = 0;
+const STALL: u8 = 4;
+
+/// What is spoken: the version at connect, the acknowledged disconnect, sizes of packets, ids of 64 bits, long lengths.
+const CAPABILITIES: u32 = 1 << 1 | 1 << 3 | 1 << 4 | 1 << 5 | 1 << 6;
+
+const FULL_SPEED: u8 = 1;
+
+pub struct Message {
+    kind: u32,
+    id: u64,
+    data: Vec<u8>,
+}
+
+/// The next message. The first one is the only one whose id has 32 bits.
+pub fn read_message(from: &mut impl Read, first: bool) -> Result<Message> {
+    let mut head = [0; 16];
+    from.read_exact(&mut head[..if first { 12 } else { 16 }])?;
+    let kind = u32::from_le_bytes([head[0], head[1], head[2], head[3]]);
+    let length = u32::from_le_bytes([head[4], head[5], head[6], head[7]]);
+    let id = u64::from_le_bytes(head[8..].try_into().unwrap_or_default());
+    if length > 65_536 || first != (kind == HELLO) {
+        return Err(Error::new(ErrorKind::InvalidData, "no message of usbredir"));
+    }
+    let mut data = vec![0; length as usize];
+    from.read_exact(&mut data)?;
+    if first && (data.len() < 68 || data[64] & 0x70 != 0x70) {
+        return Err(Error::new(ErrorKind::InvalidData, "a host without ids of 64 bits"));
+    }
+    Ok(Message { kind, id, data })
+}
+
+pub struct Wire<S> {
+    to: S,
+    receives: bool,
+    sent: u64,
+    size: PacketSize,
+    interval: u8,
+}
+
+impl<S: Write> Wire<S> {
+    /// The device is plugged in.
+    pub fn plug(mut to: S, device: &mut Device) -> Result<Wire<S>> {
+        let mut hello = b"wuzhikar".to_vec();
+        hello.resize(64, 0);
+        hello.extend(CAPABILITIES.to_le_bytes());
+        to.write_all(&[&HELLO.to_le_bytes()[..], &68u32.to_le_bytes(), &[0; 4], &hello].concat())?;
+        plug(device);
+        let identity = device.identity();
+        Ok(Wire { to, receives: false, sent: 0, size: identity.packet_size, interval: identity.interval.count() })
+    }
+
+    /// The device is unplugged.
+    pub fn unplug(&mut self) -> Result<()> {
+        self.receives = false;
+        self.say(DEVICE_DISCONNECT, 0, &[])
+    }
+
+    /// The device is there, behind the hello of the host or plugged in again.
+    pub fn connect(&mut self) -> Result<()> {
+        self.shape()?;
+        let mut about = vec![FULL_SPEED, 0, 0, 0];
+        for number in [IDENTITY.vendor_id, IDENTITY.product_id, IDENTITY.release] {
+            about.extend(number.to_le_bytes());
+        }
+        self.say(DEVICE_CONNECT, 0, &about)
+    }
+
+    pub fn take(&mut self, message: Message, device: &mut Device) -> Result<()> {
+        let Message { kind, id, data } = message;
+        let at = |place: usize| data.get(place).copied().unwrap_or(0);
+        match kind {
+            HELLO => self.connect(),
+            RESET => {
+                self.receives = false;
+                plug(device);
+                Ok(())
+            }
+            SET_CONFIGURATION => {
+                self.receives = false;
+                let ended = device.control([0, 9, at(0), 0, 0, 0, 0, 0], &[]);
+                self.shape()?;
+                self.say(CONFIGURATION_STATUS, id, &[status(&ended), at(0)])
+            }
+            GET_CONFIGURATION => {
+                let ended = device.control([0x80, 8, 0, 0, 0, 0, 1, 0], &[]);
+                self.say(CONFIGURATION_STATUS, id, &[status(&ended), value(&ended)])
+            }
+            SET_ALT_SETTING => {
+                let ended = device.control([1, 11, at(1), 0, at(0), 0, 0, 0], &[]);
+                self.say(ALT_SETTING_STATUS, id, &[status(&ended), at(0), at(1)])
+            }
+            GET_ALT_SETTING => {
+                let ended = device.control([0x81, 10, 0, 0, at(0), 0, 1, 0], &[]);
+                self.say(ALT_SETTING_STATUS, id, &[status(&ended), at(0), value(&ended)])
+            }
+            START_INTERRUPT | STOP_INTERRUPT => {
+                self.receives = kind == START_INTERRUPT;
+                self.say(INTERRUPT_STATUS, id, &[SUCCESS, at(0)])?;
+                self.poll(device)
+            }
+            CONTROL if data.len() >= 10 => self.control(id, &data, device),
+            INTERRUPT => self.say(INTERRUPT, id, &[at(0), STALL, 0, 0]),
+            CANCEL => Ok(()), // each transfer is over before the next message is read
+            _ => Ok(()),
+        }
+    }
+
+    /// `usb_redir_control_packet_header`: endpoint, bRequest, bmRequestType, status, wValue, wIndex, wLength.
+    fn control(&mut self, id: u64, data: &[u8], device: &mut Device) -> Result<()> {
+        let (head, sent) = data.split_at(10);
+        let mut setup = [0; 8];
+        (setup[0], setup[1]) = (head[2], head[1]);
+        setup[2..].copy_from_slice(&head[4..]);
+        let ended = device.control(setup, sent);
+        if ended == Ended::Gone {
+            return Err(ErrorKind::ConnectionReset.into());
+        }
+        let mut answer = head.to_vec();
+        answer[3] = status(&ended);
+        let read = if let Ended::Data(read) = ended { read } else { Vec::new() };
+        let length = if head[2] & 0x80 != 0 {
+            read.len()
+        } else if answer[3] == SUCCESS {
+            sent.len()
+        } else {
+            0
+        };
+        answer[8..].copy_from_slice(&(length as u16).to_le_bytes());
+        answer.extend(read);
+        self.say(CONTROL, id, &answer)
+    }
+
+    /// Polls endpoint 1 for a host that receives its packets.
+    pub fn poll(&mut self, device: &mut Device) -> Result<()> {
+        while self.receives {
+            let (status, report) = match device.poll() {
+                PollAnswer::Data(report) => (SUCCESS, report.to_vec()),
+                PollAnswer::Stall => {
+                    self.receives = false;
+                    (STALL, Vec::new())
+                }
+                PollAnswer::Nak | PollAnswer::Nothing => break,
+            };
+            let mut packet = vec![0x81, status, report.len() as u8, 0];
+            packet.extend(report);
+            self.sent += 1;
+            self.say(INTERRUPT, self.sent, &packet)?;
+        }
+        Ok(())
+    }
+
+    /// One interface, HID, boot, keyboard; endpoint 0 in both directions, and endpoint 1 to the host.
+    fn shape(&mut self) -> Result<()> {
+        let only_first = |value: u8| std::array::from_fn::<u8, 32, _>(|at| if at == 0 { value } else { 0 });
+        let interfaces = [only_first(0), only_first(3), only_first(1), only_first(1)].concat();
+        self.say(INTERFACE_INFO, 0, &[&1u32.to_le_bytes()[..], &interfaces].concat())?;
+        let (mut kinds, mut intervals, mut sizes) = ([255; 32], [0; 32], [0u8; 64]);
+        (kinds[0], kinds[16], kinds[17], intervals[17]) = (0, 0, 3, self.interval);
+        (sizes[0], sizes[32], sizes[34]) = (8, 8, self.size.bytes() as u8);
+        self.say(EP_INFO, 0, &[&kinds[..], &intervals, &[0; 32], &sizes].concat())
+    }
+
+    fn say(&mut self, kind: u32, id: u64, data: &[u8]) -> Result<()> {
+        let length = (data.len() as u32).to_le_bytes();
+        self.to.write_all(&[&kind.to_le_bytes()[..], &length, &id.to_le_bytes(), data].concat())
+    }
+}
+
+fn status(ended: &Ended) -> u8 {
+    if matches!(ended, Ended::Data(_)) { SUCCESS } else { STALL }
+}
+
+fn value(ended: &Ended) -> u8 {
+    if let Ended::Data(read) = ended { read.first().copied().unwrap_or(0) } else { 0 }
+}
