@@ -54,10 +54,13 @@ STEPS = [
     Step("how bin/kbsim chooses", [*PYTHON, "tools/test_door.py", "--quiet"]),
     Step("the picture of a cut", [*PYTHON, "tools/draw_cut.py", "--check"]),
     Step("the exporter's own tests", [*PYTHON, "tools/export_rust/test_export.py", "--quiet"]),
+    Step("plain Rust is that of the source", [*PYTHON, "tools/export_rust/check.py"]),
     Step("gate", ["rt", "ci"], needs("rt")),
     *steps_of_program("proved", needs("rt")),
     *steps_of_program("plain", needs("cargo", "rustc", paths=["rust/kbsim/SOURCES"])),
     Step("refused growths", ["bin/refused-growth"], needs("rt")),
+    Step("what is exported", ["bin/export-test"], needs("cargo", "rustc")),
+    Step("a Linux that types", ["bin/linux-test", "16", "8"], needs("cargo", "rustc")),
 ]
 
 
