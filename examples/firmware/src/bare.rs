@@ -4,9 +4,9 @@
 
 use crate::chip::{Cells, Chip, Event, IDENTITY};
 use crate::flash::Flash;
-use crate::front::{Change, Endpoint1, PollAnswer};
 use core::sync::atomic::{AtomicU8, AtomicU16, Ordering};
 use wuzhikar::{EpAnswer, Scan};
+use wuzhikar_device::{Change, Endpoint1, PollAnswer};
 
 /// A packet and what it is.
 pub struct Mailbox {
@@ -89,7 +89,7 @@ impl Chip for Generic {
 
     fn report(&mut self, answer: &PollAnswer) {
         match answer {
-            PollAnswer::Report(report) => ENDPOINT_1.put(1, report),
+            PollAnswer::Data(packet) => ENDPOINT_1.put(1, packet),
             PollAnswer::Nak => ENDPOINT_1.put(3, &[]),
             PollAnswer::Stall => ENDPOINT_1.put(4, &[]),
             PollAnswer::Nothing => {}
@@ -104,6 +104,8 @@ impl Chip for Generic {
             }
             Change::Address(address) => ADDRESS.store(address, Ordering::Relaxed),
             Change::Endpoint1(state) => ENDPOINT_1_STATE.store(state as u8, Ordering::Relaxed),
+            // Endpoint 1 is asked at its token, so nothing is there to be dropped.
+            Change::Protocol => {}
         }
     }
 

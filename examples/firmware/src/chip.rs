@@ -2,10 +2,11 @@
 //! A chip, and one that is played in memory: write your own in its place.
 
 use crate::flash::FlashController;
-use crate::front::{Change, Identity, PollAnswer};
 use wuzhikar::{EpAnswer, SLOT_BYTES, Scan};
+use wuzhikar_device::{Change, Identity, PollAnswer};
 
 /// What the keyboard is called: put your own here. Vendor 1209h, product 0001h is an ID for tests and not for products.
+/// Packets of 16 bytes, asked for each millisecond, are what a BIOS takes, too.
 pub const IDENTITY: Identity = Identity {
     vendor_id: 0x1209,
     product_id: 0x0001,
@@ -13,6 +14,7 @@ pub const IDENTITY: Identity = Identity {
     manufacturer: "Example",
     product: "Wuzhikar keyboard",
     serial_number: "0001",
+    ..Identity::TEST
 };
 
 /// What the chip's interrupts have left for the main loop.

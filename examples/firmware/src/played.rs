@@ -2,9 +2,9 @@
 //! A chip that is played: its events are a list, and what goes onto the bus is printed.
 
 use crate::chip::{Cells, Chip, Event};
-use crate::front::{Change, PollAnswer};
 use std::vec::IntoIter;
 use wuzhikar::{EpAnswer, KeyNo, Scan};
+use wuzhikar_device::{Change, PollAnswer};
 
 /// SET_REPORT of the feature report (HID 1.11 section 7.2.2), whose packet follows.
 const SET_FEATURE: [u8; 8] = [0x21, 0x09, 0x03, 0x03, 0x00, 0x00, 0x06, 0x00];
@@ -99,7 +99,7 @@ impl Plays {
         self.ask("SET_CONFIGURATION", [0x00, 9, 1, 0, 0, 0, 0, 0]);
     }
 
-    /// After five milliseconds with key 0 closed the host polls.
+    /// After five milliseconds with key 0 closed the host polls: the report comes in two packets.
     fn press_key_0(&mut self) {
         self.say("key 0 is pressed");
         let mut scan = Scan::NONE;
@@ -109,7 +109,7 @@ impl Plays {
         for _ in 0..5 {
             self.events([Event::Millisecond(scan)]);
         }
-        self.events([Event::Poll]);
+        self.events([Event::Poll, Event::Poll]);
     }
 }
 
@@ -143,6 +143,7 @@ impl Chip for Played {
             Change::Reset => println!("bus reset: address 0, endpoint 1 is Off"),
             Change::Address(address) => println!("address {address}"),
             Change::Endpoint1(state) => println!("endpoint 1 is {state:?}"),
+            Change::Protocol => println!("the protocol was set"),
         }
     }
 
