@@ -15,6 +15,8 @@ WANTED = [
     ("librust-arrayvec-dev", "/usr/share/cargo/registry/arrayvec-*"),
     ("librust-hex-dev", "/usr/share/cargo/registry/hex-*"),
     ("gcc", "cc"),
+    ("binutils", "size"),
+    ("lld", "ld.lld"),
     ("libc6-dev", "/usr/include/stdio.h"),
     ("qemu-system-x86", "qemu-system-x86_64"),
     ("busybox-static", "busybox"),
