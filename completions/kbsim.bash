@@ -141,12 +141,16 @@ _kbsim() {
             return 0
             ;;
         kbsim__parse)
-            opts="-h --items --help"
+            opts="-h --from --items --help [FILE]"
             if [[ ${cur} == -* || ${COMP_CWORD} -eq 2 ]] ; then
                 COMPREPLY=( $(compgen -W "${opts}" -- "${cur}") )
                 return 0
             fi
             case "${prev}" in
+                --from)
+                    COMPREPLY=($(compgen -W "hex c bytes" -- "${cur}"))
+                    return 0
+                    ;;
                 *)
                     COMPREPLY=()
                     ;;
@@ -155,7 +159,7 @@ _kbsim() {
             return 0
             ;;
         kbsim__run)
-            opts="-h --pages --image --save --help"
+            opts="-h --pages --image --save --help [FILE]"
             if [[ ${cur} == -* || ${COMP_CWORD} -eq 2 ]] ; then
                 COMPREPLY=( $(compgen -W "${opts}" -- "${cur}") )
                 return 0

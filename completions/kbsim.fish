@@ -1,17 +1,18 @@
 complete -c kbsim -n "__fish_use_subcommand" -s h -l help -d 'Print help information'
 complete -c kbsim -n "__fish_use_subcommand" -s V -l version -d 'Print version information'
-complete -c kbsim -n "__fish_use_subcommand" -f -a "run" -d 'Runs the script on standard input'
+complete -c kbsim -n "__fish_use_subcommand" -f -a "run" -d 'Runs a script'
 complete -c kbsim -n "__fish_use_subcommand" -f -a "describe" -d 'Prints the keyboard\'s descriptors'
-complete -c kbsim -n "__fish_use_subcommand" -f -a "parse" -d 'Prints the fields, or the items, of the report descriptor on standard input'
+complete -c kbsim -n "__fish_use_subcommand" -f -a "parse" -d 'Prints the fields, or the items, of a report descriptor'
 complete -c kbsim -n "__fish_use_subcommand" -f -a "help" -d 'Print this message or the help of the given subcommand(s)'
 complete -c kbsim -n "__fish_seen_subcommand_from run" -l pages -d 'How many pages the flash has' -r -f -a "{2	,3	,4	,5	,6	,7	,8	}"
 complete -c kbsim -n "__fish_seen_subcommand_from run" -l image -d 'Starts on a flash that holds the bytes of FILE' -r -F
 complete -c kbsim -n "__fish_seen_subcommand_from run" -l save -d 'Writes the flash\'s bytes to FILE after a run without a fault' -r -F
 complete -c kbsim -n "__fish_seen_subcommand_from run" -s h -l help -d 'Print help information'
 complete -c kbsim -n "__fish_seen_subcommand_from describe" -s h -l help -d 'Print help information'
+complete -c kbsim -n "__fish_seen_subcommand_from parse" -l from -d 'How the text says the bytes' -r -f -a "{hex	,c	,bytes	}"
 complete -c kbsim -n "__fish_seen_subcommand_from parse" -l items -d 'Prints each item, up to the first fault, in place of the fields'
 complete -c kbsim -n "__fish_seen_subcommand_from parse" -s h -l help -d 'Print help information'
-complete -c kbsim -n "__fish_seen_subcommand_from help; and not __fish_seen_subcommand_from run; and not __fish_seen_subcommand_from describe; and not __fish_seen_subcommand_from parse; and not __fish_seen_subcommand_from help" -f -a "run" -d 'Runs the script on standard input'
+complete -c kbsim -n "__fish_seen_subcommand_from help; and not __fish_seen_subcommand_from run; and not __fish_seen_subcommand_from describe; and not __fish_seen_subcommand_from parse; and not __fish_seen_subcommand_from help" -f -a "run" -d 'Runs a script'
 complete -c kbsim -n "__fish_seen_subcommand_from help; and not __fish_seen_subcommand_from run; and not __fish_seen_subcommand_from describe; and not __fish_seen_subcommand_from parse; and not __fish_seen_subcommand_from help" -f -a "describe" -d 'Prints the keyboard\'s descriptors'
-complete -c kbsim -n "__fish_seen_subcommand_from help; and not __fish_seen_subcommand_from run; and not __fish_seen_subcommand_from describe; and not __fish_seen_subcommand_from parse; and not __fish_seen_subcommand_from help" -f -a "parse" -d 'Prints the fields, or the items, of the report descriptor on standard input'
+complete -c kbsim -n "__fish_seen_subcommand_from help; and not __fish_seen_subcommand_from run; and not __fish_seen_subcommand_from describe; and not __fish_seen_subcommand_from parse; and not __fish_seen_subcommand_from help" -f -a "parse" -d 'Prints the fields, or the items, of a report descriptor'
 complete -c kbsim -n "__fish_seen_subcommand_from help; and not __fish_seen_subcommand_from run; and not __fish_seen_subcommand_from describe; and not __fish_seen_subcommand_from parse; and not __fish_seen_subcommand_from help" -f -a "help" -d 'Print this message or the help of the given subcommand(s)'

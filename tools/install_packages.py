@@ -1,7 +1,9 @@
 """Installs Debian's packages that bin/test can use and this machine lacks, where it is root and apt-get is there.
 
 What can't be installed is said in a line: the tests that want it skip themselves by name. A compiler is installed only where the
-rustc on the PATH is older than 1.85 or missing, never in place of one that serves. The status is always 0.
+rustc on the PATH is older than 1.85 or missing, never in place of one that serves; Debian's own also beside one that serves, as
+/usr/bin/rustc where there is none, since with its sources, of its very version, it builds for chips and for 32 bits. The status is
+always 0.
 """
 
 import argparse
@@ -14,16 +16,28 @@ import subprocess
 WANTED = [
     ("librust-arrayvec-dev", "/usr/share/cargo/registry/arrayvec-*"),
     ("librust-hex-dev", "/usr/share/cargo/registry/hex-*"),
+    ("librust-clap-dev", "/usr/share/cargo/registry/clap-4*"),
+    ("librust-strsim-dev", "/usr/share/cargo/registry/strsim-*"),
     ("gcc", "cc"),
+    ("gcc-multilib", "/usr/lib32/crt1.o"),
+    ("valgrind", "valgrind"),
     ("binutils", "size"),
     ("lld", "ld.lld"),
     ("libc6-dev", "/usr/include/stdio.h"),
+    ("gcc-arm-none-eabi", "arm-none-eabi-gcc"),
+    ("libnewlib-arm-none-eabi", "/usr/lib/arm-none-eabi/newlib"),
+    ("qemu-user", "qemu-arm"),
     ("qemu-system-x86", "qemu-system-x86_64"),
     ("busybox-static", "busybox"),
-    ("cpio", "cpio"),
     ("kmod", "/sbin/modprobe"),
+    ("chromium", "chromium"),
+    ("tshark", "tshark"),
+    ("ovmf", "/usr/share/ovmf/OVMF.fd"),
+    ("librust-serde-json-dev", "/usr/share/cargo/registry/serde_json-*"),
+    ("librust-serde-derive-dev", "/usr/share/cargo/registry/serde_derive-*"),
 ]
-COMPILER = ["rustc-web", "cargo-web"]
+# Debian's compilers, each with its cargo and its sources. The first is the one that is installed where none serves.
+COMPILERS = {"rustc-web": ("cargo-web", "rust-web-src"), "rustc": ("cargo", "rust-src")}
 OLDEST = (1, 85)
 SECONDS = {"update": 120, "install": 600}
 
@@ -37,19 +51,42 @@ def is_there(what):
     return os.path.isdir(folder) and any(named.fullmatch(name) for name in os.listdir(folder))
 
 
+def told(*command):
+    """What a command prints, or nothing where it fails or is not there."""
+    if not shutil.which(command[0]):
+        return ""
+    ran = subprocess.run(command, stdout=subprocess.PIPE, stderr=subprocess.DEVNULL, text=True)
+    return ran.stdout.strip() if ran.returncode == 0 else ""
+
+
 def compiler_serves():
-    """Whether cargo is on the PATH, and a rustc that is new enough."""
-    if not shutil.which("rustc") or not shutil.which("cargo"):
-        return False
-    told = subprocess.run(["rustc", "--version"], stdout=subprocess.PIPE, text=True).stdout
-    version = re.match(r"rustc (\d+)\.(\d+)", told)
+    """Whether the rustc on the PATH is new enough."""
+    version = re.match(r"rustc (\d+)\.(\d+)", told("rustc", "--version"))
     return version is not None and tuple(map(int, version.groups())) >= OLDEST
+
+
+def missing_of_compiler():
+    """What is missing of Debian's compiler, of cargo, and of the sources of /usr/bin/rustc, which are of its own version."""
+    owner = told("dpkg-query", "--search", "/usr/bin/rustc").partition(":")[0]
+    version = re.match(r"rustc (\S+)", told("/usr/bin/rustc", "--version"))
+    if not version or not compiler_serves():
+        owner, version = next(iter(COMPILERS)), None
+    elif owner not in COMPILERS:
+        return []
+    cargo, sources = COMPILERS[owner]
+    names = [] if version else [owner]
+    if not shutil.which("cargo") or not compiler_serves():
+        names.append(cargo)
+    if version is None:
+        names.append(sources)
+    elif not is_there(f"/usr/src/rustc-{version[1]}"):
+        names.append(f"{sources}={told('dpkg-query', '--show', '--showformat=${Version}', owner)}")
+    return names
 
 
 def missing():
     """The packages that would be installed."""
-    names = [name for name, what in WANTED if not is_there(what)]
-    return names + ([] if compiler_serves() else COMPILER)
+    return [name for name, what in WANTED if not is_there(what)] + missing_of_compiler()
 
 
 def apt(step, *words):

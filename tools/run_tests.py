@@ -14,6 +14,8 @@ import sys
 import time
 from typing import Callable, NamedTuple
 
+from debian_crates import OF_PROGRAM, lacking
+
 ROOT = os.path.dirname(os.path.dirname(os.path.abspath(__file__)))
 PYTHON = ["python3", "-B"]
 
@@ -27,15 +29,22 @@ class Step(NamedTuple):
     program: str = ""  # the way of bin/kbsim whose program the command is run on (the variable KBSIM)
 
 
-def needs(*tools, paths=()):
-    """What is missing of these tools and of these paths of the repository."""
+def needs(*tools, paths=(), crates=()):
+    """What is missing of these tools, of these paths of the repository, and of these crates."""
 
     def lacks():
         absent = [tool for tool in tools if not shutil.which(tool)]
         absent += [path for path in paths if not os.path.exists(f"{ROOT}/{path}")]
-        return f"{' and '.join(absent)} not there" if absent else ""
+        if absent:
+            return f"{' and '.join(absent)} not there"
+        return lacking(*crates) if crates else ""
 
     return lacks
+
+
+def needs_cargo(*tools, crates=OF_PROGRAM, paths=()):
+    """The same, with cargo and rustc; without a word of the crates those of the program."""
+    return needs("cargo", "rustc", *tools, paths=paths, crates=crates)
 
 
 def steps_of_program(way, lacks):
@@ -51,16 +60,36 @@ def steps_of_program(way, lacks):
 STEPS = [
     Step("one version everywhere", [*PYTHON, "tools/check_version.py"]),
     Step("what the documents name", ["bin/check-docs"]),
+    Step("a test at the largest input of each call", [*PYTHON, "tools/check_extremes.py"]),
+    Step("right bodies can be applied", [*PYTHON, "tools/right_bodies.py", "--apply"]),
+    Step("how documents are checked", [*PYTHON, "tools/test_check_documents.py", "--quiet"]),
+    Step("what tools/check runs", [*PYTHON, "tools/test_check_crate.py", "--quiet"]),
     Step("how bin/kbsim chooses", [*PYTHON, "tools/test_door.py", "--quiet"]),
-    Step("the picture of a cut", [*PYTHON, "tools/draw_cut.py", "--check"]),
+    Step("the pictures", [*PYTHON, "tools/pictures", "--check"]),
     Step("the exporter's own tests", [*PYTHON, "tools/export_rust/test_export.py", "--quiet"]),
     Step("plain Rust is that of the source", [*PYTHON, "tools/export_rust/check.py"]),
+    Step("how names in docs are found", [*PYTHON, "tools/export_rust/test_names.py", "--quiet"]),
+    Step("what the docs of plain Rust name", [*PYTHON, "tools/export_rust/check_names.py"]),
+    Step("the page is that of its sources", ["bin/build-page", "--check"]),
     Step("gate", ["rt", "ci"], needs("rt")),
     *steps_of_program("proved", needs("rt")),
-    *steps_of_program("plain", needs("cargo", "rustc", paths=["rust/kbsim/SOURCES"])),
+    *steps_of_program("plain", needs_cargo(paths=["rust/kbsim/SOURCES"])),
+    Step("the bench's own tests", [*PYTHON, "tools/test_bench.py", "--quiet"]),
+    Step("the keyboard and the parser by hand in C", ["bin/bench", "compare", "--scripts", "300", "--texts", "300"],
+         needs_cargo("gcc"), "plain"),
+    Step("the reader from C", [*PYTHON, "tools/test_hid_reader.py", "--quiet"], needs_cargo("gcc"), "plain"),
+    Step("the kept reader beside a plain program", [*PYTHON, "tools/test_reader.py"], needs_cargo(crates=["arrayvec"])),
     Step("refused growths", ["bin/refused-growth"], needs("rt")),
-    Step("what is exported", ["bin/export-test"], needs("cargo", "rustc")),
-    Step("a Linux that types", ["bin/linux-test", "16", "8"], needs("cargo", "rustc")),
+    Step("what is exported", ["bin/export-test"], needs_cargo()),
+    Step("the page in a browser", ["bin/page-test"], needs("chromium")),
+    Step("what the documents show", [*PYTHON, "tools/test_documents.py", "--quiet"], needs_cargo("cc")),
+    Step("settings outlive each cut", ["bin/settings-test"], needs_cargo(crates=["arrayvec"])),
+    Step("a keyboard outlives cuts on flash with error correction", ["bin/keyboard-cuts"], needs_cargo(crates=["arrayvec"])),
+    Step("examples that meet a host", [*PYTHON, "tools/test_hosts.py"], needs_cargo(crates=["arrayvec"])),
+    Step("wrong fronts are refused", [*PYTHON, "tools/wrong_fronts.py"], needs_cargo()),
+    Step("a run as a capture", [*PYTHON, "tools/test_pcap.py", "--quiet"], needs_cargo(), "plain"),
+    Step("the parts of bin/linux-test", [*PYTHON, "tools/linux_test/test_linux_test.py", "--quiet"]),
+    Step("a Linux that types", ["bin/linux-test"], needs_cargo(crates=["arrayvec"])),
 ]
 
 

@@ -10,7 +10,7 @@ import tempfile
 import unittest
 
 ROOT = os.path.dirname(os.path.dirname(os.path.abspath(__file__)))
-KBSIM = os.environ.get("KBSIM", f"{ROOT}/bin/kbsim")
+KBSIM = [os.environ["KBSIM"]] if "KBSIM" in os.environ else [f"{ROOT}/bin/kbsim", "--quiet"]
 
 # Words that are refused, and the first line of standard error behind `error: `.
 REFUSED = [
@@ -25,37 +25,52 @@ REFUSED = [
     (["run", "--image", "a", "--pages", "2"], "the argument '--image <FILE>' cannot be used with '--pages <N>'"),
     (["run", "--image"], "a value is required for '--image <FILE>' but none was supplied"),
     (["parse", "--save", "a"], "unexpected argument '--save' found"),
-    (["run", "script"], "unexpected argument 'script' found"),
-    (["parse", "text"], "unexpected argument 'text' found"),
+    (["run", "script", "more"], "unexpected argument 'more' found"),
+    (["run", "-", "-"], "unexpected argument '-' found"),
+    (["parse", "text", "--items", "more"], "unexpected argument 'more' found"),
+    (["describe", "text"], "unexpected argument 'text' found"),
     (["parse", "--items=x"], "unexpected value 'x' for '--items' found; no more were expected"),
     (["run", "--items"], "unexpected argument '--items' found"),
     (["describe", "--pages", "3"], "unexpected argument '--pages' found"),
+    (["parse", "--from", "x"], "invalid value 'x' for '--from <FORM>'"),
+    (["parse", "--from", "C"], "invalid value 'C' for '--from <FORM>'"),
+    (["parse", "--from"], "a value is required for '--from <FORM>' but none was supplied"),
+    (["parse", "--from=c", "--from=c"], "the argument '--from <FORM>' cannot be used multiple times"),
+    (["run", "--from", "c"], "unexpected argument '--from' found"),
 ]
 
 # Words that ask for help or the version, and a line of what is printed.
 HELPS = [
     (["--help"], "Usage: kbsim <COMMAND>"),
     (["help"], "Usage: kbsim <COMMAND>"),
-    (["run", "--help"], "Usage: kbsim run [OPTIONS]"),
-    (["help", "parse"], "Usage: kbsim parse [OPTIONS]"),
+    (["run", "--help"], "Usage: kbsim run [OPTIONS] [FILE]"),
+    (["help", "parse"], "Usage: kbsim parse [OPTIONS] [FILE]"),
     (["describe", "--help"], "Usage: kbsim describe"),
     (["--version"], "kbsim 0.1.0"),
 ]
 
-# Words, what is given, the status, and what is printed.
+# Words, what is given, the status, what is printed, and what is said on standard error.
 ENDS = [
-    (["run"], "work\nin x\n", 1, "fault line 2: wrong words\n"),
-    (["run", "--pages", "8"], "slot 7 511\n", 0, "1 ffffffffffffffff\n"),
-    (["parse"], "05\n", 1, "fault parse 1 at 0\n"),
-    (["parse"], "5\n", 1, "fault hex\n"),
+    (["run"], "work\nin x\n", 1, "fault line 2: wrong words\n", "line 2: in takes no word; here it has 1\n"),
+    (["run", "-"], "work\nin x\n", 1, "fault line 2: wrong words\n", "line 2: in takes no word; here it has 1\n"),
+    (["run", "--pages", "8"], "slot 7 511\n", 0, "1 ffffffffffffffff\n", ""),
+    (["parse"], "05\n", 1, "fault parse 1 at 0\n", "byte 0, item 05: truncated item\n"),
+    (["parse", "-"], "5\n", 1, "fault hex\n", "the text has 1 hex digits, and a byte takes two\n"),
+    (["parse", "--from", "hex"], "75 08 95 01 81 02", 0, "input 0 0 8 1 0 0 variable -\n", ""),
+    (["parse", "--from", "c", "-"], "117,8,149,1,129,2", 0, "input 0 0 8 1 0 0 variable -\n", ""),
+    (["parse", "-", "--from=bytes"], "\x75\x08", 0, "", ""),
     (
         ["parse", "--items"],
         "C0\n",
         1,
         "   0  c0              End Collection  <-- fault 8: End Collection without Collection\nfault parse 8 at 0\n",
+        "byte 0, item c0: End Collection without Collection\n",
     ),
-    (["--version"], "", 0, "kbsim 0.1.0\n"),
+    (["--version"], "", 0, "kbsim 0.1.0\n", ""),
 ]
+
+# A file that is not there.
+MISSING = "error: missing can't be opened: No such file or directory (os error 2)\n"
 
 
 class Calls(unittest.TestCase):
@@ -71,12 +86,13 @@ class Calls(unittest.TestCase):
         how.setdefault("stdout", subprocess.PIPE)
         if "stdin" not in how:
             how["input"] = given.encode()
-        ran = subprocess.run([KBSIM, *words], stderr=subprocess.PIPE, cwd=self.folder, **how)
+        ran = subprocess.run([*KBSIM, *words], stderr=subprocess.PIPE, cwd=self.folder, **how)
         return ran.returncode, (ran.stdout or b"").decode(), ran.stderr.decode(errors="backslashreplace")
 
-    def ends(self, status, printed, words, given=""):
-        """The program ends with this status, and prints this."""
-        self.assertEqual(self.call(words, given)[:2], (status, printed), f"kbsim {' '.join(words)}")
+    def ends(self, status, printed, words, given="", said=None):
+        """The program ends with this status, prints this, and says this where it is told."""
+        told = self.call(words, given)
+        self.assertEqual(told, (status, printed, told[2] if said is None else said), f"kbsim {' '.join(words)}")
 
     def write(self, name, data):
         with open(f"{self.folder}/{name}", "wb") as file:
@@ -104,9 +120,9 @@ class Words(Calls):
                 self.assertIn(line, printed.split("\n"))
 
     def test_status_and_output(self):
-        for words, given, status, printed in ENDS:
+        for words, given, status, printed, said in ENDS:
             with self.subTest(words, given=given):
-                self.ends(status, printed, words, given)
+                self.ends(status, printed, words, given, said)
 
     def test_as_many_pages_as_were_asked_for(self):
         for pages, words in [(2, []), (2, ["--pages", "2"]), (8, ["--pages", "8"]), (3, ["--pages=3"])]:
@@ -118,11 +134,32 @@ class Words(Calls):
         # (A closed input is taken for another file.)
         folder = os.open(self.folder, os.O_RDONLY)
         self.addCleanup(os.close, folder)
-        self.assertEqual(self.call(["parse"], stdin=folder)[:2], (1, "fault input\n"))
+        self.assertEqual(self.call(["parse"], stdin=folder), (1, "fault input\n", "the text can't be read\n"))
+        self.assertEqual(self.call(["run"], stdin=folder), (1, "fault input\n", "the input can't be read\n"))
+        self.ends(1, "fault input\n", ["parse", "."], said="the text can't be read\n")
+        self.ends(1, "fault input\n", ["run", "."], said="the input can't be read\n")
 
     def test_a_full_output_is_told(self):
-        with open("/dev/full", "wb") as full:
-            self.assertEqual(self.call(["describe"], stdout=full), (1, "", "error: the output can't be written\n"))
+        self.write("hex", b"05 01")
+        self.write("script", b"in\nno\n")
+        array, bytes_ = ["parse", "--from", "c", "hex"], ["parse", "--from", "bytes", "script"]
+        for words in (["describe"], ["parse", "hex"], array, bytes_, ["parse", "missing"], ["run", "script"], ["run", "missing"], ["run", "."]):
+            with self.subTest(words), open("/dev/full", "wb") as full:
+                status, _, said = self.call(words, "05", stdout=full)
+                told = (MISSING if "missing" in words else "") + "error: the output can't be written\n"
+                self.assertEqual((status, said), ((0, "") if words == ["parse", "hex"] else (1, told)))
+
+    def test_a_closed_standard_error_changes_nothing(self):
+        for words in (["run"], ["parse"], ["run", "missing"]):
+            with self.subTest(words), open("/dev/full", "wb") as full:
+                ran = subprocess.run([*KBSIM, *words], input=b"x", stdout=subprocess.PIPE, stderr=full, cwd=self.folder)
+                told = {"run": b"fault line 1: unknown word\n", "parse": b"fault hex\n"}
+                self.assertEqual((ran.returncode, ran.stdout), (1, told[words[0]] if len(words) == 1 else b"fault input\n"))
+
+    def test_what_is_too_long_is_told(self):
+        self.write("long", b"#" * 1_048_577)
+        self.ends(1, "fault too long\n", ["run", "long"], said="the script is longer than 1048576 bytes\n")
+        self.ends(1, "fault too long\n", ["parse", "long"], said="the text is longer than 1048576 bytes\n")
 
 
 class Files(Calls):
@@ -133,10 +170,30 @@ class Files(Calls):
             with self.subTest(name):
                 self.write(name, bytes(size))
                 self.ends(1, "fault image\n", ["run", "--image", name], "in x\n")
-        self.ends(1, "fault input\n", ["run", "--image", "."], "in x\n")
-        status, printed, said = self.call(["run", "--image", "missing"], "in x\n")
-        self.assertEqual((status, printed), (1, "fault input\n"))
-        self.assertTrue(said.startswith("error: missing can't be opened: "), said)
+        self.ends(1, "fault input\n", ["run", "--image", "."], "in x\n", "the input can't be read\n")
+        self.ends(1, "fault input\n", ["run", "--image", "missing"], "in x\n", MISSING)
+
+    def test_a_text_from_a_file(self):
+        self.write("script", b"set 0 0 0005\nentry 0 0\n")
+        self.write("hex", b"75 08 95 01 81 02")
+        self.ends(0, "1 ack\n2 0005\n", ["run", "script"], "in x\n", "")
+        self.ends(0, "1 ack\n2 0005\n", ["run", "--pages", "3", "script", "--save", "saved"], "in x\n", "")
+        self.ends(0, "1 0005\n", ["run", "--image", "saved", "-"], "entry 0 0\n", "")
+        self.ends(0, "input 0 0 8 1 0 0 variable -\n", ["parse", "hex"], "x", "")
+        self.ends(0, "   0  75 08           Report Size (8)\n", ["parse", "--items", "-"], "75 08", "")
+        said = "line 1, column 6: 3 is no page; pages are 0 to 2\n"
+        self.ends(1, "fault line 1: bad number\n", ["run", "--image", "saved"], "slot 3 0\n", said)
+
+    def test_a_file_that_is_not_there(self):
+        self.ends(1, "fault input\n", ["run", "missing"], "in x\n", MISSING)
+        self.ends(1, "fault input\n", ["parse", "missing"], "x", MISSING)
+        self.ends(1, "fault input\n", ["parse", "--items", "missing"], "x", MISSING)
+
+    def test_the_image_comes_before_the_script(self):
+        self.write("short", bytes(8191))
+        told = "the image is not 2 to 8 pages of 4096 bytes\n"
+        self.ends(1, "fault image\n", ["run", "--image", "short", "missing"], "", told)
+        self.ends(1, "fault image\n", ["run", "--image", "short"], "in x\n", told)
 
     def test_an_image_has_its_own_pages(self):
         self.write("eight", bytes(32768))
@@ -154,6 +211,15 @@ class Files(Calls):
         for words in (["--pages", "3", "--save", "blank"], ["--save", "blank", "--pages", "3"]):
             self.ends(0, "", ["run", *words])
             self.assertEqual(self.read("blank"), b"\xff" * 12288)
+
+    def test_the_longest_path(self):
+        # Linux takes paths of fewer than 4,096 bytes; `.part` is added.
+        folder = "/".join(["x" * 250] * 16)
+        os.makedirs(f"{self.folder}/{folder}")
+        place = f"{folder}/{'y' * (4_090 - len(folder) - 1)}"
+        self.assertEqual(len(f"{place}.part"), 4_095)
+        self.ends(0, "1 ack\n", ["run", "--save", place], "set 0 0 0005\n")
+        self.ends(0, "1 0005\n", ["run", "--image", place], "entry 0 0\n")
 
     def test_what_was_saved_stays_where_a_run_fails(self):
         self.ends(0, "1 ack\n", ["run", "--save", "saved"], "set 0 0 0005\n")
@@ -173,6 +239,40 @@ class Files(Calls):
         said = "error: the flash can't be saved: FILE.part is there already\n"
         self.assertEqual(self.call(["run", "--save", "saved"], "set 0 0 0007\n"), (1, "1 ack\n", said))
         self.assertEqual(os.listdir(self.folder), ["saved.part"])
+
+
+class Sentences(Calls):
+    """What is said of the longest texts."""
+
+    def test_the_longest_sentences_of_scripts(self):
+        words = "scan, scans, poll, setup, out, in, work, workfault, cut, cutwork, reset, entry, slot, leds, set or fetch"
+        unknown = f"{'x' * 40}.. is no line of scripts; a line begins with {words}\n"
+        mebibyte = 1_048_576
+        for script, line, fault, said in [
+            ("x" * mebibyte, 1, "unknown word", f"line 1: {unknown}"),
+            ("\n" * (mebibyte - 41) + "x" * 41, mebibyte - 40, "unknown word", f"line {mebibyte - 40}: {unknown}"),
+            ("\n" * (mebibyte - 2) + "im", mebibyte - 1, "unknown word", f"line {mebibyte - 1}: im is no line of scripts; in is\n"),
+            ("entry 0 " + "9" * (mebibyte - 8), 1, "bad number", f"line 1, column 9: {'9' * 40}.. is no key; keys are 0 to 95\n"),
+            ("in" + " 1" * (mebibyte // 2 - 1), 1, "wrong words", f"line 1: in takes no word; here it has {mebibyte // 2 - 1}\n"),
+        ]:
+            with self.subTest(said[-60:]):
+                self.ends(1, f"fault line {line}: {fault}\n", ["run"], script, said)
+
+    def test_the_longest_sentences_of_descriptors(self):
+        mebibyte = 1_048_576
+        for text, fault, said in [
+            ("0" * (mebibyte - 1) + "g", "hex", f"line 1, column {mebibyte}: g is no hex digit\n"),
+            ("0" * (mebibyte - 1), "hex", f"the text has {mebibyte - 1} hex digits, and a byte takes two\n"),
+            ("0" * mebibyte, "parse 16 at 4096", "byte 4096, item 00: descriptor too long\n"),
+            # A long item of 255 bytes whose last one is missing.
+            ("feff00" + "00" * 254, "parse 1 at 0", f"byte 0, item fe ff{' 00' * 14} ..: truncated item\n"),
+        ]:
+            with self.subTest(said):
+                self.ends(1, f"fault {fault}\n", ["parse"], text, said)
+        said = f"line 1, column {mebibyte - 99}: {'x' * 40}.. is no byte; those are 0x0 to 0xff, or 0 to 255 without a 0 in front\n"
+        self.ends(1, "fault c\n", ["parse", "--from", "c"], " " * (mebibyte - 100) + "x" * 100, said)
+        said = f"line {mebibyte}, column 1: x is no byte; those are 0x0 to 0xff, or 0 to 255 without a 0 in front\n"
+        self.ends(1, "fault c\n", ["parse", "--from", "c"], "\n" * (mebibyte - 1) + "x", said)
 
 
 class Examples(Calls):

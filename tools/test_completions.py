@@ -10,7 +10,7 @@ import subprocess
 import unittest
 
 ROOT = os.path.dirname(os.path.dirname(os.path.abspath(__file__)))
-KBSIM = os.environ.get("KBSIM", f"{ROOT}/bin/kbsim")
+KBSIM = [os.environ["KBSIM"]] if "KBSIM" in os.environ else [f"{ROOT}/bin/kbsim", "--quiet"]
 # What the help of every command line has.
 ALWAYS = {"--help", "--version"}
 
@@ -22,7 +22,7 @@ def read(name):
 
 def help_of(*words):
     """The program's help."""
-    return subprocess.run([KBSIM, *words, "--help"], stdout=subprocess.PIPE, check=True, text=True).stdout
+    return subprocess.run([*KBSIM, *words, "--help"], stdout=subprocess.PIPE, check=True, text=True).stdout
 
 
 def commands():
@@ -55,6 +55,7 @@ class Completions(unittest.TestCase):
             with self.subTest(name):
                 self.assertEqual({word for word in self.bash(name, "--") if word.startswith("--")} - ALWAYS, options)
         self.assertEqual(self.bash("run", "--pages", ""), {"2", "3", "4", "5", "6", "7", "8"})
+        self.assertEqual(self.bash("parse", "--from", ""), {"hex", "c", "bytes"})
 
     def test_zsh(self):
         told = read("completions/_kbsim")

@@ -29,7 +29,7 @@ class Door(unittest.TestCase):
         self.write("crates/kbsim_cli/src/main.rt", "1\n")
         self.write("rust/Cargo.toml", "")
         self.record()
-        for tool in "dirname bash cat chmod cp cut find grep head mkdir mktemp mv readlink rm sed sha256sum sleep sort tac tar xargs yes ln awk env".split():
+        for tool in "dirname bash cat chmod cp cut find grep head mkdir mktemp mv readlink realpath rm sed sha256sum sleep sort tac tar xargs yes ln awk env".split():
             os.symlink(shutil.which(tool), f"{self.path}/{tool}")
 
     def write(self, name, text, mode=0o644):
@@ -111,8 +111,25 @@ class Door(unittest.TestCase):
         status, _, said = self.call("run")
         self.assertEqual(status, 1)
         self.assertIn("cargo could not build it (error: no such crate)", said)
-        self.assertIn("nothing here can build it", said)
+        self.assertIn("nothing here can build it: install what cargo lacks", said)
         self.assertEqual(os.listdir(f"{self.top}/out/kbsim"), ["cargo.log"])
+
+    def test_crates_that_cargo_cannot_get_are_named_by_debians_packages(self):
+        self.add_cargo(build="echo 'error: failed to get `arrayvec` as a dependency of package `low v0.1.0 (/top)`' >&2; exit 1")
+        said = self.call("run")[2]
+        self.assertIn("install the crates that cargo could not get (Debian: librust-arrayvec-dev librust-hex-dev", said)
+
+    def test_the_toolchains_own_run_is_handed_the_files(self):
+        self.write(f"{self.path}/rt", "#!/usr/bin/env bash\necho rt \"$@\"\n", 0o755)
+        for name in ("old", "script"):
+            self.write(name, "")
+        words = ["--pages", "3", f"--image={self.top}/old", f"{self.top}/script", "--save", f"{self.top}/new"]
+        status, printed, said = self.call("run", *words)
+        handed = f"--data image={self.top}/old --data text={self.top}/script"
+        run = f"run --pages 3 --image image text --save {self.top}/new"
+        self.assertEqual((status, printed), (0, f"rt try {handed} -- {run}\n"))
+        self.assertIn("the toolchain runs the sources themselves", said)
+        self.assertEqual(self.call("parse", "-")[1], "rt try -- parse -\n")
 
     def test_ways_and_paths(self):
         self.add_cargo()

@@ -13,7 +13,7 @@ import unittest
 from typing import NamedTuple
 
 ROOT = os.path.dirname(os.path.dirname(os.path.abspath(__file__)))
-KBSIM = os.environ.get("KBSIM", f"{ROOT}/bin/kbsim")
+KBSIM = [os.environ["KBSIM"]] if "KBSIM" in os.environ else [f"{ROOT}/bin/kbsim", "--quiet"]
 
 
 def make_image(pages, slots, file):
@@ -24,16 +24,21 @@ def make_image(pages, slots, file):
 class Program(unittest.TestCase):
     """The program, as its tests call it."""
 
-    def prints(self, words, text, printed, status=0):
-        """Compares what the program prints of a text, and its status."""
+    def prints(self, words, text, printed, status=0, said=None):
+        """Compares what the program prints of a text, its status, and what it says on standard error: where that is not given,
+        a sentence beside a fault, and else nothing."""
         given = text if isinstance(text, bytes) else text.encode()
-        ran = subprocess.run([KBSIM, *words], input=given, stdout=subprocess.PIPE)
-        if (ran.returncode, ran.stdout) == (status, printed.encode()):
+        ran = subprocess.run([*KBSIM, *words], input=given, capture_output=True)
+        told, spoken = (stream.decode(errors="backslashreplace") for stream in (ran.stdout, ran.stderr))
+        if said is None:
+            said = spoken if spoken.count("\n") == status and spoken.endswith("\n" * status) else "a sentence\n" * status
+        if (ran.returncode, told, spoken) == (status, printed, said):
             return
-        told = ran.stdout.decode(errors="backslashreplace").split("\n")
-        lines = difflib.unified_diff(printed.split("\n"), told, "expected", "printed", lineterm="", n=2)
         ended = "" if ran.returncode == status else f" ends with status {ran.returncode}, not {status}"
-        self.fail("\n".join([f"kbsim {' '.join(words)}{ended}", *lines]))
+        lines = [f"kbsim {' '.join(words)}{ended}"]
+        for name, wanted, found in (("printed", printed, told), ("said", said, spoken)):
+            lines += difflib.unified_diff(wanted.split("\n"), found.split("\n"), "expected", name, lineterm="", n=2)
+        self.fail("\n".join(lines))
 
 
 class Case(NamedTuple):
@@ -43,6 +48,7 @@ class Case(NamedTuple):
     slots: list[str]  # those of the image, as bin/make-image reads them
     given: bytes
     printed: str
+    said: str | None = None  # on standard error, where a case tells it
 
 
 class Rows(Program):
@@ -59,7 +65,7 @@ class Rows(Program):
                 elif case.slots:
                     self.fail("slots of an image, and no --image in the heading")
                 last = (case.printed.splitlines() or [""])[-1]
-                self.prints(started, case.given, case.printed, 1 if last.startswith("fault ") else 0)
+                self.prints(started, case.given, case.printed, 1 if last.startswith("fault ") else 0, case.said)
 
 
 def unescaped(text):
@@ -93,12 +99,14 @@ def case_of_row(place, words, row):
 
 
 def case_of_dialog(place, lines):
-    """A case whose given lines begin with `>`; what is printed follows."""
+    """A case whose given lines begin with `>`; what is printed follows, and what is said, by lines that begin with `!`."""
     given = [line[2:] for line in lines if line == ">" or line.startswith("> ")]
-    printed = lines[len(given) :]
-    if any(line.startswith(">") for line in printed):
-        raise ValueError(f"{place}: a given line below what is printed")
-    return Case(place, [], "\n".join(given).encode(), "".join(f"{line}\n" for line in printed))
+    said = [line[2:] for line in lines if line.startswith("! ")]
+    printed = lines[len(given) : len(lines) - len(said)]
+    if any(line.startswith((">", "! ")) for line in printed):
+        raise ValueError(f"{place}: first what is given, then what is printed, and then what is said")
+    told = "".join(f"{line}\n" for line in said) if said else None
+    return Case(place, [], unescaped("\n".join(given)), "".join(f"{line}\n" for line in printed), told)
 
 
 def case_of_script(place, lines):
@@ -172,6 +180,24 @@ add_tests("scripts")
 add_tests("descriptors")
 
 
+def around_multiples(size, count):
+    """The numbers within three of the first multiples of a size."""
+    return [multiple * size + near for multiple in range(1, count + 1) for near in range(-3, 4)]
+
+
+def rows_of_length(length):
+    """The lines of a script, each with its answer, which print so many bytes together."""
+    count, printed = 0, 0
+    while printed + len(f"{count + 1} ok\n") + 6 <= length:
+        count += 1
+        printed += len(f"{count} ok\n")
+    left = length - printed
+    # `restart` is longer than `ok` by five, and a code by two.
+    rows = [("cut", "restart")] * (left % 2)
+    rows += [("entry 0 0", "0004")] * ((left - 5 * len(rows)) // 2)
+    return rows + [("scan", "ok")] * (count - len(rows))
+
+
 class Long(Program):
     """Each of these inputs is as long as its kind may be, or longer by one."""
 
@@ -221,11 +247,67 @@ class Long(Program):
         self.prints(["parse"], "0" * 1_048_575, "fault hex\n", 1)
         self.prints(["parse"], "0" * 1_048_577, "fault too long\n", 1)
 
+    def test_the_longest_array(self):
+        # 2,048 items of two bytes, which is a comment of the rest; one byte more; and as many bytes as the text can say.
+        for count, fault in [(4_096, ""), (4_098, "fault parse 16 at 4096\n")]:
+            array = "0x75,1," * (count // 2) + "//"
+            self.prints(["parse", "--from", "c"], array + "x" * (1_048_576 - len(array)), fault, int(fault != ""))
+        self.prints(["parse", "--from", "c"], "0," * 524_288, "fault parse 16 at 4096\n", 1)
+        self.prints(["parse", "--from", "c"], " " * 1_048_575 + "x", "fault c\n", 1)
+        self.prints(["parse", "--from", "c"], "/*" * 524_288, "fault c\n", 1)
+        self.prints(["parse", "--from", "c"], " " * 1_048_577, "fault too long\n", 1)
+        self.prints(["parse", "--from", "bytes"], "\0" * 1_048_576, "fault parse 16 at 4096\n", 1)
+        self.prints(["parse", "--from", "bytes"], "\0" * 1_048_577, "fault too long\n", 1)
+
     def test_the_longest_script(self):
         # A comment.
         self.prints(["run"], "#" * 1_048_576, "")
         self.prints(["run"], "#" * 1_048_577, "fault too long\n", 1)
         self.prints(["run"], "#" * 2_000_000, "fault too long\n", 1)
+
+    def test_a_mebibyte_of_short_lines(self):
+        # Of two letters each, after an empty line.
+        count = 349_525
+        script = "\n" + "in\n" * count
+        self.assertEqual(len(script), 1_048_576)
+        self.prints(["run"], script, "".join(f"{number} stall 16\n" for number in range(2, count + 2)))
+        self.prints(["run"], script[:-3] + "im\n", f"fault line {count + 1}: unknown word\n", 1)
+
+    def test_an_output_of_a_mebibyte(self):
+        printed = "".join(f"{number} ffffffffffffffff\n" for number in range(1, 50_001))
+        self.assertGreater(len(printed), 1_048_576)
+        self.prints(["run"], "slot 0 0\n" * 50_000, printed)
+
+    def test_texts_around_the_multiples_of_a_buffer(self):
+        # The last line of a script has no LF, and stands at the end of the text.
+        for length in around_multiples(4096, 4):
+            with self.subTest(length):
+                self.prints(["run"], "#" * (length - 10) + "\nentry 0 0", "2 0004\n")
+                whole = length % 2 == 0
+                printed = "fault hex\n" if not whole else "" if length <= 8192 else "fault parse 16 at 4096\n"
+                self.prints(["parse"], "0" * length, printed, 1 if printed else 0)
+        for length in (1_048_574, 1_048_575, 1_048_576):
+            self.prints(["run"], "#" * (length - 10) + "\nentry 0 0", "2 0004\n")
+
+    def test_outputs_around_the_multiples_of_a_buffer(self):
+        for length in around_multiples(4096, 4):
+            with self.subTest(length):
+                rows = rows_of_length(length)
+                printed = "".join(f"{number} {answer}\n" for number, (_, answer) in enumerate(rows, 1))
+                self.assertEqual(len(printed), length)
+                self.prints(["run"], "".join(f"{line}\n" for line, _ in rows), printed)
+
+    def test_a_fetch_that_asks_for_65535_bytes_and_all_keys(self):
+        served = subprocess.run([*KBSIM, "describe"], stdout=subprocess.PIPE).stdout.decode()
+        report = bytes.fromhex(re.search("^report (.*)$", served, re.M)[1])
+        rows = [("setup 810600220000ffff", "ack")]
+        rows += [("in", f"data {report[at : at + 8].hex()}") for at in range(0, 99, 8)]
+        rows += [("out", "ack"), ("scans 5" + "".join(f" {key}" for key in range(96)), "ok")]
+        # The usages 04h to 5Bh in bits 8 to 95, and the modifiers E0h to E7h in bits 0 to 7.
+        usages = "".join(f" {0x70000 + usage:08x}" for usage in [*range(0x04, 0x5C), *range(0xE0, 0xE8)])
+        rows += [("poll", f"report 01{'ff' * 12}{'00' * 10} read{usages}"), ("poll", "nak")]
+        printed = "".join(f"{number} {answer}\n" for number, (_, answer) in enumerate(rows, 1))
+        self.prints(["run"], "".join(f"{line}\n" for line, _ in rows), printed)
 
     def test_the_most_keys_of_a_scan(self):
         # The words are counted before any number is read.

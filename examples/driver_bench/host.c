@@ -1,9 +1,13 @@
 // SPDX-License-Identifier: MIT OR Apache-2.0
 /* A host as a stock Linux is one to this keyboard. It enumerates the device, gives key 0 another letter, cuts the power when
- * it was told that this is stored, and presses the key. What it gets goes to standard output. */
+ * it was told that this is stored and again inside the flash operation of a command, and presses the key. What it gets goes
+ * to standard output. */
 #include <stdio.h>
 
 #include "bench.h"
+
+/* The most bytes of a packet of endpoint 1. */
+#define PACKET 16
 
 /* The eight bytes of a SETUP packet, of interface 0. */
 #define SETUP(type, request, value, length) \
@@ -50,24 +54,38 @@ static void status(bench *device, const char *what) {
     show(what, packet, bench_in(device, packet, sizeof packet));
 }
 
+/* A transfer without data. */
+static void request(bench *device, const char *what, const uint8_t *setup) {
+    send(device, setup, NULL);
+    status(device, what);
+}
+
+/* Key 0 is pressed, and its report is polled: a packet that is not full is the last one. */
 static void press_key_0(bench *device, const char *what) {
-    uint8_t report[32];
+    uint8_t report[64 + PACKET];
+    int got = 0, answer;
     for (int i = 0; i < 5; i++)
         bench_scan(device, (const uint16_t[6]) { 1 }, 6);
-    show(what, report, bench_poll(device, report, sizeof report));
+    do {
+        answer = bench_poll(device, report + got, sizeof report - got);
+        got += answer < 0 ? 0 : answer;
+    } while (answer == PACKET);
+    show(what, report, answer < 0 ? answer : got);
 }
 
 static void enumerate(bench *device) {
     /* Until it knows better, Linux takes a packet to have up to 64 bytes: the first one, of 8, ends this read. */
     fetch(device, "head", SETUP(0x80, 6, 0x0100, 64), 64);
     bench_reset(device);
+    request(device, "SET_ADDRESS", SETUP(0x00, 5, 9, 0));
     fetch(device, "device", SETUP(0x80, 6, 0x0100, 18), 8);
     for (int i = 0; i < 3; i++)
         fetch(device, "qualifier", SETUP(0x80, 6, 0x0600, 10), 8);
     fetch(device, "head", SETUP(0x80, 6, 0x0200, 9), 8);
     fetch(device, "configuration", SETUP(0x80, 6, 0x0200, 34), 8);
-    send(device, SETUP(0x21, 10, 0, 0), NULL);
-    status(device, "SET_IDLE");
+    fetch(device, "languages", SETUP(0x80, 6, 0x0300, 255), 8);
+    request(device, "SET_CONFIGURATION", SETUP(0x00, 9, 1, 0));
+    request(device, "SET_IDLE", SETUP(0x21, 10, 0, 0));
     fetch(device, "report", SETUP(0x81, 6, 0x2200, 99), 8);
     send(device, SETUP(0x21, 9, 0x0201, 2), (const uint8_t[]) { 1, 1 });
     status(device, "SET_REPORT of the LEDs");
@@ -75,7 +93,7 @@ static void enumerate(bench *device) {
 }
 
 int main(void) {
-    bench *device = bench_new(2);
+    bench *device = bench_new(2, PACKET);
     if (device == NULL)
         return 1;
     enumerate(device);
@@ -92,7 +110,14 @@ int main(void) {
 
     /* The b is bit 1 of the report's third byte: the bytes begin with usage 04h, behind the Report ID and the modifiers. */
     bench_cut(device);
+    request(device, "SET_CONFIGURATION", SETUP(0x00, 9, 1, 0));
     press_key_0(device, "key 0 after the cut");
+
+    /* It becomes a c, and the power goes inside the operation, of which half the bits took effect: the b is still there. */
+    show("command", NULL, send(device, SETUP(0x21, 9, 0x0303, 6), (const uint8_t[]) { 3, 1, 0, 0, 6, 0 }));
+    bench_cut_in_work(device, (const uint8_t[]) { 0x0f }, 1);
+    request(device, "SET_CONFIGURATION", SETUP(0x00, 9, 1, 0));
+    press_key_0(device, "key 0 after the cut in a program");
     bench_free(device);
     return 0;
 }

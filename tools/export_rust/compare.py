@@ -1,14 +1,24 @@
-"""Compares the driver on the exported keyboard with `kbsim` over generated scripts: `compare.py KBSIM DRIVER COUNT`."""
+"""Compares a driver on a keyboard with `kbsim` over generated scripts. The first answer that differs is shown, and the status is 1.
 
+A driver is a program that plays a script on its standard input and prints what `kbsim` prints, without what `kbsim` adds on how
+a report is read. It takes the option `--pages` of `kbsim run`; with --whole also `--image` and `--save`.
+"""
+
+import argparse
 import collections
 import concurrent.futures
 import subprocess
 import sys
+import tempfile
 
-from scripts import script
+sys.dont_write_bytecode = True
 
+from scripts import Lawful, Script, image, script
 
-WORDS = {"ack", "nak", "data", "report", "ok", "idle", "working", "settled", "failed", "restart"}
+WORDS = {"ack", "nak", "data", "report", "ok", "idle", "working", "settled", "failed", "restart", "fetched"}
+
+# A look at each entry of the keymap that an image holds.
+ENTRIES = "".join(f"entry {layer} {key}\n" for layer in range(4) for key in range(96))
 
 
 def run(command, text):
@@ -19,31 +29,56 @@ def run(command, text):
     return [" ".join(line.split()[:3]) for line in ended.stdout.splitlines()]
 
 
-def compare(kbsim, driver, number):
-    """What both printed of a script, or the first line that differs."""
-    pages, text = script(number)
-    expected = run([kbsim, "run", "--pages", str(pages)], text)
-    printed = run([driver, str(pages)], text)
-    if expected == printed:
-        return expected, None
-    for line, (one, other) in enumerate(zip(expected + ["nothing"], printed + ["nothing"])):
+def run_saved(command, text, begun):
+    """The same of a script that runs on an image, with the flash after it as a last line."""
+    with tempfile.TemporaryDirectory() as folder:
+        with open(f"{folder}/begun", "wb") as file:
+            file.write(begun)
+        lines = run([*command, "--image", f"{folder}/begun", "--save", f"{folder}/saved"], text)
+        try:
+            with open(f"{folder}/saved", "rb") as file:
+                return [*lines, f"flash saved {file.read().hex()}"]
+        except FileNotFoundError:
+            return [*lines, "flash saved nowhere"]
+
+
+def answers(command, number, whole):
+    """What a program prints of the script of this number. With `whole` every second script is of all lines of the language, and
+    every third one runs on an image, whose number is that of the script."""
+    kind_of_script = Lawful if whole and number % 2 else Script
+    if whole and number % 3 == 2:
+        begun = image(number)
+        return run_saved(command, ENTRIES + script(number, made_for(len(begun) // 4096, kind_of_script))[1], begun)
+    pages, text = script(number, kind_of_script)
+    return run([*command, "--pages", str(pages)], text)
+
+
+def made_for(pages, kind_of_script):
+    """A kind of script, for a flash of so many pages."""
+
+    class Made(kind_of_script):
+        """Looks at no page that is not there."""
+
+        def __init__(self, number):
+            super().__init__(number)
+            self.pages = pages
+
+    return Made
+
+
+def difference(number, expected, printed):
+    """The first answer that differs, in words; empty where none does."""
+    for at, (one, other) in enumerate(zip(expected + ["nothing"], printed + ["nothing"]), 1):
         if one != other:
-            return [], f"script {number}, answer {line + 1}: kbsim: {one}; exported: {other}"
-    return [], f"script {number}"
+            shown = [line if len(line) < 80 else f"{line[:60]}.." for line in (one, other)]
+            return f"script {number}, answer {at}: kbsim: {shown[0]}; the driver: {shown[1]}"
+    return ""
 
 
-def main():
-    kbsim, driver, count = sys.argv[1], sys.argv[2], int(sys.argv[3])
-    answers = collections.Counter()
-    with concurrent.futures.ThreadPoolExecutor(4) as pool:
-        for lines, difference in pool.map(lambda number: compare(kbsim, driver, number), range(count)):
-            if difference:
-                print(difference)
-                return 1
-            answers.update(kind(line) for line in lines)
-    print(f"{count} scripts, {sum(answers.values())} answers, none differs: "
-          + ", ".join(f"{n} {word}" for word, n in sorted(answers.items())))
-    return 0
+def compare(kbsim, driver, number, whole):
+    """What both printed of a script, or the first line that differs."""
+    expected, printed = (answers(command, number, whole) for command in ([kbsim, "run"], [driver]))
+    return expected, difference(number, expected, printed)
 
 
 def kind(line):
@@ -51,7 +86,33 @@ def kind(line):
     word, *rest = line.split()[1:]
     if word == "stall":
         return f"stall {rest[0]}"
-    return word if word in WORDS else "bytes"
+    return "flashes" if word == "saved" else word if word in WORDS else "bytes"
+
+
+def counted(lists):
+    """How many answers of each kind are in these lists of lines."""
+    found = collections.Counter(kind(line) for lines in lists for line in lines)
+    return f"{sum(found.values())} answers, none differs: " + ", ".join(f"{n} {word}" for word, n in sorted(found.items()))
+
+
+def main():
+    words = argparse.ArgumentParser(prog="compare.py", description=__doc__, formatter_class=argparse.RawDescriptionHelpFormatter)
+    words.add_argument("kbsim", metavar="KBSIM")
+    words.add_argument("driver", metavar="DRIVER")
+    words.add_argument("count", metavar="COUNT", type=int, help="how many scripts, from the one of number 0 on")
+    words.add_argument("--whole", action="store_true", help="scripts of all lines of the language too, and images")
+    given = words.parse_args()
+    lists = []
+    with concurrent.futures.ThreadPoolExecutor(4) as pool:
+        each = pool.map(lambda number: compare(given.kbsim, given.driver, number, given.whole), range(given.count))
+        for lines, why in each:
+            if why:
+                print(why)
+                pool.shutdown(cancel_futures=True)
+                return 1
+            lists.append(lines)
+    print(f"{given.count} scripts, {counted(lists)}")
+    return 0
 
 
 if __name__ == "__main__":

@@ -61,7 +61,7 @@ class Export:
             neighbours = {name for name in stands_on.get(crate, ()) if held.get(name)}
             hosted = self.of.allocs or crate in self.of.tests
             self.guarded(lambda: self.module(crate, "", neighbours, hosted))
-        named = set(self.of.owed) | self.of.hidden | self.of.fallible_clones | set(self.of.derives)
+        named = set(self.of.owed) | self.of.hidden | self.of.fallible_clones | set(self.of.derives) | self.of.inlined | set(self.of.docs)
         for crate, name in sorted(named - self.met):
             self.faults.append(f"tools/export_rust/rules.py: {self.of.name} names {crate}::{name}, which is not there, or needs no rule")
         self.files["src/parts.rs"] = PARTS + "".join(declaration(self.of, crate) for crate in sorted(self.crates))
@@ -90,8 +90,20 @@ class Export:
         self.met |= translator.met
         if not has_code(made):
             return False
+        made = self.worded(crate, module, made)
         self.files[f"src/parts/{crate}/{module}.rs" if module else f"src/parts/{crate}.rs"] = BANNER.format(source) + made
         return True
+
+    def worded(self, crate, module, made):
+        """A module with the docs that its rules give it in place of the source's."""
+        pairs = self.of.docs.get((crate, module), ())
+        for old, new in pairs:
+            if made.count(old) != 1:
+                self.faults.append(f"tools/export_rust/rules.py: {made.count(old)} times and not once in {crate}, {module or 'lib'}: {old}")
+            made = made.replace(old, new)
+        if pairs:
+            self.met.add((crate, module))
+        return made
 
     def write(self, folder):
         """Writes the generated files of the crate into its folder, in place of those that were there."""

@@ -42,7 +42,7 @@ class Translator:
 
     def translate(self, text):
         """The Rust for a file's text."""
-        made = self.items(lex(text, self.rewriter.file), 0)
+        made = self.items(without_drop_bounds(lex(text, self.rewriter.file)), 0)
         if self.rewriter.traits:
             made += "\n" + "".join(f"#[allow(unused_imports)]\nuse {name};\n" for name in sorted(self.rewriter.traits))
         return tidy(made)
@@ -311,6 +311,7 @@ class Translator:
             return self.test(tokens)
         if name == "fmt":
             tokens = self.formatter(tokens)
+        self.inline(lead, tokens, (self.crate, f"{self.of}::{name}" if self.of else name))
         if self.of and self.is_public(tokens):
             has_condition = any(clause.text.startswith("requires") for clause in clauses)
             tokens = self.method(lead, tokens, (self.crate, f"{self.of}::{name}"), has_condition)
@@ -335,6 +336,14 @@ class Translator:
         """Whether a function is `fn name() {}`."""
         words = [token.text for token in tokens[self.past_visibility(tokens):] if token.kind not in TRIVIA]
         return words[0] == "fn" and words[2:] == ["(", ")", "{", "}"]
+
+    def inline(self, lead, tokens, key):
+        """Says of a function that the rules name that it is inlined."""
+        if key in self.holder.inlined:
+            self.met.add(key)
+            if any(words[0] == "inline" for words in lead.words):
+                self.refuse(tokens[0], f"{key[1]}, which says itself how it is inlined")
+            lead.attributes.append("#[inline(always)]")
 
     def method(self, lead, tokens, key, has_condition):
         """A public method of a type. Of one that asks something of its caller the docs say it, or only the crate may
@@ -389,6 +398,19 @@ def contract(clauses, has_docs):
         return []
     lines = [re.sub(r"\s+", " ", clause.text) for clause in clauses]
     return ["///"] * has_docs + ["/// Proved of the source:", "/// ```text"] + [f"/// {line}" for line in lines] + ["/// ```"]
+
+
+def without_drop_bounds(tokens):
+    """The tokens without `+ Drop`, a bound that says in Rattle what Rust does by itself."""
+    out = []
+    for token in tokens:
+        if token == Token("word", "Drop", token.line):
+            plus = before(out, len(out)) if out else -1
+            if text_at(out, plus) == "+":
+                del out[before(out, plus) + 1:]
+                continue
+        out.append(token)
+    return out
 
 
 def tidy(text):

@@ -28,6 +28,10 @@ class Rules:
     fallible_clones: frozenset = frozenset()
     # What a type derives besides what it does in the source, by (crate, name).
     derives: dict = field(default_factory=dict)
+    # Functions that get `#[inline(always)]`, which the source need not say, by (crate, name) or (crate, Type::name).
+    inlined: frozenset = frozenset()
+    # Docs that name what is not in the crate, by (crate, module): pairs of what stands there once and what stands for it.
+    docs: dict = field(default_factory=dict)
 
     @property
     def library(self):
@@ -42,18 +46,24 @@ class Rules:
 
 
 SAME_FLASH = "**Needs** the flash that the log was mounted on, as the log left it. Nothing checks it: [`FlashLog`](crate::FlashLog) holds both."
+KEPT_UNITS = "**Needs** a flash that [`PairedFlash::format`] made, and that nothing but such an adapter wrote to since. Nothing checks it."
 
 LOG = Rules(
     name="wuzhikar-log",
-    crates=("flash_model", "records", "page_turnover"),
+    crates=("flash_model", "records", "page_turnover", "ecc_flash"),
     conditions={("flash_model", "sim"): HOSTED, ("flash_model", "masks"): HOSTED},
     hosted=frozenset({("flash_model", "sim")}),
-    owed={("page_turnover", "Log::words"): SAME_FLASH, ("page_turnover", "Log::step"): SAME_FLASH},
+    owed={("page_turnover", "Log::words"): SAME_FLASH, ("page_turnover", "Log::step"): SAME_FLASH,
+          ("ecc_flash", "PairedFlash::mount"): KEPT_UNITS},
     hidden=frozenset({("flash_model", "SimFlash::new")}),
     calls={("flash_model", "SimFlash::new"): "SimCalls", ("page_turnover", "Log::begin_append"): "LogCalls",
            ("page_turnover", "Log::begin_turn"): "LogCalls", ("page_turnover", "Log::offer_copy"): "LogCalls",
            ("page_turnover", "Log::seal"): "LogCalls"},
-    derives={("page_turnover", "Words"): ("Debug",)},
+    derives={("page_turnover", "Words"): ("Debug",), ("ecc_flash", "PairedFlash"): ("Debug",), ("ecc_flash", "CutFlash"): ("Debug",)},
+    docs={("flash_model", ""): [("`world` runs on", "the crate `kbsim` runs on")],
+          ("records", ""): [(" (`laws`).", ".")],
+          ("ecc_flash", ""): [("meant (`laws`).", "meant."), ("/// - `outcome` of", "/// - the outcome of"), ("///   (`laws`). A", "///   from this. A")],
+          ("page_turnover", ""): [(" (`laws::an_operation_leaves`).", "."), ("`keymap_store` calls it", "The crate `wuzhikar` calls it")]},
 )
 
 KEYBOARD = Rules(
@@ -67,6 +77,9 @@ KEYBOARD = Rules(
     hidden=frozenset({("keyboard", "Keyboard::start"), ("keyboard", "Keyboard::start_in")}),
     calls={("keyboard", "Keyboard::start"): "KeyboardCalls", ("keyboard", "Keyboard::start_in"): "KeyboardCalls", ("layers", "LayerNo::known"): "Known", ("layers", "KeyNo::known"): "Known",
            ("debounce", "Scan::has"): "ScanCalls", ("debounce", "Scan::with"): "ScanCalls", ("debounce", "Debouncer::is_down"): "DebouncerCalls"},
+    docs={("control_ep", "request"): [(" (`laws::input_reports_unread`).", ".")],
+          ("descriptor_build", ""): [("`parse_lines` prints them", "the crate `kbsim` prints them")],
+          ("keyboard", ""): [("A firmware calls it, as `firmware_example` does; `world`", "A firmware calls it, and the crate `kbsim`")]},
 )
 
 READER = Rules(
@@ -79,16 +92,24 @@ READER = Rules(
     derives={("descriptor_parse", "Descriptor"): ("Clone", "PartialEq", "Eq"),
              **{("descriptor_parse", name): ("PartialEq", "Eq")
                 for name in ("Reports", "Totals", "Link", "IdReports", "ReportBits", "FirstFields")}},
+    inlined=frozenset({("descriptor_parse", "Items::next"), ("descriptor_parse", "Item::tag")}),
+    docs={("host_extract", ""): [("by the descriptor that [`descriptor_parse`] gives", "by the descriptor that `descriptor_parse` gives"),
+                                 ("The crate `host` calls it", "The crate `kbsim` calls it")]},
 )
 
 SIMULATOR = Rules(
     name="kbsim",
-    crates=("host", "world", "text_io", "script", "kbsim", "parse_lines"),
+    crates=("host", "world", "text_io", "script", "kbsim", "c_array", "parse_lines", "sentences"),
     below=(KEYBOARD, LOG, READER),
     tests=("descriptor_plain", "host_tests", "script_tests", "kbsim_tests"),
     allocs=True,
     hidden=frozenset({("world", "World::new"), ("host", "Host::new")}),
     fallible_clones=frozenset({("host", "UsageList"), ("host", "Reading")}),
+    docs={("host", ""): [("`descriptor_parse::Parser` and `host_extract`", "`wuzhikar_reader::Parser` and `wuzhikar_reader::extract`")],
+          ("kbsim", ""): [("The program `kbsim_cli` calls it", "The program of this crate calls it")],
+          ("parse_lines", ""): [("The program `kbsim_cli` calls them", "The program of this crate calls them")],
+          ("c_array", ""): [("The program `kbsim_cli` calls it", "The program of this crate calls it")],
+          ("sentences", ""): [("The program `kbsim_cli`\n//! prints them", "The program of this crate\n//! prints them")]},
 )
 
 # All crates of plain Rust that are made, lowest first.
@@ -104,7 +125,7 @@ LIBRARIES = {"arrayvec"}
 DERIVING_LIBRARIES = {"thiserror"}
 
 # Crates that a module of `rattle` stands for.
-STAND_INS = {"circular_buffer", "hex"}
+STAND_INS = {"circular_buffer", "hex", "strsim"}
 
 # Modules of Rattle's std that a module of `rattle` stands for; the first two are for tests alone.
 STD_TESTS = {"process", "test"}

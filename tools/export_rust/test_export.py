@@ -9,11 +9,13 @@ import unittest
 sys.dont_write_bytecode = True
 
 import rules
+import scripts
 from check import differing
+from command_lines import command_line
 from export_rust import HERE, ROOT, UNPROVED, Export, exports
 from items import Translator
 from lexing import Refused
-from scripts import script
+from texts import text
 
 
 def rust(text, crate="layers", of=rules.KEYBOARD, hosted=False, contracts=False, left=True, with_tests=False):
@@ -38,6 +40,8 @@ LEFT_OUT = [
      "pub struct S {\n    a: u8,\n}\n"),
     ("a ghost field at the end", "struct S { a: u8, ghost inside: { a < 3 } }\n", "struct S { a: u8,}\n"),
     ("Drop among derives", "#[derive(Debug, Drop, PartialEq)]\nenum E { A }\n", "#[derive(Debug, PartialEq)]\nenum E { A }\n"),
+    ("Drop among bounds", "impl<F: Flash + Drop> P<F> { fn f<G: A + Drop>(g: G) -> u8 { 1 } }\nstruct S<F: Flash + Drop>(F);\n",
+     "impl<F: Flash> P<F> { fn f<G: A>(g: G) -> u8 { 1 } }\nstruct S<F: Flash>(F);\n"),
     ("the prover's impl", "impl<'a, T> Model for S<'a, T> {\n    ghost Value = { ℕ };\n}\nfn g() -> u8 { 1 }\n", "fn g() -> u8 { 1 }\n"),
     ("the prover's trait", "use std::marker::Model;\nconst A: u8 = 1;\n", "const A: u8 = 1;\n"),
     ("ghosts of a trait",
@@ -84,6 +88,7 @@ REFUSED = [
     "fn f() -> u8 { v.push(1)?; 1 }",
     "fn f() -> u8 { self.v.push(1)?; 1 }",
     "impl Drop for S { fn drop(self) { } }",
+    "impl<F: Flash + Drop> Drop for S<F> { fn drop(self) { } }",
     "fn f(rt: &HostRuntime) -> u8 { 1 }",
     "fn f(v: Vec<u8>) -> u8 { 1 }",
     "use std::process::Abort;",
@@ -153,6 +158,13 @@ class Forms(unittest.TestCase):
         self.assertEqual(rust(source, crate="keyboard"), "impl Keyboard { pub(crate) fn start_in(room: Room) -> u8 { 1 } }\n")
         self.assertEqual(rust(source, crate="layers"), "impl Keyboard { pub fn start_in(room: Room) -> u8 { 1 } }\n")
 
+    def test_a_function_that_the_rules_name_is_inlined(self):
+        source = "impl Item { /// Tag.\nfn tag() -> u8 { 1 } }\nfn tag() -> u8 { 2 }\n"
+        made = rust(source, crate="descriptor_parse", of=rules.READER)
+        self.assertEqual(made, "impl Item { /// Tag.\n    #[inline(always)]\n    fn tag() -> u8 { 1 } }\nfn tag() -> u8 { 2 }\n")
+        with self.assertRaises(Refused):
+            rust("impl Item { #[inline(never)] fn tag() -> u8 { 1 } }\n", crate="descriptor_parse", of=rules.READER)
+
     def test_an_error_gets_its_text(self):
         source = "use thiserror::Error;\n#[derive(Error)]\npub enum E {\n    #[error(\"at {0}\")]\n    A(u8),\n}\n"
         made = rust(source, crate="script", of=rules.SIMULATOR)
@@ -208,6 +220,20 @@ class Whole(unittest.TestCase):
             self.assertIn("crates.txt: layers stands on nothing, which is not exported", export.faults)
             self.assertTrue(any("missing.rt" in fault for fault in export.faults))
 
+    def test_docs_that_the_rules_name_stand_there_once(self):
+        with tempfile.TemporaryDirectory() as root:
+            os.makedirs(os.path.join(root, "crates/layers/src"))
+            with open(os.path.join(root, "crates.txt"), "w", encoding="utf-8") as file:
+                file.write("layers:\n")
+            with open(os.path.join(root, "crates/layers/src/lib.rt"), "w", encoding="utf-8") as file:
+                file.write("//! `world` calls it.\n\nconst A: u8 = 1;\n")
+            for old, faults in (("`world` calls it", 0), ("`host` calls it", 1), ("`", 1)):
+                export = Export(root, rules.Rules(name="made", crates=("layers",), docs={("layers", ""): [(old, "`kbsim` calls it")]}))
+                export.make()
+                self.assertEqual(len(export.faults), faults, export.faults)
+                if not faults:
+                    self.assertIn("//! `kbsim` calls it.", export.files["src/parts/layers.rs"])
+
     def test_a_folder_with_other_files_is_refused(self):
         with tempfile.TemporaryDirectory() as folder:
             with open(os.path.join(folder, "mine"), "w", encoding="utf-8") as file:
@@ -222,7 +248,7 @@ class Whole(unittest.TestCase):
             ended = run("--crate", "wuzhikar", os.path.join(folder, "a"))
             self.assertEqual((ended.returncode, ended.stderr), (0, UNPROVED + "\n"))
             made = sorted(os.listdir(os.path.join(folder, "a")))
-            self.assertEqual(made, ["BY_HAND", "Cargo.toml", "README.md", "wuzhikar", "wuzhikar-log"])
+            self.assertEqual(made, ["BY_HAND", "Cargo.toml", "README.md", "rustfmt.toml", "wuzhikar", "wuzhikar-log"])
 
     def test_what_differs_is_told_by_its_name(self):
         with tempfile.TemporaryDirectory() as folder:
@@ -235,8 +261,9 @@ class Whole(unittest.TestCase):
             self.assertIn("rust/old:2:", told[3])
 
     def test_a_script_is_the_same_each_time(self):
-        self.assertEqual(script(7), script(7))
-        self.assertNotEqual(script(7), script(8))
+        for made in (scripts.script, lambda number: scripts.script(number, scripts.Whole), text, command_line):
+            self.assertEqual(made(7), made(7))
+            self.assertNotEqual(made(7), made(8))
 
 
 if __name__ == "__main__":

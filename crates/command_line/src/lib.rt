@@ -13,14 +13,18 @@ const PAGES: usize = 2;
 
 const PAGES_WORD: &str = "2";
 
+/// The names of the forms of a report descriptor.
+const FORMS: &[&str] = &["hex", "c", "bytes"];
+
 const VERSION: &str = "0.1.0";
 
 const RUN_HELP: &str = "\
-Runs the script on standard input on a simulated keyboard whose flash is blank,
-or holds the bytes of a file:
+Runs a script on a simulated keyboard whose flash is blank, or holds the bytes
+of a file:
 
+  kbsim run FILE
   kbsim run < FILE
-  kbsim run --image OLD --save NEW < FILE
+  kbsim run --image OLD --save NEW FILE
 
 A script is lines of words. Each line is events of the keyboard, or a look at
 it, and prints one line: its number and the answer. `scan` and `scans` press
@@ -39,7 +43,8 @@ the script. The file of --save is written after a run without a fault, by way of
 FILE.part beside it, and is else left as it was.
 
 The line of a fault, as `fault line 2: bad number`, is the last one on standard
-output. docs/SCRIPT.md has the language.";
+output; on standard error a sentence says what is wrong there. docs/SCRIPT.md
+has the language.";
 
 const DESCRIBE_HELP: &str = "\
 Prints the keyboard's device, configuration and report descriptors, each on a
@@ -47,13 +52,17 @@ line of its own: its name, and its bytes as hex digits in lower case.
 `kbsim parse` reads the digits of the last one.";
 
 const PARSE_HELP: &str = "\
-Reads a HID report descriptor in hex on standard input, and prints a line for
-each of its fields:
+Reads a HID report descriptor, and prints a line for each of its fields:
 
+  kbsim parse FILE
   kbsim parse < FILE
+  kbsim parse --from c FILE
+  kbsim parse --from bytes /sys/bus/hid/devices/DEVICE/report_descriptor
 
 The text is hex digits in either case, two a byte, at most 1048576 bytes in all;
-spaces, tabs and line ends are dropped. A line is
+spaces, tabs and line ends are dropped. With --from c it is an array of bytes as
+C writes it, with its declaration or without: 0x5 or 5, commas, and comments,
+which are left out. With --from bytes it is the bytes themselves. A line is
 
   KIND ID BIT SIZE COUNT MIN MAX FORM USAGES
 
@@ -80,10 +89,11 @@ all that is printed. A usage has the name that it has on the page in force at
 its item, or its number in hex.
 
 Without --items a fault is the only line: `fault hex` where the text is not
-pairs of hex digits, `fault parse N at OFFSET` for fault N of the descriptor, at
-the item with that offset in bytes, `fault too long`, `fault input` or
-`fault memory`. docs/DESCRIPTORS.md has more, docs/FORMATS.md the numbers of
-faults.";
+pairs of hex digits, `fault c` where it is no array, `fault parse N at OFFSET`
+for fault N of the descriptor, at the item with that offset in bytes,
+`fault too long`, `fault input` or `fault memory`. On standard error a sentence
+says what is wrong there.
+docs/DESCRIPTORS.md has more, docs/FORMATS.md the numbers of faults.";
 
 const STATUS_HELP: &str = "\
 Exit status:
@@ -108,19 +118,42 @@ pub enum Start<'a> {
     Image(&'a str),
 }
 
+/// What a text is read from.
+#[derive(Clone, Copy, Debug, PartialEq, Eq)]
+pub enum Source<'a> {
+    /// Standard input, as without a word and with `-`.
+    StandardInput,
+    /// The file with this path.
+    File(&'a str),
+}
+
+/// How a text says the bytes of a report descriptor.
+#[derive(Clone, Copy, Debug, PartialEq, Eq)]
+pub enum Form {
+    /// By hex digits.
+    Hex,
+    /// As an array of C.
+    C,
+    /// It is the bytes.
+    Bytes,
+}
+
 /// What the command line asks for.
 #[derive(Clone, Copy, Debug, PartialEq, Eq)]
 pub enum Request<'a> {
-    /// To run the script on standard input, and to write the flash's bytes to the file with the
-    /// path `save` after a run without a fault.
+    /// To run a script, and to write the flash's bytes to the file with the path `save` after a run
+    /// without a fault.
     Run {
         start: Start<'a>,
+        source: Source<'a>,
         save: Option<&'a str>,
     },
     /// To print the keyboard's descriptors.
     Describe,
-    /// To print the fields of the report descriptor on standard input, or its items.
+    /// To print the fields of a report descriptor, or its items.
     Parse {
+        source: Source<'a>,
+        form: Form,
         items: bool,
     },
 }
@@ -139,6 +172,8 @@ fn asked<'a>(matches: &ArgMatches<'a>) -> Request<'a> {
     }
     if let Some(parse) = matches.subcommand_matches("parse") {
         return Request::Parse {
+            source: source_of(parse.get_str("file")),
+            form: form_of(parse.get_str("from")),
             items: parse.get_flag("items"),
         };
     }
@@ -150,8 +185,30 @@ fn asked<'a>(matches: &ArgMatches<'a>) -> Request<'a> {
             pages: pages.unwrap_or(PAGES),
         },
     };
+    let source = source_of(run.and_then(|run| run.get_str("file")));
     let save = run.and_then(|run| run.get_str("save"));
-    Request::Run { start, save }
+    Request::Run {
+        start,
+        source,
+        save,
+    }
+}
+
+/// What is read where this word is given for it.
+fn source_of<'a>(word: Option<&'a str>) -> Source<'a> {
+    match word {
+        None | Some("-") => Source::StandardInput,
+        Some(path) => Source::File(path),
+    }
+}
+
+/// The form with this name; hex where none is named.
+fn form_of(word: Option<&str>) -> Form {
+    match word {
+        Some("c") => Form::C,
+        Some("bytes") => Form::Bytes,
+        _ => Form::Hex,
+    }
 }
 
 fn kbsim<'a>(alloc: Global) -> Result<Command<'a>, AllocError> {
@@ -177,12 +234,13 @@ fn program<'a>(alloc: Global) -> Result<Command<'a>, AllocError> {
 fn run<'a>(alloc: Global) -> Result<Command<'a>, AllocError> {
     let image = image(alloc)?;
     Command::new(alloc, "run")
-        .about("Runs the script on standard input")
+        .about("Runs a script")
         .long_about(RUN_HELP)
         .after_long_help(RUN_STATUS_HELP)
         .arg(pages(alloc))?
         .arg(image)?
-        .arg(save(alloc))
+        .arg(save(alloc))?
+        .arg(file(alloc))
 }
 
 fn pages<'a>(alloc: Global) -> Arg<'a> {
@@ -208,6 +266,13 @@ fn save<'a>(alloc: Global) -> Arg<'a> {
     )
 }
 
+/// The text that is read.
+fn file<'a>(alloc: Global) -> Arg<'a> {
+    Arg::new(alloc, "file").value_name("FILE").help(
+        "What is read; standard input without it, or where it is -",
+    )
+}
+
 fn describe<'a>(alloc: Global) -> Command<'a> {
     Command::new(alloc, "describe")
         .about("Prints the keyboard's descriptors")
@@ -220,9 +285,17 @@ fn parse<'a>(alloc: Global) -> Result<Command<'a>, AllocError> {
         .long("items")
         .help("Prints each item, up to the first fault, in place of the fields")
         .action(ArgAction::SetTrue);
+    let from = Arg::new(alloc, "from")
+        .long("from")
+        .value_name("FORM")
+        .help("How the text says the bytes")
+        .value_parser(FORMS)
+        .default_value("hex");
     Command::new(alloc, "parse")
-        .about("Prints the fields, or the items, of the report descriptor on standard input")
+        .about("Prints the fields, or the items, of a report descriptor")
         .long_about(PARSE_HELP)
         .after_long_help(STATUS_HELP)
-        .arg(items)
+        .arg(from)?
+        .arg(items)?
+        .arg(file(alloc))
 }

@@ -5,3 +5,4 @@ pub mod Fed
 pub mod Feeding
 pub mod Newest
 pub mod SetKeys
+pub mod NoEdges

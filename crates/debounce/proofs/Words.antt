@@ -1,7 +1,7 @@
 -- The bits of a row's words after one sample.
-use Rattle.std.proofs.Common.{◌≡◌, ℕ, ◌+◌, ◌-◌, ◌<◌, ◌%◌, ◌^◌, min, max, refl, arith, ◌∙◌, ap, bit_and, bit_or, bit_xor, w16}
+use Rattle.std.proofs.Common.{◌≡◌, ℕ, ◌+◌, ◌-◌, ◌<◌, ◌%◌, ◌^◌, min, max, refl, arith, ◌∙◌, ap, bit_and, bit_or, bit_xor, w32}
 use Rattle.std.specs.Int.{bit_at}
-use Rattle.std.proofs.lemmas.Nat.{xor_of_16, and_le_r}
+use Rattle.std.proofs.lemmas.Nat.{xor_of_32, and_le_r}
 use Rattle.std.proofs.lemmas.Nat.Bits.{bit_at_and, bit_at_or, bit_at_xor, bit_at_not, bit_at-lt}
 use Rattle.debounce.specs.declared.row.Row.{Row}
 use Rattle.debounce.specs.Rows.{Sampled, bits_of}
@@ -9,16 +9,16 @@ use Rattle.debounce.proofs.Counts.{ones_after, twos_after, fours_after, down_aft
 
 -- the words after a sample, with what changed and what is decided
 abbrev ones_word : Row → ℕ → ℕ
-ones_word row changed = bit_or (bit_or (65535 - row.ones) row.fours) changed
+ones_word row changed = bit_or (bit_or (4294967295 - row.ones) row.fours) changed
 
 abbrev twos_word : Row → ℕ → ℕ
-twos_word row changed = bit_and (bit_and (bit_xor row.twos row.ones) (65535 - row.fours)) (65535 - changed)
+twos_word row changed = bit_and (bit_and (bit_xor row.twos row.ones) (4294967295 - row.fours)) (4294967295 - changed)
 
 abbrev fours_word : Row → ℕ → ℕ
-fours_word row changed = bit_and (bit_or row.fours (bit_and row.twos row.ones)) (65535 - changed)
+fours_word row changed = bit_and (bit_or row.fours (bit_and row.twos row.ones)) (4294967295 - changed)
 
 abbrev down_word : ℕ → ℕ → ℕ → ℕ
-down_word down sample decided = bit_or (bit_and down (65535 - decided)) (bit_and sample decided)
+down_word down sample decided = bit_or (bit_and down (4294967295 - decided)) (bit_and sample decided)
 
 and_bits : (a b i x y : ℕ) → bit_at a i ≡ x → bit_at b i ≡ y → bit_at (bit_and a b) i ≡ min x y
 and_bits a b i x y e f = rw (bit_at_and a b i, e, f) refl
@@ -29,30 +29,30 @@ or_bits a b i x y e f = rw (bit_at_or a b i, e, f) refl
 xor_bits : (a b i : ℕ) → bit_at (bit_xor a b) i ≡ (bit_at a i + bit_at b i) % 2
 xor_bits a b i = bit_at_xor a b i
 
-not_bits : (a i x : ℕ) → a < 2 ^ 16 → i < 16 → bit_at a i ≡ x → bit_at (65535 - a) i ≡ 1 - x
-not_bits a i x l m e = bit_at_not w16 a i l m ∙ ap (λ (n : ℕ). 1 - n) e
+not_bits : (a i x : ℕ) → a < 2 ^ 32 → i < 32 → bit_at a i ≡ x → bit_at (4294967295 - a) i ≡ 1 - x
+not_bits a i x l m e = bit_at_not w32 a i l m ∙ ap (λ (n : ℕ). 1 - n) e
 
-ones_bit : (row : Row) (changed i : ℕ) → row.ones < 2 ^ 16 → i < 16 → bit_at (ones_word row changed) i ≡ ones_after (bit_at row.ones i) (bit_at row.fours i) (bit_at changed i)
-ones_bit row changed i l m = or_bits _ changed i _ _ (or_bits (65535 - row.ones) row.fours i _ _ (not_bits row.ones i _ l m refl) refl) refl
+ones_bit : (row : Row) (changed i : ℕ) → row.ones < 2 ^ 32 → i < 32 → bit_at (ones_word row changed) i ≡ ones_after (bit_at row.ones i) (bit_at row.fours i) (bit_at changed i)
+ones_bit row changed i l m = or_bits _ changed i _ _ (or_bits (4294967295 - row.ones) row.fours i _ _ (not_bits row.ones i _ l m refl) refl) refl
 
-twos_bit : (row : Row) (changed i : ℕ) → row.fours < 2 ^ 16 → changed < 2 ^ 16 → i < 16
+twos_bit : (row : Row) (changed i : ℕ) → row.fours < 2 ^ 32 → changed < 2 ^ 32 → i < 32
     → bit_at (twos_word row changed) i ≡ twos_after (bit_at row.ones i) (bit_at row.twos i) (bit_at row.fours i) (bit_at changed i)
 twos_bit row changed i l c m =
-    and_bits (bit_and (bit_xor row.twos row.ones) (65535 - row.fours)) (65535 - changed) i _ _
-    (and_bits (bit_xor row.twos row.ones) (65535 - row.fours) i _ _ (xor_bits row.twos row.ones i) (not_bits row.fours i _ l m refl))
+    and_bits (bit_and (bit_xor row.twos row.ones) (4294967295 - row.fours)) (4294967295 - changed) i _ _
+    (and_bits (bit_xor row.twos row.ones) (4294967295 - row.fours) i _ _ (xor_bits row.twos row.ones i) (not_bits row.fours i _ l m refl))
     (not_bits changed i _ c m refl)
 
-fours_bit : (row : Row) (changed i : ℕ) → changed < 2 ^ 16 → i < 16
+fours_bit : (row : Row) (changed i : ℕ) → changed < 2 ^ 32 → i < 32
     → bit_at (fours_word row changed) i ≡ fours_after (bit_at row.ones i) (bit_at row.twos i) (bit_at row.fours i) (bit_at changed i)
 fours_bit row changed i c m =
-    and_bits (bit_or row.fours (bit_and row.twos row.ones)) (65535 - changed) i _ _
+    and_bits (bit_or row.fours (bit_and row.twos row.ones)) (4294967295 - changed) i _ _
     (or_bits row.fours (bit_and row.twos row.ones) i _ _ refl (and_bits row.twos row.ones i _ _ refl refl))
     (not_bits changed i _ c m refl)
 
-down_bit : (down sample decided i : ℕ) → decided < 2 ^ 16 → i < 16 → bit_at (down_word down sample decided) i ≡ down_after (bit_at down i) (bit_at sample i) (bit_at decided i)
+down_bit : (down sample decided i : ℕ) → decided < 2 ^ 32 → i < 32 → bit_at (down_word down sample decided) i ≡ down_after (bit_at down i) (bit_at sample i) (bit_at decided i)
 down_bit down sample decided i l m =
-    or_bits (bit_and down (65535 - decided)) (bit_and sample decided) i _ _
-    (and_bits down (65535 - decided) i _ _ refl (not_bits decided i _ l m refl))
+    or_bits (bit_and down (4294967295 - decided)) (bit_and sample decided) i _ _
+    (and_bits down (4294967295 - decided) i _ _ refl (not_bits decided i _ l m refl))
     (and_bits sample decided i _ _ refl refl)
 
 abbrev row_after : Row → ℕ → ℕ → ℕ → Row
@@ -64,12 +64,12 @@ row_after row sample changed decided = record {
   down = down_word row.down sample decided;
 }
 
-pub sampled_row : (row : Row) (sample : ℕ) → row.ones < 2 ^ 16 → row.fours < 2 ^ 16 → row.last < 2 ^ 16 → sample < 2 ^ 16
+pub sampled_row : (row : Row) (sample : ℕ) → row.ones < 2 ^ 32 → row.fours < 2 ^ 32 → row.last < 2 ^ 32 → sample < 2 ^ 32
     → Sampled row sample (row_after row sample (bit_xor sample row.last) (bit_and (ones_word row (bit_xor sample row.last)) (fours_word row (bit_xor sample row.last))))
 sampled_row row sample o f l s =
-    let c : bit_xor sample row.last < 2 ^ 16 = xor_of_16 sample row.last s l in
-    let d : bit_and (ones_word row (bit_xor sample row.last)) (fours_word row (bit_xor sample row.last)) < 2 ^ 16 =
-    omega (arith, c, and_le_r (ones_word row (bit_xor sample row.last)) (fours_word row (bit_xor sample row.last)), and_le_r (bit_or row.fours (bit_and row.twos row.ones)) (65535 - bit_xor sample row.last)) in
+    let c : bit_xor sample row.last < 2 ^ 32 = xor_of_32 sample row.last s l in
+    let d : bit_and (ones_word row (bit_xor sample row.last)) (fours_word row (bit_xor sample row.last)) < 2 ^ 32 =
+    omega (arith, c, and_le_r (ones_word row (bit_xor sample row.last)) (fours_word row (bit_xor sample row.last)), and_le_r (bit_or row.fours (bit_and row.twos row.ones)) (4294967295 - bit_xor sample row.last)) in
     record {
       last = refl;
       each = λ column m past h.

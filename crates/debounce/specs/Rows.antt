@@ -1,5 +1,5 @@
--- Only ties code to its definitions: what is kept of one row, and of each of its keys: a bit of each word.
-use Rattle.std.specs.Prelude.{◌≡◌, ℕ, ◌<◌, ◌==◌, not, Bool, List, ◌∷◌}
+-- Only ties code to its definitions: what is kept of two rows, and of each of their keys: a bit of each word.
+use Rattle.std.specs.Prelude.{◌≡◌, ℕ, ◌/◌, ◌%◌, ◌<◌, ◌==◌, not, Bool, List, [], ◌∷◌}
 use Rattle.std.specs.Int.{bit_at}
 use Rattle.debounce.specs.declared.row.Row.{Row}
 use Rattle.debounce.specs.Samples.{run_of, debounced, equal_latest}
@@ -11,6 +11,11 @@ pub record KeyBits : Type 0 where
   pub fours : ℕ
   pub last : ℕ
   pub down : ℕ
+
+-- the six rows of three words of two rows each, the first row in the low half
+abbrev pub parts : ℕ → ℕ → ℕ → List ℕ
+parts first second third =
+    first % 65536 ∷ first / 65536 ∷ second % 65536 ∷ second / 65536 ∷ third % 65536 ∷ third / 65536 ∷ []
 
 -- those of the key in this column
 abbrev pub bits_of : Row → ℕ → KeyBits
@@ -31,8 +36,8 @@ pub record KeyStandsFor (past : List Bool) (key : KeyBits) : Type 0 where
   pub fours : key.fours ≡ bit_at (equal_latest past) 2
   pub down : (key.down == 1) ≡ debounced past
 
--- a row after one more sample of each of its keys
+-- two rows after one more sample of each of their keys
 pub record Sampled (before : Row) (sample : ℕ) (after : Row) : Type 0 where
   pub last : after.last ≡ sample
-  pub each : (column : ℕ) → column < 16 → (past : List Bool) → KeyStandsFor past (bits_of before column)
+  pub each : (column : ℕ) → column < 32 → (past : List Bool) → KeyStandsFor past (bits_of before column)
       → KeyStandsFor ((bit_at sample column == 1) ∷ past) (bits_of after column)

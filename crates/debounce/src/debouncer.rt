@@ -1,13 +1,13 @@
 //! What is kept of the keys from scan to scan.
 
-ghost use Rattle.std.specs.Prelude.{◌≡◌, ◌<◌, ◌/◌, ◌%◌, ◌&&◌, not, ℕ, Bool, List, [], ◌∷◌, slice_index, slice_index_or};
+ghost use Rattle.std.specs.Prelude.{◌≡◌, ◌<◌, ◌/◌, ◌%◌, ◌&&◌, not, true, false, ℕ, Bool, List, [], ◌∷◌, slice_index, slice_index_or};
 ghost use Rattle.std.specs.Int.{bit_at};
 ghost use Rattle.debounce.specs.Scans.{has};
 ghost use Rattle.debounce.specs.Samples.{samples, down, equal_latest};
 ghost use Rattle.debounce.specs.declared.Scan.{Scan};
 
 use crate::Scan;
-use crate::row::Row;
+use crate::row::{Row, joined, parts};
 use std::marker::Model;
 
 /// The keys whose value a scan changed.
@@ -17,6 +17,22 @@ pub struct Edges {
     pub released: Scan,
     /// The keys that were up and are down.
     pub pressed: Scan,
+}
+
+impl Edges {
+    /// Whether no key changed.
+    pub fn is_none(&self) -> bool
+        ensures released { result ≡ true → (key : ℕ) → key < 96 → has self.now.released key ≡ false }
+        ensures pressed { result ≡ true → (key : ℕ) → key < 96 → has self.now.pressed key ≡ false }
+    {
+        let released = joined(&self.released.rows, 0)
+            | joined(&self.released.rows, 1)
+            | joined(&self.released.rows, 2);
+        let pressed = joined(&self.pressed.rows, 0)
+            | joined(&self.pressed.rows, 1)
+            | joined(&self.pressed.rows, 2);
+        released | pressed == 0
+    }
 }
 
 /// The value of each key, up or down, after the scans that were fed.
@@ -42,6 +58,8 @@ impl Model for Debouncer {
 }
 
 impl Debouncer {
+    ghost use Rattle.debounce.specs.Kept.{row_of};
+    ghost use Rattle.debounce.specs.Rows.{bits_of};
     ghost use Rattle.debounce.specs.Stands.{StandsFor};
 
     /// Every key up, before the first scan.
@@ -64,33 +82,53 @@ impl Debouncer {
         ensures pressed { (scans : List Scan) → StandsFor scans self.old → (key : ℕ) → key < 96
             → has result.pressed key ≡ (down (scan ∷ scans) key && not (down scans key)) }
     {
-        let [mut ones, mut twos, mut fours] = self.planes;
-        let mut down = self.down;
-        let mut edges = Edges {
-            released: Scan::NONE,
-            pressed: Scan::NONE,
+        let (first, second, third) = (self.pair(0), self.pair(1), self.pair(2));
+        let a = first.sampled(joined(&scan.rows, 0));
+        let b = second.sampled(joined(&scan.rows, 1));
+        let c = third.sampled(joined(&scan.rows, 2));
+        self.planes = [
+            parts(a.ones, b.ones, c.ones),
+            parts(a.twos, b.twos, c.twos),
+            parts(a.fours, b.fours, c.fours),
+        ];
+        self.last = Scan {
+            rows: parts(a.last, b.last, c.last),
         };
-        for row in 0..6usize {
-            let before = Row {
-                ones: ones[row],
-                twos: twos[row],
-                fours: fours[row],
-                last: self.last.rows[row],
-                down: down.rows[row],
-            };
-            let after = before.sampled(scan.rows[row]);
-            ones[row] = after.ones;
-            twos[row] = after.twos;
-            fours[row] = after.fours;
-            down.rows[row] = after.down;
-            let changed = before.down ^ after.down;
-            edges.released.rows[row] = changed & before.down;
-            edges.pressed.rows[row] = changed & after.down;
+        self.down = Scan {
+            rows: parts(a.down, b.down, c.down),
+        };
+        Edges {
+            released: Scan {
+                rows: parts(
+                    (first.down ^ a.down) & first.down,
+                    (second.down ^ b.down) & second.down,
+                    (third.down ^ c.down) & third.down,
+                ),
+            },
+            pressed: Scan {
+                rows: parts(
+                    (first.down ^ a.down) & a.down,
+                    (second.down ^ b.down) & b.down,
+                    (third.down ^ c.down) & c.down,
+                ),
+            },
         }
-        self.planes = [ones, twos, fours];
-        self.last = scan;
-        self.down = down;
-        edges
+    }
+
+    /// What is kept of a pair of rows.
+    #[inline(always)]
+    fn pair(&self, pair: usize) -> Row
+        requires { pair < 3 }
+        ensures { (key : ℕ) → key / 32 ≡ pair → bits_of result (key % 32) ≡ bits_of (row_of self.now (key / 16)) (key % 16) }
+    {
+        let [ones, twos, fours] = &self.planes;
+        Row {
+            ones: joined(ones, pair),
+            twos: joined(twos, pair),
+            fours: joined(fours, pair),
+            last: joined(&self.last.rows, pair),
+            down: joined(&self.down.rows, pair),
+        }
     }
 
     /// Whether a key, one of 0 to 95, is down.

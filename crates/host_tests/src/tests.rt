@@ -70,8 +70,11 @@ fn digit(rt: &impl Abort, letter: u8) -> u8 {
     }
 }
 
-/// A number that a row gives.
+/// A number that a row gives; `MAX` is the greatest one.
 fn number(rt: &impl Abort, word: &str) -> usize {
+    if word == "MAX" {
+        return usize::MAX;
+    }
     match word.parse::<usize>() {
         Ok(number) => number,
         Err(_) => panic!(rt; "{word} is no number"),

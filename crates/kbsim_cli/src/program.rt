@@ -4,13 +4,15 @@ ghost use Rattle.std.specs.Prelude.{◌≡◌, ◌≢◌, ◌<◌, ◌≤◌, �
 ghost use Rattle.clap.specs.Words.{kind_of};
 
 use crate::keep::{Keep, Place};
+use crate::parsing::{parse_from, print_descriptors};
+use crate::running::run_from;
+use crate::tell::tell_output;
 use clap::Error;
 use clap::error::ErrorKind;
-use command_line::{Request, Start, read};
-use kbsim::{RunError, SimFlash, blank_flash, image_flash, print_fault, run_on};
-use parse_lines::{LinesError, describe, items_text, parse_text};
+use command_line::{Request, Source, Start, read};
+use kbsim::{RunError, SimFlash};
 use std::rt::{Env, Files};
-use std::{env, fs, io};
+use std::{env, io};
 
 /// The status of a subcommand that was done, and of help.
 const DONE: u8 = 0;
@@ -30,50 +32,36 @@ pub fn status<R: Env + AllocGlobal + Files + Input + Print + Eprint>(rt: &R) -> 
         Err(status) => return status,
     };
     match read(rt.alloc(), words.as_slice()) {
-        Ok(Request::Run { start, save }) => run(rt, start, save),
-        Ok(Request::Describe) => print_descriptors(rt),
-        Ok(Request::Parse { items: false }) => print_fields(rt),
-        Ok(Request::Parse { items: true }) => print_items(rt),
+        Ok(
+            Request::Run {
+                start,
+                source,
+                save,
+            },
+        ) => run(rt, start, source, save),
+        Ok(Request::Describe) => status_of(print_descriptors(rt)),
+        Ok(
+            Request::Parse {
+                source,
+                form,
+                items,
+            },
+        ) => status_of(parse_from(rt, source, form, items)),
         Err(error) => refuse(rt, &error),
     }
 }
 
-/// Runs the script on standard input, and keeps the flash's bytes in the file `save`, if one is
-/// named.
+/// Runs the script of a source, and keeps the flash's bytes in the file `save`, if one is named.
 fn run<R: AllocGlobal + Files + Input + Print + Eprint>(
     rt: &R,
     start: Start<'_>,
+    source: Source<'_>,
     save: Option<&str>,
 ) -> u8
     ensures { (result ≡ DONE) ⊎ (result ≡ FAULT) }
 {
-    let mut writer = io::writer(rt);
-    let ended = match flash_of(rt, start) {
-        Ok(flash) => run_on(rt.alloc(), flash, &mut rt.reader(), &mut writer),
-        Err(error) => Err(print_fault(error, &mut writer)),
-    };
-    if let Err(RunError::Output) = &ended {
-        tell_output(rt);
-    }
+    let ended = run_from(rt, start, source);
     finish(rt, ended, &mut Place { rt, path: save })
-}
-
-/// The flash that a run starts on; `Input` where a file can't be opened, and standard error says
-/// why.
-fn flash_of<R: AllocGlobal + Files + Eprint>(
-    rt: &R,
-    start: Start<'_>,
-) -> Result<SimFlash, RunError> {
-    match start {
-        Start::Blank { pages } => blank_flash(rt.alloc(), pages),
-        Start::Image(path) => match fs::open(rt, path) {
-            Ok(mut file) => image_flash(rt.alloc(), &mut file),
-            Err(error) => {
-                let _ = eprintln!(rt; "error: {path} can't be opened: {error}");
-                Err(RunError::Input)
-            }
-        },
-    }
 }
 
 /// Keeps the flash's bytes after a run without a fault. The answer is the status.
@@ -93,58 +81,16 @@ fn finish<R: Eprint, K: Keep>(rt: &R, ended: Result<SimFlash, RunError>, kept: &
     FAULT
 }
 
-/// Prints the keyboard's descriptors.
-fn print_descriptors<R: Print + Eprint>(rt: &R) -> u8
-    ensures { (result ≡ DONE) ⊎ (result ≡ FAULT) }
-{
-    let mut writer = io::writer(rt);
-    let ended = describe(&mut writer);
-    if ended == Err(LinesError::Output) {
-        tell_output(rt);
-    }
-    status_of(ended)
-}
-
-/// Prints the fields of the report descriptor on standard input.
-fn print_fields<R: AllocGlobal + Input + Print + Eprint>(rt: &R) -> u8
-    ensures { (result ≡ DONE) ⊎ (result ≡ FAULT) }
-{
-    let mut reader = rt.reader();
-    let mut writer = io::writer(rt);
-    let ended = parse_text(rt.alloc(), &mut reader, &mut writer);
-    if ended == Err(LinesError::Output) {
-        tell_output(rt);
-    }
-    status_of(ended)
-}
-
-/// Prints the items of the report descriptor on standard input.
-fn print_items<R: AllocGlobal + Input + Print + Eprint>(rt: &R) -> u8
-    ensures { (result ≡ DONE) ⊎ (result ≡ FAULT) }
-{
-    let mut reader = rt.reader();
-    let mut writer = io::writer(rt);
-    let ended = items_text(rt.alloc(), &mut reader, &mut writer);
-    if ended == Err(LinesError::Output) {
-        tell_output(rt);
-    }
-    status_of(ended)
-}
-
 /// The status of a subcommand that ended so.
 fn status_of<E: Drop>(ended: Result<(), E>) -> u8
     ensures done { OnOk ended (result ≡ DONE) }
     ensures fault { OnErr ended (result ≡ FAULT) }
+    ensures either { (result ≡ DONE) ⊎ (result ≡ FAULT) }
 {
     match ended {
         Ok(()) => DONE,
         Err(_) => FAULT,
     }
-}
-
-/// Says that standard output can't be written, since no line of a fault can say it there.
-fn tell_output<R: Eprint>(rt: &R) {
-    let _ = eprintln!(rt; "error: the output can't be written");
 }
 
 /// The words of the command line, the program's name first. The error is the exit status.

@@ -1,5 +1,5 @@
 -- What the keys stand for after one call more.
-use Rattle.std.proofs.Common.{◌≡◌, ℕ, ◌<◌, ◌&&◌, not, Bool, Option, List, [], ◌∷◌, reverse, ap, subst, ◌∙◌}
+use Rattle.std.proofs.Common.{◌≡◌, ℕ, zero, suc, ◌<◌, ◌&&◌, not, Bool, false, Option, List, [], ◌∷◌, reverse, refl, sym, ap, subst, ◌∙◌}
 use Rattle.std.proofs.Math.Path.{fun_ext}
 use Rattle.debounce.specs.declared.Scan.{Scan}
 use Rattle.debounce.specs.declared.debouncer.Edges.{Edges}
@@ -7,7 +7,7 @@ use Rattle.debounce.specs.Scans.{has, set_keys}
 use Rattle.debounce.specs.Samples.{down}
 use Rattle.debounce.specs.Stands as debounce
 use Rattle.layers.specs.Codes.{keys}
-use Rattle.layers.specs.Held.{HeldCall}
+use Rattle.layers.specs.Held.{HeldCall, any_below, code}
 use Rattle.layers.specs.HeldStands.{HeldStandsFor}
 use Rattle.layers.specs.Usages.{UsageSets, has_key, has_consumer, key_usages, consumer_usages}
 use Rattle.reports.specs.declared.Protocol.{Protocol}
@@ -23,18 +23,7 @@ use Rattle.key_reports.specs.Past.{scans_of, held_calls, poller_calls, those_bel
 use Rattle.key_reports.specs.Edges.{with_releases, with_presses, with_edges, Takes}
 use Rattle.key_reports.specs.Value.{KeysValue}
 use Rattle.key_reports.specs.Stands.{StandsFor}
-use Rattle.key_reports.proofs.Those.{those_below-same, those-keys}
-
-pub stands_new : (value : KeysValue) → debounce.StandsFor [] value.debouncer → HeldStandsFor [] value.held → reports.StandsFor [] value.poller → StandsFor [] value
-unfolding scans_of held_calls poller_calls
-stands_new value d h p = record { debouncer = d; held = h; poller = p }
-
--- a call of the poller alone
-pub stands-asked : (past : List KeyCall) (call : PollerCall) (value : KeysValue) (poller : reports_kept.Kept) → StandsFor past value
-    → ((calls : List PollerCall) → reports.StandsFor calls value.poller → reports.StandsFor (call ∷ calls) poller)
-    → StandsFor (Asked call ∷ past) (record { debouncer = value.debouncer; held = value.held; poller = poller })
-unfolding scans_of held_calls poller_calls
-stands-asked past call value poller s p = record { debouncer = s.debouncer; held = s.held; poller = p (poller_calls past) s.poller }
+use Rattle.key_reports.proofs.Those.{those_below-same, those_below-none, those-keys}
 
 -- the wanted bytes by sets that are those of the held keys
 wanted-is : (past : List KeyCall) (f g : ℕ → Bool) → ((usage : ℕ) → f usage ≡ keys_after past usage) → ((usage : ℕ) → g usage ≡ consumer_after past usage) → wanted f g ≡ wanted_after past
@@ -42,6 +31,38 @@ wanted-is past f g k c =
     let F : f ≡ keys_after past = fun_ext k in
     let G : g ≡ consumer_after past = fun_ext c in
     ap (λ (h : ℕ → Bool). wanted h g) F ∙ ap (λ (h : ℕ → Bool). wanted (keys_after past) h) G
+
+-- no key is held, and no usage is named
+nothing-has : (n : ℕ) → any_below (λ _. false) n ≡ false
+unfolding any_below
+nothing-has zero = refl
+nothing-has (suc n) = nothing-has n
+
+keys-none : (usage : ℕ) → keys_after [] usage ≡ false
+unfolding keys_after held_calls code
+keys-none usage = nothing-has 96
+
+consumer-none : (usage : ℕ) → consumer_after [] usage ≡ false
+unfolding consumer_after held_calls code
+consumer-none usage = nothing-has 96
+
+wanted-none : (f g : ℕ → Bool) → ((usage : ℕ) → f usage ≡ false) → ((usage : ℕ) → g usage ≡ false) → wanted f g ≡ wanted_after []
+wanted-none f g k c = wanted-is [] f g (λ u. k u ∙ sym (keys-none u)) (λ u. c u ∙ sym (consumer-none u))
+
+pub made_none : (f g : ℕ → Bool) (poller : reports_kept.Kept) → ((usage : ℕ) → f usage ≡ false) → ((usage : ℕ) → g usage ≡ false) → reports.IsMade (wanted f g) poller → reports.IsMade (wanted_after []) poller
+made_none f g poller k c m = subst (λ (w : Input → List ℕ). reports.IsMade w poller) (wanted-none f g k c) m
+
+pub stands_new : (value : KeysValue) → debounce.StandsFor [] value.debouncer → HeldStandsFor [] value.held → reports.StandsFor [] value.poller → reports.IsMade (wanted_after []) value.poller → StandsFor [] value
+unfolding scans_of held_calls poller_calls
+stands_new value d h p m = record { debouncer = d; held = h; poller = p; made = m }
+
+-- a call of the poller alone
+pub stands-asked : (past : List KeyCall) (call : PollerCall) (value : KeysValue) (poller : reports_kept.Kept) → StandsFor past value
+    → ((calls : List PollerCall) → reports.StandsFor calls value.poller → reports.StandsFor (call ∷ calls) poller)
+    → reports.IsMade (wanted_after past) poller
+    → StandsFor (Asked call ∷ past) (record { debouncer = value.debouncer; held = value.held; poller = poller })
+unfolding scans_of held_calls poller_calls keys_after consumer_after
+stands-asked past call value poller s p m = record { debouncer = s.debouncer; held = s.held; poller = p (poller_calls past) s.poller; made = m }
 
 pub keys-held : (past : List KeyCall) (held : List (Option ℕ)) (f : ℕ → Bool) → HeldStandsFor (held_calls past) held
     → ((calls : List HeldCall) (usage : ℕ) → HeldStandsFor calls held → f usage ≡ key_usages calls usage) → (usage : ℕ) → f usage ≡ keys_after past usage
@@ -61,20 +82,17 @@ pub record AreUsages (held : List (Option ℕ)) (f g : ℕ → Bool) : Type 0 wh
 pub wanted-held : (past : List KeyCall) (held : List (Option ℕ)) (f g : ℕ → Bool) → HeldStandsFor (held_calls past) held → AreUsages held f g → wanted f g ≡ wanted_after past
 wanted-held past held f g s u = wanted-is past f g (keys-held past held f s u.keys) (consumer-held past held g s u.consumer)
 
--- a scan: its edges, the releases, the presses and the tick
-pub record Scans (scan : Scan) (keymap : List ℕ) (protocol : Protocol) (old new : KeysValue) (edges : Edges) (fb gb fn gn : ℕ → Bool) : Type 0 where
+-- a scan: its edges, the releases and the presses
+pub record Scans (scan : Scan) (keymap : List ℕ) (old new : KeysValue) (edges : Edges) : Type 0 where
   pub fed : (scans : List Scan) → debounce.StandsFor scans old.debouncer → debounce.StandsFor (scan ∷ scans) new.debouncer
   pub released_is : (scans : List Scan) → debounce.StandsFor scans old.debouncer → (key : ℕ) → key < 96 → has edges.released key ≡ (down scans key && not (down (scan ∷ scans) key))
   pub pressed_is : (scans : List Scan) → debounce.StandsFor scans old.debouncer → (key : ℕ) → key < 96 → has edges.pressed key ≡ (down (scan ∷ scans) key && not (down scans key))
   pub takes : Takes (with_edges keymap edges) old.held new.held
-  pub before : AreUsages old.held fb gb
-  pub now : AreUsages new.held fn gn
-  pub ticks : (calls : List PollerCall) → reports.StandsFor calls old.poller → reports.StandsFor (ticked protocol (wanted fb gb) (wanted fn gn) ∷ calls) new.poller
 
-held-scanned : (past : List KeyCall) (scan : Scan) (keymap : List ℕ) (protocol : Protocol) (old new : KeysValue) (edges : Edges) (fb gb fn gn : ℕ → Bool)
-    → Scans scan keymap protocol old new edges fb gb fn gn → StandsFor past old → HeldStandsFor (held_calls (Scanned scan keymap protocol ∷ past)) new.held
+held-scanned : (past : List KeyCall) (scan : Scan) (keymap : List ℕ) (protocol : Protocol) (old new : KeysValue) (edges : Edges)
+    → Scans scan keymap old new edges → StandsFor past old → HeldStandsFor (held_calls (Scanned scan keymap protocol ∷ past)) new.held
 unfolding held_calls with_releases with_presses with_edges
-held-scanned past scan keymap protocol old new edges fb gb fn gn c s =
+held-scanned past scan keymap protocol old new edges c s =
     let was = scans_of past in
     let rs : reverse (set_keys edges.released) ≡ those_below (releases scan was) keys =
     those-keys edges.released ∙ those_below-same (has edges.released) (releases scan was) keys (c.released_is was s.debouncer) in
@@ -82,34 +100,74 @@ held-scanned past scan keymap protocol old new edges fb gb fn gn c s =
     those-keys edges.pressed ∙ those_below-same (has edges.pressed) (presses scan was) keys (c.pressed_is was s.debouncer) in
     rw (← rs, ← ps) (c.takes.each (held_calls past) s.held)
 
-pub stands-scanned : (past : List KeyCall) (scan : Scan) (keymap : List ℕ) (protocol : Protocol) (old new : KeysValue) (edges : Edges) (fb gb fn gn : ℕ → Bool)
-    → Scans scan keymap protocol old new edges fb gb fn gn → StandsFor past old → StandsFor (Scanned scan keymap protocol ∷ past) new
+-- and the tick, from the bytes that were made to those of the keys now
+pub record Ticks (protocol : Protocol) (old new : KeysValue) (fn gn : ℕ → Bool) : Type 0 where
+  pub now : AreUsages new.held fn gn
+  pub ticks : (past : List KeyCall) → StandsFor past old → (calls : List PollerCall) → reports.StandsFor calls old.poller → reports.StandsFor (ticked protocol (wanted_after past) (wanted fn gn) ∷ calls) new.poller
+  pub made : (past : List KeyCall) → StandsFor past old → reports.IsMade (wanted fn gn) new.poller
+
+pub stands-scanned : (past : List KeyCall) (scan : Scan) (keymap : List ℕ) (protocol : Protocol) (old new : KeysValue) (edges : Edges) (fn gn : ℕ → Bool)
+    → Scans scan keymap old new edges → Ticks protocol old new fn gn → StandsFor past old → StandsFor (Scanned scan keymap protocol ∷ past) new
 unfolding scans_of poller_calls
-stands-scanned past scan keymap protocol old new edges fb gb fn gn c s =
-    let h = held-scanned past scan keymap protocol old new edges fb gb fn gn c s in
-    let wb : wanted fb gb ≡ wanted_after past = wanted-held past old.held fb gb s.held c.before in
-    let wn : wanted fn gn ≡ wanted_after (Scanned scan keymap protocol ∷ past) = wanted-held (Scanned scan keymap protocol ∷ past) new.held fn gn h c.now in
+stands-scanned past scan keymap protocol old new edges fn gn c t s =
+    let h = held-scanned past scan keymap protocol old new edges c s in
+    let wn : wanted fn gn ≡ wanted_after (Scanned scan keymap protocol ∷ past) = wanted-held (Scanned scan keymap protocol ∷ past) new.held fn gn h t.now in
     record {
       debouncer = c.fed (scans_of past) s.debouncer;
       held = h;
-      poller = subst (λ (w : Input → List ℕ). reports.StandsFor (ticked protocol (wanted_after past) w ∷ poller_calls past) new.poller) wn
-          (subst (λ (w : Input → List ℕ). reports.StandsFor (ticked protocol w (wanted fn gn) ∷ poller_calls past) new.poller) wb (c.ticks (poller_calls past) s.poller));
+      poller = subst (λ (w : Input → List ℕ). reports.StandsFor (ticked protocol (wanted_after past) w ∷ poller_calls past) new.poller) wn (t.ticks past s (poller_calls past) s.poller);
+      made = subst (λ (w : Input → List ℕ). reports.IsMade w new.poller) wn (t.made past s);
     }
 
--- sets that are the usages after these calls
-pub record UsagesAfter (past : List KeyCall) (f g : ℕ → Bool) : Type 0 where
-  pub keys : (usage : ℕ) → f usage ≡ keys_after past usage
-  pub consumer : (usage : ℕ) → g usage ≡ consumer_after past usage
+-- a scan without edges
+pub record Passes (scan : Scan) (old new : KeysValue) (edges : Edges) : Type 0 where
+  pub fed : (scans : List Scan) → debounce.StandsFor scans old.debouncer → debounce.StandsFor (scan ∷ scans) new.debouncer
+  pub released_is : (scans : List Scan) → debounce.StandsFor scans old.debouncer → (key : ℕ) → key < 96 → has edges.released key ≡ (down scans key && not (down (scan ∷ scans) key))
+  pub pressed_is : (scans : List Scan) → debounce.StandsFor scans old.debouncer → (key : ℕ) → key < 96 → has edges.pressed key ≡ (down (scan ∷ scans) key && not (down scans key))
+  pub none_released : (key : ℕ) → key < 96 → has edges.released key ≡ false
+  pub none_pressed : (key : ℕ) → key < 96 → has edges.pressed key ≡ false
+  pub held : new.held ≡ old.held
+  pub ticks : (calls : List PollerCall) (protocol : Protocol) (bytes : Input → List ℕ) → reports.StandsFor calls old.poller → reports.StandsFor (ticked protocol bytes bytes ∷ calls) new.poller
+  pub made : (bytes : Input → List ℕ) → reports.IsMade bytes old.poller → reports.IsMade bytes new.poller
 
--- the answer of a poll by them
-pub answer-usages : (past : List KeyCall) (protocol : Protocol) (f g : ℕ → Bool) (answer : Option (List ℕ)) (value : KeysValue) → UsagesAfter past f g → StandsFor past value
-    → ((calls : List PollerCall) → reports.StandsFor calls value.poller → answer ≡ poll_answer protocol (wanted f g) calls)
-    → answer ≡ answer_after protocol past
+-- the held keys take no calls
+calls-passed : (past : List KeyCall) (scan : Scan) (keymap : List ℕ) (protocol : Protocol) (old new : KeysValue) (edges : Edges)
+    → Passes scan old new edges → StandsFor past old → held_calls (Scanned scan keymap protocol ∷ past) ≡ held_calls past
+unfolding held_calls
+calls-passed past scan keymap protocol old new edges p s =
+    let was = scans_of past in
+    let rs : those_below (releases scan was) keys ≡ [] = those_below-none (releases scan was) keys (λ key l. sym (p.released_is was s.debouncer key l) ∙ p.none_released key l) in
+    let ps : those_below (presses scan was) keys ≡ [] = those_below-none (presses scan was) keys (λ key l. sym (p.pressed_is was s.debouncer key l) ∙ p.none_pressed key l) in
+    rw (rs, ps) refl
+
+wanted-passed : (past now : List KeyCall) → held_calls now ≡ held_calls past → wanted_after past ≡ wanted_after now
+unfolding keys_after consumer_after
+wanted-passed past now e = ap (λ (calls : List HeldCall). wanted (key_usages calls) (consumer_usages calls)) (sym e)
+
+pub stands-passed : (past : List KeyCall) (scan : Scan) (keymap : List ℕ) (protocol : Protocol) (old new : KeysValue) (edges : Edges)
+    → Passes scan old new edges → StandsFor past old → StandsFor (Scanned scan keymap protocol ∷ past) new
+unfolding scans_of poller_calls
+stands-passed past scan keymap protocol old new edges p s =
+    let same = calls-passed past scan keymap protocol old new edges p s in
+    let wn : wanted_after past ≡ wanted_after (Scanned scan keymap protocol ∷ past) = wanted-passed past (Scanned scan keymap protocol ∷ past) same in
+    record {
+      debouncer = p.fed (scans_of past) s.debouncer;
+      held = subst (λ (calls : List HeldCall). HeldStandsFor calls new.held) (sym same) (subst (λ (held : List (Option ℕ)). HeldStandsFor (held_calls past) held) (sym p.held) s.held);
+      poller = subst (λ (w : Input → List ℕ). reports.StandsFor (ticked protocol (wanted_after past) w ∷ poller_calls past) new.poller) wn (p.ticks (poller_calls past) protocol (wanted_after past) s.poller);
+      made = subst (λ (w : Input → List ℕ). reports.IsMade w new.poller) wn (p.made (wanted_after past) s.made);
+    }
+
+-- the answer of a poll
+pub answer_is : (past : List KeyCall) (protocol : Protocol) (answer : Option (List ℕ)) → answer ≡ poll_answer protocol (wanted_after past) (poller_calls past) → answer ≡ answer_after protocol past
 unfolding answer_after
-answer-usages past protocol f g answer value u s e =
-    e (poller_calls past) s.poller ∙ ap (λ (w : Input → List ℕ). poll_answer protocol w (poller_calls past)) (wanted-is past f g u.keys u.consumer)
+answer_is past protocol answer e = e
 
--- the bytes of each report by them
+-- the bytes of the protocol's reports, made for the held keys
+pub made_for_held : (past : List KeyCall) (protocol : Protocol) (held : List (Option ℕ)) (f g : ℕ → Bool) (poller : reports_kept.Kept) → HeldStandsFor (held_calls past) held → AreUsages held f g
+    → reports.IsMadeFor protocol (wanted f g) poller → reports.IsMadeFor protocol (wanted_after past) poller
+made_for_held past protocol held f g poller s u m = subst (λ (w : Input → List ℕ). reports.IsMadeFor protocol w poller) (wanted-held past held f g s u) m
+
+-- the bytes of each report by the usages
 pub boot_after : (past : List KeyCall) (usages : UsageSets) → ((usage : ℕ) → has_key usages usage ≡ keys_after past usage) → boot_bytes (has_key usages) ≡ wanted_after past Boot
 boot_after past usages k = ap boot_bytes (fun_ext k)
 

@@ -1,5 +1,5 @@
 -- The numbers that pass a test, one number more, and the keys of a scan among them.
-use Rattle.std.proofs.Common.{◌≡◌, ℕ, zero, suc, ◌+◌, ◌<◌, ◌≤◌, Bool, List, [], ◌∷◌, ◌++◌, reverse, refl, arith, ap, ◌∙◌, inl, inr}
+use Rattle.std.proofs.Common.{◌≡◌, ℕ, zero, suc, ◌+◌, ◌<◌, ◌≤◌, Bool, false, List, [], ◌∷◌, ◌++◌, reverse, refl, arith, ap, ◌∙◌, inl, inr}
 use Rattle.std.specs.List.{filter, range_with_len}
 use Rattle.std.proofs.lemmas.Bool.{cases_Bool}
 use Rattle.std.proofs.lemmas.List.{append-nil, reverse-append}
@@ -13,6 +13,11 @@ pub those_below-same : (f g : ℕ → Bool) (n : ℕ) → ((k : ℕ) → k < n �
 unfolding those_below
 those_below-same f g zero h = refl
 those_below-same f g (suc n) h = rw (h n (omega arith), those_below-same f g n (λ k l. h k (omega arith))) refl
+
+pub those_below-none : (f : ℕ → Bool) (n : ℕ) → ((k : ℕ) → k < n → f k ≡ false) → those_below f n ≡ []
+unfolding those_below
+those_below-none f zero h = refl
+those_below-none f (suc n) h = rw (h n (omega arith)) (those_below-none f n (λ k l. h k (omega arith)))
 
 range-more : (a n : ℕ) → range_with_len a (suc n) ≡ range_with_len a n ++ (a + n) ∷ []
 range-more a zero = let e : a + 0 ≡ a = omega arith in rw e refl

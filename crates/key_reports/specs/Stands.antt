@@ -4,11 +4,13 @@ use Rattle.debounce.specs.Stands as debounce
 use Rattle.layers.specs.HeldStands.{HeldStandsFor}
 use Rattle.reports.specs.Stands as reports
 use Rattle.key_reports.specs.Calls.{KeyCall}
-use Rattle.key_reports.specs.Past.{scans_of, held_calls, poller_calls}
+use Rattle.key_reports.specs.Past.{scans_of, held_calls, poller_calls, wanted_after}
 use Rattle.key_reports.specs.Value.{KeysValue}
 
--- what is kept stands for these calls, newest first: each part stands for its own among them
+-- what is kept stands for these calls, newest first: each part stands for its own among them, and the bytes that were
+-- made last are those that the reports have after them
 pub record StandsFor (past : List KeyCall) (value : KeysValue) : Type 0 where
   pub debouncer : debounce.StandsFor (scans_of past) value.debouncer
   pub held : HeldStandsFor (held_calls past) value.held
   pub poller : reports.StandsFor (poller_calls past) value.poller
+  pub made : reports.IsMade (wanted_after past) value.poller

@@ -12,7 +12,7 @@ ghost use Rattle.key_reports.specs.Calls.{KeyCall, Scanned, Asked};
 ghost use Rattle.key_reports.specs.Past.{keys_after, consumer_after, wanted_after, poller_calls, answer_after};
 ghost use Rattle.key_reports.specs.Tables.{table};
 
-use crate::keys::take_edges;
+use crate::keys::{make_for, take_edges};
 use debounce::{Debouncer, Scan};
 use layers::{Held, Keymap, Usages};
 use reports::{IdleId, Poller, Protocol, Report};
@@ -59,6 +59,7 @@ impl KeyReports {
         self.debouncer = Debouncer::new();
         self.held = Held::new();
         self.poller.reset();
+        self.poller.make(&Usages::none(), Protocol::Report);
     }
 
     /// Takes one scan, one millisecond after the last. The keys that the debounced scan releases are
@@ -71,10 +72,14 @@ impl KeyReports {
             → StandsFor past self.old → StandsFor (Scanned scan (table entries) protocol ∷ past) self.new }
     {
         let edges = self.debouncer.feed(scan);
-        let before = self.held.usages();
-        take_edges(&mut self.held, keymap, &edges);
-        let now = self.held.usages();
-        self.poller.tick(&before, &now, protocol);
+        if edges.is_none() {
+            self.poller.pass();
+        } else {
+            make_for(&mut self.poller, &self.held, protocol);
+            take_edges(&mut self.held, keymap, &edges);
+            let now = self.held.usages();
+            self.poller.tick_to(&now, protocol);
+        }
     }
 
     /// The answer to a poll of endpoint 1: the report that has waited longest. Where none waits, the
@@ -86,8 +91,8 @@ impl KeyReports {
         ensures answer { (past : List KeyCall) → StandsFor past self.old
             → option_map (λ r. r.items) result ≡ answer_after protocol past }
     {
-        let usages = self.usages();
-        self.poller.poll(&usages, protocol)
+        make_for(&mut self.poller, &self.held, protocol);
+        self.poller.poll_made(protocol)
     }
 
     /// The usages that the codes of the held keys name.

@@ -1,9 +1,16 @@
-//! The held keys after the edges of a scan.
+//! The held keys after the edges of a scan, and the bytes of the reports for them.
 
+ghost use Rattle.std.specs.Prelude.{List};
+ghost use Rattle.layers.specs.HeldStands.{HeldStandsFor};
+ghost use Rattle.reports.specs.Calls.{PollerCall};
+ghost use Rattle.reports.specs.Stands.{StandsFor, IsMade, IsMadeFor};
+ghost use Rattle.key_reports.specs.Calls.{KeyCall};
 ghost use Rattle.key_reports.specs.Edges.{with_releases, with_presses, with_edges, Takes};
+ghost use Rattle.key_reports.specs.Past.{held_calls, wanted_after};
 
 use debounce::{Edges, Scan};
 use layers::{Held, KeyNo, Keymap};
+use reports::{Poller, Protocol};
 
 /// Takes the edges of a scan: the releases, then the presses, each by rising number.
 #[tactic(auto, using(crate::proofs::Edges::takes_edges))]
@@ -12,6 +19,7 @@ pub(crate) fn take_edges(held: &mut Held, keymap: &Keymap, edges: &Edges)
 {
     release_all(held, &edges.released);
     press_all(held, keymap, &edges.pressed);
+    held.name_usages();
 }
 
 /// Releases these keys, by rising number.
@@ -29,5 +37,16 @@ fn press_all(held: &mut Held, keymap: &Keymap, pressed: &Scan)
 {
     for key in pressed.keys() {
         held.press(keymap, KeyNo::known(key));
+    }
+}
+
+/// Makes the bytes of the protocol's reports where those of the other protocol were made last.
+pub(crate) fn make_for(poller: &mut Poller, held: &Held, protocol: Protocol)
+    ensures stands { (calls : List PollerCall) → StandsFor calls poller.old → StandsFor calls poller.new }
+    ensures made { (past : List KeyCall) → HeldStandsFor (held_calls past) held.now
+        → IsMade (wanted_after past) poller.old → IsMadeFor protocol (wanted_after past) poller.new }
+{
+    if !poller.is_made_for(protocol) {
+        poller.make(&held.usages(), protocol);
     }
 }

@@ -15,18 +15,21 @@ use std::marker::Model;
 #[derive(Clone, Debug, Drop)]
 pub struct Held {
     codes: [Option<Code>; KEYS],
+    /// The usages that the codes named when they were named last, and those of the codes since then.
     usages: Usages,
+    /// Whether these are the usages of the codes: no key was released since.
+    named: bool,
 }
 
 impl Model for Held {
-    ghost use Rattle.std.specs.Prelude.{◌≡◌, ℕ, Option, List, length};
+    ghost use Rattle.std.specs.Prelude.{◌≡◌, true, ℕ, Option, List, length};
     ghost use Rattle.layers.specs.HeldStands.{AreNamed};
 
     ghost Value = { List (Option ℕ) };
 
     ghost view = { λ h. h.codes };
 
-    ghost invariant = { λ h. (length h.codes ≡ 96) × AreNamed h.codes h.usages };
+    ghost invariant = { λ h. (length h.codes ≡ 96) × (h.named ≡ true → AreNamed h.codes h.usages) };
 }
 
 impl Held {
@@ -37,6 +40,7 @@ impl Held {
         Held {
             codes: [None; KEYS],
             usages: Usages::none(),
+            named: true,
         }
     }
 
@@ -60,7 +64,18 @@ impl Held {
     {
         let place = key.number() as usize;
         self.codes[place] = None;
-        self.usages = named(&self.codes);
+        self.named = false;
+    }
+
+    /// Names the usages of the codes, where a key was released since they were named: `usages` then reads
+    /// them off.
+    pub fn name_usages(&mut self)
+        ensures { self.new ≡ self.old }
+    {
+        if !self.named {
+            self.usages = named(&self.codes);
+            self.named = true;
+        }
     }
 
     /// Whether a layer is active: layer 0 is, another while a key with its momentary code is held.
@@ -82,7 +97,11 @@ impl Held {
         ensures keys { (past : List HeldCall) (usage : ℕ) → HeldStandsFor past self.now → has_key result usage ≡ key_usages past usage }
         ensures consumer { (past : List HeldCall) (usage : ℕ) → HeldStandsFor past self.now → has_consumer result usage ≡ consumer_usages past usage }
     {
-        self.usages
+        if self.named {
+            self.usages
+        } else {
+            named(&self.codes)
+        }
     }
 }
 

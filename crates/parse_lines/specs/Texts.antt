@@ -27,11 +27,15 @@ pub record Declares (text : List ℕ) (d : DescriptorValue) : Type 0 where
   pub faultless : IsFaultless bytes
   pub describes : Describes (all_items bytes) d
 
--- the lines of the fields that the text declares, in order of declaration
+-- the lines of the fields that these bytes declare, in order of declaration
+abbrev pub lines_of : List ℕ → List ℕ
+lines_of bytes = field_lines (fields (all_items bytes)) (field_usages (all_items bytes))
+
+-- the lines of the fields that the text declares
 pub record IsOutput (text lines : List ℕ) : Type 0 where
   pub bytes : List ℕ
   pub says : SaysBytes text bytes
-  pub prints : lines ≡ field_lines (fields (all_items bytes)) (field_usages (all_items bytes))
+  pub prints : lines ≡ lines_of bytes
 
 -- why the bytes of a report descriptor are refused: for their first fault, or because an item that may want memory
 -- found none, before any fault

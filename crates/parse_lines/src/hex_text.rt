@@ -9,7 +9,7 @@ use std::alloc::Global;
 
 /// The bytes of a text of hex digits, two a byte, in either case. Spaces, tabs, CR and LF are dropped. `BadHexText`
 /// comes at any other character, or where the number of digits is odd. `Memory` comes where pairs of digits find no room.
-pub(crate) fn bytes_of(alloc: Global, text: Vec<u8>) -> Result<Vec<u8>, LinesError>
+pub fn bytes_of(alloc: Global, text: Vec<u8>) -> Result<Vec<u8>, LinesError>
     ensures said { IfOk result (λ bytes. SaysBytes text.items bytes.items) }
     ensures refused { IfErr result (λ e. IsHexFault text.items e) }
 {

@@ -2,7 +2,8 @@
 //! keyboard serves.
 //!
 //! [`parse_text`] reads hex digits and prints a line for each field that they declare (HID 1.11, section 6.2.2), and
-//! [`items_text`] a line for each item, up to the first fault. [`describe`] prints the descriptors of the keyboard. They
+//! [`items_text`] a line for each item, up to the first fault; [`parse_bytes`] and [`items_bytes`] do so of the bytes
+//! themselves. [`describe`] prints the descriptors of the keyboard. They
 //! go from any reader to any writer, and keep nothing. The promise is that the lines are exactly those of the text, and
 //! that a text which is refused is told by its first fault. The program `kbsim_cli` calls them.
 #![tactic(auto)]
@@ -19,6 +20,8 @@ mod text;
 mod words;
 
 pub use fault::LinesError;
-pub use listing::items_text;
+pub use hex_text::bytes_of;
+pub use lines::fault_words;
+pub use listing::{items_bytes, items_text};
 pub use served::describe;
-pub use text::parse_text;
+pub use text::{parse_bytes, parse_text, print_fault};

@@ -155,7 +155,8 @@ impl fmt::Display for Mark {
     }
 }
 
-fn fault_words(fault: ParseFault) -> &'static str
+/// The name of a fault.
+pub fn fault_words(fault: ParseFault) -> &'static str
     ensures { result.now ≡ fault_words fault }
 {
     match fault {

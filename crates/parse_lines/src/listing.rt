@@ -51,7 +51,7 @@ pub fn items_text<R: Read, W: Write>(
         × IsRefusedListing (R.remaining reader.old) lines e × Appends (W.contents writer.old) (W.contents writer.new) lines) }
 {
     match bytes_from(alloc, reader) {
-        Ok(bytes) => print_items(alloc, bytes.as_slice(), writer),
+        Ok(bytes) => items_bytes(alloc, bytes.as_slice(), writer),
         Err(error) => print_fault(error, writer),
     }
 }
@@ -67,8 +67,11 @@ fn bytes_from<R: Read>(alloc: Global, reader: &mut R) -> Result<Vec<u8>, LinesEr
     bytes_of(alloc, text)
 }
 
-/// Prints the items of these bytes, up to their first fault.
-fn print_items<W: Write>(alloc: Global, bytes: &[u8], writer: &mut W) -> Result<(), LinesError>
+/// Prints a line for each item of the report descriptor with these bytes.
+///
+/// The lines are those of [`items_text`], and so are the errors, where nothing is read: `Refused` with the first fault of
+/// the descriptor, up to which its items are printed, `Memory` and `Output`.
+pub fn items_bytes<W: Write>(alloc: Global, bytes: &[u8], writer: &mut W) -> Result<(), LinesError>
     ensures faultless { OnOk result (IsFaultless bytes.now) }
     ensures printed { OnOk result (Appends (W.contents writer.old) (W.contents writer.new) (item_lines bytes.now None)) }
     ensures refused { IfErr result (λ e. e ≢ LinesError.Output → IsRefusal bytes.now e) }

@@ -5,7 +5,7 @@ ghost use Rattle.std.specs.Io.KnownBytes.{Appends};
 ghost use Rattle.text_io.specs.Printers.{Prints, printer_writer};
 ghost use Rattle.descriptor_parse.specs.Faults.{IsFaultless, all_items};
 ghost use Rattle.descriptor_parse.specs.Descriptor.{Describes};
-ghost use Rattle.parse_lines.specs.Texts.{IsSound, Declares, IsOutput, IsTextFault, IsRefusal};
+ghost use Rattle.parse_lines.specs.Texts.{IsSound, Declares, IsOutput, IsTextFault, IsRefusal, lines_of};
 ghost use Rattle.parse_lines.specs.Prints.{fault_line, field_lines};
 
 use crate::LinesError;
@@ -46,6 +46,27 @@ pub fn parse_text<R: Read, W: Write>(
         → Appends (W.contents writer.old) (W.contents writer.new) (fault_line e)) }
 {
     match descriptor_of(alloc, reader) {
+        Ok(descriptor) => print_fields(&descriptor, writer),
+        Err(error) => print_fault(error, writer),
+    }
+}
+
+/// Prints a line for each field of the report descriptor with these bytes.
+///
+/// The lines are those of [`parse_text`], and so are the errors, where nothing is read: `Refused` with the first fault of
+/// the descriptor, `Memory` and `Output`. The line of a fault is printed before the fault is returned, and then no field is.
+pub fn parse_bytes<W: Write>(alloc: Global, bytes: &[u8], writer: &mut W) -> Result<(), LinesError>
+    // The descriptor has no fault.
+    ensures sound { OnOk result (IsFaultless bytes.now) }
+    // What is printed is the lines of its fields.
+    ensures printed { OnOk result (Appends (W.contents writer.old) (W.contents writer.new) (lines_of bytes.now)) }
+    // Each fault is one of the descriptor.
+    ensures refused { IfErr result (λ e. e ≢ LinesError.Output → IsRefusal bytes.now e) }
+    // The line of a fault is all that is printed.
+    ensures fault_alone { IfErr result (λ e. e ≢ LinesError.Output
+        → Appends (W.contents writer.old) (W.contents writer.new) (fault_line e)) }
+{
+    match parsed(alloc, bytes) {
         Ok(descriptor) => print_fields(&descriptor, writer),
         Err(error) => print_fault(error, writer),
     }
@@ -105,8 +126,9 @@ fn put_fields<W: Write>(
     Ok(())
 }
 
-/// Prints the line of a fault, and answers the fault.
-pub(crate) fn print_fault<W: Write>(error: LinesError, writer: &mut W) -> Result<(), LinesError>
+/// Prints the line of a fault, and answers the fault, or `Output` where the writer fails or takes no byte. `Output` has no
+/// line.
+pub fn print_fault<W: Write>(error: LinesError, writer: &mut W) -> Result<(), LinesError>
     ensures answered { (result ≡ Err error) ⊎ (result ≡ Err LinesError.Output) }
     ensures printed { result ≡ Err error → error ≢ LinesError.Output
         → Appends (W.contents writer.old) (W.contents writer.new) (fault_line error) }

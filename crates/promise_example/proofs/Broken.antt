@@ -26,14 +26,14 @@ use Rattle.promise_example.specs.Histories.{blank, scan_is_refused, told_but_not
 pub refused : EachStep IsAnswered blank scan_is_refused → ⊥
 refused h = (let done = h.0.0 in cc)
 
-default_code : keymap [] 0 0 ≡ 4
+pub default_code : keymap [] 0 0 ≡ 4
 unfolding last_written changed commands_in entry_in newer newest active format words entries_of
 default_code = refl
 
-four_not : (n : ℕ) → n ≡ 4 → n ≡ 5 → ⊥
+pub four_not : (n : ℕ) → n ≡ 4 → n ≡ 5 → ⊥
 four_not n e f = omega (arith, e, f)
 
-abbrev set_key : Command
+abbrev pub set_key : Command
 set_key = SetKey 0 0 5
 
 acknowledges : IsAcknowledged blank told_but_not_stored 0 0 5
@@ -59,7 +59,7 @@ pub not_acknowledged : KeepsAcknowledged blank told_but_not_stored → ⊥
 not_acknowledged h = four_not (keymap [] 0 0) default_code (h 0 0 5 acknowledges)
 
 -- the same history as the keyboard sees it, without its last call, and without its last two
-abbrev asked : List Call
+abbrev pub asked : List Call
 asked = SetUp set_feature ∷ []
 
 abbrev told : List Call
@@ -69,10 +69,10 @@ confirms : IsConfirmed told asked set_key
 unfolding accepts report_named
 confirms = record { packet = Out set_report EpAck; between = []; after = []; past_is = refl; accepted = refl; same_transfer = tt }
 
-abbrev at_work : Accepted
+abbrev pub at_work : Accepted
 at_work = record { command = set_key; fate = works }
 
-abbrev done : Accepted
+abbrev pub done : Accepted
 done = record { command = set_key; fate = settled }
 
 still_works : accepted [] told ≡ at_work ∷ []

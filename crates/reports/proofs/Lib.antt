@@ -13,3 +13,5 @@ pub mod Mapped
 pub mod FromLast
 pub mod LatestPoll
 pub mod Ring
+pub mod Changes
+pub mod Made

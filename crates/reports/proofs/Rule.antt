@@ -87,13 +87,13 @@ rule-none past protocol kept r = record {
 }
 
 abbrev with_boot : Kept → SentValue → Kept
-with_boot kept sent = record { boot = sent; one = kept.one; two = kept.two; sent_last = kept.sent_last; queue = kept.queue; idle_one = kept.idle_one; idle_two = kept.idle_two }
+with_boot kept sent = record { boot = sent; one = kept.one; two = kept.two; sent_last = kept.sent_last; queue = kept.queue; idle_one = kept.idle_one; idle_two = kept.idle_two; made_for = kept.made_for }
 
 abbrev with_one : Kept → SentValue → Kept
-with_one kept sent = record { boot = kept.boot; one = sent; two = kept.two; sent_last = Some One; queue = kept.queue; idle_one = kept.idle_one; idle_two = kept.idle_two }
+with_one kept sent = record { boot = kept.boot; one = sent; two = kept.two; sent_last = Some One; queue = kept.queue; idle_one = kept.idle_one; idle_two = kept.idle_two; made_for = kept.made_for }
 
 abbrev with_two : Kept → SentValue → Kept
-with_two kept sent = record { boot = kept.boot; one = kept.one; two = sent; sent_last = Some Two; queue = kept.queue; idle_one = kept.idle_one; idle_two = kept.idle_two }
+with_two kept sent = record { boot = kept.boot; one = kept.one; two = sent; sent_last = Some Two; queue = kept.queue; idle_one = kept.idle_one; idle_two = kept.idle_two; made_for = kept.made_for }
 
 pub rule-boot : (past : List PollerCall) (protocol : Protocol) (bytes : List ℕ) (kept : Kept) (sent : SentValue) → length bytes ≡ 8 → sent.bytes ≡ bytes → sent.age ≡ 0
     → RuleStandsFor past kept → RuleStandsFor (polled protocol (Some bytes) ∷ past) (with_boot kept sent)
@@ -165,7 +165,7 @@ rule-other past protocol bytes kept n8 n23 n9 r =
     }
 
 abbrev with_idle : Kept → ℕ → ℕ → Kept
-with_idle kept one two = record { boot = kept.boot; one = kept.one; two = kept.two; sent_last = kept.sent_last; queue = kept.queue; idle_one = one; idle_two = two }
+with_idle kept one two = record { boot = kept.boot; one = kept.one; two = kept.two; sent_last = kept.sent_last; queue = kept.queue; idle_one = one; idle_two = two; made_for = kept.made_for }
 
 same_idle : (which : IdleId) → is_for which One ≡ is_for which Boot
 same_idle id.All = refl
@@ -232,7 +232,7 @@ nothing-idle kept one two n = record { boot = n.boot; one = n.one; two = n.two; 
 -- ---- the queue
 
 pub rule-queue : (past : List PollerCall) (kept : Kept) (queue : List (List ℕ)) → RuleStandsFor past kept
-    → RuleStandsFor past record { boot = kept.boot; one = kept.one; two = kept.two; sent_last = kept.sent_last; queue = queue; idle_one = kept.idle_one; idle_two = kept.idle_two }
+    → RuleStandsFor past record { boot = kept.boot; one = kept.one; two = kept.two; sent_last = kept.sent_last; queue = queue; idle_one = kept.idle_one; idle_two = kept.idle_two; made_for = kept.made_for }
 rule-queue past kept queue r = record {
   boot = r.boot;
   one = r.one;

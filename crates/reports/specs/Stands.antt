@@ -1,5 +1,7 @@
 -- Only ties code to its definitions: what is kept stands for a past. It holds of a new poller, and each call keeps it.
-use Rattle.std.specs.Prelude.{◌≡◌, min, None, List, []}
+use Rattle.std.specs.Prelude.{◌≡◌, ℕ, min, None, List, []}
+use Rattle.reports.specs.declared.Protocol.{Protocol}
+use Rattle.reports.specs.declared.Protocol.TheVariants as protocol
 use Rattle.reports.specs.declared.Input.{Input}
 use Rattle.reports.specs.declared.Input.TheVariants.{Boot, One, Two}
 use Rattle.reports.specs.Calls.{PollerCall}
@@ -34,3 +36,24 @@ pub record NothingSent (kept : Kept) : Type 0 where
   pub two : SentStandsFor Two [] kept.two
   pub sent_last : kept.sent_last ≡ None
   pub queue : kept.queue ≡ []
+
+-- the bytes that were made last are these, of each report of the protocol that they were made for
+abbrev pub AreMade : Protocol → (Input → List ℕ) → Kept → Type 0
+AreMade protocol.Boot bytes kept = kept.boot.made ≡ bytes Boot
+AreMade protocol.Report bytes kept = (kept.one.made ≡ bytes One) × (kept.two.made ≡ bytes Two)
+
+-- the bytes that were made last are these
+pub record IsMade (bytes : Input → List ℕ) (kept : Kept) : Type 0 where
+  pub are : AreMade kept.made_for bytes kept
+
+-- and they were made for this protocol
+pub record IsMadeFor (protocol : Protocol) (bytes : Input → List ℕ) (kept : Kept) : Type 0 where
+  pub made_for : kept.made_for ≡ protocol
+  pub are : AreMade protocol bytes kept
+
+-- the bytes that were made last stay
+pub record SameMade (old new : Kept) : Type 0 where
+  pub boot : new.boot.made ≡ old.boot.made
+  pub one : new.one.made ≡ old.one.made
+  pub two : new.two.made ≡ old.two.made
+  pub made_for : new.made_for ≡ old.made_for

@@ -2,8 +2,8 @@
 //! report that a scan changes waits in a queue of eight, so that the host sees a key that is pressed and
 //! released between two polls. `Poller::new` takes the queue's memory, and nothing else takes any.
 //!
-//! A `Poller` keeps what was sent last of each report and how many scans ago, the reports that
-//! wait, and the idle values. The promise is that each poll is answered as a look back over the
+//! A `Poller` keeps what was made and what was sent last of each report, how many scans ago it was
+//! sent, the reports that wait, and the idle values. The promise is that each poll is answered as a look back over the
 //! poller's calls says. `key_reports` calls it at each scan and poll.
 #![tactic(auto)]
 
@@ -11,7 +11,6 @@ use arrayvec::ArrayVec;
 
 pub mod bytes;
 pub mod laws;
-mod made;
 pub mod plain;
 pub mod poller;
 mod queue;

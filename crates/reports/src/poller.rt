@@ -1,6 +1,6 @@
 //! Which report a poll of the interrupt endpoint sends.
 
-ghost use Rattle.std.specs.Prelude.{◌≡◌, ◌||◌, ◌∷◌, [], ℕ, List, Option, Some, None, Bool, IfOk};
+ghost use Rattle.std.specs.Prelude.{◌≡◌, ◌||◌, ◌∷◌, [], ℕ, List, Option, Some, None, Bool, true, false, slice_get, drop, IfOk};
 ghost use Rattle.std.specs.Option.{option_map};
 ghost use Rattle.reports.specs.declared.Input.{Input};
 ghost use Rattle.reports.specs.declared.Protocol.{Protocol};
@@ -11,7 +11,7 @@ ghost use Rattle.reports.specs.Queue.{queue};
 ghost use Rattle.reports.specs.Wanted.{wanted};
 ghost use Rattle.layers.specs.Usages.{has_key, has_consumer};
 
-use crate::made::Made;
+use crate::bytes::{bitmap, boot, consumer};
 use crate::queue::{Queue, report_of};
 use crate::sent::Sent;
 use crate::{IdleId, Input, Protocol, Report};
@@ -33,7 +33,7 @@ const ONE_UNUSED: [u8; 23] = [
 
 const TWO_UNUSED: [u8; 9] = [2, 0, 0, 0, 0, 0, 0, 0, 0];
 
-/// What was sent last of each report, the reports that wait, and the idle values.
+/// What was made and what was sent last of each report, the reports that wait, and the idle values.
 #[derive(Debug, Drop)]
 pub struct Poller {
     boot: Sent<8>,
@@ -44,9 +44,8 @@ pub struct Poller {
     queue: Queue,
     idle_one: u8,
     idle_two: u8,
-    /// What was made last: for the usages that the latest scan or poll found, or for none since a reset.
-    /// No contract speaks of it.
-    made: Made,
+    /// The protocol whose reports were made last.
+    made_for: Protocol,
 }
 
 impl Model for Poller {
@@ -62,17 +61,19 @@ impl Model for Poller {
       queue = p.queue;
       idle_one = p.idle_one;
       idle_two = p.idle_two;
+      made_for = p.made_for;
     } };
 }
 
 impl Poller {
-    ghost use Rattle.reports.specs.Stands.{StandsFor, RuleStandsFor, NothingSent};
+    ghost use Rattle.reports.specs.Stands.{StandsFor, RuleStandsFor, NothingSent, IsMade, IsMadeFor, SameMade};
     ghost use Rattle.reports.specs.Answers.{idle_input};
 
     /// Nothing sent and nothing waiting, and the idle values 125 (500 ms) for ID 1 and 0 (no repeats)
     /// for ID 2. Takes the memory of the queue, and is refused where there is none.
     pub fn new(alloc: Global) -> Result<Poller, AllocError>
-        ensures { IfOk result (λ poller. StandsFor [] poller) }
+        ensures stands { IfOk result (λ poller. StandsFor [] poller) }
+        ensures made { IfOk result (λ poller. IsMade (wanted (λ _. false) (λ _. false)) poller) }
     {
         let queue = Queue::new(alloc)?;
         Ok(Poller {
@@ -83,7 +84,7 @@ impl Poller {
             queue,
             idle_one: IDLE_ONE,
             idle_two: IDLE_TWO,
-            made: Made::of(&Usages::none()),
+            made_for: Protocol::Report,
         })
     }
 
@@ -95,34 +96,90 @@ impl Poller {
             → StandsFor (ticked protocol (wanted (has_key before.now) (has_consumer before.now))
             (wanted (has_key now.now) (has_consumer now.now)) ∷ past) self.new }
     {
+        self.make(before, protocol);
+        self.tick_to(now, protocol);
+    }
+
+    /// Takes the passing of one scan, one millisecond, which changed no usage.
+    pub fn pass(&mut self)
+        ensures stands { (past : List PollerCall) (protocol : Protocol) (bytes : Input → List ℕ)
+            → StandsFor past self.old → StandsFor (ticked protocol bytes bytes ∷ past) self.new }
+        ensures made { (bytes : Input → List ℕ) → IsMade bytes self.old → IsMade bytes self.new }
+    {
         self.grow_older();
-        self.push_changes(before, now, protocol);
+    }
+
+    /// Takes the passing of one scan, one millisecond, which found these usages after those that the
+    /// bytes were made for. Each report of the protocol whose bytes that changes waits from now on, ID 1
+    /// before ID 2. Of more than eight that wait the oldest are dropped.
+    pub fn tick_to(&mut self, now: &Usages, protocol: Protocol)
+        ensures stands { (past : List PollerCall) (before : Input → List ℕ) → IsMadeFor protocol before self.old
+            → StandsFor past self.old
+            → StandsFor (ticked protocol before (wanted (has_key now.now) (has_consumer now.now)) ∷ past) self.new }
+        ensures made { (before : Input → List ℕ) → IsMadeFor protocol before self.old
+            → IsMade (wanted (has_key now.now) (has_consumer now.now)) self.new }
+    {
+        self.grow_older();
+        self.push_changes(now, protocol);
     }
 
     fn grow_older(&mut self)
         ensures rule { (past : List PollerCall) (protocol : Protocol) (before now : Input → List ℕ)
             → RuleStandsFor past self.old → RuleStandsFor (ticked protocol before now ∷ past) self.new }
         ensures queue { self.new.queue ≡ self.old.queue }
+        ensures made { SameMade self.old self.new }
     {
         self.boot.tick();
         self.one.tick();
         self.two.tick();
     }
 
-    /// Lets the reports wait that a scan changed, and keeps the bytes that it made.
-    fn push_changes(&mut self, before: &Usages, now: &Usages, protocol: Protocol)
+    /// Makes the bytes of the protocol's reports for these usages, and lets those wait that are not as
+    /// they were made before.
+    fn push_changes(&mut self, now: &Usages, protocol: Protocol)
         ensures rule { (past : List PollerCall) → RuleStandsFor past self.old → RuleStandsFor past self.new }
-        ensures queue { (past : List PollerCall) → self.old.queue ≡ queue past
-            → self.new.queue ≡ queue (ticked protocol (wanted (has_key before.now) (has_consumer before.now))
-            (wanted (has_key now.now) (has_consumer now.now)) ∷ past) }
+        ensures queue { (past : List PollerCall) (before : Input → List ℕ) → IsMadeFor protocol before self.old
+            → self.old.queue ≡ queue past
+            → self.new.queue ≡ queue (ticked protocol before (wanted (has_key now.now) (has_consumer now.now)) ∷ past) }
+        ensures made { self.old.made_for ≡ protocol → IsMade (wanted (has_key now.now) (has_consumer now.now)) self.new }
     {
-        if before == now {
-            return;
+        match protocol {
+            Protocol::Boot => {
+                let bytes = boot(now);
+                self.queue.push_change(self.boot.made(), &bytes);
+                self.boot.make(bytes);
+            },
+            Protocol::Report => {
+                let one = bitmap(now);
+                let two = consumer(now);
+                self.queue.push_change(self.one.made(), &one);
+                self.queue.push_change(self.two.made(), &two);
+                self.one.make(one);
+                self.two.make(two);
+            },
         }
-        self.made.set(before);
-        let made = Made::of(now);
-        self.queue.push_changes(&self.made, &made, protocol);
-        self.made = made;
+    }
+
+    /// Whether the bytes were made for this protocol.
+    pub fn is_made_for(&self, protocol: Protocol) -> bool
+        ensures made { (bytes : Input → List ℕ) → result ≡ true → IsMade bytes self.now → IsMadeFor protocol bytes self.now }
+    {
+        self.made_for == protocol
+    }
+
+    /// Makes the bytes of the protocol's reports for these usages.
+    pub fn make(&mut self, usages: &Usages, protocol: Protocol)
+        ensures stands { (past : List PollerCall) → StandsFor past self.old → StandsFor past self.new }
+        ensures made { IsMadeFor protocol (wanted (has_key usages.now) (has_consumer usages.now)) self.new }
+    {
+        match protocol {
+            Protocol::Boot => self.boot.make(boot(usages)),
+            Protocol::Report => {
+                self.one.make(bitmap(usages));
+                self.two.make(consumer(usages));
+            },
+        }
+        self.made_for = protocol;
     }
 
     /// The answer to a poll: the report that has waited longest. Where none waits, the report of the
@@ -136,56 +193,99 @@ impl Poller {
             → option_map (λ r. r.items) result
             ≡ poll_answer protocol (wanted (has_key usages.now) (has_consumer usages.now)) past }
     {
-        let answer = match self.queue.pop() {
-            Some(front) => Some(front),
-            None => self.due(usages, protocol),
-        };
-        self.count_as_sent(&answer);
-        answer
+        self.make(usages, protocol);
+        self.poll_made(protocol)
     }
 
-    /// What the poll rule sends where no report waits.
-    fn due(&mut self, usages: &Usages, protocol: Protocol) -> Option<Report>
-        ensures answer { (past : List PollerCall) → RuleStandsFor past self.old
-            → option_map (λ r. r.items) result
-            ≡ rule_answer protocol (wanted (has_key usages.now) (has_consumer usages.now)) past }
-        ensures same { self.new ≡ self.old }
+    /// `poll` for the usages that the bytes were made for: it looks at no bytes where nothing is due.
+    pub fn poll_made(&mut self, protocol: Protocol) -> Option<Report>
+        ensures stands { (past : List PollerCall) → StandsFor past self.old
+            → StandsFor (polled protocol (option_map (λ r. r.items) result) ∷ past) self.new }
+        ensures answer { (past : List PollerCall) (bytes : Input → List ℕ) → IsMadeFor protocol bytes self.old
+            → StandsFor past self.old → option_map (λ r. r.items) result ≡ poll_answer protocol bytes past }
+        ensures made { SameMade self.old self.new }
     {
-        self.made.set(usages);
-        match protocol {
-            Protocol::Boot => self.due_boot(self.made.boot()),
-            Protocol::Report => self.due_report(self.made.one(), self.made.two()),
+        if self.queue.is_empty() {
+            self.send_due(protocol)
+        } else {
+            self.send_front()
         }
     }
 
-    fn due_boot(&self, boot: &[u8; 8]) -> Option<Report>
-        ensures { (past : List PollerCall) (bytes : Input → List ℕ) → bytes Input.Boot ≡ boot.now
+    /// Sends the report that has waited longest, if one waits.
+    fn send_front(&mut self) -> Option<Report>
+        ensures rule { (past : List PollerCall) (protocol : Protocol) → RuleStandsFor past self.old
+            → RuleStandsFor (polled protocol (option_map (λ r. r.items) result) ∷ past) self.new }
+        ensures front { option_map (λ r. r.items) result ≡ slice_get self.old.queue 0 }
+        ensures queue { self.new.queue ≡ drop 1 self.old.queue }
+        ensures made { SameMade self.old self.new }
+    {
+        match self.queue.pop() {
+            Some(front) => {
+                self.count_as_sent(&front);
+                Some(front)
+            },
+            None => None,
+        }
+    }
+
+    /// Sends what the poll rule sends where no report waits.
+    fn send_due(&mut self, protocol: Protocol) -> Option<Report>
+        ensures rule { (past : List PollerCall) → RuleStandsFor past self.old
+            → RuleStandsFor (polled protocol (option_map (λ r. r.items) result) ∷ past) self.new }
+        ensures answer { (past : List PollerCall) (bytes : Input → List ℕ) → IsMadeFor protocol bytes self.old
+            → RuleStandsFor past self.old → option_map (λ r. r.items) result ≡ rule_answer protocol bytes past }
+        ensures queue { self.new.queue ≡ self.old.queue }
+        ensures made { SameMade self.old self.new }
+    {
+        match self.due(protocol) {
+            Some(report) => {
+                self.count_as_sent(&report);
+                Some(report)
+            },
+            None => None,
+        }
+    }
+
+    /// What the poll rule sends where no report waits.
+    fn due(&self, protocol: Protocol) -> Option<Report>
+        ensures { (past : List PollerCall) (bytes : Input → List ℕ) → IsMadeFor protocol bytes self.now
+            → RuleStandsFor past self.now → option_map (λ r. r.items) result ≡ rule_answer protocol bytes past }
+    {
+        match protocol {
+            Protocol::Boot => self.due_boot(),
+            Protocol::Report => self.due_report(),
+        }
+    }
+
+    fn due_boot(&self) -> Option<Report>
+        ensures { (past : List PollerCall) (bytes : Input → List ℕ) → bytes Input.Boot ≡ self.now.boot.made
             → RuleStandsFor past self.now
             → option_map (λ r. r.items) result ≡ rule_answer Protocol.Boot bytes past }
     {
-        if self.boot_is_due(boot) {
-            Some(report_of(boot))
+        if self.boot_is_due() {
+            Some(report_of(self.boot.made()))
         } else {
             None
         }
     }
 
-    fn boot_is_due(&self, boot: &[u8; 8]) -> bool
-        ensures { (past : List PollerCall) (bytes : Input → List ℕ) → bytes Input.Boot ≡ boot.now
+    fn boot_is_due(&self) -> bool
+        ensures { (past : List PollerCall) (bytes : Input → List ℕ) → bytes Input.Boot ≡ self.now.boot.made
             → RuleStandsFor past self.now
             → result ≡ (poll.is_changed bytes past Input.Boot || poll.is_elapsed past Input.Boot) }
     {
-        self.boot.is_changed(boot) || self.boot.is_elapsed(self.idle_one)
+        self.boot.is_changed() || self.boot.is_elapsed(self.idle_one)
     }
 
-    fn due_report(&self, one: &[u8; 23], two: &[u8; 9]) -> Option<Report>
-        ensures { (past : List PollerCall) (bytes : Input → List ℕ) → bytes Input.One ≡ one.now
-            → bytes Input.Two ≡ two.now → RuleStandsFor past self.now
+    fn due_report(&self) -> Option<Report>
+        ensures { (past : List PollerCall) (bytes : Input → List ℕ) → bytes Input.One ≡ self.now.one.made
+            → bytes Input.Two ≡ self.now.two.made → RuleStandsFor past self.now
             → option_map (λ r. r.items) result ≡ rule_answer Protocol.Report bytes past }
     {
-        match self.chosen(self.one.is_changed(one), self.two.is_changed(two)) {
-            Some(Input::One) => Some(report_of(one)),
-            Some(Input::Two) => Some(report_of(two)),
+        match self.chosen(self.one.is_changed(), self.two.is_changed()) {
+            Some(Input::One) => Some(report_of(self.one.made())),
+            Some(Input::Two) => Some(report_of(self.two.made())),
             Some(Input::Boot) => None,
             None => None,
         }
@@ -209,16 +309,14 @@ impl Poller {
         }
     }
 
-    /// Counts an answer as sent, if there is one: of the report that has as many bytes.
-    fn count_as_sent(&mut self, answer: &Option<Report>)
+    /// Counts a report as sent, by its number of bytes.
+    fn count_as_sent(&mut self, report: &Report)
         ensures rule { (past : List PollerCall) (protocol : Protocol) → RuleStandsFor past self.old
-            → RuleStandsFor (polled protocol (option_map (λ r. r.items) answer.now) ∷ past) self.new }
+            → RuleStandsFor (polled protocol (Some report.now.items) ∷ past) self.new }
         ensures queue { self.new.queue ≡ self.old.queue }
+        ensures made { SameMade self.old self.new }
     {
-        let bytes = match answer {
-            Some(report) => report.as_slice(),
-            None => return,
-        };
+        let bytes = report.as_slice();
         if bytes.len() == BOOT_UNUSED.len() {
             self.boot.send(bytes);
         } else if bytes.len() == ONE_UNUSED.len() {
@@ -233,8 +331,9 @@ impl Poller {
     /// Sets the idle value of a report, or of all, in units of 4 ms; 0 stands for no repeats (HID 1.11
     /// section 7.2.4). The time that has passed since a report was sent still counts.
     pub fn set_idle(&mut self, id: IdleId, duration: u8)
-        ensures { (past : List PollerCall) → StandsFor past self.old
+        ensures stands { (past : List PollerCall) → StandsFor past self.old
             → StandsFor (idle_set id duration ∷ past) self.new }
+        ensures made { SameMade self.old self.new }
     {
         match id {
             IdleId::All => {
@@ -260,8 +359,9 @@ impl Poller {
 
     /// Counts nothing as sent, as at the start, and drops what waits; the idle values stay.
     pub fn forget_sent(&mut self)
-        ensures { (past : List PollerCall) → StandsFor past self.old
+        ensures stands { (past : List PollerCall) → StandsFor past self.old
             → StandsFor (forgot ∷ past) self.new }
+        ensures made { SameMade self.old self.new }
     {
         self.clear();
     }
@@ -272,17 +372,18 @@ impl Poller {
         ensures stands { (past : List PollerCall) → StandsFor past self.old
             → StandsFor (was_reset ∷ past) self.new }
         ensures fresh { StandsFor [] self.new }
+        ensures made { SameMade self.old self.new }
     {
         self.clear();
         self.idle_one = IDLE_ONE;
         self.idle_two = IDLE_TWO;
-        self.made = Made::of(&Usages::none());
     }
 
     fn clear(&mut self)
         ensures cleared { NothingSent self.new }
         ensures idle_one { self.new.idle_one ≡ self.old.idle_one }
         ensures idle_two { self.new.idle_two ≡ self.old.idle_two }
+        ensures made { SameMade self.old self.new }
     {
         self.boot.send(&BOOT_UNUSED);
         self.one.send(&ONE_UNUSED);

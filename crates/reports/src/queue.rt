@@ -1,16 +1,11 @@
 //! The reports that wait to be sent.
 
-ghost use Rattle.std.specs.Prelude.{◌≡◌, ◌≤◌, ◌++◌, ◌∷◌, [], List, drop, length, slice_get, if◌then◌else◌, IfOk};
+ghost use Rattle.std.specs.Prelude.{◌≡◌, ◌≤◌, ◌++◌, ◌∷◌, [], List, drop, length, slice_get, if◌then◌else◌, is_none, IfOk};
 ghost use Rattle.std.specs.Str.{bytes_eq};
 ghost use Rattle.std.specs.Option.{option_map};
 ghost use Rattle.circular_buffer.specs.Buffer.{keep_last};
-ghost use Rattle.layers.specs.Usages.{has_key, has_consumer};
-ghost use Rattle.reports.specs.Calls.{PollerCall, ticked};
-ghost use Rattle.reports.specs.Queue.{queue};
-ghost use Rattle.reports.specs.Wanted.{wanted};
 
-use crate::made::Made;
-use crate::{Protocol, Report};
+use crate::Report;
 use circular_buffer::HeapCircularBuffer;
 use std::alloc::{AllocError, Global};
 use std::marker::Model;
@@ -43,24 +38,8 @@ impl Queue {
         Ok(Queue { ring })
     }
 
-    /// Appends the reports of the protocol whose bytes a scan changed, which found the usages of `now`
-    /// after those of `before`: ID 1 before ID 2.
-    pub(crate) fn push_changes(&mut self, before: &Made, now: &Made, protocol: Protocol)
-        ensures { (past : List PollerCall) → self.old ≡ queue past
-            → self.new ≡ queue (ticked protocol (wanted (has_key before.now) (has_consumer before.now))
-            (wanted (has_key now.now) (has_consumer now.now)) ∷ past) }
-    {
-        match protocol {
-            Protocol::Boot => self.push_change(before.boot(), now.boot()),
-            Protocol::Report => {
-                self.push_change(before.one(), now.one());
-                self.push_change(before.two(), now.two());
-            },
-        }
-    }
-
     /// Appends the new bytes of a report where they are not the old ones.
-    fn push_change(&mut self, before: &[u8], now: &[u8])
+    pub(crate) fn push_change(&mut self, before: &[u8], now: &[u8])
         requires { length now.now ≤ 32 }
         ensures { self.new ≡ (if bytes_eq before.now now.now then self.old else keep_last 8 (self.old ++ now.now ∷ [])) }
     {
@@ -75,6 +54,13 @@ impl Queue {
         ensures { self.new ≡ keep_last 8 (self.old ++ report.items ∷ []) }
     {
         self.ring.push_back(report);
+    }
+
+    /// Whether no report waits.
+    pub(crate) fn is_empty(&self) -> bool
+        ensures { result ≡ is_none (slice_get self.now 0) }
+    {
+        self.ring.is_empty()
     }
 
     /// Takes the report that has waited longest.

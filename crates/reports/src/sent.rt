@@ -1,51 +1,81 @@
-//! What was sent last of one report, and when.
+//! The bytes that one report has, those that were sent last of it, and when.
 
 ghost use Rattle.std.specs.Prelude.{◌≡◌, ◌+◌, ◌*◌, ◌==◌, ◌&&◌, min, not, nat_le, length, ℕ};
 ghost use Rattle.std.specs.Str.{bytes_eq};
 
 use std::marker::Model;
 
-/// The bytes that were sent last of a report of N bytes, and how long ago.
+/// The bytes that a report of N bytes has, those that were sent last of it, and how long ago.
 #[derive(Debug, Drop)]
 pub(crate) struct Sent<const N: usize> {
     bytes: [u8; N],
+    /// The bytes that the report has, as they were made last.
+    made: [u8; N],
+    /// Whether they are not those sent last.
+    changed: bool,
     /// The scans since then, counted to 65,535, which is more than any idle value needs.
     age: u16,
 }
 
 impl<const N: usize> Model for Sent<N> {
-    ghost use Rattle.std.specs.Prelude.{◌≡◌, length};
+    ghost use Rattle.std.specs.Prelude.{◌≡◌, not, length};
+    ghost use Rattle.std.specs.Str.{bytes_eq};
     ghost use Rattle.reports.specs.Kept.{SentValue};
 
     ghost Value = { SentValue };
 
-    ghost view = { λ s. record { bytes = s.bytes; age = s.age } };
+    ghost view = { λ s. record { bytes = s.bytes; made = s.made; age = s.age } };
 
-    ghost invariant = { λ s. length s.bytes ≡ N };
+    ghost invariant = { λ s. (length s.bytes ≡ N) × (length s.made ≡ N) × (s.changed ≡ not (bytes_eq s.made s.bytes)) };
 }
 
 impl<const N: usize> Sent<N> {
-    /// These bytes, now.
+    /// These bytes, made and sent now.
+    #[tactic(auto, using(crate::proofs::Changes::unchanged))]
     pub(crate) fn now(bytes: [u8; N]) -> Sent<N>
         ensures bytes { result.bytes ≡ bytes.entry }
+        ensures made { result.made ≡ bytes.entry }
         ensures age { result.age ≡ 0 }
     {
-        Sent { bytes, age: 0 }
+        Sent {
+            bytes,
+            made: bytes,
+            changed: false,
+            age: 0,
+        }
     }
 
     /// Takes the passing of one scan.
     pub(crate) fn tick(&mut self)
         ensures bytes { self.new.bytes ≡ self.old.bytes }
+        ensures made { self.new.made ≡ self.old.made }
         ensures age { (scans : ℕ) → self.old.age ≡ min 65535 scans → self.new.age ≡ min 65535 (scans + 1) }
     {
         self.age = self.age.saturating_add(1);
     }
 
-    /// Whether these bytes are not those sent last.
-    pub(crate) fn is_changed(&self, wanted: &[u8; N]) -> bool
-        ensures { result ≡ not (bytes_eq wanted.now self.now.bytes) }
+    /// Takes the bytes that the report has from now on.
+    pub(crate) fn make(&mut self, made: [u8; N])
+        ensures bytes { self.new.bytes ≡ self.old.bytes }
+        ensures made { self.new.made ≡ made.entry }
+        ensures age { self.new.age ≡ self.old.age }
     {
-        *wanted != self.bytes
+        self.changed = made != self.bytes;
+        self.made = made;
+    }
+
+    /// The bytes that the report has.
+    pub(crate) fn made(&self) -> &[u8; N]
+        ensures { result.now ≡ self.now.made }
+    {
+        &self.made
+    }
+
+    /// Whether they are not those sent last.
+    pub(crate) fn is_changed(&self) -> bool
+        ensures { result ≡ not (bytes_eq self.now.made self.now.bytes) }
+    {
+        self.changed
     }
 
     /// Whether the report is to be sent again at this idle value, in units of 4 ms: it is not 0, and as
@@ -61,9 +91,11 @@ impl<const N: usize> Sent<N> {
     pub(crate) fn send(&mut self, bytes: &[u8])
         requires { length bytes.now ≡ N }
         ensures bytes { self.new.bytes ≡ bytes.now }
+        ensures made { self.new.made ≡ self.old.made }
         ensures age { self.new.age ≡ 0 }
     {
         self.bytes.copy_from_slice(bytes);
+        self.changed = self.made != self.bytes;
         self.age = 0;
     }
 }

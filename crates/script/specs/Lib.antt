@@ -1,3 +1,4 @@
+pub mod Complaints
 pub mod Keys
 pub mod Numbers
 pub mod Masks

@@ -18,8 +18,8 @@ use std::num::NonZeroU16;
 const MOST_KEYS: usize = 96;
 
 /// The first word of a line.
-#[derive(Clone, Copy)]
-pub(crate) enum Keyword {
+#[derive(Clone, Copy, Debug, PartialEq, Eq)]
+pub enum Keyword {
     Scan,
     Scans,
     Poll,
@@ -39,7 +39,7 @@ pub(crate) enum Keyword {
 }
 
 /// All first words of lines.
-const KEYWORDS: [Keyword; 16] = [
+pub const KEYWORDS: [Keyword; 16] = [
     Keyword::Scan,
     Keyword::Scans,
     Keyword::Poll,
@@ -60,7 +60,7 @@ const KEYWORDS: [Keyword; 16] = [
 
 impl Keyword {
     /// The keyword that a word spells.
-    fn read(word: &[u8]) -> Option<Keyword>
+    pub(crate) fn read(word: &[u8]) -> Option<Keyword>
         ensures { MatchOption result
             ((k : Keyword) → spelling k ≢ word.now)
             (λ k. spelling k ≡ word.now) }
@@ -74,7 +74,7 @@ impl Keyword {
     }
 
     /// Whether these words may follow, by their number.
-    fn takes(self, rest: Words<'_>) -> bool
+    pub(crate) fn takes(self, rest: Words<'_>) -> bool
         ensures { IsTrue result ↔ Takes self (words rest.entry.rest.now) }
     {
         let count = rest.count();
@@ -96,7 +96,7 @@ impl Keyword {
     }
 
     /// The word that spells a keyword.
-    fn spelling(self) -> &'static [u8]
+    pub fn spelling(self) -> &'static [u8]
         ensures { result.now ≡ spelling self }
     {
         match self {

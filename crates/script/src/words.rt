@@ -40,6 +40,11 @@ impl<'a> Words<'a> {
         Words { rest: line }
     }
 
+    /// How many bytes of the line are left.
+    pub(crate) fn bytes_left(&self) -> usize {
+        self.rest.len()
+    }
+
     /// The next word, where there is one.
     pub(crate) fn word(&mut self) -> &'a [u8]
         requires { 0 < length (words self.old.rest.now) }

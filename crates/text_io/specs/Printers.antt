@@ -1,5 +1,5 @@
 -- Believed where this crate is called: what a printer has printed.
-use Rattle.std.specs.Prelude.{ℕ, List, Option}
+use Rattle.std.specs.Prelude.{◌≡◌, ℕ, List, [], Option}
 use Rattle.std.specs.Borrow.{GName}
 use Rattle.std.specs.Io.KnownBytes.{Appends, append_known}
 use Rattle.text_io.specs.declared.print.Printer.{Printer}
@@ -16,6 +16,10 @@ module _ {W : Type 0} where
   -- those, and what waits for the writer
   abbrev pub printed : (W → Option (List ℕ)) → Printer W → Option (List ℕ)
   printed contents p = append_known (given contents p) p.waiting.bytes
+
+  -- nothing waits for the writer: it was given all that was printed
+  abbrev pub NothingWaits : Printer W → Type 0
+  NothingWaits p = p.waiting.bytes ≡ []
 
   -- this text was printed between the two
   abbrev pub Prints : (W → Option (List ℕ)) → Printer W → Printer W → List ℕ → Type 0

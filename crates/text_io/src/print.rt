@@ -2,7 +2,7 @@
 
 ghost use Rattle.std.specs.Prelude.{◌≡◌, [], IfSome, IsOk, OnOk};
 ghost use Rattle.std.specs.Io.KnownBytes.{Appends, Keeps, append_known};
-ghost use Rattle.text_io.specs.Printers.{Prints, given, printed, printer_writer};
+ghost use Rattle.text_io.specs.Printers.{NothingWaits, Prints, given, printed, printer_writer};
 
 use crate::WriteError;
 use arrayvec::ArrayString;
@@ -23,6 +23,7 @@ impl<'w, W: Write> Printer<'w, W> {
     pub fn new(writer: &'w mut W) -> Printer<'w, W>
         ensures printed { printed W.contents result ≡ W.contents writer.old }
         ensures same_writer { printer_writer result ≡ writer.entry.ghost_name }
+        ensures empty { NothingWaits result }
     {
         Printer {
             writer,
@@ -46,6 +47,7 @@ impl<'w, W: Write> Printer<'w, W> {
     pub fn finish(&mut self) -> Result<(), WriteError>
         ensures given { OnOk result (Keeps (printed W.contents self.old) (given W.contents self.new)) }
         ensures kept { OnOk result (Keeps (printed W.contents self.old) (printed W.contents self.new)) }
+        ensures empty { OnOk result (NothingWaits self.new) }
         ensures same_writer { OnOk result (printer_writer self.new ≡ printer_writer self.old) }
     {
         self.send()?;

@@ -1,56 +1,74 @@
 // SPDX-License-Identifier: MIT OR Apache-2.0
-//! The device: a keyboard beside a flash in memory.
+//! The device: keyboard, front and a flash in memory.
 #![forbid(unsafe_code)]
 
-use wuzhikar::{EpAnswer, Keyboard, Report, Scan, SimFlash, Work};
+use core::ops::{Deref, DerefMut};
+use wuzhikar::{Mask, SimFlash, Work};
+use wuzhikar_device::{Device, Identity, PacketSize};
 
-/// A keyboard and the flash that it started on. The flash is lent to nothing else.
-pub struct Bench {
-    keyboard: Keyboard,
-    flash: SimFlash,
+/// What the device tells of itself, by the packet size of endpoint 1. Vendor 1209h, product 0001h is an ID for tests.
+static IDENTITIES: [Identity<'static>; 4] = [
+    identity(PacketSize::Bytes8),
+    identity(PacketSize::Bytes16),
+    identity(PacketSize::Bytes32),
+    identity(PacketSize::Bytes64),
+];
+
+const fn identity(packet_size: PacketSize) -> Identity<'static> {
+    Identity {
+        manufacturer: "Example",
+        product: "Wuzhikar keyboard",
+        serial_number: "0001",
+        packet_size,
+        ..Identity::TEST
+    }
 }
 
+/// A device on a flash in memory.
+pub struct Bench(Device<'static, SimFlash>);
+
 impl Bench {
-    /// A keyboard on erased pages. `None` where there is no such number of pages, or no memory.
-    pub fn new(pages: usize) -> Option<Bench> {
-        let flash = SimFlash::blank(pages).ok()?;
-        Some(Bench { keyboard: Keyboard::on(&flash), flash })
+    /// A device on erased pages. `None` where there is no such number of pages or packet size, or no memory.
+    pub fn new(pages: usize, packet: usize) -> Option<Bench> {
+        Bench::on(SimFlash::blank(pages).ok()?, packet)
     }
 
-    pub fn setup(&mut self, packet: [u8; 8]) {
-        self.keyboard.setup(packet);
+    /// A device on the bytes of a flash. `None` where they are not 2 to 8 pages, or there is no such packet size.
+    pub fn on_image(image: &[u8], packet: usize) -> Option<Bench> {
+        Bench::on(SimFlash::from_image(image.to_vec()).ok()?, packet)
     }
 
-    pub fn out(&mut self, packet: &[u8]) -> EpAnswer {
-        self.keyboard.out(packet)
+    fn on(flash: SimFlash, packet: usize) -> Option<Bench> {
+        let size = PacketSize::of(packet)?;
+        let identity = IDENTITIES.iter().find(|identity| identity.packet_size == size)?;
+        Some(Bench(Device::start(flash, identity)))
     }
 
-    pub fn in_packet(&mut self) -> EpAnswer {
-        self.keyboard.in_packet()
+    /// A step of the flash work, whose operation is torn by the mask and answers a fault.
+    pub fn tear(&mut self, mask: Mask) -> Work {
+        self.0.flash_mut().fault_next(mask);
+        let work = self.0.work();
+        self.0.flash_mut().disarm();
+        work
     }
 
-    pub fn poll(&mut self) -> Option<Report> {
-        self.keyboard.poll()
+    /// The power goes inside the operation of a step of the flash work, which is torn by the mask, and comes back.
+    pub fn cut_in_work(&mut self, mask: Mask) {
+        let _ = self.tear(mask);
+        self.0.restart();
     }
+}
 
-    pub fn scan(&mut self, rows: [u16; 6]) {
-        self.keyboard.scan(Scan { rows });
+impl Deref for Bench {
+    type Target = Device<'static, SimFlash>;
+
+    fn deref(&self) -> &Self::Target {
+        &self.0
     }
+}
 
-    pub fn work(&mut self) -> Work {
-        self.keyboard.work(&mut self.flash)
-    }
-
-    pub fn leds(&self) -> u8 {
-        self.keyboard.leds()
-    }
-
-    pub fn bus_reset(&mut self) {
-        self.keyboard.bus_reset();
-    }
-
-    /// The power goes and comes back: the flash is all that is left.
-    pub fn cut(&mut self) {
-        self.keyboard.restart(&self.flash);
+impl DerefMut for Bench {
+    fn deref_mut(&mut self) -> &mut Self::Target {
+        &mut self.0
     }
 }

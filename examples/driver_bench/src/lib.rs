@@ -12,28 +12,44 @@ mod device;
 
 use core::ffi::c_int;
 use device::Bench;
-use wuzhikar::{EpAnswer, Work};
+use wuzhikar::{EpAnswer, Mask, PAGE_BYTES, Scan, Work};
+use wuzhikar_device::{NotDone, PollAnswer};
 
 // The answers, as bench.h names them.
 const ACK: c_int = 0;
 const NAK: c_int = -1;
 const REFUSED: c_int = -2;
+const OFF: c_int = -3;
 const STALL: c_int = -100;
 
-/// The bytes of a packet of endpoint 0, and of endpoint 1.
+/// The most bytes of a packet of endpoint 0, and of endpoint 1.
 const PACKET: usize = 8;
-const REPORT: usize = 32;
+const PACKET_1: usize = 64;
 
 /// A device on so many erased pages, or null.
 #[unsafe(no_mangle)]
-pub extern "C" fn bench_new(pages: usize) -> *mut Bench {
-    Bench::new(pages).map_or(core::ptr::null_mut(), |bench| Box::into_raw(Box::new(bench)))
+pub extern "C" fn bench_new(pages: usize, packet: usize) -> *mut Bench {
+    owned(Bench::new(pages, packet))
+}
+
+/// A device on the bytes of a flash, or null.
+#[unsafe(no_mangle)]
+pub unsafe extern "C" fn bench_on_image(image: *const u8, length: usize, packet: usize) -> *mut Bench {
+    if image.is_null() || length > 8 * PAGE_BYTES {
+        return core::ptr::null_mut();
+    }
+    // SAFETY: the caller owes `length` bytes behind the pointer, which is not null.
+    owned(Bench::on_image(unsafe { core::slice::from_raw_parts(image, length) }, packet))
+}
+
+fn owned(bench: Option<Bench>) -> *mut Bench {
+    bench.map_or(core::ptr::null_mut(), |bench| Box::into_raw(Box::new(bench)))
 }
 
 #[unsafe(no_mangle)]
 pub unsafe extern "C" fn bench_free(bench: *mut Bench) {
     if !bench.is_null() {
-        // SAFETY: it came from `Box::into_raw` in `bench_new`, and the caller gives it up.
+        // SAFETY: it came from `Box::into_raw` in `owned`, and the caller gives it up.
         drop(unsafe { Box::from_raw(bench) });
     }
 }
@@ -69,7 +85,7 @@ pub unsafe extern "C" fn bench_in(bench: *mut Bench, buffer: *mut u8, room: usiz
     // SAFETY: the caller owes the bench.
     match unsafe { bench.as_mut() } {
         // SAFETY: a packet has at most 8 bytes, and the caller owes as much room.
-        Some(bench) if !buffer.is_null() && room >= PACKET => unsafe { told(&bench.in_packet(), buffer) },
+        Some(bench) if !buffer.is_null() && room >= PACKET => unsafe { told(&bench.in_packet().0, buffer) },
         _ => REFUSED,
     }
 }
@@ -78,12 +94,40 @@ pub unsafe extern "C" fn bench_in(bench: *mut Bench, buffer: *mut u8, room: usiz
 pub unsafe extern "C" fn bench_poll(bench: *mut Bench, buffer: *mut u8, room: usize) -> c_int {
     // SAFETY: the caller owes the bench.
     match unsafe { bench.as_mut() } {
-        Some(bench) if !buffer.is_null() && room >= REPORT => match bench.poll() {
-            // SAFETY: a report has at most 32 bytes, and the caller owes as much room.
-            Some(report) => unsafe { written(&report, buffer) },
-            None => 0,
+        Some(bench) if !buffer.is_null() && room >= PACKET_1 => match bench.poll() {
+            // SAFETY: a packet has at most 64 bytes, and the caller owes as much room.
+            PollAnswer::Data(packet) => unsafe { written(&packet, buffer) },
+            PollAnswer::Nak => NAK,
+            PollAnswer::Stall => STALL,
+            PollAnswer::Nothing => OFF,
         },
         _ => REFUSED,
+    }
+}
+
+#[unsafe(no_mangle)]
+pub unsafe extern "C" fn bench_control(
+    bench: *mut Bench,
+    setup: *const u8,
+    length: usize,
+    data: *mut u8,
+    room: usize,
+) -> c_int {
+    // SAFETY: the caller owes both pointers.
+    let (Some(bench), Some(setup)) = (unsafe { bench.as_mut() }, unsafe { values::<u8, 8>(setup, length) }) else {
+        return REFUSED;
+    };
+    let wanted = usize::from(u16::from_le_bytes([setup[6], setup[7]]));
+    if room < wanted || data.is_null() && wanted > 0 {
+        return REFUSED;
+    }
+    // SAFETY: the caller owes `room` bytes, which are at least as many, and which nobody else has meanwhile.
+    let data = if wanted > 0 { unsafe { core::slice::from_raw_parts_mut(data, wanted) } } else { &mut [] };
+    match bench.control(setup, data) {
+        Ok(done) => done.length as c_int,
+        Err(NotDone::Stall(why)) => STALL - c_int::from(why.number()),
+        Err(NotDone::Waits | NotDone::Broken) => NAK,
+        Err(NotDone::Buffer) => REFUSED,
     }
 }
 
@@ -93,7 +137,7 @@ pub unsafe extern "C" fn bench_scan(bench: *mut Bench, rows: *const u16, count: 
     let (Some(bench), Some(rows)) = (unsafe { bench.as_mut() }, unsafe { values(rows, count) }) else {
         return REFUSED;
     };
-    bench.scan(rows);
+    bench.scan(Scan { rows });
     ACK
 }
 
@@ -101,11 +145,37 @@ pub unsafe extern "C" fn bench_scan(bench: *mut Bench, rows: *const u16, count: 
 pub unsafe extern "C" fn bench_work(bench: *mut Bench) -> c_int {
     // SAFETY: the caller owes the bench.
     let Some(bench) = (unsafe { bench.as_mut() }) else { return REFUSED };
-    match bench.work() {
-        Work::Idle => 0,
-        Work::Working => 1,
-        Work::Settled => 2,
-        Work::Failed => 3,
+    number(bench.work())
+}
+
+#[unsafe(no_mangle)]
+pub unsafe extern "C" fn bench_tear(bench: *mut Bench, mask: *const u8, length: usize) -> c_int {
+    // SAFETY: the caller owes both pointers.
+    let (Some(bench), Some(mask)) = (unsafe { bench.as_mut() }, unsafe { mask_of(mask, length) }) else {
+        return REFUSED;
+    };
+    number(bench.tear(mask))
+}
+
+#[unsafe(no_mangle)]
+pub unsafe extern "C" fn bench_cut_in_work(bench: *mut Bench, mask: *const u8, length: usize) -> c_int {
+    // SAFETY: the caller owes both pointers.
+    let (Some(bench), Some(mask)) = (unsafe { bench.as_mut() }, unsafe { mask_of(mask, length) }) else {
+        return REFUSED;
+    };
+    bench.cut_in_work(mask);
+    ACK
+}
+
+#[unsafe(no_mangle)]
+pub unsafe extern "C" fn bench_image(bench: *const Bench, buffer: *mut u8, room: usize) -> c_int {
+    // SAFETY: the caller owes the bench.
+    match unsafe { bench.as_ref() } {
+        Some(bench) if !buffer.is_null() && room >= bench.flash().image().len() => {
+            // SAFETY: the caller owes as much room.
+            unsafe { written(bench.flash().image(), buffer) }
+        }
+        _ => REFUSED,
     }
 }
 
@@ -119,7 +189,7 @@ pub unsafe extern "C" fn bench_leds(bench: *const Bench) -> c_int {
 pub unsafe extern "C" fn bench_reset(bench: *mut Bench) -> c_int {
     // SAFETY: the caller owes the bench.
     let Some(bench) = (unsafe { bench.as_mut() }) else { return REFUSED };
-    bench.bus_reset();
+    let _ = bench.bus_reset();
     ACK
 }
 
@@ -127,8 +197,28 @@ pub unsafe extern "C" fn bench_reset(bench: *mut Bench) -> c_int {
 pub unsafe extern "C" fn bench_cut(bench: *mut Bench) -> c_int {
     // SAFETY: the caller owes the bench.
     let Some(bench) = (unsafe { bench.as_mut() }) else { return REFUSED };
-    bench.cut();
+    bench.restart();
     ACK
+}
+
+/// What a step of the flash work was.
+fn number(work: Work) -> c_int {
+    match work {
+        Work::Idle => 0,
+        Work::Working => 1,
+        Work::Settled => 2,
+        Work::Failed => 3,
+    }
+}
+
+/// A mask. `None` where it is null and has bytes, or has more than a page.
+unsafe fn mask_of(mask: *const u8, length: usize) -> Option<Mask> {
+    match length {
+        0 => Some(Mask::new()),
+        _ if mask.is_null() || length > PAGE_BYTES => None,
+        // SAFETY: the caller owes `length` bytes behind the pointer, which is not null.
+        _ => Mask::try_from(unsafe { core::slice::from_raw_parts(mask, length) }).ok(),
+    }
 }
 
 /// The `N` values behind a pointer. `None` where it is null, or `count` is another number.
@@ -159,49 +249,4 @@ unsafe fn written(bytes: &[u8], buffer: *mut u8) -> c_int {
 }
 
 #[cfg(test)]
-mod tests {
-    use super::*;
-    use core::ptr::{null, null_mut};
-
-    #[test]
-    fn a_wrong_call_is_refused_before_the_device_sees_it() {
-        assert!(bench_new(1).is_null() && bench_new(9).is_null());
-        let (bench, mut buffer) = (bench_new(2), [0u8; 32]);
-        let (bytes, rows) = (buffer.as_mut_ptr(), [1u16; 6]);
-        // SAFETY: the counts are refused, or there are as many values.
-        unsafe {
-            assert_eq!(bench_setup(bench, bytes, 7), REFUSED);
-            assert_eq!(bench_setup(bench, null(), 8), REFUSED);
-            assert_eq!(bench_out(bench, bytes, 9), REFUSED);
-            assert_eq!(bench_out(bench, null(), 1), REFUSED);
-            assert_eq!(bench_in(bench, bytes, 7), REFUSED);
-            assert_eq!(bench_in(bench, null_mut(), 8), REFUSED);
-            assert_eq!(bench_scan(bench, rows.as_ptr(), 5), REFUSED);
-            (0..5).for_each(|_| assert_eq!(bench_scan(bench, rows.as_ptr(), 6), ACK));
-            assert_eq!(bench_poll(bench, bytes, 31), REFUSED);
-            assert_eq!(bench_poll(bench, null_mut(), 32), REFUSED);
-            // The report of the scans still waits.
-            assert_eq!(bench_poll(bench, bytes, 32), 23);
-            assert_eq!(bench_poll(bench, bytes, 32), 0);
-            bench_free(bench);
-        }
-    }
-
-    #[test]
-    fn no_device_is_refused() {
-        let mut buffer = [0u8; 32];
-        // SAFETY: null is allowed.
-        unsafe {
-            assert_eq!(bench_setup(null_mut(), buffer.as_ptr(), 8), REFUSED);
-            assert_eq!(bench_out(null_mut(), buffer.as_ptr(), 8), REFUSED);
-            assert_eq!(bench_in(null_mut(), buffer.as_mut_ptr(), 8), REFUSED);
-            assert_eq!(bench_poll(null_mut(), buffer.as_mut_ptr(), 32), REFUSED);
-            assert_eq!(bench_scan(null_mut(), [0u16; 6].as_ptr(), 6), REFUSED);
-            assert_eq!(bench_work(null_mut()), REFUSED);
-            assert_eq!(bench_leds(null()), REFUSED);
-            assert_eq!(bench_reset(null_mut()), REFUSED);
-            assert_eq!(bench_cut(null_mut()), REFUSED);
-            bench_free(null_mut());
-        }
-    }
-}
+mod tests;

@@ -9,9 +9,10 @@ use wuzhikar_device::{Change, Identity, NotDone, PacketSize, PollAnswer};
 pub static IDENTITY: Identity =
     Identity { manufacturer: "Example", product: "Wuzhikar keyboard", serial_number: "0001", ..Identity::TEST };
 
-/// The identity with packets of so many bytes.
-pub fn identity(size: PacketSize) -> &'static Identity<'static> {
-    Box::leak(Box::new(Identity { packet_size: size, ..IDENTITY }))
+/// The identity with packets of so many bytes, and a serial number of its own.
+pub fn identity(size: PacketSize, serial: Option<String>) -> &'static Identity<'static> {
+    let serial_number = serial.map_or(IDENTITY.serial_number, |serial| serial.leak());
+    Box::leak(Box::new(Identity { packet_size: size, serial_number, ..IDENTITY }))
 }
 
 /// What a control transfer ended in.
@@ -32,6 +33,8 @@ pub struct Device {
     pub change: Option<Change>,
     /// The packets of the report that the host has not got whole.
     partial: Vec<u8>,
+    /// How often a packet of a control transfer was told to wait, since the last look.
+    pub waits: usize,
     /// The mask of the operation that the power goes in, at the next step of a command that the host waits for.
     pub tear: Option<Vec<u8>>,
 }
@@ -40,7 +43,7 @@ impl Device {
     /// A keyboard on this flash.
     pub fn new(flash: SimFlash, identity: &'static Identity<'static>) -> Device {
         let inner = wuzhikar_device::Device::start(flash, identity);
-        Device { inner, change: None, partial: Vec::new(), tear: None }
+        Device { inner, change: None, partial: Vec::new(), waits: 0, tear: None }
     }
 
     /// A keyboard on two erased pages.
@@ -115,17 +118,20 @@ impl Device {
     pub fn control(&mut self, setup: [u8; 8], data: &[u8]) -> Ended {
         let mut buffer = vec![0; 65_536 + 8];
         buffer[..data.len()].copy_from_slice(data);
-        let tear = &mut self.tear;
-        let ended = self.inner.control_with(setup, &mut buffer, |device| match tear.take() {
-            Some(mask) => {
-                device.flash_mut().fault_next(Mask::try_from(&mask[..]).expect("a mask"));
-                let _ = device.work();
-                device.flash_mut().disarm();
-                device.restart();
-                ControlFlow::Break(NotDone::Broken)
+        let (tear, waits) = (&mut self.tear, &mut self.waits);
+        let ended = self.inner.control_with(setup, &mut buffer, |device| {
+            *waits += 1;
+            match tear.take() {
+                Some(mask) => {
+                    device.flash_mut().fault_next(Mask::try_from(&mask[..]).expect("a mask"));
+                    let _ = device.work();
+                    device.flash_mut().disarm();
+                    device.restart();
+                    ControlFlow::Break(NotDone::Broken)
+                }
+                None if device.work() == Work::Idle => ControlFlow::Break(NotDone::Waits),
+                None => ControlFlow::Continue(()),
             }
-            None if device.work() == Work::Idle => ControlFlow::Break(NotDone::Waits),
-            None => ControlFlow::Continue(()),
         });
         match ended {
             Ok(done) => {

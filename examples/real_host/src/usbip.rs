@@ -21,6 +21,8 @@ const OP_DEVLIST: u16 = 0x0005;
 const EPIPE: i32 = -32;
 const ECONNRESET: i32 = -104;
 const EPROTO: i32 = -71;
+/// The URB's length is not that of its request.
+const EINVAL: i32 = -22;
 
 /// The number of the device to the host, bus 1, device 1, and its name.
 pub const DEVICE: u32 = 1 << 16 | 1;
@@ -50,15 +52,19 @@ pub fn read_urb(from: &mut impl Read) -> Result<Urb> {
             let mut setup = [0; 8];
             setup.copy_from_slice(&head[40..]);
             if length > 65_536 {
-                return Err(Error::new(ErrorKind::InvalidData, "an URB of more than 65,536 bytes"));
+                return Err(malformed(format!("an URB of {length} bytes: 65,536 are the most")));
             }
             let mut data = vec![0; if to_host == 0 { length } else { 0 }];
             from.read_exact(&mut data)?;
             Ok(Urb::Submit { seq, to_host: to_host != 0, endpoint, length, setup, data })
         }
         CMD_UNLINK => Ok(Urb::Unlink { seq, which: word(&head, 20) }),
-        _ => Err(Error::new(ErrorKind::InvalidData, "no command of usbip")),
+        _ => Err(malformed(format!("no command of usbip: {command:08x}"))),
     }
+}
+
+fn malformed(what: String) -> Error {
+    Error::new(ErrorKind::InvalidData, what)
 }
 
 /// The answers before the URBs: the list of devices, and the one that is asked for. Whether it was taken.
@@ -85,7 +91,7 @@ pub fn greet(socket: &mut (impl Read + Write)) -> Result<bool> {
             socket.write_all(&answer)?;
             return Ok(known);
         }
-        _ => return Err(Error::new(ErrorKind::InvalidData, "no request of usbip")),
+        _ => return Err(malformed(format!("no request of usbip: {code:04x}"))),
     }
     socket.write_all(&answer)?;
     Ok(false)
@@ -126,6 +132,10 @@ impl<S: Write> Wire<S> {
     /// An URB.
     pub fn take(&mut self, urb: Urb, device: &mut Device) -> Result<()> {
         match urb {
+            Urb::Submit { seq, to_host, endpoint: 0, setup, length, .. } if !fits(setup, to_host, length) => {
+                eprintln!("real_host: an URB of {length} bytes for the request {setup:02x?}");
+                self.submitted(seq, EINVAL, 0, &[])
+            }
             Urb::Submit { seq, endpoint: 0, setup, data, .. } => {
                 // Linux asks for 64 bytes of the device descriptor behind a reset, and at no other time.
                 if setup == [0x80, 6, 0, 1, 0, 0, 64, 0] {
@@ -145,7 +155,7 @@ impl<S: Write> Wire<S> {
             }
             Urb::Submit { seq, to_host: true, endpoint: 1, length, .. } => {
                 self.polls.push_back((seq, length));
-                self.poll(device)
+                self.poll(device).map(drop)
             }
             Urb::Submit { seq, .. } => self.submitted(seq, EPIPE, 0, &[]),
             Urb::Unlink { seq, which } => {
@@ -162,8 +172,8 @@ impl<S: Write> Wire<S> {
         }
     }
 
-    /// Polls endpoint 1, where the host waits for a packet.
-    pub fn poll(&mut self, device: &mut Device) -> Result<()> {
+    /// Polls endpoint 1, where the host waits for a packet. Whether the host polls, and has all that was to be sent.
+    pub fn poll(&mut self, device: &mut Device) -> Result<bool> {
         while let Some((seq, length)) = self.polls.front().copied() {
             match device.transfer(length) {
                 PollAnswer::Data(report) => {
@@ -171,11 +181,12 @@ impl<S: Write> Wire<S> {
                     self.submitted(seq, 0, sent.len(), sent)?;
                 }
                 PollAnswer::Stall => self.submitted(seq, EPIPE, 0, &[])?,
-                PollAnswer::Nak | PollAnswer::Nothing => break,
+                PollAnswer::Nak => return Ok(true),
+                PollAnswer::Nothing => break,
             }
             self.polls.pop_front();
         }
-        Ok(())
+        Ok(false)
     }
 
     fn submitted(&mut self, seq: u32, status: i32, length: usize, data: &[u8]) -> Result<()> {
@@ -185,6 +196,12 @@ impl<S: Write> Wire<S> {
         answer.extend(data);
         self.to.write_all(&answer)
     }
+}
+
+/// Whether an URB has the direction and the length of its request: wLength, where there are data.
+fn fits(setup: [u8; 8], to_host: bool, length: usize) -> bool {
+    let wanted = usize::from(u16::from_le_bytes([setup[6], setup[7]]));
+    length == wanted && (wanted == 0 || to_host == (setup[0] & 0x80 != 0))
 }
 
 fn head(command: u32, seq: u32) -> [u8; 48] {
@@ -218,7 +235,22 @@ mod tests {
     }
 
     fn control(setup: [u8; 8], data: &[u8]) -> Urb {
-        Urb::Submit { seq: 1, to_host: setup[0] & 0x80 != 0, endpoint: 0, length: 0, setup, data: data.to_vec() }
+        let (to_host, length) = (setup[0] & 0x80 != 0, usize::from(setup[6]));
+        Urb::Submit { seq: 1, to_host, endpoint: 0, length, setup, data: data.to_vec() }
+    }
+
+    #[test]
+    fn an_urb_of_another_length_than_its_request_is_refused() {
+        let mut device = Device::blank();
+        let mut wire = Wire::plug(Vec::new(), &mut device);
+        let set = [0x21, 9, 3, 3, 0, 0, 6, 0];
+        let urb =
+            |to_host, length| Urb::Submit { seq: 1, to_host, endpoint: 0, length, setup: set, data: vec![3; length] };
+        for (to_host, length) in [(false, 5), (false, 7), (false, 0), (true, 6)] {
+            assert_eq!(ask(&mut wire, &mut device, urb(to_host, length)), [(EINVAL, vec![])]);
+        }
+        // The device has not seen them.
+        assert_eq!(ask(&mut wire, &mut device, control(set, &[3, 1, 0, 0, 5, 0])), [(0, vec![])]);
     }
 
     #[test]

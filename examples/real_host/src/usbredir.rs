@@ -30,6 +30,9 @@ const INTERRUPT: u32 = 103;
 /// Statuses.
 const SUCCESS: u8 = 0;
 const STALL: u8 = 4;
+const INVALID: u8 = 2;
+/// Nobody answered.
+const BROKEN: u8 = 3;
 
 /// What is spoken: the version at connect, the acknowledged disconnect, sizes of packets, ids of 64 bits, long lengths.
 const CAPABILITIES: u32 = 1 << 1 | 1 << 3 | 1 << 4 | 1 << 5 | 1 << 6;
@@ -50,7 +53,8 @@ pub fn read_message(from: &mut impl Read, first: bool) -> Result<Message> {
     let length = u32::from_le_bytes([head[4], head[5], head[6], head[7]]);
     let id = u64::from_le_bytes(head[8..].try_into().unwrap_or_default());
     if length > 65_536 || first != (kind == HELLO) {
-        return Err(Error::new(ErrorKind::InvalidData, "no message of usbredir"));
+        let what = format!("no message of usbredir: type {kind} of {length} bytes");
+        return Err(Error::new(ErrorKind::InvalidData, what));
     }
     let mut data = vec![0; length as usize];
     from.read_exact(&mut data)?;
@@ -127,9 +131,13 @@ impl<S: Write> Wire<S> {
             START_INTERRUPT | STOP_INTERRUPT => {
                 self.receives = kind == START_INTERRUPT;
                 self.say(INTERRUPT_STATUS, id, &[SUCCESS, at(0)])?;
-                self.poll(device)
+                self.poll(device).map(drop)
             }
             CONTROL if data.len() >= 10 => self.control(id, &data, device),
+            CONTROL => {
+                eprintln!("real_host: a control message of {} bytes", data.len());
+                Ok(())
+            }
             INTERRUPT => self.say(INTERRUPT, id, &[at(0), STALL, 0, 0]),
             CANCEL => Ok(()), // each transfer is over before the next message is read
             _ => Ok(()),
@@ -142,11 +150,20 @@ impl<S: Write> Wire<S> {
         let mut setup = [0; 8];
         (setup[0], setup[1]) = (head[2], head[1]);
         setup[2..].copy_from_slice(&head[4..]);
+        let wanted = usize::from(u16::from_le_bytes([setup[6], setup[7]]));
+        if setup[0] & 0x80 == 0 && sent.len() != wanted {
+            eprintln!("real_host: a message with {} bytes for the request {setup:02x?}", sent.len());
+            let mut answer = head.to_vec();
+            (answer[3], answer[8], answer[9]) = (INVALID, 0, 0);
+            return self.say(CONTROL, id, &answer);
+        }
         let ended = device.control(setup, sent);
+        let mut answer = head.to_vec();
         if ended == Ended::Gone {
+            (answer[3], answer[8], answer[9]) = (BROKEN, 0, 0);
+            self.say(CONTROL, id, &answer)?;
             return Err(ErrorKind::ConnectionReset.into());
         }
-        let mut answer = head.to_vec();
         answer[3] = status(&ended);
         let read = if let Ended::Data(read) = ended { read } else { Vec::new() };
         let length = if head[2] & 0x80 != 0 {
@@ -161,8 +178,8 @@ impl<S: Write> Wire<S> {
         self.say(CONTROL, id, &answer)
     }
 
-    /// Polls endpoint 1 for a host that receives its packets.
-    pub fn poll(&mut self, device: &mut Device) -> Result<()> {
+    /// Polls endpoint 1 for a host that receives its packets. Whether the host does, and has all that was to be sent.
+    pub fn poll(&mut self, device: &mut Device) -> Result<bool> {
         while self.receives {
             let (status, report) = match device.poll() {
                 PollAnswer::Data(report) => (SUCCESS, report.to_vec()),
@@ -170,14 +187,15 @@ impl<S: Write> Wire<S> {
                     self.receives = false;
                     (STALL, Vec::new())
                 }
-                PollAnswer::Nak | PollAnswer::Nothing => break,
+                PollAnswer::Nak => return Ok(true),
+                PollAnswer::Nothing => break,
             };
             let mut packet = vec![0x81, status, report.len() as u8, 0];
             packet.extend(report);
             self.sent += 1;
             self.say(INTERRUPT, self.sent, &packet)?;
         }
-        Ok(())
+        Ok(false)
     }
 
     /// One interface, HID, boot, keyboard; endpoint 0 in both directions, and endpoint 1 to the host.
@@ -203,4 +221,74 @@ fn status(ended: &Ended) -> u8 {
 
 fn value(ended: &Ended) -> u8 {
     if let Ended::Data(read) = ended { read.first().copied().unwrap_or(0) } else { 0 }
+}
+
+#[cfg(test)]
+mod tests {
+    use super::*;
+
+    /// What is said of a message: type and data.
+    fn said(wire: &mut Wire<Vec<u8>>, device: &mut Device, kind: u32, data: &[u8]) -> Vec<(u32, Vec<u8>)> {
+        wire.to.clear();
+        wire.take(Message { kind, id: 7, data: data.to_vec() }, device).expect("a wire of memory");
+        let (mut bytes, mut all) = (&wire.to[..], Vec::new());
+        while !bytes.is_empty() {
+            let number = |at: usize| u32::from_le_bytes([bytes[at], bytes[at + 1], bytes[at + 2], bytes[at + 3]]);
+            let end = 16 + number(4) as usize;
+            all.push((number(0), bytes[16..end].to_vec()));
+            bytes = &bytes[end..];
+        }
+        all
+    }
+
+    /// A control message, from its SETUP packet and its data.
+    fn control(setup: [u8; 8], data: &[u8]) -> Vec<u8> {
+        let mut bytes = vec![0, setup[1], setup[0], 0];
+        bytes.extend_from_slice(&setup[2..]);
+        bytes.extend_from_slice(data);
+        bytes
+    }
+
+    #[test]
+    fn a_host_enumerates_configures_and_gets_packets() {
+        let mut device = Device::blank();
+        let mut wire = Wire::plug(Vec::new(), &mut device).expect("a wire of memory");
+        let kinds: Vec<u32> = said(&mut wire, &mut device, HELLO, &[]).into_iter().map(|(kind, _)| kind).collect();
+        assert_eq!(kinds, [INTERFACE_INFO, EP_INFO, DEVICE_CONNECT]);
+        let read = said(&mut wire, &mut device, CONTROL, &control([0x80, 6, 0, 1, 0, 0, 18, 0], &[]));
+        assert_eq!((read[0].1[3], &read[0].1[8..10], read[0].1.len()), (SUCCESS, &[18, 0][..], 28));
+        assert_eq!(said(&mut wire, &mut device, CONTROL, &control([0x80, 6, 0, 6, 0, 0, 10, 0], &[]))[0].1[3], STALL);
+        let set = said(&mut wire, &mut device, SET_CONFIGURATION, &[1]);
+        assert_eq!(set.last(), Some(&(CONFIGURATION_STATUS, vec![SUCCESS, 1])));
+        assert_eq!(said(&mut wire, &mut device, GET_CONFIGURATION, &[]), [(CONFIGURATION_STATUS, vec![SUCCESS, 1])]);
+        (0..5).for_each(|_| device.millisecond(crate::device::scan_of(&[0])));
+        let packets = said(&mut wire, &mut device, START_INTERRUPT, &[0x81]);
+        let lengths: Vec<usize> = packets[1..].iter().map(|(_, data)| data.len() - 4).collect();
+        assert_eq!((packets[0].clone(), lengths), ((INTERRUPT_STATUS, vec![SUCCESS, 0x81]), vec![16, 7]));
+    }
+
+    #[test]
+    fn a_host_is_told_of_a_command_in_which_the_power_went() {
+        let mut device = Device::blank();
+        let mut wire = Wire::plug(Vec::new(), &mut device).expect("a wire of memory");
+        device.tear = Some(vec![0x0f]);
+        wire.to.clear();
+        let data = control([0x21, 9, 3, 3, 0, 0, 6, 0], &[3, 1, 0, 0, 5, 0]);
+        let error = wire.take(Message { kind: CONTROL, id: 7, data }, &mut device).err().map(|error| error.kind());
+        assert_eq!((error, wire.to[16 + 3], wire.to.len()), (Some(ErrorKind::ConnectionReset), BROKEN, 16 + 10));
+    }
+
+    #[test]
+    fn a_wrong_length_is_refused_and_a_broken_message_too() {
+        let mut device = Device::blank();
+        let mut wire = Wire::plug(Vec::new(), &mut device).expect("a wire of memory");
+        let set = [0x21, 9, 3, 3, 0, 0, 6, 0];
+        assert_eq!(said(&mut wire, &mut device, CONTROL, &control(set, &[3, 1]))[0].1[3], INVALID);
+        assert_eq!(said(&mut wire, &mut device, CONTROL, &[1, 2, 3]), []);
+        assert_eq!(said(&mut wire, &mut device, CONTROL, &control(set, &[3, 1, 0, 0, 5, 0]))[0].1[3], SUCCESS);
+        let long = [&CONTROL.to_le_bytes()[..], &70_000u32.to_le_bytes(), &[0; 8]].concat();
+        let error = read_message(&mut &long[..], false).err().map(|error| error.to_string());
+        assert_eq!(error.as_deref(), Some("no message of usbredir: type 100 of 70000 bytes"));
+        assert!(read_message(&mut &long[..12], true).is_err());
+    }
 }

@@ -4,7 +4,8 @@
 
 use crate::front::{Change, Endpoint1, Front, PollAnswer};
 use crate::identity::Identity;
-use crate::packets::{Packet, Packets};
+use crate::packets::Packets;
+use crate::under_way::Reports;
 use wuzhikar::usb::FEATURE_REPORT_LEN;
 use wuzhikar::{EpAnswer, Keyboard, NorFlash, Report, Scan, Work};
 
@@ -17,8 +18,8 @@ pub struct Device<'a, F> {
     keyboard: Keyboard,
     front: Front<'a>,
     flash: F,
-    /// The report that endpoint 1 sends, and how many of its packets were sent.
-    under_way: Option<(Packets, usize)>,
+    /// What endpoint 1 sends.
+    reports: Reports,
     /// Whether a command works, or was acknowledged and its end not seen.
     may_work: bool,
     /// Whether the transfer under way brought a command.
@@ -29,14 +30,15 @@ impl<'a, F: NorFlash> Device<'a, F> {
     /// The power comes: the keymap is read from the flash, the device has no address and is not configured.
     pub fn start(flash: F, identity: &'a Identity<'a>) -> Device<'a, F> {
         let keyboard = Keyboard::on(&flash);
-        Device { keyboard, front: Front::new(identity), flash, under_way: None, may_work: false, commands: false }
+        let reports = Reports::default();
+        Device { keyboard, front: Front::new(identity), flash, reports, may_work: false, commands: false }
     }
 
     /// The power went and came back, or the firmware starts over: what `start` gives on this flash as it is.
     pub fn restart(&mut self) {
         self.keyboard.restart(&self.flash);
         self.front = Front::new(self.front.identity());
-        self.under_way = None;
+        self.reports.clear();
         (self.may_work, self.commands) = (false, false);
     }
 
@@ -94,8 +96,8 @@ impl<'a, F: NorFlash> Device<'a, F> {
     pub fn in_packet(&mut self) -> (EpAnswer, Option<Change>) {
         let (answer, change) = self.front.in_packet(&mut self.keyboard);
         match change {
-            Some(Change::Endpoint1(_)) => self.begin_anew(),
-            Some(Change::Protocol) => self.drop_unsent(),
+            Some(Change::Endpoint1(_)) => self.reports.begin_anew(),
+            Some(Change::Protocol) => self.reports.forget(),
             Some(Change::Address(_) | Change::Reset) | None => {}
         }
         // A command whose status stage is not told to wait works no longer.
@@ -105,13 +107,17 @@ impl<'a, F: NorFlash> Device<'a, F> {
 
     /// An IN token of endpoint 1: a packet of the report that is under way, else the first one of the report that is due.
     pub fn poll(&mut self) -> PollAnswer {
-        if self.under_way.is_none() || self.front.endpoint_1() != Endpoint1::Ready {
-            match self.poll_report() {
-                PollAnswer::Data(report) => self.under_way = Some((self.packets(report), 0)),
-                other => return other,
-            }
+        if self.front.endpoint_1() != Endpoint1::Ready {
+            return self.poll_report();
         }
-        self.next_packet().map_or(PollAnswer::Nak, PollAnswer::Data)
+        let packet = self.reports.hand().or_else(|| match self.poll_report() {
+            PollAnswer::Data(report) => {
+                self.reports.begin(self.packets(report));
+                self.reports.hand()
+            }
+            PollAnswer::Nak | PollAnswer::Stall | PollAnswer::Nothing => None,
+        });
+        packet.inspect(|_| self.reports.taken(1)).map_or(PollAnswer::Nak, PollAnswer::Data)
     }
 
     /// The report that is due for endpoint 1, whole. It then counts as sent.
@@ -124,34 +130,10 @@ impl<'a, F: NorFlash> Device<'a, F> {
         Packets::new(report, self.front.identity().packet_size)
     }
 
-    /// The next packet of the report under way.
-    fn next_packet(&mut self) -> Option<Packet> {
-        let (packets, sent) = self.under_way.as_mut()?;
-        let packet = packets.get(*sent);
-        *sent += 1;
-        if *sent == packets.count() {
-            self.under_way = None;
-        }
-        packet
-    }
-
-    /// The report under way begins anew.
-    fn begin_anew(&mut self) {
-        if let Some((_, sent)) = &mut self.under_way {
-            *sent = 0;
-        }
-    }
-
-    /// Drops the report under way, unless a packet of it was sent.
-    fn drop_unsent(&mut self) {
-        if matches!(self.under_way, Some((_, 0))) {
-            self.under_way = None;
-        }
-    }
-
     /// A bus reset. The answer is `Change::Reset`; the flash work goes on.
     pub fn bus_reset(&mut self) -> Change {
-        (self.under_way, self.commands) = (None, false);
+        self.reports.clear();
+        self.commands = false;
         self.front.bus_reset(&mut self.keyboard)
     }
 

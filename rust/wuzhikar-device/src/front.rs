@@ -238,8 +238,7 @@ impl<'a> Front<'a> {
             return Some(Transfer::Reads(Data::Status([0, 0])));
         }
         let halted = u8::from(self.endpoint_1 == Endpoint1::Halted);
-        (self.is_configured() && setup.names(0, ENDPOINT_1.into()))
-            .then_some(Transfer::Reads(Data::Status([halted, 0])))
+        (self.is_configured() && setup.names(0, ENDPOINT_1.into())).then_some(Transfer::Reads(Data::Status([halted, 0])))
     }
 
     /// SET_FEATURE and CLEAR_FEATURE of the halt of endpoint 1 (sections 9.4.9, 9.4.1). No other feature can be set or

@@ -4,6 +4,7 @@
 //!
 //! - [`Device`] is one struct with keyboard, front and flash, for controllers that ask at the token, and for tests.
 //!   [`Device::control`] makes a whole control transfer from the host's side.
+//! - [`Ahead`] is that device behind a [`Controller`] that is handed packets beforehand.
 //! - [`Front`] serves the standard requests of USB 2.0 chapter 9 that the keyboard leaves to its firmware, and the
 //!   descriptors that a maker chooses by an [`Identity`].
 //! - [`Packets`] cuts a report into packets of endpoint 1.
@@ -32,6 +33,7 @@
 #![forbid(unsafe_code)]
 #![warn(missing_docs)]
 
+mod ahead;
 mod control;
 mod device;
 mod endpoints;
@@ -40,7 +42,9 @@ mod identity;
 mod packets;
 #[cfg(test)]
 mod tests;
+mod under_way;
 
+pub use ahead::{Ahead, Controller, Input, Output, Waiting};
 pub use control::{Done, NotDone};
 pub use device::Device;
 pub use endpoints::Endpoints;

@@ -2,12 +2,15 @@
 
 //! A report in packets of endpoint 1.
 //!
-//! A report is sent in packets of the size that the endpoint has, and a packet with fewer bytes ends it (USB 2.0 section
-//! 5.7.3). Where the last one is full, as with boot reports of 8 bytes in packets of 8, an empty one follows: a host that
-//! asks for more bytes than the report has sees by it where the report ends.
+//! All packets of a report but the last one are full. The host's transfer is over at a packet that is not full, or when
+//! the bytes that it asked for are there (USB 2.0 section 5.7.3). So no packet follows a last one that is full: of the
+//! reports here that is the boot report of 8 bytes in packets of 8, the longest report of its protocol, and the longest
+//! one wants no further packet (HID 1.11 section 8.4). A host asks for just these 8 bytes (HID 1.11 appendix B.1); an
+//! empty packet would be another transfer to it, without a report.
 
 use crate::identity::PacketSize;
 use wuzhikar::Report;
+use wuzhikar::usb::BOOT_REPORT_LEN;
 
 /// The bytes of one packet of endpoint 1.
 pub type Packet = Report;
@@ -25,15 +28,30 @@ impl Packets {
         Packets { report, size }
     }
 
-    /// How many there are, the empty one counted.
+    /// The packets of the report of the same kind that has no usages: behind a Report ID, which all but the boot report
+    /// have, there are zeros.
+    pub(crate) fn without_usages(&self) -> Packets {
+        let mut report = self.report.clone();
+        let id = usize::from(report.len() != BOOT_REPORT_LEN);
+        report.iter_mut().skip(id).for_each(|byte| *byte = 0);
+        Packets { report, size: self.size }
+    }
+
+    /// The report.
+    #[cfg(test)]
+    pub(crate) fn report(&self) -> &Report {
+        &self.report
+    }
+
+    /// How many there are, at least one.
     pub fn count(&self) -> usize {
-        self.report.len() / self.size.bytes() + 1
+        self.report.len().div_ceil(self.size.bytes()).max(1)
     }
 
     /// A packet by its number, from 0 on.
     pub fn get(&self, number: usize) -> Option<Packet> {
         let size = self.size.bytes();
         let rest = self.report.get(number.checked_mul(size)?..)?;
-        Some(rest.iter().copied().take(size).collect())
+        (number < self.count()).then(|| rest.iter().copied().take(size).collect())
     }
 }

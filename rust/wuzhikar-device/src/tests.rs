@@ -59,12 +59,13 @@ fn lengths(packets: &[Vec<u8>]) -> Vec<usize> {
 }
 
 #[test]
-fn a_short_packet_ends_each_report() {
+fn a_report_is_cut_into_full_packets_and_the_rest() {
     // The bytes of a report, and of its packets at sizes 8, 16, 32 and 64.
-    let rows: [(usize, [&[usize]; 4]); 3] = [
+    let rows: [(usize, [&[usize]; 4]); 4] = [
         (23, [&[8, 8, 7], &[16, 7], &[23], &[23]]),
         (9, [&[8, 1], &[9], &[9], &[9]]),
-        (8, [&[8, 0], &[8], &[8], &[8]]),
+        (8, [&[8], &[8], &[8], &[8]]),
+        (0, [&[0], &[0], &[0], &[0]]),
     ];
     for (length, expected) in rows {
         let report: Report = (0..length as u8).collect();
@@ -79,16 +80,15 @@ fn a_short_packet_ends_each_report() {
 
 #[test]
 fn reports_come_in_the_packets_of_the_endpoint() {
-    for (identity, (keys, boot)) in
-        IDENTITIES.iter().zip([(&[8, 8, 7][..], &[8, 0][..]), (&[16, 7], &[8]), (&[23], &[8]), (&[23], &[8])])
-    {
+    for (identity, keys) in IDENTITIES.iter().zip([&[8, 8, 7][..], &[16, 7], &[23], &[23]]) {
         let mut device = configured(identity);
         press(&mut device, 1);
         let all = packets(&mut device);
         assert_eq!((lengths(&all), &all.concat()[..3]), (keys.to_vec(), &[1, 0, 1][..]));
         assert_eq!(ask(&mut device, SET_BOOT), Some(Change::Protocol));
         let all = packets(&mut device);
-        assert_eq!((lengths(&all), all.concat()), (boot.to_vec(), vec![0, 0, 4, 0, 0, 0, 0, 0]));
+        // The host asked for these 8 bytes; no empty packet follows.
+        assert_eq!(all, [[0, 0, 4, 0, 0, 0, 0, 0]]);
     }
 }
 
@@ -134,15 +134,23 @@ fn a_report_under_way_begins_anew_with_the_endpoint() {
 
 #[test]
 fn a_new_protocol_ends_no_report_in_its_middle() {
-    // The report goes on to its end, and then comes the boot report of the key that is held.
+    // The report goes on to its end, one without usages comes behind it, and then the boot report of the key that is held.
     let mut device = under_way();
     ask(&mut device, SET_BOOT);
-    assert_eq!(lengths(&packets(&mut device)), [8, 7, 8, 0]);
+    let all = packets(&mut device);
+    assert_eq!((lengths(&all), all[2][0]), (vec![8, 7, 8, 8, 7, 8], 1));
+    assert!(all[2..5].concat()[1..].iter().all(|byte| *byte == 0));
+    // So the host forgets a key that it knows of by a report which ended behind its request, and that is up again.
+    let mut device = under_way();
+    press(&mut device, 0);
+    ask(&mut device, [0x21, 0x0b, 1, 0, 0, 0, 0, 0]);
+    let all = packets(&mut device);
+    assert_eq!((lengths(&all), all[2][2]), (vec![8, 7, 8, 8, 7], 0));
     // One that begins anew, and of which no packet was sent since, is dropped.
     let mut device = under_way();
     ask(&mut device, SET_CONFIGURATION);
     ask(&mut device, SET_BOOT);
-    assert_eq!(lengths(&packets(&mut device)), [8, 0]);
+    assert_eq!(lengths(&packets(&mut device)), [8]);
     // A SET_PROTOCOL that is refused, or given up before its status stage, changes nothing.
     let mut device = under_way();
     assert!(device.control([0x21, 0x0b, 2, 0, 0, 0, 0, 0], &mut []).is_err());
@@ -165,6 +173,9 @@ fn a_reset_and_a_cut_drop_a_report_under_way() {
     assert_eq!(device.poll(), PollAnswer::Nothing);
     ask(&mut device, SET_CONFIGURATION);
     assert_eq!(device.poll(), PollAnswer::Nak);
+    // The key that is held goes down anew.
+    press(&mut device, 1);
+    assert_eq!(packet(&mut device)[..3], [1, 0, 1]);
 }
 
 #[test]
@@ -211,6 +222,10 @@ fn a_whole_transfer_is_made_or_says_why_not() {
     let stalled = device.control(SET_FEATURE, &mut [3, 1, 4, 0, 5, 0]).unwrap_err();
     assert!(matches!(stalled, NotDone::Stall(why) if why.number() == 8), "{stalled}");
     assert_eq!(device.control(GET_FEATURE, &mut [0; 5]), Err(NotDone::Buffer));
+    // A read of whole packets is over with the last one, and with its status stage.
+    let mut head = [0; 16];
+    assert_eq!(device.control([0x80, 6, 0, 1, 0, 0, 16, 0], &mut head), Ok(Done { length: 16, change: None }));
+    assert!(matches!(device.out(&[]), EpAnswer::Stall(_)));
     assert_eq!(device.control(SET_FEATURE, &mut [0; 5]), Err(NotDone::Buffer));
     // The power goes at the first NAK: the assignment before it stands.
     let broken = device.control_with(SET_FEATURE, &mut [3, 1, 0, 0, 6, 0], |device| {
@@ -228,7 +243,8 @@ fn what_works_is_told() {
     assert!(!device.may_work());
     // The LEDs, a selection and a command that changes nothing are no work.
     device.control([0x21, 9, 1, 2, 0, 0, 2, 0], &mut [1, 1]).unwrap();
-    device.control(SET_FEATURE, &mut [3, 0, 0, 1, 0, 0]).unwrap();
+    device.setup(SET_FEATURE);
+    assert_eq!((device.out(&[3, 0, 0, 1, 0, 0]), device.may_work()), (EpAnswer::Ack, false));
     device.control(SET_FEATURE, &mut [3, 1, 0, 0, 4, 0]).unwrap();
     assert!(!device.may_work());
     assert_eq!(device.work(), Work::Idle);

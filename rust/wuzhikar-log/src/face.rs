@@ -83,25 +83,21 @@ impl core::error::Error for LogRefusal {}
 /// # fn main() -> Result<(), Box<dyn core::error::Error>> {
 /// # #[cfg(feature = "sim")]
 /// # {
-/// use wuzhikar_log::{FlashLog, LogRefusal, SimFlash, Step};
+/// use wuzhikar_log::{FlashLog, LogRefusal, SimFlash, Step, WriteError};
 ///
 /// let mut log = FlashLog::mount(SimFlash::blank(2)?);
 /// // A blank flash has no page yet: a turn makes one, here with no words to copy.
-/// assert_eq!(log.append(5), Err(LogRefusal::NoRoom));
-/// log.turn()?;
-/// while log.busy() {
-///     if log.wants() {
-///         log.end_copies()?;
-///     }
-///     assert_ne!(log.step(), Step::Failed);
-/// }
-/// log.append(5)?;
+/// assert_eq!(log.push(5), Err(WriteError::Refused(LogRefusal::NoRoom)));
+/// log.rewrite([])?;
+/// log.push(5)?;
+/// // The same in steps of one operation each, for a main loop that has other things to do.
+/// log.append(6)?;
 /// while log.busy() {
 ///     assert_ne!(log.step(), Step::Failed);
 /// }
 /// // What is in the flash is there for whoever mounts it next.
 /// let log = FlashLog::mount(log.into_flash());
-/// assert_eq!(log.words().collect::<Vec<u32>>(), [5]);
+/// assert_eq!(log.words().collect::<Vec<u32>>(), [5, 6]);
 /// # }
 /// # Ok(())
 /// # }

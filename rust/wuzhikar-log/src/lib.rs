@@ -6,6 +6,11 @@
 //! operation of the flash, and after a loss of power in any of them a mount finds each word that was told to be there.
 //! No allocator is used.
 //!
+//! [`SlotFlash`] makes such a flash of a driver with write and erase units of any size, whose calls are those of
+//! `embedded-storage` ([`FlashDriver`]). For a chip that keeps error correction beside each write unit [`PairedFlash`]
+//! on a [`UnitFlash`] does, or on an [`EccFlash`] of your own. [`FlashLog::push`], [`FlashLog::rewrite`] and [`FlashLog::format`] come back when
+//! all is done; the others leave each operation of the flash to [`FlashLog::step`].
+//!
 //! **Exported from a proved source.** What is in the hidden module `parts` is the text of crates that are proved in Rattle
 //! (Rust with contracts), without what the prover alone reads. The proofs speak of that source, and of a flash that does
 //! what [`NorFlash`] says of each call. What is written by hand in this crate is tested and not proved.
@@ -20,14 +25,27 @@ extern crate std;
 
 #[doc(hidden)]
 pub mod calls;
+mod driver;
 mod face;
 #[doc(hidden)]
 pub mod parts;
+#[cfg(test)]
+mod ram;
 #[doc(hidden)]
 pub mod rattle;
+mod slot_flash;
+mod unit_flash;
+mod units;
+mod whole;
 
+pub use crate::driver::FlashDriver;
 pub use crate::face::{FlashLog, LogRefusal};
-pub use crate::parts::flash_model::{FlashFault, NorFlash, PAGE_BYTES, PAGE_SLOTS, SLOT_BYTES};
+pub use crate::parts::ecc_flash::{EccFlash, PAGE_UNITS, PairedFlash, UNIT_BYTES};
 #[cfg(feature = "sim")]
 pub use crate::parts::flash_model::{FlashError, Mask, SimFlash};
+pub use crate::parts::flash_model::{FlashFault, NorFlash, PAGE_BYTES, PAGE_SLOTS, SLOT_BYTES};
 pub use crate::parts::page_turnover::{Log, Step, TurnRefusal, Unsound, Words};
+pub use crate::slot_flash::SlotFlash;
+pub use crate::unit_flash::UnitFlash;
+pub use crate::units::GeometryError;
+pub use crate::whole::{Dropped, WriteError};

@@ -3,6 +3,7 @@
 //! without a word, and has calls with a condition on their caller that nothing checks.
 #![allow(dead_code, unused_imports, unused_variables, clippy::all)]
 
+pub mod ecc_flash;
 pub mod flash_model;
 pub mod page_turnover;
 pub mod records;

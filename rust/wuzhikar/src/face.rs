@@ -140,9 +140,7 @@ mod tests {
 
     #[test]
     fn keys_of_a_scan() {
-        let (Ok(first), Ok(last)) = (KeyNo::read(0), KeyNo::read(95)) else {
-            panic!("keys 0 and 95")
-        };
+        let (Ok(first), Ok(last)) = (KeyNo::read(0), KeyNo::read(95)) else { panic!("keys 0 and 95") };
         let scan = Scan::NONE.with_key(last, true).with_key(first, false);
         assert_eq!(scan, Scan { rows: [0, 0, 0, 0, 0, 1 << 15] });
         assert!(scan.has_key(last) && !scan.has_key(first));

@@ -38,8 +38,8 @@ pub const FEATURE_REPORT_LEN: usize = 6;
 mod tests {
     use super::*;
     use crate::Scan;
-    use wuzhikar_log::SimFlash;
     use crate::{EpAnswer, Keyboard};
+    use wuzhikar_log::SimFlash;
 
     #[test]
     fn the_numbers_stand_in_the_descriptors() {

@@ -9,6 +9,10 @@ fn file(name: &'static str, help: &'static str) -> Arg {
     Arg::new(name).long(name).value_name("FILE").value_hint(ValueHint::FilePath).help(help)
 }
 
+fn text() -> Arg {
+    Arg::new("file").value_name("FILE").value_hint(ValueHint::FilePath).help("What is read; standard input without it, or where it is -")
+}
+
 fn kbsim() -> Command {
     let pages = Arg::new("pages")
         .long("pages")
@@ -16,10 +20,16 @@ fn kbsim() -> Command {
         .value_parser(["2", "3", "4", "5", "6", "7", "8"])
         .help("How many pages the flash has");
     let run = Command::new("run")
-        .about("Runs the script on standard input")
+        .about("Runs a script")
         .arg(pages)
         .arg(file("image", "Starts on a flash that holds the bytes of FILE"))
-        .arg(file("save", "Writes the flash's bytes to FILE after a run without a fault"));
+        .arg(file("save", "Writes the flash's bytes to FILE after a run without a fault"))
+        .arg(text());
+    let from = Arg::new("from")
+        .long("from")
+        .value_name("FORM")
+        .value_parser(["hex", "c", "bytes"])
+        .help("How the text says the bytes");
     let items = Arg::new("items")
         .long("items")
         .action(ArgAction::SetTrue)
@@ -30,7 +40,7 @@ fn kbsim() -> Command {
         .subcommand_required(true)
         .subcommand(run)
         .subcommand(Command::new("describe").about("Prints the keyboard's descriptors"))
-        .subcommand(Command::new("parse").about("Prints the fields, or the items, of the report descriptor on standard input").arg(items))
+        .subcommand(Command::new("parse").about("Prints the fields, or the items, of a report descriptor").arg(from).arg(items).arg(text()))
 }
 
 fn main() -> std::io::Result<()> {

@@ -1,5 +1,7 @@
 //! What a host keeps of the packets that it sees, and what it reads by it, step by step.
 
+mod extremes;
+
 use super::{bytes, number, same, two};
 use host::{Host, Reading};
 use reports::Protocol;

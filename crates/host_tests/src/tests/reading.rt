@@ -1,5 +1,7 @@
 //! Reports and what is read in them.
 
+mod extremes;
+
 use super::{bytes, push_byte, push_words, same, two};
 use descriptor_parse::{Descriptor, parse};
 use host_extract::{BOOT_DESCRIPTOR, ExtractError, Found, extract, pressed};

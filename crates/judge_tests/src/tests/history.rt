@@ -9,6 +9,7 @@ use std::test::Fail;
 use world::{Answer, Event, World};
 
 mod lines;
+mod long;
 mod random;
 mod rig;
 mod wrong;

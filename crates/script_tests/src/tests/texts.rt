@@ -1,6 +1,8 @@
 //! All that a reader gives, and values printed in few writes: that there is room, what is left of a reader that fails or
 //! gives too much, and what a writer has taken that fails.
 
+mod lengths;
+
 use super::{same, text_of};
 use std::alloc::{AllocError, Global};
 use std::io;

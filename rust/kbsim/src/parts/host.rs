@@ -1,7 +1,7 @@
 // Exported from crates/host/src/lib.rt by bin/export-rust. Edit that file instead.
 //! The host's side of this keyboard: it gathers the report descriptor off the bus, parses it as it comes, and reads input
 //! reports by it. (It keeps texts of 99 bytes, of interface 0, that come in packets of 8. For another device use
-//! `descriptor_parse::Parser` and `host_extract`.)
+//! `wuzhikar_reader::Parser` and `wuzhikar_reader::extract`.)
 //!
 //! A [`Host`] keeps the text that it gathers, and the descriptor of the last one, of 99 bytes, that it gathered whole
 //! and without a fault. The promise is that it reads each report by that descriptor, and in boot protocol by its own.

@@ -7,7 +7,7 @@
 //!
 //! Nothing is kept. The promise is that each descriptor is, byte by byte, what the definitions say,
 //! and that the lengths in them are right. `control_ep` lends the constants to the host, and
-//! `parse_lines` prints them.
+//! the crate `kbsim` prints them.
 
 use arrayvec::ArrayVec;
 

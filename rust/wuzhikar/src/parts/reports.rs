@@ -3,14 +3,13 @@
 //! report that a scan changes waits in a queue of eight, so that the host sees a key that is pressed and
 //! released between two polls. `Poller::new` takes the queue's memory, and nothing else takes any.
 //!
-//! A `Poller` keeps what was sent last of each report and how many scans ago, the reports that
-//! wait, and the idle values. The promise is that each poll is answered as a look back over the
+//! A `Poller` keeps what was made and what was sent last of each report, how many scans ago it was
+//! sent, the reports that wait, and the idle values. The promise is that each poll is answered as a look back over the
 //! poller's calls says. `key_reports` calls it at each scan and poll.
 
 use arrayvec::ArrayVec;
 
 pub mod bytes;
-mod made;
 pub mod poller;
 mod queue;
 mod sent;

@@ -32,6 +32,11 @@ impl<T> HeapCircularBuffer<T> {
         self.len += 1;
     }
 
+    /// Whether there is no value.
+    pub fn is_empty(&self) -> bool {
+        self.len == 0
+    }
+
     /// Takes the oldest value.
     pub fn pop_front(&mut self) -> Option<T> {
         let value = self.slots[self.front].take()?;
@@ -72,6 +77,7 @@ mod tests {
                     }
                     _ => assert_eq!(ring.pop_front(), queue.pop_front()),
                 }
+                assert_eq!(ring.is_empty(), queue.is_empty());
                 rest /= 3;
             }
             if calls % 7 == 0 {

@@ -1,6 +1,6 @@
 //! Plays a script of `kbsim` on the exported keyboard and the exported flash in memory, and prints what `kbsim` prints.
 //!
-//! `driver PAGES < SCRIPT`. Scripts are taken to be lawful: a fault ends the program.
+//! `driver --pages N < SCRIPT`. Scripts are taken to be lawful: a fault ends the program.
 
 use std::io::{Read, Write};
 use wuzhikar::{EpAnswer, KeyNo, Keyboard, LayerNo, Mask, NorFlash, Scan, SimFlash, Work};
@@ -14,7 +14,7 @@ struct Device {
 }
 
 fn main() {
-    let pages = std::env::args().nth(1).map_or(2, |pages| pages.parse().expect("a page count"));
+    let pages = std::env::args().nth(2).map_or(2, |pages| pages.parse().expect("a page count"));
     let flash = SimFlash::blank(pages).expect("2 to 8 pages");
     let keyboard = Keyboard::on(&flash);
     let mut device = Device { keyboard, flash };

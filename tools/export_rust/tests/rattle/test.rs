@@ -4,6 +4,8 @@ use super::process::HostRuntime;
 use core::fmt::Debug;
 
 /// Why a test failed: said where it happened.
+// (It can't be `Debug`: whatever is becomes a `Fail`.)
+#[allow(missing_debug_implementations)]
 pub struct Fail;
 
 impl<E: Debug> From<E> for Fail {

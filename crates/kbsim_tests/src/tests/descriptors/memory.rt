@@ -2,11 +2,17 @@
 
 use super::{same, so_ended, text_of};
 use arrayvec::ArrayVec;
-use parse_lines::{LinesError, items_text, parse_text};
+use parse_lines::{LinesError, items_bytes, items_text, parse_bytes, parse_text};
 use std::process::Abort;
 
 /// An ID, a range and a single usage, and two fields.
 const TEXT: &[u8] = b"85 01 05 07 19 04 29 08 09 0A 75 01 95 06 81 02 A4 91 02 B4";
+
+/// The bytes of it, and those of three items.
+const BYTES: &[u8] =
+    b"\x85\x01\x05\x07\x19\x04\x29\x08\x09\x0A\x75\x01\x95\x06\x81\x02\xA4\x91\x02\xB4";
+
+const THREE: &[u8] = b"\x09\x0A\xA4\xB4";
 
 const PRINTED: &str =
     "input 1 0 1 6 0 0 variable 00070004-00070008,0007000a\noutput 1 0 1 6 0 0 variable -\n";
@@ -39,5 +45,19 @@ fn the_fault_alone_of_items(rt: HostRuntime) {
     let mut reader = b"09 0A A4 B4".as_slice();
     let mut printed: ArrayVec<u8, 128> = ArrayVec::new();
     let ended = items_text(rt.alloc(), &mut reader, &mut printed);
+    is_told(&rt, ended, printed.as_slice(), ITEMS);
+}
+
+#[test]
+fn the_fault_alone_of_bytes(rt: HostRuntime) {
+    let mut printed: ArrayVec<u8, 128> = ArrayVec::new();
+    let ended = parse_bytes(rt.alloc(), BYTES, &mut printed);
+    is_told(&rt, ended, printed.as_slice(), PRINTED);
+}
+
+#[test]
+fn the_fault_alone_of_items_of_bytes(rt: HostRuntime) {
+    let mut printed: ArrayVec<u8, 128> = ArrayVec::new();
+    let ended = items_bytes(rt.alloc(), THREE, &mut printed);
     is_told(&rt, ended, printed.as_slice(), ITEMS);
 }

@@ -7,7 +7,7 @@ use crate::rattle::alloc::Global;
 
 /// The bytes of a text of hex digits, two a byte, in either case. Spaces, tabs, CR and LF are dropped. `BadHexText`
 /// comes at any other character, or where the number of digits is odd. `Memory` comes where pairs of digits find no room.
-pub(crate) fn bytes_of(alloc: Global, text: crate::rattle::Vec<u8>) -> Result<crate::rattle::Vec<u8>, LinesError> {
+pub fn bytes_of(alloc: Global, text: crate::rattle::Vec<u8>) -> Result<crate::rattle::Vec<u8>, LinesError> {
     let digits = without_blanks(text);
     match crate::rattle::hex::decode(alloc, digits.as_slice()) {
         Ok(bytes) => Ok(bytes),

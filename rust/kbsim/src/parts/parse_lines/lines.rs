@@ -127,7 +127,8 @@ impl fmt::Display for Mark {
     }
 }
 
-fn fault_words(fault: ParseFault) -> &'static str {
+/// The name of a fault.
+pub fn fault_words(fault: ParseFault) -> &'static str {
     match fault {
         ParseFault::Truncated => "truncated item",
         ParseFault::Delimiter => "delimiter",

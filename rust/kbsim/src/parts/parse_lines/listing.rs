@@ -27,7 +27,7 @@ pub fn items_text<R: Read, W: Write>(
     writer: &mut W,
 ) -> Result<(), LinesError> {
     match bytes_from(alloc, reader) {
-        Ok(bytes) => print_items(alloc, bytes.as_slice(), writer),
+        Ok(bytes) => items_bytes(alloc, bytes.as_slice(), writer),
         Err(error) => print_fault(error, writer),
     }
 }
@@ -38,8 +38,11 @@ fn bytes_from<R: Read>(alloc: Global, reader: &mut R) -> Result<crate::rattle::V
     bytes_of(alloc, text)
 }
 
-/// Prints the items of these bytes, up to their first fault.
-fn print_items<W: Write>(alloc: Global, bytes: &[u8], writer: &mut W) -> Result<(), LinesError> {
+/// Prints a line for each item of the report descriptor with these bytes.
+///
+/// The lines are those of [`items_text`], and so are the errors, where nothing is read: `Refused` with the first fault of
+/// the descriptor, up to which its items are printed, `Memory` and `Output`.
+pub fn items_bytes<W: Write>(alloc: Global, bytes: &[u8], writer: &mut W) -> Result<(), LinesError> {
     match judged(alloc, bytes) {
         Ok(()) => print_listing(bytes, None, writer),
         Err(LinesError::Refused(error)) => {

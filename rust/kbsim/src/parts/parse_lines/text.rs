@@ -33,6 +33,17 @@ pub fn parse_text<R: Read, W: Write>(
     }
 }
 
+/// Prints a line for each field of the report descriptor with these bytes.
+///
+/// The lines are those of [`parse_text`], and so are the errors, where nothing is read: `Refused` with the first fault of
+/// the descriptor, `Memory` and `Output`. The line of a fault is printed before the fault is returned, and then no field is.
+pub fn parse_bytes<W: Write>(alloc: Global, bytes: &[u8], writer: &mut W) -> Result<(), LinesError> {
+    match parsed(alloc, bytes) {
+        Ok(descriptor) => print_fields(&descriptor, writer),
+        Err(error) => print_fault(error, writer),
+    }
+}
+
 /// The descriptor that the reader's text declares.
 fn descriptor_of<R: Read>(alloc: Global, reader: &mut R) -> Result<Descriptor, LinesError> {
     let text = read_text(alloc, reader)?;
@@ -72,8 +83,9 @@ fn put_fields<W: Write>(
     Ok(())
 }
 
-/// Prints the line of a fault, and answers the fault.
-pub(crate) fn print_fault<W: Write>(error: LinesError, writer: &mut W) -> Result<(), LinesError> {
+/// Prints the line of a fault, and answers the fault, or `Output` where the writer fails or takes no byte. `Output` has no
+/// line.
+pub fn print_fault<W: Write>(error: LinesError, writer: &mut W) -> Result<(), LinesError> {
     let mut printer = Printer::new(writer);
     if printer.print(&FaultLine(error)).is_err() || printer.finish().is_err() {
         return Err(LinesError::Output);

@@ -15,8 +15,8 @@ use core::num::NonZeroU16;
 const MOST_KEYS: usize = 96;
 
 /// The first word of a line.
-#[derive(Clone, Copy)]
-pub(crate) enum Keyword {
+#[derive(Clone, Copy, Debug, PartialEq, Eq)]
+pub enum Keyword {
     Scan,
     Scans,
     Poll,
@@ -36,7 +36,7 @@ pub(crate) enum Keyword {
 }
 
 /// All first words of lines.
-const KEYWORDS: [Keyword; 16] = [
+pub const KEYWORDS: [Keyword; 16] = [
     Keyword::Scan,
     Keyword::Scans,
     Keyword::Poll,
@@ -57,7 +57,7 @@ const KEYWORDS: [Keyword; 16] = [
 
 impl Keyword {
     /// The keyword that a word spells.
-    fn read(word: &[u8]) -> Option<Keyword> {
+    pub(crate) fn read(word: &[u8]) -> Option<Keyword> {
         for keyword in KEYWORDS {
             if keyword.spelling() == word {
                 return Some(keyword);
@@ -67,7 +67,7 @@ impl Keyword {
     }
 
     /// Whether these words may follow, by their number.
-    fn takes(self, rest: Words<'_>) -> bool {
+    pub(crate) fn takes(self, rest: Words<'_>) -> bool {
         let count = rest.count();
         match self {
             Keyword::Scan => count <= MOST_KEYS,
@@ -87,7 +87,7 @@ impl Keyword {
     }
 
     /// The word that spells a keyword.
-    fn spelling(self) -> &'static [u8] {
+    pub fn spelling(self) -> &'static [u8] {
         match self {
             Keyword::Scan => b"scan",
             Keyword::Scans => b"scans",

@@ -66,6 +66,7 @@ pub const REQUESTS: &str = "
     01 0b 00 00 00 00 01 00 | stall | stall     wLength
     82 0c 00 00 81 00 02 00 | stall | stall     SYNCH_FRAME
     80 06 01 01 00 00 12 00 | stall | stall     GET_DESCRIPTOR of device 1
+    80 06 01 02 00 00 22 00 | stall | stall     of configuration descriptor 1
     80 06 00 06 00 00 0a 00 | stall | stall     of the device qualifier
     80 06 00 03 00 00 ff 00 | 04 03 09 04 | 04 03 09 04     of the languages
     80 06 00 03 09 04 ff 00 | 04 03 09 04 | 04 03 09 04     with a wIndex

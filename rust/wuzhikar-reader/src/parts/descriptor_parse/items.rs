@@ -17,6 +17,7 @@ pub struct Item<'a> {
 
 impl Item<'_> {
     /// What the item is, by its prefix.
+    #[inline(always)]
     pub fn tag(&self) -> Tag {
         Tag::of(self.prefix)
     }
@@ -42,6 +43,7 @@ impl<'a> Items<'a> {
 impl<'a> Iterator for Items<'a> {
     type Item = Result<Item<'a>, ParseError>;
 
+    #[inline(always)]
     fn next(&mut self) -> Option<Result<Item<'a>, ParseError>> {
         if self.rest.is_empty() {
             return None;

@@ -23,7 +23,7 @@ pub(crate) struct Request {
 
 /// Whether a SETUP packet asks for an input report (HID 1.11 section 7.2.1). Only then does
 /// `ControlEp::setup` look at the view's input reports, so that a device need not make them for any
-/// other packet (`laws::input_reports_unread`).
+/// other packet.
 pub fn asks_for_input(setup: [u8; 8]) -> bool {
     let request = Request::read(setup);
     request.kind == 0xA1 && request.code == 0x01 && request.value / 256 == 1

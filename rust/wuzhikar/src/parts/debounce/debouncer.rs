@@ -2,7 +2,7 @@
 //! What is kept of the keys from scan to scan.
 
 use crate::parts::debounce::Scan;
-use crate::parts::debounce::row::Row;
+use crate::parts::debounce::row::{Row, joined, parts};
 
 /// The keys whose value a scan changed.
 #[derive(Clone, Copy, Debug, PartialEq, Eq)]
@@ -11,6 +11,19 @@ pub struct Edges {
     pub released: Scan,
     /// The keys that were up and are down.
     pub pressed: Scan,
+}
+
+impl Edges {
+    /// Whether no key changed.
+    pub fn is_none(&self) -> bool {
+        let released = joined(&self.released.rows, 0)
+            | joined(&self.released.rows, 1)
+            | joined(&self.released.rows, 2);
+        let pressed = joined(&self.pressed.rows, 0)
+            | joined(&self.pressed.rows, 1)
+            | joined(&self.pressed.rows, 2);
+        released | pressed == 0
+    }
 }
 
 /// The value of each key, up or down, after the scans that were fed.
@@ -38,33 +51,50 @@ impl Debouncer {
     /// Takes one more scan, one millisecond after the last, and answers which keys it released and
     /// which it pressed.
     pub fn feed(&mut self, scan: Scan) -> Edges {
-        let [mut ones, mut twos, mut fours] = self.planes;
-        let mut down = self.down;
-        let mut edges = Edges {
-            released: Scan::NONE,
-            pressed: Scan::NONE,
+        let (first, second, third) = (self.pair(0), self.pair(1), self.pair(2));
+        let a = first.sampled(joined(&scan.rows, 0));
+        let b = second.sampled(joined(&scan.rows, 1));
+        let c = third.sampled(joined(&scan.rows, 2));
+        self.planes = [
+            parts(a.ones, b.ones, c.ones),
+            parts(a.twos, b.twos, c.twos),
+            parts(a.fours, b.fours, c.fours),
+        ];
+        self.last = Scan {
+            rows: parts(a.last, b.last, c.last),
         };
-        for row in 0..6usize {
-            let before = Row {
-                ones: ones[row],
-                twos: twos[row],
-                fours: fours[row],
-                last: self.last.rows[row],
-                down: down.rows[row],
-            };
-            let after = before.sampled(scan.rows[row]);
-            ones[row] = after.ones;
-            twos[row] = after.twos;
-            fours[row] = after.fours;
-            down.rows[row] = after.down;
-            let changed = before.down ^ after.down;
-            edges.released.rows[row] = changed & before.down;
-            edges.pressed.rows[row] = changed & after.down;
+        self.down = Scan {
+            rows: parts(a.down, b.down, c.down),
+        };
+        Edges {
+            released: Scan {
+                rows: parts(
+                    (first.down ^ a.down) & first.down,
+                    (second.down ^ b.down) & second.down,
+                    (third.down ^ c.down) & third.down,
+                ),
+            },
+            pressed: Scan {
+                rows: parts(
+                    (first.down ^ a.down) & a.down,
+                    (second.down ^ b.down) & b.down,
+                    (third.down ^ c.down) & c.down,
+                ),
+            },
         }
-        self.planes = [ones, twos, fours];
-        self.last = scan;
-        self.down = down;
-        edges
+    }
+
+    /// What is kept of a pair of rows.
+    #[inline(always)]
+    fn pair(&self, pair: usize) -> Row {
+        let [ones, twos, fours] = &self.planes;
+        Row {
+            ones: joined(ones, pair),
+            twos: joined(twos, pair),
+            fours: joined(fours, pair),
+            last: joined(&self.last.rows, pair),
+            down: joined(&self.down.rows, pair),
+        }
     }
 
     /// Whether a key, one of 0 to 95, is down.

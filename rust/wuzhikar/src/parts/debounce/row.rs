@@ -1,25 +1,26 @@
 // Exported from crates/debounce/src/row.rt by bin/export-rust. Edit that file instead.
-//! One row of 16 keys, a bit of each word for each key.
+//! Two rows of 16 keys as one word, a bit of each word for each key: the first row in the low half.
 
-/// What is kept of a row.
+/// What is kept of two rows.
 #[derive(Clone, Copy)]
 pub(crate) struct Row {
     /// Bit 0 of how many of the latest samples of a key are equal, counted to five.
-    pub(crate) ones: u16,
+    pub(crate) ones: u32,
     /// Bit 1 of it.
-    pub(crate) twos: u16,
+    pub(crate) twos: u32,
     /// Bit 2 of it.
-    pub(crate) fours: u16,
+    pub(crate) fours: u32,
     /// The latest samples.
-    pub(crate) last: u16,
+    pub(crate) last: u32,
     /// The keys that are down.
-    pub(crate) down: u16,
+    pub(crate) down: u32,
 }
 
 impl Row {
-    /// This row after one more sample of its keys. A count starts again at one where a sample changes,
-    /// and else rises to five; a key takes its sample where the count is five.
-    pub(crate) fn sampled(self, sample: u16) -> Row {
+    /// These rows after one more sample of their keys. A count starts again at one where a sample
+    /// changes, and else rises to five; a key takes its sample where the count is five.
+    #[inline(always)]
+    pub(crate) fn sampled(self, sample: u32) -> Row {
         let changed = sample ^ self.last;
         let ones = !self.ones | self.fours | changed;
         let twos = (self.twos ^ self.ones) & !self.fours & !changed;
@@ -34,4 +35,23 @@ impl Row {
             down,
         }
     }
+}
+
+/// A pair of these rows as a word: keys 32 * pair to 32 * pair + 31.
+#[inline(always)]
+pub(crate) fn joined(rows: &[u16; 6], pair: usize) -> u32 {
+    rows[2 * pair] as u32 + 0x1_0000 * rows[2 * pair + 1] as u32
+}
+
+/// The rows of three pairs.
+#[inline(always)]
+pub(crate) fn parts(first: u32, second: u32, third: u32) -> [u16; 6] {
+    [
+        (first % 0x1_0000) as u16,
+        (first / 0x1_0000) as u16,
+        (second % 0x1_0000) as u16,
+        (second / 0x1_0000) as u16,
+        (third % 0x1_0000) as u16,
+        (third / 0x1_0000) as u16,
+    ]
 }

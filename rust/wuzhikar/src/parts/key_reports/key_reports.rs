@@ -1,7 +1,7 @@
 // Exported from crates/key_reports/src/key_reports.rt by bin/export-rust. Edit that file instead.
 //! The debouncer, the held keys and the poller as one value.
 
-use crate::parts::key_reports::keys::take_edges;
+use crate::parts::key_reports::keys::{make_for, take_edges};
 use crate::parts::debounce::{Debouncer, Scan};
 use crate::parts::layers::{Held, Keymap, Usages};
 use crate::parts::reports::{IdleId, Poller, Protocol, Report};
@@ -33,6 +33,7 @@ impl KeyReports {
         self.debouncer = Debouncer::new();
         self.held = Held::new();
         self.poller.reset();
+        self.poller.make(&Usages::none(), Protocol::Report);
     }
 
     /// Takes one scan, one millisecond after the last. The keys that the debounced scan releases are
@@ -40,18 +41,22 @@ impl KeyReports {
     /// reports of the protocol whose bytes this changes wait for a poll.
     pub fn scan(&mut self, scan: Scan, keymap: &Keymap, protocol: Protocol) {
         let edges = self.debouncer.feed(scan);
-        let before = self.held.usages();
-        take_edges(&mut self.held, keymap, &edges);
-        let now = self.held.usages();
-        self.poller.tick(&before, &now, protocol);
+        if edges.is_none() {
+            self.poller.pass();
+        } else {
+            make_for(&mut self.poller, &self.held, protocol);
+            take_edges(&mut self.held, keymap, &edges);
+            let now = self.held.usages();
+            self.poller.tick_to(&now, protocol);
+        }
     }
 
     /// The answer to a poll of endpoint 1: the report that has waited longest. Where none waits, the
     /// report of the protocol whose bytes are not those last sent, else one whose idle time has passed
     /// since then, or `None`. It then counts as sent.
     pub fn poll(&mut self, protocol: Protocol) -> Option<Report> {
-        let usages = self.usages();
-        self.poller.poll(&usages, protocol)
+        make_for(&mut self.poller, &self.held, protocol);
+        self.poller.poll_made(protocol)
     }
 
     /// The usages that the codes of the held keys name.

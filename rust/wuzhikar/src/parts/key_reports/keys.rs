@@ -1,13 +1,15 @@
 // Exported from crates/key_reports/src/keys.rt by bin/export-rust. Edit that file instead.
-//! The held keys after the edges of a scan.
+//! The held keys after the edges of a scan, and the bytes of the reports for them.
 
 use crate::parts::debounce::{Edges, Scan};
 use crate::parts::layers::{Held, KeyNo, Keymap};
+use crate::parts::reports::{Poller, Protocol};
 
 /// Takes the edges of a scan: the releases, then the presses, each by rising number.
 pub(crate) fn take_edges(held: &mut Held, keymap: &Keymap, edges: &Edges) {
     release_all(held, &edges.released);
     press_all(held, keymap, &edges.pressed);
+    held.name_usages();
 }
 
 /// Releases these keys, by rising number.
@@ -21,5 +23,12 @@ fn release_all(held: &mut Held, released: &Scan) {
 fn press_all(held: &mut Held, keymap: &Keymap, pressed: &Scan) {
     for key in pressed.keys() {
         held.press(keymap, KeyNo::known(key));
+    }
+}
+
+/// Makes the bytes of the protocol's reports where those of the other protocol were made last.
+pub(crate) fn make_for(poller: &mut Poller, held: &Held, protocol: Protocol) {
+    if !poller.is_made_for(protocol) {
+        poller.make(&held.usages(), protocol);
     }
 }

@@ -8,7 +8,10 @@ use crate::parts::layers::{Code, KeyNo, Keymap, LayerNo, Usages};
 #[derive(Clone, Debug)]
 pub struct Held {
     codes: [Option<Code>; KEYS],
+    /// The usages that the codes named when they were named last, and those of the codes since then.
     usages: Usages,
+    /// Whether these are the usages of the codes: no key was released since.
+    named: bool,
 }
 
 impl Held {
@@ -17,6 +20,7 @@ impl Held {
         Held {
             codes: [None; KEYS],
             usages: Usages::none(),
+            named: true,
         }
     }
 
@@ -36,7 +40,16 @@ impl Held {
     pub fn release(&mut self, key: KeyNo) {
         let place = key.number() as usize;
         self.codes[place] = None;
-        self.usages = named(&self.codes);
+        self.named = false;
+    }
+
+    /// Names the usages of the codes, where a key was released since they were named: `usages` then reads
+    /// them off.
+    pub fn name_usages(&mut self) {
+        if !self.named {
+            self.usages = named(&self.codes);
+            self.named = true;
+        }
     }
 
     /// Whether a layer is active: layer 0 is, another while a key with its momentary code is held.
@@ -51,7 +64,11 @@ impl Held {
 
     /// The usages that the codes of the held keys name.
     pub fn usages(&self) -> Usages {
-        self.usages
+        if self.named {
+            self.usages
+        } else {
+            named(&self.codes)
+        }
     }
 }
 

@@ -1,7 +1,7 @@
 // Exported from crates/reports/src/poller.rt by bin/export-rust. Edit that file instead.
 //! Which report a poll of the interrupt endpoint sends.
 
-use crate::parts::reports::made::Made;
+use crate::parts::reports::bytes::{bitmap, boot, consumer};
 use crate::parts::reports::queue::{Queue, report_of};
 use crate::parts::reports::sent::Sent;
 use crate::parts::reports::{IdleId, Input, Protocol, Report};
@@ -22,7 +22,7 @@ const ONE_UNUSED: [u8; 23] = [
 
 const TWO_UNUSED: [u8; 9] = [2, 0, 0, 0, 0, 0, 0, 0, 0];
 
-/// What was sent last of each report, the reports that wait, and the idle values.
+/// What was made and what was sent last of each report, the reports that wait, and the idle values.
 #[derive(Debug)]
 pub struct Poller {
     boot: Sent<8>,
@@ -33,9 +33,8 @@ pub struct Poller {
     queue: Queue,
     idle_one: u8,
     idle_two: u8,
-    /// What was made last: for the usages that the latest scan or poll found, or for none since a reset.
-    /// No contract speaks of it.
-    made: Made,
+    /// The protocol whose reports were made last.
+    made_for: Protocol,
 }
 
 impl Poller {
@@ -51,7 +50,7 @@ impl Poller {
             queue,
             idle_one: IDLE_ONE,
             idle_two: IDLE_TWO,
-            made: Made::of(&Usages::none()),
+            made_for: Protocol::Report,
         })
     }
 
@@ -59,8 +58,21 @@ impl Poller {
     /// Each report of the protocol whose bytes that changes waits from now on, ID 1 before ID 2. Of
     /// more than eight that wait the oldest are dropped.
     pub fn tick(&mut self, before: &Usages, now: &Usages, protocol: Protocol) {
+        self.make(before, protocol);
+        self.tick_to(now, protocol);
+    }
+
+    /// Takes the passing of one scan, one millisecond, which changed no usage.
+    pub fn pass(&mut self) {
         self.grow_older();
-        self.push_changes(before, now, protocol);
+    }
+
+    /// Takes the passing of one scan, one millisecond, which found these usages after those that the
+    /// bytes were made for. Each report of the protocol whose bytes that changes waits from now on, ID 1
+    /// before ID 2. Of more than eight that wait the oldest are dropped.
+    pub fn tick_to(&mut self, now: &Usages, protocol: Protocol) {
+        self.grow_older();
+        self.push_changes(now, protocol);
     }
 
     fn grow_older(&mut self) {
@@ -69,15 +81,41 @@ impl Poller {
         self.two.tick();
     }
 
-    /// Lets the reports wait that a scan changed, and keeps the bytes that it made.
-    fn push_changes(&mut self, before: &Usages, now: &Usages, protocol: Protocol) {
-        if before == now {
-            return;
+    /// Makes the bytes of the protocol's reports for these usages, and lets those wait that are not as
+    /// they were made before.
+    fn push_changes(&mut self, now: &Usages, protocol: Protocol) {
+        match protocol {
+            Protocol::Boot => {
+                let bytes = boot(now);
+                self.queue.push_change(self.boot.made(), &bytes);
+                self.boot.make(bytes);
+            },
+            Protocol::Report => {
+                let one = bitmap(now);
+                let two = consumer(now);
+                self.queue.push_change(self.one.made(), &one);
+                self.queue.push_change(self.two.made(), &two);
+                self.one.make(one);
+                self.two.make(two);
+            },
         }
-        self.made.set(before);
-        let made = Made::of(now);
-        self.queue.push_changes(&self.made, &made, protocol);
-        self.made = made;
+    }
+
+    /// Whether the bytes were made for this protocol.
+    pub fn is_made_for(&self, protocol: Protocol) -> bool {
+        self.made_for == protocol
+    }
+
+    /// Makes the bytes of the protocol's reports for these usages.
+    pub fn make(&mut self, usages: &Usages, protocol: Protocol) {
+        match protocol {
+            Protocol::Boot => self.boot.make(boot(usages)),
+            Protocol::Report => {
+                self.one.make(bitmap(usages));
+                self.two.make(consumer(usages));
+            },
+        }
+        self.made_for = protocol;
     }
 
     /// The answer to a poll: the report that has waited longest. Where none waits, the report of the
@@ -85,39 +123,65 @@ impl Poller {
     /// as long has passed since it was sent; of two the one that was not sent last; else `None`. What
     /// is answered then counts as sent.
     pub fn poll(&mut self, usages: &Usages, protocol: Protocol) -> Option<Report> {
-        let answer = match self.queue.pop() {
-            Some(front) => Some(front),
-            None => self.due(usages, protocol),
-        };
-        self.count_as_sent(&answer);
-        answer
+        self.make(usages, protocol);
+        self.poll_made(protocol)
     }
 
-    /// What the poll rule sends where no report waits.
-    fn due(&mut self, usages: &Usages, protocol: Protocol) -> Option<Report> {
-        self.made.set(usages);
-        match protocol {
-            Protocol::Boot => self.due_boot(self.made.boot()),
-            Protocol::Report => self.due_report(self.made.one(), self.made.two()),
+    /// `poll` for the usages that the bytes were made for: it looks at no bytes where nothing is due.
+    pub fn poll_made(&mut self, protocol: Protocol) -> Option<Report> {
+        if self.queue.is_empty() {
+            self.send_due(protocol)
+        } else {
+            self.send_front()
         }
     }
 
-    fn due_boot(&self, boot: &[u8; 8]) -> Option<Report> {
-        if self.boot_is_due(boot) {
-            Some(report_of(boot))
+    /// Sends the report that has waited longest, if one waits.
+    fn send_front(&mut self) -> Option<Report> {
+        match self.queue.pop() {
+            Some(front) => {
+                self.count_as_sent(&front);
+                Some(front)
+            },
+            None => None,
+        }
+    }
+
+    /// Sends what the poll rule sends where no report waits.
+    fn send_due(&mut self, protocol: Protocol) -> Option<Report> {
+        match self.due(protocol) {
+            Some(report) => {
+                self.count_as_sent(&report);
+                Some(report)
+            },
+            None => None,
+        }
+    }
+
+    /// What the poll rule sends where no report waits.
+    fn due(&self, protocol: Protocol) -> Option<Report> {
+        match protocol {
+            Protocol::Boot => self.due_boot(),
+            Protocol::Report => self.due_report(),
+        }
+    }
+
+    fn due_boot(&self) -> Option<Report> {
+        if self.boot_is_due() {
+            Some(report_of(self.boot.made()))
         } else {
             None
         }
     }
 
-    fn boot_is_due(&self, boot: &[u8; 8]) -> bool {
-        self.boot.is_changed(boot) || self.boot.is_elapsed(self.idle_one)
+    fn boot_is_due(&self) -> bool {
+        self.boot.is_changed() || self.boot.is_elapsed(self.idle_one)
     }
 
-    fn due_report(&self, one: &[u8; 23], two: &[u8; 9]) -> Option<Report> {
-        match self.chosen(self.one.is_changed(one), self.two.is_changed(two)) {
-            Some(Input::One) => Some(report_of(one)),
-            Some(Input::Two) => Some(report_of(two)),
+    fn due_report(&self) -> Option<Report> {
+        match self.chosen(self.one.is_changed(), self.two.is_changed()) {
+            Some(Input::One) => Some(report_of(self.one.made())),
+            Some(Input::Two) => Some(report_of(self.two.made())),
             Some(Input::Boot) => None,
             None => None,
         }
@@ -136,12 +200,9 @@ impl Poller {
         }
     }
 
-    /// Counts an answer as sent, if there is one: of the report that has as many bytes.
-    fn count_as_sent(&mut self, answer: &Option<Report>) {
-        let bytes = match answer {
-            Some(report) => report.as_slice(),
-            None => return,
-        };
+    /// Counts a report as sent, by its number of bytes.
+    fn count_as_sent(&mut self, report: &Report) {
+        let bytes = report.as_slice();
         if bytes.len() == BOOT_UNUSED.len() {
             self.boot.send(bytes);
         } else if bytes.len() == ONE_UNUSED.len() {
@@ -186,7 +247,6 @@ impl Poller {
         self.clear();
         self.idle_one = IDLE_ONE;
         self.idle_two = IDLE_TWO;
-        self.made = Made::of(&Usages::none());
     }
 
     fn clear(&mut self) {

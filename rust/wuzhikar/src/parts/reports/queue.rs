@@ -1,8 +1,7 @@
 // Exported from crates/reports/src/queue.rt by bin/export-rust. Edit that file instead.
 //! The reports that wait to be sent.
 
-use crate::parts::reports::made::Made;
-use crate::parts::reports::{Protocol, Report};
+use crate::parts::reports::Report;
 use crate::rattle::circular_buffer::HeapCircularBuffer;
 use crate::rattle::alloc::{AllocError, Global};
 
@@ -22,20 +21,8 @@ impl Queue {
         Ok(Queue { ring })
     }
 
-    /// Appends the reports of the protocol whose bytes a scan changed, which found the usages of `now`
-    /// after those of `before`: ID 1 before ID 2.
-    pub(crate) fn push_changes(&mut self, before: &Made, now: &Made, protocol: Protocol) {
-        match protocol {
-            Protocol::Boot => self.push_change(before.boot(), now.boot()),
-            Protocol::Report => {
-                self.push_change(before.one(), now.one());
-                self.push_change(before.two(), now.two());
-            },
-        }
-    }
-
     /// Appends the new bytes of a report where they are not the old ones.
-    fn push_change(&mut self, before: &[u8], now: &[u8]) {
+    pub(crate) fn push_change(&mut self, before: &[u8], now: &[u8]) {
         if before != now {
             self.push(report_of(now));
         }
@@ -44,6 +31,11 @@ impl Queue {
     /// Appends a report.
     fn push(&mut self, report: Report) {
         self.ring.push_back(report);
+    }
+
+    /// Whether no report waits.
+    pub(crate) fn is_empty(&self) -> bool {
+        self.ring.is_empty()
     }
 
     /// Takes the report that has waited longest.

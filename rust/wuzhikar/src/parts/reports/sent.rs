@@ -1,18 +1,27 @@
 // Exported from crates/reports/src/sent.rt by bin/export-rust. Edit that file instead.
-//! What was sent last of one report, and when.
+//! The bytes that one report has, those that were sent last of it, and when.
 
-/// The bytes that were sent last of a report of N bytes, and how long ago.
+/// The bytes that a report of N bytes has, those that were sent last of it, and how long ago.
 #[derive(Debug)]
 pub(crate) struct Sent<const N: usize> {
     bytes: [u8; N],
+    /// The bytes that the report has, as they were made last.
+    made: [u8; N],
+    /// Whether they are not those sent last.
+    changed: bool,
     /// The scans since then, counted to 65,535, which is more than any idle value needs.
     age: u16,
 }
 
 impl<const N: usize> Sent<N> {
-    /// These bytes, now.
+    /// These bytes, made and sent now.
     pub(crate) fn now(bytes: [u8; N]) -> Sent<N> {
-        Sent { bytes, age: 0 }
+        Sent {
+            bytes,
+            made: bytes,
+            changed: false,
+            age: 0,
+        }
     }
 
     /// Takes the passing of one scan.
@@ -20,9 +29,20 @@ impl<const N: usize> Sent<N> {
         self.age = self.age.saturating_add(1);
     }
 
-    /// Whether these bytes are not those sent last.
-    pub(crate) fn is_changed(&self, wanted: &[u8; N]) -> bool {
-        *wanted != self.bytes
+    /// Takes the bytes that the report has from now on.
+    pub(crate) fn make(&mut self, made: [u8; N]) {
+        self.changed = made != self.bytes;
+        self.made = made;
+    }
+
+    /// The bytes that the report has.
+    pub(crate) fn made(&self) -> &[u8; N] {
+        &self.made
+    }
+
+    /// Whether they are not those sent last.
+    pub(crate) fn is_changed(&self) -> bool {
+        self.changed
     }
 
     /// Whether the report is to be sent again at this idle value, in units of 4 ms: it is not 0, and as
@@ -34,6 +54,7 @@ impl<const N: usize> Sent<N> {
     /// Counts these bytes as sent now.
     pub(crate) fn send(&mut self, bytes: &[u8]) {
         self.bytes.copy_from_slice(bytes);
+        self.changed = self.made != self.bytes;
         self.age = 0;
     }
 }

@@ -1,20 +1,29 @@
-use Rattle.std.proofs.Common.{refl}
-use Rattle.debounce.proofs.Fed.{none_fed, fed_more, stands-fed, released-fed, pressed-fed}
+use Rattle.debounce.proofs.Fed.{stands-fed, released-fed, pressed-fed}
 use Rattle.debounce.proofs.debouncer.Debouncer.feed.Goals as goal
 
-pub loop-row-init : goal.loop-row-init
-loop-row-init c = rw (← c.self.view_is) (none_fed c.args.scan (record { planes = c.self.inside.planes; last = c.self.inside.last; down = c.self.inside.down }) _ refl c.self.invariant)
-
-pub loop-row-preserved : goal.loop-row-preserved
-loop-row-preserved c =
-    fed_more c.loop-row.row c.args.scan c.args.self.now c.loop-row.ones c.loop-row.twos c.loop-row.fours c.loop-row.down c.loop-row.edges.released c.loop-row.edges.pressed
-    c.sampled-after.result _ _ c.loop-row-test.true c.loop-row.invariant (rw (← c.self.view_is) c.sampled-after.ensures) refl refl
-
 pub returns-clause-stands : goal.returns-clause-stands
-returns-clause-stands c scans = stands-fed c.loop-row.row scans c.args.scan c.args.self.now _ c.loop-row.edges.released c.loop-row.edges.pressed c.loop-row-test.false c.loop-row.invariant
+returns-clause-stands c scans =
+    rw (c.parts.ensures, c.parts-2.ensures, c.parts-3.ensures, c.parts-4.ensures, c.parts-5.ensures)
+    (stands-fed scans c.args.scan c.args.self.now c.pair-first.result c.pair-second.result c.pair-third.result c.sampled-a.result c.sampled-b.result c.sampled-c.result c.joined.result c.joined-2.result c.joined-3.result (record {
+      first = record { before_is = c.pair-first.ensures; sample_is = c.joined.ensures; sampled = c.sampled-a.ensures };
+      second = record { before_is = c.pair-second.ensures; sample_is = c.joined-2.ensures; sampled = c.sampled-b.ensures };
+      third = record { before_is = c.pair-third.ensures; sample_is = c.joined-3.ensures; sampled = c.sampled-c.ensures };
+    }))
 
 pub returns-clause-released : goal.returns-clause-released
-returns-clause-released c scans = released-fed c.loop-row.row scans c.args.scan c.args.self.now _ c.loop-row.edges.released c.loop-row.edges.pressed c.loop-row-test.false c.loop-row.invariant
+returns-clause-released c scans =
+    rw c.parts-6.ensures
+    (released-fed scans c.args.scan c.args.self.now c.pair-first.result c.pair-second.result c.pair-third.result c.sampled-a.result c.sampled-b.result c.sampled-c.result c.joined.result c.joined-2.result c.joined-3.result (record {
+      first = record { before_is = c.pair-first.ensures; sample_is = c.joined.ensures; sampled = c.sampled-a.ensures };
+      second = record { before_is = c.pair-second.ensures; sample_is = c.joined-2.ensures; sampled = c.sampled-b.ensures };
+      third = record { before_is = c.pair-third.ensures; sample_is = c.joined-3.ensures; sampled = c.sampled-c.ensures };
+    }))
 
 pub returns-clause-pressed : goal.returns-clause-pressed
-returns-clause-pressed c scans = pressed-fed c.loop-row.row scans c.args.scan c.args.self.now _ c.loop-row.edges.released c.loop-row.edges.pressed c.loop-row-test.false c.loop-row.invariant
+returns-clause-pressed c scans =
+    rw c.parts-7.ensures
+    (pressed-fed scans c.args.scan c.args.self.now c.pair-first.result c.pair-second.result c.pair-third.result c.sampled-a.result c.sampled-b.result c.sampled-c.result c.joined.result c.joined-2.result c.joined-3.result (record {
+      first = record { before_is = c.pair-first.ensures; sample_is = c.joined.ensures; sampled = c.sampled-a.ensures };
+      second = record { before_is = c.pair-second.ensures; sample_is = c.joined-2.ensures; sampled = c.sampled-b.ensures };
+      third = record { before_is = c.pair-third.ensures; sample_is = c.joined-3.ensures; sampled = c.sampled-c.ensures };
+    }))

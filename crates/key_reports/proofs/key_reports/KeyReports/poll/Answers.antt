@@ -1,12 +1,19 @@
-use Rattle.layers.specs.Usages.{has_key, has_consumer}
+use Rattle.std.proofs.Common.{◌∙◌}
 use Rattle.reports.specs.Calls.{polled}
-use Rattle.key_reports.proofs.Standing.{stands-asked, answer-usages}
+use Rattle.reports.proofs.Made.{is_made, same_made}
+use Rattle.key_reports.specs.Past.{wanted_after, poller_calls}
+use Rattle.key_reports.proofs.Standing.{stands-asked, answer_is}
 use Rattle.key_reports.proofs.key_reports.KeyReports.poll.Goals as goal
 
 pub returns-clause-stands : goal.returns-clause-stands
-returns-clause-stands c past s = stands-asked past (polled c.args.protocol _) (record { debouncer = c.self.inside.debouncer; held = c.self.inside.held; poller = c.self.inside.poller }) c.poll.new.self (rw c.self.view_is s) c.poll.ensures.stands
+returns-clause-stands c past s =
+    let h = rw (← c.self.view_is) at s in
+    stands-asked past (polled c.args.protocol _) (record { debouncer = c.self.inside.debouncer; held = c.self.inside.held; poller = c.self.inside.poller }) c.poll_made.new.self h
+    (λ calls p. c.poll_made.ensures.stands calls (c.make_for.ensures.stands calls p))
+    (same_made _ _ _ c.poll_made.ensures.made (is_made c.args.protocol _ _ (c.make_for.ensures.made past h.held h.made)))
 
 pub returns-clause-answer : goal.returns-clause-answer
 returns-clause-answer c past s =
-    answer-usages past c.args.protocol (has_key c.usages-usages.result) (has_consumer c.usages-usages.result) _ (record { debouncer = c.self.inside.debouncer; held = c.self.inside.held; poller = c.self.inside.poller })
-    (record { keys = λ u. c.usages-usages.ensures.keys past u s; consumer = λ u. c.usages-usages.ensures.consumer past u s }) (rw c.self.view_is s) c.poll.ensures.answer
+    let h = rw (← c.self.view_is) at s in
+    answer_is past c.args.protocol _
+    (c.poll_made.ensures.answer (poller_calls past) (wanted_after past) (c.make_for.ensures.made past h.held h.made) (c.make_for.ensures.stands (poller_calls past) h.poller))

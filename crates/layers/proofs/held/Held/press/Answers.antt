@@ -28,5 +28,5 @@ invariant_of-self c =
     let free : is_none (kept c.self.inside.codes c.number-place.result) ≡ true =
     rw (get_or_default c.self.inside.codes c.number-place.result None c.index-self-place.result within) (is_none-some _ c.is_none.result c.is_none.ensures ∙ c.if-is_none.true) in (
       rw length-set c.self.invariant.0,
-      named_pressed c.self.inside.codes c.number-place.result c.resolve-code.result c.self.inside.usages _ c.self.invariant.0 c.number-place.ensures.a_key free c.self.invariant.1 c.add.ensures.keys c.add.ensures.consumer,
+      λ e. named_pressed c.self.inside.codes c.number-place.result c.resolve-code.result c.self.inside.usages _ c.self.invariant.0 c.number-place.ensures.a_key free (c.self.invariant.1 e) c.add.ensures.keys c.add.ensures.consumer,
     )

@@ -5,8 +5,18 @@ use Rattle.layers.specs.HeldStands.{kept}
 use Rattle.layers.proofs.HeldKeys.{any_has-same}
 use Rattle.layers.proofs.held.Held.usages.Goals as goal
 
-pub returns-clause-keys : goal.returns-clause-keys
-returns-clause-keys c past usage h = c.self.invariant.1.keys usage ∙ any_has-same (kept c.self.inside.codes) (code past) (names_key_usage usage) (rw (← c.self.view_is) at h.each)
+pub returns-then-self-clause-keys : goal.returns-then-self-clause-keys
+returns-then-self-clause-keys c past usage h =
+    (c.self.invariant.1 c.if-self.true).keys usage ∙ any_has-same (kept c.self.inside.codes) (code past) (names_key_usage usage) (rw (← c.self.view_is) at h.each)
 
-pub returns-clause-consumer : goal.returns-clause-consumer
-returns-clause-consumer c past usage h = c.self.invariant.1.consumer usage ∙ any_has-same (kept c.self.inside.codes) (code past) (names_consumer usage) (rw (← c.self.view_is) at h.each)
+pub returns-then-self-clause-consumer : goal.returns-then-self-clause-consumer
+returns-then-self-clause-consumer c past usage h =
+    (c.self.invariant.1 c.if-self.true).consumer usage ∙ any_has-same (kept c.self.inside.codes) (code past) (names_consumer usage) (rw (← c.self.view_is) at h.each)
+
+pub returns-else-self-clause-keys : goal.returns-else-self-clause-keys
+returns-else-self-clause-keys c past usage h =
+    c.named.ensures.keys usage ∙ any_has-same (kept c.self.inside.codes) (code past) (names_key_usage usage) (rw (← c.self.view_is) at h.each)
+
+pub returns-else-self-clause-consumer : goal.returns-else-self-clause-consumer
+returns-else-self-clause-consumer c past usage h =
+    c.named.ensures.consumer usage ∙ any_has-same (kept c.self.inside.codes) (code past) (names_consumer usage) (rw (← c.self.view_is) at h.each)

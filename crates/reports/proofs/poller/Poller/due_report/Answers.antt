@@ -16,23 +16,31 @@ changed report past bytes wanted sent e s = rw (e, ← s.bytes) refl
 pub returns-in-Some-One : goal.returns-in-Some-One
 returns-in-Some-One c past bytes e1 e2 r =
     let h = rw (← c.self.view_is) at r in
-    let found = c.chosen.ensures past bytes (changed One past bytes _ _ e1 h.one ∙ sym c.is_changed.ensures) (changed Two past bytes _ _ e2 h.two ∙ sym c.is_changed-2.ensures) r in
-    sym (rule_answer-report bytes past c.chosen.result found ∙ rw (c.in-Some-One.is, c.in-Some-One.field-0-is, e1, ← c.report_of.ensures) refl)
+    let f1 = rw (← c.self.view_is) at e1 in
+    let f2 = rw (← c.self.view_is) at e2 in
+    let found = c.chosen.ensures past bytes (changed One past bytes _ _ f1 h.one ∙ sym c.is_changed.ensures) (changed Two past bytes _ _ f2 h.two ∙ sym c.is_changed-2.ensures) r in
+    sym (rule_answer-report bytes past c.chosen.result found ∙ rw (c.in-Some-One.is, c.in-Some-One.field-0-is, f1) (ap (λ (b : List ℕ). Some b) (sym (c.report_of.ensures ∙ c.made.ensures))))
 
 pub returns-in-Some-Two : goal.returns-in-Some-Two
 returns-in-Some-Two c past bytes e1 e2 r =
     let h = rw (← c.self.view_is) at r in
-    let found = c.chosen.ensures past bytes (changed One past bytes _ _ e1 h.one ∙ sym c.is_changed.ensures) (changed Two past bytes _ _ e2 h.two ∙ sym c.is_changed-2.ensures) r in
-    sym (rule_answer-report bytes past c.chosen.result found ∙ rw (c.in-Some-Two.is, c.in-Some-Two.field-0-is, e2, ← c.report_of-in-Some-Two.ensures) refl)
+    let f1 = rw (← c.self.view_is) at e1 in
+    let f2 = rw (← c.self.view_is) at e2 in
+    let found = c.chosen.ensures past bytes (changed One past bytes _ _ f1 h.one ∙ sym c.is_changed.ensures) (changed Two past bytes _ _ f2 h.two ∙ sym c.is_changed-2.ensures) r in
+    sym (rule_answer-report bytes past c.chosen.result found ∙ rw (c.in-Some-Two.is, c.in-Some-Two.field-0-is, f2) (ap (λ (b : List ℕ). Some b) (sym (c.report_of-in-Some-Two.ensures ∙ c.made-in-Some-Two.ensures))))
 
 pub returns-in-Some-Boot : goal.returns-in-Some-Boot
 returns-in-Some-Boot c past bytes e1 e2 r =
     let h = rw (← c.self.view_is) at r in
-    let found = c.chosen.ensures past bytes (changed One past bytes _ _ e1 h.one ∙ sym c.is_changed.ensures) (changed Two past bytes _ _ e2 h.two ∙ sym c.is_changed-2.ensures) r in
+    let f1 = rw (← c.self.view_is) at e1 in
+    let f2 = rw (← c.self.view_is) at e2 in
+    let found = c.chosen.ensures past bytes (changed One past bytes _ _ f1 h.one ∙ sym c.is_changed.ensures) (changed Two past bytes _ _ f2 h.two ∙ sym c.is_changed-2.ensures) r in
     absurd (never_boot bytes past (sym found ∙ c.in-Some-Boot.is ∙ ap Some c.in-Some-Boot.field-0-is))
 
 pub returns-in-None : goal.returns-in-None
 returns-in-None c past bytes e1 e2 r =
     let h = rw (← c.self.view_is) at r in
-    let found = c.chosen.ensures past bytes (changed One past bytes _ _ e1 h.one ∙ sym c.is_changed.ensures) (changed Two past bytes _ _ e2 h.two ∙ sym c.is_changed-2.ensures) r in
+    let f1 = rw (← c.self.view_is) at e1 in
+    let f2 = rw (← c.self.view_is) at e2 in
+    let found = c.chosen.ensures past bytes (changed One past bytes _ _ f1 h.one ∙ sym c.is_changed.ensures) (changed Two past bytes _ _ f2 h.two ∙ sym c.is_changed-2.ensures) r in
     sym (rule_answer-report bytes past c.chosen.result found ∙ rw c.in-None.is refl)

@@ -1,0 +1,157 @@
+// SPDX-License-Identifier: MIT OR Apache-2.0
+/* Input reports: their bytes, the queue, and what a poll sends (docs/FORMATS.md, "Reports"). Part of keyboard.c. */
+#ifndef REPORTS_H
+#define REPORTS_H
+#include "keymap.h"
+
+enum { BOOT_PLACES = 6, CONSUMER_PLACES = 4, ROLL_OVER = 1 };
+
+static unsigned length_1(void) { return kb.boot ? LENGTH_BOOT : LENGTH_1; }
+
+/* The boot report (HID 1.11, appendix B.1) of the keys in a report of ID 1. */
+static void boot_form(uint8_t out[LENGTH_BOOT], const uint8_t bits[LENGTH_1])
+{
+    unsigned n = 0;
+    memset(out, 0, LENGTH_BOOT);
+    out[0] = bits[1];
+    for (unsigned i = 2; i < LENGTH_1; i++)
+        for (unsigned byte = bits[i], usage = 4 + 8 * (i - 2); byte; byte >>= 1, usage++)
+            if (byte & 1) {
+                if (n == BOOT_PLACES) {
+                    memset(out + 2, ROLL_OVER, BOOT_PLACES);
+                    return;
+                }
+                out[2 + n++] = usage;
+            }
+}
+
+/* Puts a usage among the n least ones so far, which rise, and gives how many there are then. */
+static unsigned insert(uint16_t least[CONSUMER_PLACES], unsigned n, unsigned usage)
+{
+    unsigned i = n;
+    while (i > 0 && least[i - 1] > usage)
+        i--;
+    if ((i > 0 && least[i - 1] == usage) || i == CONSUMER_PLACES)
+        return n;
+    if (n < CONSUMER_PLACES)
+        n++;
+    for (unsigned j = n - 1; j > i; j--)
+        least[j] = least[j - 1];
+    least[i] = usage;
+    return n;
+}
+
+/* The wanted bytes of the keys that are down, in the form of the protocol. */
+static void want(void)
+{
+    uint8_t bits[LENGTH_1] = { 1 };
+    uint16_t least[CONSUMER_PLACES] = { 0 };
+    unsigned n = 0;
+    for (unsigned w = 0; w < WORDS; w++)
+        for (uint32_t keys = kb.down[w]; keys; keys &= keys - 1) {
+            unsigned code = kb.code[32 * w + __builtin_ctz(keys)];
+            if (is_key(code))
+                bits[2 + (code - 4) / 8] |= 1 << (code - 4) % 8;
+            else if (is_modifier(code))
+                bits[1] |= 1 << (code - MODIFIER);
+            else if (is_consumer(code))
+                n = insert(least, n, code - CONSUMER);
+        }
+    if (kb.boot)
+        boot_form(kb.wanted1, bits);
+    else
+        memcpy(kb.wanted1, bits, LENGTH_1);
+    kb.wanted2[0] = 2;
+    for (unsigned i = 0; i < CONSUMER_PLACES; i++) {
+        kb.wanted2[1 + 2 * i] = least[i];
+        kb.wanted2[2 + 2 * i] = least[i] >> 8;
+    }
+}
+
+static void compare_sent(void)
+{
+    bool first = memcmp(kb.wanted1, kb.sent1, length_1()) != 0;
+    bool second = !kb.boot && memcmp(kb.wanted2, kb.sent2, LENGTH_2) != 0;
+    kb.changed = first | second << 1;
+}
+
+/* Puts a report into the queue, which drops its oldest one where it is full. */
+static void push(const uint8_t *bytes, unsigned length)
+{
+    struct queued *place = &kb.queue[(kb.front + kb.waiting) % QUEUE];
+    if (kb.waiting == QUEUE)
+        kb.front = (kb.front + 1) % QUEUE;
+    else
+        kb.waiting++;
+    place->length = length;
+    memcpy(place->bytes, bytes, length);
+}
+
+/* Makes the wanted bytes anew after a change of the keys, and puts what they changed into the queue. */
+static void want_anew(void)
+{
+    uint8_t before1[LENGTH_1], before2[LENGTH_2];
+    memcpy(before1, kb.wanted1, LENGTH_1);
+    memcpy(before2, kb.wanted2, LENGTH_2);
+    want();
+    if (memcmp(before1, kb.wanted1, length_1()) != 0)
+        push(kb.wanted1, length_1());
+    if (!kb.boot && memcmp(before2, kb.wanted2, LENGTH_2) != 0)
+        push(kb.wanted2, LENGTH_2);
+    compare_sent();
+}
+
+/* The host knows nothing: at a start, a bus reset, and where it set the protocol. */
+static void forget_sent(void)
+{
+    memset(kb.sent1, 0, sizeof kb.sent1);
+    memset(kb.sent2, 0, sizeof kb.sent2);
+    kb.sent1[0] = !kb.boot;
+    kb.sent2[0] = 2;
+    kb.age[0] = kb.age[1] = 0;
+    kb.last = 0;
+    kb.waiting = 0;
+    want();
+    compare_sent();
+}
+
+/* Sends these bytes as the report of a slot. */
+static unsigned sent(unsigned slot, uint8_t *out, const uint8_t *bytes, unsigned length)
+{
+    memcpy(out, bytes, length);
+    memcpy(slot ? kb.sent2 : kb.sent1, bytes, length);
+    kb.age[slot] = 0;
+    kb.last = 1 << slot;
+    return length;
+}
+
+/* The slots that are due by their idle value (HID 1.11, section 7.2.4), as bits. */
+static unsigned elapsed(void)
+{
+    unsigned due = kb.idle[0] != 0 && kb.age[0] >= 4u * kb.idle[0];
+    if (!kb.boot && kb.idle[1] != 0 && kb.age[1] >= 4u * kb.idle[1])
+        due |= 2;
+    return due;
+}
+
+unsigned kb_poll(uint8_t report[KB_REPORT])
+{
+    if (kb.waiting) {
+        const struct queued *front = &kb.queue[kb.front];
+        kb.front = (kb.front + 1) % QUEUE;
+        kb.waiting--;
+        unsigned length = sent(front->length == LENGTH_2, report, front->bytes, front->length);
+        compare_sent();
+        return length;
+    }
+    unsigned due = kb.changed;
+    if (!due) {
+        due = elapsed();
+        if (!due)
+            return 0;
+    }
+    unsigned slot = due == 3 ? kb.last == 1 : due - 1; /* of two the one that was not sent last */
+    kb.changed &= ~(1 << slot);
+    return slot ? sent(1, report, kb.wanted2, LENGTH_2) : sent(0, report, kb.wanted1, length_1());
+}
+#endif

@@ -1,0 +1,117 @@
+//! The exported keyboard behind `bench/peer/keyboard.h`, on the flash of `bench/peer/flash.h`: one bench calls it and the peer.
+//!
+//! Calls come one after another, and `kb_start` comes first, as the header says.
+#![no_std]
+
+mod flash;
+
+use core::mem::MaybeUninit;
+use core::ptr::addr_of_mut;
+use flash::Flash;
+use wuzhikar::{EpAnswer, KeyNo, Keyboard, LayerNo, Scan, Work};
+
+#[unsafe(no_mangle)]
+static mut KEYBOARD: MaybeUninit<Keyboard> = MaybeUninit::uninit();
+
+fn keyboard() -> &'static mut Keyboard {
+    // SAFETY: `kb_start` wrote it, and no other call is running.
+    unsafe { (*addr_of_mut!(KEYBOARD)).assume_init_mut() }
+}
+
+/// Copies bytes to where the caller wants them, and gives their number.
+///
+/// # Safety
+/// `out` has room for them.
+unsafe fn give(bytes: &[u8], out: *mut u8) -> u32 {
+    unsafe { core::ptr::copy_nonoverlapping(bytes.as_ptr(), out, bytes.len()) };
+    bytes.len() as u32
+}
+
+/// An answer as a number of the header. A packet's bytes are copied.
+unsafe fn number(answer: &EpAnswer, out: *mut u8) -> i32 {
+    match answer {
+        EpAnswer::Ack => 0,
+        EpAnswer::Nak => -1,
+        EpAnswer::Stall(why) => -100 - i32::from(why.number()),
+        EpAnswer::Packet(packet) => unsafe { give(packet, out) as i32 },
+    }
+}
+
+#[unsafe(no_mangle)]
+extern "C" fn kb_start() {
+    // SAFETY: no other call is running.
+    unsafe { (*addr_of_mut!(KEYBOARD)).write(Keyboard::on(&Flash)) };
+}
+
+#[unsafe(no_mangle)]
+extern "C" fn kb_restart() {
+    keyboard().restart(&Flash);
+}
+
+#[unsafe(no_mangle)]
+extern "C" fn kb_scan(rows: &[u16; 6]) {
+    keyboard().scan(Scan { rows: *rows });
+}
+
+#[unsafe(no_mangle)]
+extern "C" fn kb_setup(packet: &[u8; 8]) {
+    keyboard().setup(*packet);
+}
+
+/// # Safety
+/// `packet` points to `n` bytes.
+#[unsafe(no_mangle)]
+unsafe extern "C" fn kb_out(packet: *const u8, n: u32) -> i32 {
+    let packet = unsafe { core::slice::from_raw_parts(packet, n as usize) };
+    unsafe { number(&keyboard().out(packet), core::ptr::null_mut()) }
+}
+
+/// # Safety
+/// `packet` has room for 8 bytes.
+#[unsafe(no_mangle)]
+unsafe extern "C" fn kb_in(packet: *mut u8) -> i32 {
+    unsafe { number(&keyboard().in_packet(), packet) }
+}
+
+/// # Safety
+/// `report` has room for 23 bytes.
+#[unsafe(no_mangle)]
+unsafe extern "C" fn kb_poll(report: *mut u8) -> u32 {
+    match keyboard().poll() {
+        Some(sent) => unsafe { give(&sent, report) },
+        None => 0,
+    }
+}
+
+#[unsafe(no_mangle)]
+extern "C" fn kb_work() -> i32 {
+    match keyboard().work(&mut Flash) {
+        Work::Idle => 0,
+        Work::Working => 1,
+        Work::Settled => 2,
+        Work::Failed => 3,
+    }
+}
+
+#[unsafe(no_mangle)]
+extern "C" fn kb_bus_reset() {
+    keyboard().bus_reset();
+}
+
+#[unsafe(no_mangle)]
+extern "C" fn kb_leds() -> u32 {
+    u32::from(keyboard().leds())
+}
+
+#[unsafe(no_mangle)]
+extern "C" fn kb_entry(layer: u32, key: u32) -> u32 {
+    match (LayerNo::read(layer as u8), KeyNo::read(key as u8)) {
+        (Ok(layer), Ok(key)) => u32::from(keyboard().keymap().get(layer, key).bits()),
+        _ => 0,
+    }
+}
+
+#[panic_handler]
+fn panic(_info: &core::panic::PanicInfo) -> ! {
+    loop {}
+}

@@ -1,0 +1,4 @@
+mod ByteLemmas
+mod EndLemmas
+mod GapLemmas
+mod PlaceLemmas

@@ -1,0 +1,81 @@
+//! The keyboard's theorem on flash with error correction.
+//!
+//! A `Keyboard` promises the same on every `NorFlash`, and a `PairedFlash` is one on every flash that
+//! keeps the trait `EccFlash`. So its contract holds there as it stands, where the image is that of the
+//! slots in two units each (`image_of`). What is added here is a cut of the power: a step of the flash
+//! work makes up to two unit programs, or an erase, and the power may fail inside each of them and
+//! between the two, by any part of the cells.
+//!
+//! Nothing is kept here. The promise is that of `work_cut` and `work_then_cut`: what the host was told is
+//! stored is there after such a cut, and a restart on it is legal. A maker whose flash has error
+//! correction reads it.
+#![tactic(auto)]
+
+ghost use Rattle.std.specs.Prelude.{◌≡◌, ◌≢◌, ◌∷◌, [], ℕ, List};
+ghost use Rattle.ecc_flash.specs.Paired.{AllKept, image_of};
+ghost use Rattle.keyboard.specs.Acknowledged.{IsAcknowledgedInSession};
+ghost use Rattle.keyboard.specs.Calls.{Call, Worked, image_after, keymap};
+ghost use Rattle.keyboard.specs.Lawful.{IsAnswered};
+ghost use Rattle.keyboard.specs.Restart.{RestartsLegally, CutsLegally};
+ghost use Rattle.keyboard.specs.Stands.{StandsFor};
+ghost use Rattle.keyboard.specs.Value.{RunsOn};
+ghost use Rattle.keymap_store.specs.declared.store.Work.{Work};
+
+use ecc_flash::{CutFlash, EccFlash, PairedFlash};
+use keyboard::laws::{acknowledged_is_stored, restarts_are_legal};
+use keyboard::{Keyboard, Room, Work};
+
+/// A keyboard starts on a flash with error correction: it stands for no call, on the image of its slots.
+pub fn start<F: EccFlash + Drop>(room: Room, flash: &PairedFlash<F>) -> Keyboard
+    ensures stands { StandsFor (image_of (F.units flash.now.0) (F.page_total flash.now.0)) [] result }
+    ensures runs_on { RunsOn (image_of (F.units flash.now.0) (F.page_total flash.now.0)) result }
+{
+    Keyboard::start_in(room, flash)
+}
+
+/// A step of the flash work on a flash with error correction, with the keyboard's promise: its answer is
+/// the one that it has to be; what it leaves, and each image that its operation might have left, makes a
+/// legal restart; and what the host was told is stored is there.
+pub fn work<F: EccFlash + Drop>(keyboard: &mut Keyboard, flash: &mut PairedFlash<F>) -> Work
+    requires { RunsOn (image_of (F.units flash.old.0) (F.page_total flash.old.0)) keyboard.old }
+    ensures runs_on { RunsOn (image_of (F.units flash.new.0) (F.page_total flash.new.0)) keyboard.new }
+    ensures stands { (start : List ℕ) (past : List Call) → StandsFor start past keyboard.old → image_after start past ≡ image_of (F.units flash.old.0) (F.page_total flash.old.0)
+        → StandsFor start (Worked result (image_of (F.units flash.new.0) (F.page_total flash.new.0)) ∷ past) keyboard.new }
+    ensures answer { (start : List ℕ) (past : List Call) → StandsFor start past keyboard.old → image_after start past ≡ image_of (F.units flash.old.0) (F.page_total flash.old.0)
+        → IsAnswered start past (Worked result (image_of (F.units flash.new.0) (F.page_total flash.new.0))) }
+    ensures cut { (start : List ℕ) (past : List Call) → StandsFor start past keyboard.old → image_after start past ≡ image_of (F.units flash.old.0) (F.page_total flash.old.0)
+        → result ≢ Work.Idle → CutsLegally start past result (image_of (F.units flash.new.0) (F.page_total flash.new.0)) }
+    ensures untouched { result ≡ Work.Idle → flash.new ≡ flash.old }
+    ensures legal { (start : List ℕ) (past : List Call) → StandsFor start past keyboard.old → image_after start past ≡ image_of (F.units flash.old.0) (F.page_total flash.old.0)
+        → RestartsLegally start past (image_of (F.units flash.new.0) (F.page_total flash.new.0)) }
+    ensures acknowledged { (start : List ℕ) (past : List Call) (layer key code : ℕ) → StandsFor start past keyboard.old → image_after start past ≡ image_of (F.units flash.old.0) (F.page_total flash.old.0)
+        → IsAcknowledgedInSession past layer key code → keymap (image_of (F.units flash.new.0) (F.page_total flash.new.0)) layer key ≡ code }
+{
+    acknowledged_is_stored();
+    restarts_are_legal();
+    keyboard.work(flash)
+}
+
+/// A step of the flash work in which the power fails inside the unit program, or the erase, that comes
+/// after `whole` others: with 0 inside the first or before it, with 1 inside the second or between the
+/// two. It gives the flash that the next start finds.
+///
+/// A restart on it is legal: it finds the keymap of the session's start, changed by a prefix of the
+/// accepted commands that did not fail, with each settled one among them. And an entry whose code the
+/// host was told is stored, and that no later command writes, has this code.
+pub fn work_cut<F: EccFlash + Drop>(
+    keyboard: &mut Keyboard,
+    flash: PairedFlash<F>,
+    whole: u32,
+) -> PairedFlash<F>
+    requires { RunsOn (image_of (F.units flash.0) (F.page_total flash.0)) keyboard.old }
+    ensures legal { (start : List ℕ) (past : List Call) → StandsFor start past keyboard.old → image_after start past ≡ image_of (F.units flash.0) (F.page_total flash.0)
+        → RestartsLegally start past (image_of (F.units result.0) (F.page_total result.0)) }
+    ensures acknowledged { (start : List ℕ) (past : List Call) (layer key code : ℕ) → StandsFor start past keyboard.old → image_after start past ≡ image_of (F.units flash.0) (F.page_total flash.0)
+        → IsAcknowledgedInSession past layer key code → keymap (image_of (F.units result.0) (F.page_total result.0)) layer key ≡ code }
+    ensures kept { AllKept (F.units result.0) (F.page_total result.0) }
+{
+    let mut cut = PairedFlash::mount(CutFlash::new(flash.into_flash(), whole));
+    let _work = work(keyboard, &mut cut);
+    PairedFlash::mount(cut.into_flash().into_flash())
+}

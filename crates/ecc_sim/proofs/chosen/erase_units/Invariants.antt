@@ -1,0 +1,5 @@
+use Rattle.ecc_sim.proofs.Choosing.{ChosenSoFar}
+use Rattle.ecc_sim.proofs.chosen.erase_units.Given as goal
+
+abbrev pub invariant-loop-u : goal.invariant-loop-u
+invariant-loop-u l = ChosenSoFar l.fn.units l.page l.u l.units

@@ -1,0 +1,4 @@
+pub mod Code
+pub mod Units
+pub mod Sim
+pub mod Chosen

@@ -1,0 +1,28 @@
+-- Believed: what is wrong with a line, by the words that it has.
+use Rattle.std.specs.Prelude.{◌≡◌, ◌≢◌, ℕ, List, length}
+use Rattle.script.specs.Statements.{Kind, IsOfKind, Number, Count, Bytes, MaskBytes, Takes, spelling}
+use Rattle.script.specs.declared.complaint.Complaint.{Complaint}
+use Rattle.script.specs.declared.complaint.Complaint.TheVariants as complaint
+use Rattle.script.specs.declared.complaint.Wanted.{Wanted}
+use Rattle.script.specs.declared.complaint.Wanted.TheVariants as wanted
+use Rattle.script.specs.declared.statement.Keyword.{Keyword}
+
+-- what a word is to be, on a flash of so many pages
+abbrev pub kind_of : ℕ → Wanted → Kind
+kind_of pages wanted.Key = Number 96
+kind_of pages wanted.Layer = Number 4
+kind_of pages wanted.Page = Number pages
+kind_of pages wanted.Slot = Number 512
+kind_of pages wanted.Scans = Count
+kind_of pages wanted.LayerByte = Number 256
+kind_of pages wanted.KeyByte = Number 256
+kind_of pages wanted.SetupPacket = Bytes 8 8
+kind_of pages wanted.Packet = Bytes 1 8
+kind_of pages wanted.Mask = MaskBytes
+kind_of pages wanted.Code = Bytes 2 2
+
+-- what is complained of is so: no line begins with the word, so many words may not follow, or the word is not what is wanted
+abbrev pub IsSo : ℕ → Complaint → Type 0
+IsSo pages (complaint.Unknown word) = (k : Keyword) → spelling k ≢ word.now
+IsSo pages (complaint.Words k count) = (arguments : List (List ℕ)) × (length arguments ≡ count) × ¬ (Takes k arguments)
+IsSo pages (complaint.Word word column w) = ¬ (IsOfKind (kind_of pages w) word.now)

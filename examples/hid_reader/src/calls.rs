@@ -1,0 +1,294 @@
+// SPDX-License-Identifier: MIT OR Apache-2.0
+//! The calls of `hid_reader.h`, which says what each one takes, gives and refuses.
+//!
+//! A call looks at its pointers and lengths, then at its handle, and writes once nothing is left to be refused.
+
+use crate::edge::{Input, Output, Outputs, Place};
+use crate::names;
+use crate::status::Status;
+use crate::table::Table;
+use core::ffi::c_char;
+use wuzhikar_reader::{Descriptor, Field, Found, Kind, ParseError, ParseFault, Parser, extract, parse, pressed};
+
+/// As many handles as may be open at once: `HIDR_HANDLES`.
+const HANDLES: usize = 256;
+
+static TABLE: Table<Entry, HANDLES> = Table::new();
+
+/// What a handle stands for.
+#[allow(clippy::large_enum_variant)] // it stands in the table itself, so that no memory has to be there
+enum Entry {
+    Parser(Parser),
+    /// A parser that has ended with a fault, which it answers again.
+    Refused(ParseError),
+    Descriptor(Descriptor),
+}
+
+/// `hidr_error`
+#[repr(C)]
+#[derive(Clone, Copy)]
+pub struct Error {
+    offset: u64,
+    fault: u32,
+}
+
+/// `hidr_field`
+#[repr(C)]
+#[derive(Clone, Copy)]
+pub struct FieldOut {
+    bit: u64,
+    min: i64,
+    max: i64,
+    count: u16,
+    kind: u8,
+    id: u8,
+    size: u8,
+    array: u8,
+}
+
+/// `hidr_range`
+#[repr(C)]
+#[derive(Clone, Copy)]
+pub struct Range {
+    first: u32,
+    last: u32,
+}
+
+/// `hidr_found`
+#[repr(C)]
+#[derive(Clone, Copy)]
+pub struct FoundOut {
+    value: i64,
+    usage: u32,
+}
+
+#[unsafe(no_mangle)]
+pub extern "C" fn hidr_parse(text: Input, length: usize, descriptor: Output<u64>, error: Output<Error>) -> Status {
+    told(|| {
+        let descriptor = descriptor.place()?;
+        let parsed = parse(text.bytes(length)?).map_err(|found| tell(found, error.place_if_any()))?;
+        descriptor.put(TABLE.open(Entry::Descriptor(parsed))?);
+        Ok(())
+    })
+}
+
+#[unsafe(no_mangle)]
+pub extern "C" fn hidr_parser_open(parser: Output<u64>) -> Status {
+    told(|| {
+        let parser = parser.place()?;
+        parser.put(TABLE.open(Entry::Parser(Parser::default()))?);
+        Ok(())
+    })
+}
+
+#[unsafe(no_mangle)]
+pub extern "C" fn hidr_parser_feed(parser: u64, piece: Input, length: usize, error: Output<Error>) -> Status {
+    told(|| {
+        let piece = piece.bytes(length)?;
+        TABLE.with(parser, |entry| match entry {
+            Entry::Parser(parser) => parser.feed(piece).map_err(|found| tell(found, error.place_if_any())),
+            Entry::Refused(found) => Err(tell(*found, error.place_if_any())),
+            Entry::Descriptor(_) => Err(Status::WrongKind),
+        })
+    })
+}
+
+#[unsafe(no_mangle)]
+pub extern "C" fn hidr_parser_finish(parser: u64, descriptor: Output<u64>, error: Output<Error>) -> Status {
+    told(|| {
+        let descriptor = descriptor.place()?;
+        descriptor.put(TABLE.renew(parser, |entry| {
+            let refused = match entry {
+                Entry::Parser(parser) => match parser.finish() {
+                    Ok(parsed) => return (Entry::Descriptor(parsed), Ok(())),
+                    Err(found) => found,
+                },
+                Entry::Refused(found) => found,
+                Entry::Descriptor(_) => return (entry, Err(Status::WrongKind)),
+            };
+            (Entry::Refused(refused), Err(tell(refused, error.place_if_any())))
+        })?);
+        Ok(())
+    })
+}
+
+#[unsafe(no_mangle)]
+pub extern "C" fn hidr_close(handle: u64) -> Status {
+    told(|| TABLE.close(handle).map(drop))
+}
+
+#[unsafe(no_mangle)]
+pub extern "C" fn hidr_field_count(descriptor: u64, count: Output<usize>) -> Status {
+    told(|| {
+        let count = count.place()?;
+        count.put(of(descriptor, |descriptor| Ok(descriptor.fields().len()))?);
+        Ok(())
+    })
+}
+
+#[unsafe(no_mangle)]
+pub extern "C" fn hidr_field_at(descriptor: u64, field: usize, into: Output<FieldOut>) -> Status {
+    told(|| {
+        let into = into.place()?;
+        into.put(of(descriptor, |descriptor| descriptor.fields().get(field).map(FieldOut::from).ok_or(Status::Absent))?);
+        Ok(())
+    })
+}
+
+#[unsafe(no_mangle)]
+pub extern "C" fn hidr_ranges(
+    descriptor: u64,
+    field: usize,
+    into: Outputs<Range>,
+    room: usize,
+    count: Output<usize>,
+) -> Status {
+    told(|| {
+        let (count, into) = (count.place()?, into.places(room)?);
+        of(descriptor, |descriptor| {
+            if field >= descriptor.fields().len() {
+                return Err(Status::Absent);
+            }
+            let ranges = descriptor.ranges(field);
+            into.put(ranges.iter().map(|&(first, last)| Range { first, last }));
+            count.put(ranges.len());
+            Ok(())
+        })
+    })
+}
+
+#[unsafe(no_mangle)]
+pub extern "C" fn hidr_usage_at(descriptor: u64, field: usize, place: usize, usage: Output<u32>) -> Status {
+    told(|| {
+        let usage = usage.place()?;
+        usage.put(of(descriptor, |descriptor| descriptor.usage(field, place).ok_or(Status::Absent))?);
+        Ok(())
+    })
+}
+
+#[unsafe(no_mangle)]
+pub extern "C" fn hidr_uses_ids(descriptor: u64, uses: Output<u8>) -> Status {
+    told(|| {
+        let uses = uses.place()?;
+        uses.put(of(descriptor, |descriptor| Ok(descriptor.uses_ids().into()))?);
+        Ok(())
+    })
+}
+
+#[unsafe(no_mangle)]
+pub extern "C" fn hidr_report_length(descriptor: u64, kind: u8, id: u8, bytes: Output<usize>) -> Status {
+    told(|| {
+        let bytes = bytes.place()?;
+        bytes.put(of(descriptor, |descriptor| {
+            [Kind::Input, Kind::Output, Kind::Feature]
+                .get(usize::from(kind))
+                .and_then(|kind| descriptor.report_len(*kind, id))
+                .ok_or(Status::Absent)
+        })?);
+        Ok(())
+    })
+}
+
+#[unsafe(no_mangle)]
+pub extern "C" fn hidr_extract(
+    descriptor: u64,
+    report: Input,
+    length: usize,
+    into: Outputs<FoundOut>,
+    room: usize,
+    count: Output<usize>,
+) -> Status {
+    told(|| {
+        let count = count.place()?;
+        let (into, report) = both(into.places(room), report.bytes(length))?;
+        let found = of(descriptor, |descriptor| Ok(extract(descriptor, report)?))?;
+        count.put(found.len());
+        into.put(found.iter().map(|&Found { usage, value }| FoundOut { value, usage }));
+        Ok(())
+    })
+}
+
+#[unsafe(no_mangle)]
+pub extern "C" fn hidr_pressed(
+    descriptor: u64,
+    report: Input,
+    length: usize,
+    into: Outputs<u32>,
+    room: usize,
+    count: Output<usize>,
+) -> Status {
+    told(|| {
+        let count = count.place()?;
+        let (into, report) = both(into.places(room), report.bytes(length))?;
+        let on = of(descriptor, |descriptor| Ok(pressed(&extract(descriptor, report)?)?))?;
+        count.put(on.len());
+        into.put(on.iter().copied());
+        Ok(())
+    })
+}
+
+#[unsafe(no_mangle)]
+pub extern "C" fn hidr_fault_name(fault: u32) -> *const c_char {
+    names::of_fault(fault).as_ptr()
+}
+
+#[unsafe(no_mangle)]
+pub extern "C" fn hidr_status_name(status: i32) -> *const c_char {
+    names::of_status(status).as_ptr()
+}
+
+/// Both, or why not: that a pointer is null is told before that a length is wrong.
+fn both<A, B>(one: Result<A, Status>, other: Result<B, Status>) -> Result<(A, B), Status> {
+    match (one, other) {
+        (Ok(one), Ok(other)) => Ok((one, other)),
+        (Err(Status::Null), _) | (_, Err(Status::Null)) => Err(Status::Null),
+        (Err(status), _) | (_, Err(status)) => Err(status),
+    }
+}
+
+/// The status of what a call came to.
+fn told(call: impl FnOnce() -> Result<(), Status>) -> Status {
+    match call() {
+        Ok(()) => Status::Ok,
+        Err(status) => status,
+    }
+}
+
+/// What a call makes of the descriptor that a handle stands for.
+fn of<R>(handle: u64, call: impl FnOnce(&Descriptor) -> Result<R, Status>) -> Result<R, Status> {
+    TABLE.with(handle, |entry| match entry {
+        Entry::Descriptor(descriptor) => call(descriptor),
+        Entry::Parser(_) | Entry::Refused(_) => Err(Status::WrongKind),
+    })
+}
+
+/// The status of a text that is refused, whose fault is written where there is a place for it.
+fn tell(found: ParseError, error: Option<Place<Error>>) -> Status {
+    if found.fault == ParseFault::Memory {
+        return Status::NoMemory;
+    }
+    if let Some(place) = error {
+        place.put(Error { offset: found.offset as u64, fault: found.fault.number().into() });
+    }
+    Status::Fault
+}
+
+impl From<&Field> for FieldOut {
+    fn from(field: &Field) -> FieldOut {
+        let kind = match field.kind {
+            Kind::Input => 0,
+            Kind::Output => 1,
+            Kind::Feature => 2,
+        };
+        FieldOut {
+            bit: field.bit,
+            min: field.min,
+            max: field.max,
+            count: field.count,
+            kind,
+            id: field.id,
+            size: field.size,
+            array: field.array.into(),
+        }
+    }
+}

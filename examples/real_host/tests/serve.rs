@@ -1,0 +1,246 @@
+// SPDX-License-Identifier: MIT OR Apache-2.0
+//! The program `real_host serve`, and hosts that behave and that don't: after each of them the keyboard lives on.
+#![forbid(unsafe_code)]
+
+use std::io::{BufRead, BufReader, ErrorKind, Read, Write};
+use std::net::TcpStream;
+use std::path::PathBuf;
+use std::process::{Child, Command, Stdio};
+use std::sync::mpsc::{Receiver, channel};
+use std::time::Duration;
+
+/// How long a test waits for what has to come. A machine under load takes a hundred times as long as a calm one.
+const PATIENCE: Duration = Duration::from_secs(600);
+
+const EINVAL: i32 = -22;
+const EPIPE: i32 = -32;
+const EPROTO: i32 = -71;
+const SET: [u8; 8] = [0x21, 9, 3, 3, 0, 0, 6, 0];
+const GET: [u8; 8] = [0xa1, 1, 3, 3, 0, 0, 6, 0];
+
+/// The program, and what it prints.
+struct Program {
+    child: Child,
+    out: Receiver<String>,
+    err: Receiver<String>,
+    address: String,
+}
+
+fn lines(from: impl Read + Send + 'static) -> Receiver<String> {
+    let (to, lines) = channel();
+    std::thread::spawn(move || BufReader::new(from).lines().map_while(Result::ok).try_for_each(|line| to.send(line)));
+    lines
+}
+
+impl Program {
+    fn start(options: &[&str]) -> Program {
+        let mut child = Command::new(env!("CARGO_BIN_EXE_real_host"))
+            .args(options)
+            .args(["serve", "127.0.0.1:0"])
+            .stdin(Stdio::piped())
+            .stdout(Stdio::piped())
+            .stderr(Stdio::piped())
+            .spawn()
+            .unwrap();
+        let (out, err) = (lines(child.stdout.take().unwrap()), lines(child.stderr.take().unwrap()));
+        let first = out.recv_timeout(PATIENCE).unwrap();
+        let address = first.split("# ").nth(1).unwrap().to_string();
+        Program { child, out, err, address }
+    }
+
+    fn hands(&mut self, line: &str) {
+        writeln!(self.child.stdin.as_mut().unwrap(), "{line}").unwrap();
+    }
+
+    /// Waits for a line of standard output, or of standard error, that holds this.
+    fn says(lines: &Receiver<String>, text: &str) {
+        loop {
+            let line = lines.recv_timeout(PATIENCE).unwrap_or_else(|_| panic!("no line with {text:?}"));
+            if line.contains(text) {
+                return;
+            }
+        }
+    }
+
+    /// Connects, and asks for a device: whether it is given.
+    fn import(&self, name: &str) -> (TcpStream, bool) {
+        let mut socket = TcpStream::connect(&self.address).unwrap();
+        socket.set_read_timeout(Some(PATIENCE)).unwrap();
+        let mut ask = vec![1, 0x11, 0x80, 3, 0, 0, 0, 0];
+        ask.extend(name.bytes().chain(std::iter::repeat(0)).take(32));
+        socket.write_all(&ask).unwrap();
+        let mut answer = [0; 8];
+        socket.read_exact(&mut answer).unwrap();
+        let given = answer[4..] == [0; 4];
+        socket.read_exact(&mut vec![0; if given { 312 } else { 0 }]).unwrap();
+        (socket, given)
+    }
+
+    fn end(mut self) {
+        self.hands("end");
+        assert!(self.child.wait().unwrap().success());
+    }
+}
+
+/// Configures the keyboard.
+fn configure(socket: &mut TcpStream) {
+    assert_eq!(control(socket, [0, 9, 1, 0, 0, 0, 0, 0], 0, &[]).0, 0);
+}
+
+/// Polls endpoint 1 with a transfer of up to so many bytes.
+fn poll(socket: &mut TcpStream, length: u32) {
+    let words = [1, 8, 1 << 16 | 1, 1, 1, 0, length, 0, 0, 0, 0, 0];
+    socket.write_all(&words.iter().flat_map(|word: &u32| word.to_be_bytes()).collect::<Vec<_>>()).unwrap();
+}
+
+/// The head of an URB of endpoint 0.
+fn urb(setup: [u8; 8], length: u32) -> Vec<u8> {
+    let words = [1, 7, 1 << 16 | 1, u32::from(setup[0] >> 7), 0, 0, length, 0, 0, 0];
+    let mut bytes: Vec<u8> = words.iter().flat_map(|word: &u32| word.to_be_bytes()).collect();
+    bytes.extend(setup);
+    bytes
+}
+
+/// A control transfer: its status and what was read.
+fn control(socket: &mut TcpStream, setup: [u8; 8], length: u32, data: &[u8]) -> (i32, Vec<u8>) {
+    socket.write_all(&[&urb(setup, length)[..], data].concat()).unwrap();
+    let mut head = [0; 48];
+    socket.read_exact(&mut head).unwrap();
+    let number = |at: usize| u32::from_be_bytes([head[at], head[at + 1], head[at + 2], head[at + 3]]);
+    let mut read = vec![0; if setup[0] & 0x80 != 0 { number(24) as usize } else { 0 }];
+    socket.read_exact(&mut read).unwrap();
+    (number(20) as i32, read)
+}
+
+fn set(socket: &mut TcpStream, code: u8) -> i32 {
+    control(socket, SET, 6, &[3, 1, 0, 0, code, 0]).0
+}
+
+fn get(socket: &mut TcpStream) -> u8 {
+    control(socket, GET, 6, &[]).1[4]
+}
+
+/// Waits until the other side hangs up; whether it does, and sends nothing before.
+fn is_closed(socket: &mut TcpStream) -> bool {
+    match socket.read(&mut [0]) {
+        Ok(count) => count == 0,
+        Err(error) => error.kind() == ErrorKind::ConnectionReset,
+    }
+}
+
+#[test]
+fn hosts_come_and_go_and_the_keyboard_lives_on() {
+    let mut program = Program::start(&[]);
+    let (mut host, given) = program.import("1-1");
+    assert!(given && control(&mut host, [0x80, 6, 0, 1, 0, 0, 18, 0], 18, &[]).1.len() == 18);
+    assert_eq!((set(&mut host, 5), get(&mut host)), (0, 5));
+    // A second one is turned away, and the first one goes on.
+    let (mut second, _) = program.import("1-1");
+    assert!(is_closed(&mut second));
+    Program::says(&program.err, "a second host was turned away");
+    // A wrong length.
+    assert_eq!(control(&mut host, SET, 2, &[3, 1]).0, EINVAL);
+    Program::says(&program.err, "an URB of 2 bytes for the request");
+    assert_eq!((get(&mut host), control(&mut host, SET, 6, &[3, 1, 4, 0, 5, 0]).0), (5, EPIPE));
+    // What is no URB.
+    host.write_all(&[9; 48]).unwrap();
+    assert!(is_closed(&mut host));
+    Program::says(&program.err, "no command of usbip: 09090909");
+    Program::says(&program.out, "the host has gone");
+    // One that vanishes inside an URB.
+    let (mut host, _) = program.import("1-1");
+    assert_eq!(get(&mut host), 5);
+    host.write_all(&urb(SET, 6)[..20]).unwrap();
+    drop(host);
+    Program::says(&program.out, "the host has gone");
+    // One that asks for another device, and what is no host.
+    assert!(!program.import("1-2").1);
+    let mut other = TcpStream::connect(&program.address).unwrap();
+    other.write_all(b"GET / HTTP/1.1\r\n\r\n").unwrap();
+    assert!(is_closed(&mut other));
+    Program::says(&program.err, "no request of usbip");
+    // The power goes inside a command: the keyboard is unplugged, and has the old entry.
+    let (mut host, _) = program.import("1-1");
+    configure(&mut host);
+    poll(&mut host, 64);
+    program.hands("tear 0f");
+    program.hands("say armed");
+    Program::says(&program.out, "armed");
+    assert_eq!(set(&mut host, 6), EPROTO);
+    Program::says(&program.out, "restart");
+    assert!(is_closed(&mut host));
+    let (mut host, _) = program.import("1-1");
+    assert_eq!(get(&mut host), 5);
+    program.hands("keys 96");
+    Program::says(&program.err, "no such line: keys 96");
+    program.end();
+}
+
+#[test]
+fn a_slow_host_gets_each_report() {
+    let mut program = Program::start(&["--packet", "64"]);
+    let (mut host, _) = program.import("1-1");
+    configure(&mut host);
+    let letters = "abcdefghijklmnopqrstuvwxyz";
+    program.hands(&format!("type {letters}"));
+    program.hands("say typed");
+    let mut down = Vec::new();
+    for _ in 0..2 * letters.len() {
+        std::thread::sleep(Duration::from_millis(25));
+        poll(&mut host, 64);
+        let mut answer = [0; 48 + 23];
+        host.read_exact(&mut answer).unwrap();
+        down.extend((0..160).filter(|bit| answer[48 + 2 + bit / 8] >> (bit % 8) & 1 != 0).map(|bit| bit as u8 + b'a'));
+    }
+    poll(&mut host, 64);
+    Program::says(&program.out, "typed");
+    assert_eq!(String::from_utf8(down).unwrap(), letters);
+    program.end();
+}
+
+#[test]
+fn a_command_waits_and_the_serial_number_is_chosen() {
+    let mut program = Program::start(&["--serial", "x7"]);
+    let (mut host, _) = program.import("1-1");
+    configure(&mut host);
+    poll(&mut host, 64);
+    assert_eq!(control(&mut host, [0x80, 6, 3, 3, 9, 4, 255, 0], 255, &[]).1, [6, 3, b'x', 0, b'7', 0]);
+    // On a blank flash a header is written, and the record; then a record alone; then nothing.
+    for (code, waits) in [(5, 2), (6, 1), (6, 0)] {
+        assert_eq!(set(&mut host, code), 0);
+        program.hands("waits");
+        Program::says(&program.out, &format!("waits {waits}"));
+    }
+    program.end();
+}
+
+#[test]
+fn the_flash_is_kept_in_a_file() {
+    let path = PathBuf::from(env!("CARGO_TARGET_TMPDIR")).join(format!("flash-{}", std::process::id()));
+    let file = path.to_str().unwrap();
+    let program = Program::start(&["--save", file]);
+    let (mut host, _) = program.import("1-1");
+    assert_eq!(set(&mut host, 7), 0);
+    drop(host);
+    Program::says(&program.out, "the host has gone");
+    program.end();
+    assert_eq!(std::fs::read(&path).unwrap().len(), 8192);
+    let program = Program::start(&["--image", file, "--packet", "64"]);
+    let (mut host, _) = program.import("1-1");
+    assert_eq!(get(&mut host), 7);
+    program.end();
+    std::fs::write(&path, [0; 4096]).unwrap();
+    for (words, error) in [
+        (&["--image", file, "attach"][..], "2 to 8"),
+        (&["--image", "/nowhere", "attach"], "/nowhere: "),
+        (&["--packet", "9", "attach"], "--packet is 8, 16, 32 or 64"),
+        (&["--fast", "1", "attach"], "--fast is no option"),
+        (&["fly"], "no such command: fly"),
+        (&[], "no command"),
+    ] {
+        let ran = Command::new(env!("CARGO_BIN_EXE_real_host")).args(words).output().unwrap();
+        let told = String::from_utf8(ran.stderr).unwrap();
+        assert!(!ran.status.success() && told.starts_with("real_host: ") && told.contains(error), "{told}");
+    }
+    std::fs::remove_file(&path).unwrap();
+}

@@ -1,0 +1,15 @@
+// Exported from crates/c_array/src/lib.rt by bin/export-rust. Edit that file instead.
+//! The bytes of an array as C writes it, as in `{ 0x05, 0x01, /* page */ 9, }`.
+//!
+//! [`read_array`] takes the list of numbers, with its braces and the declaration before them or without, and leaves out blanks and
+//! comments. Nothing is kept. The promise is that the bytes are those that the text says by the definition of an array, and
+//! that a text which is refused shows the named fault at the named place, with an array's beginning before it.
+//! The program of this crate calls it.
+
+mod array;
+mod fault;
+mod gap;
+mod number;
+
+pub use array::read_array;
+pub use fault::ArrayFault;

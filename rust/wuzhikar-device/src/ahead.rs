@@ -1,0 +1,249 @@
+// SPDX-License-Identifier: MIT OR Apache-2.0
+
+//! The device behind a controller that is handed packets beforehand, as nearly all are.
+//!
+//! The controller answers tokens from its buffers and says later what it has met. `Ahead` puts into the buffers what the
+//! device answers, once for each packet that the host can ask for, and empties them where that no longer holds.
+//!
+//! To the host it is the device that is asked at the token, but for this:
+//! - A packet in a buffer is as old as its hand-over. A report is the one that was due then.
+//! - What a request changes without data is changed when its empty packet is handed over, so before the host has it: the
+//!   idle value (SET_IDLE), the protocol, the configuration, a halt, and that also where the host then gives the request
+//!   up. The address alone is taken when the host has the packet. Until it has it, no packet of endpoint 1 is handed over
+//!   that the new protocol, configuration or halt is seen in.
+//! - An OUT packet is acknowledged before the device sees it. Where the device can't take it yet, it is kept and offered
+//!   again, unless a SETUP packet or a reset comes; where it is refused, the stall comes at the next token.
+//! - An IN token in place of the data that a SETUP packet announced is answered by NAK, not by STALL.
+
+mod controller;
+#[cfg(test)]
+mod tests;
+
+use crate::control::{length, reads};
+use crate::device::Device;
+use crate::front::{Change, Endpoint1, PollAnswer};
+use crate::under_way::Reports;
+use arrayvec::ArrayVec;
+pub use controller::{Controller, Input, Output, Waiting};
+use wuzhikar::usb::ENDPOINT_0_PACKET;
+use wuzhikar::{EpAnswer, NorFlash, Scan, Work};
+
+/// A device whose packets are handed to a controller beforehand.
+///
+/// `serve` is called when an interrupt of the controller has come, behind each scan, and behind `work`; it may be called
+/// at any time. The calls take turns: an interrupt only sets what `Controller::waiting` gives.
+#[derive(Debug)]
+pub struct Ahead<'a, F> {
+    device: Device<'a, F>,
+    transfer: Transfer,
+    /// What the controller answers on endpoint 0, as it was told, and where the host has not used it up.
+    input: Told,
+    output: Told,
+    reports: Reports,
+}
+
+/// Where the transfer of endpoint 0 stands (USB 2.0 section 8.5.3).
+#[derive(Clone, Debug, PartialEq, Eq)]
+enum Transfer {
+    /// It is over, or was stalled: each further packet is stalled.
+    Over,
+    /// A read. So many bytes may be asked for that were not handed over.
+    Reads { left: usize },
+    /// A write whose packet is awaited.
+    Writes,
+    /// A write whose packet was acknowledged on the bus, and that the device can't take yet.
+    Kept(ArrayVec<u8, ENDPOINT_0_PACKET>),
+    /// The empty packet of the status stage is due. It may have to wait for the flash.
+    Due,
+    /// The empty packet was handed over, and brings this change.
+    Status(Option<Change>),
+}
+
+/// What the controller was told of a direction of endpoint 0.
+#[derive(Clone, Copy, Debug, PartialEq, Eq)]
+enum Told {
+    Nak,
+    /// A packet is in the buffer, or one may come into it.
+    Open,
+    Stall,
+}
+
+impl<'a, F: NorFlash> Ahead<'a, F> {
+    /// A device that has just started, behind a controller with empty buffers.
+    pub fn new(device: Device<'a, F>) -> Ahead<'a, F> {
+        let (input, output) = (Told::Nak, Told::Nak);
+        Ahead { device, transfer: Transfer::Over, input, output, reports: Reports::default() }
+    }
+
+    /// The device, to be looked at.
+    pub fn device(&self) -> &Device<'a, F> {
+        &self.device
+    }
+
+    /// The power goes: the device, of which the flash is left.
+    pub fn into_device(self) -> Device<'a, F> {
+        self.device
+    }
+
+    /// A scan of the matrix, a millisecond after the one before.
+    pub fn scan(&mut self, scan: Scan) {
+        self.device.scan(scan);
+    }
+
+    /// A step of the flash work, at most one program or erase.
+    pub fn work(&mut self) -> Work {
+        self.device.work()
+    }
+
+    /// Takes what the controller has met, and fills its buffers.
+    pub fn serve<C: Controller>(&mut self, controller: &mut C) {
+        let waiting = controller.waiting();
+        if waiting.reset {
+            self.reset(controller);
+        } else {
+            self.reports.taken(waiting.taken_1);
+            if waiting.taken_0 {
+                self.taken(controller);
+            }
+            if let Some(packet) = waiting.out {
+                self.output = Told::Nak;
+                self.out(packet);
+            }
+        }
+        if let Some(packet) = waiting.setup {
+            self.setup(packet);
+        }
+        self.fill_endpoint_0(controller);
+        self.fill_endpoint_1(controller);
+    }
+
+    /// A bus reset, which has emptied all buffers.
+    fn reset<C: Controller>(&mut self, controller: &mut C) {
+        self.transfer = Transfer::Over;
+        (self.input, self.output) = (Told::Nak, Told::Nak);
+        self.reports.clear();
+        controller.change(self.device.bus_reset());
+    }
+
+    /// A SETUP packet, which has emptied the buffers of endpoint 0.
+    fn setup(&mut self, packet: [u8; 8]) {
+        (self.input, self.output) = (Told::Nak, Told::Nak);
+        self.device.setup(packet);
+        self.transfer = match length(packet) {
+            0 => Transfer::Due,
+            left if reads(packet) => Transfer::Reads { left },
+            _ => Transfer::Writes,
+        };
+    }
+
+    /// The host has the packet of endpoint 0.
+    fn taken<C: Controller>(&mut self, controller: &mut C) {
+        self.input = Told::Nak;
+        if let Transfer::Status(change) = self.transfer {
+            self.transfer = Transfer::Over;
+            if let Some(Change::Address(_)) = change {
+                change.into_iter().for_each(|change| controller.change(change));
+            }
+        }
+    }
+
+    /// An OUT packet that was acknowledged on the bus, or one that was kept.
+    fn out(&mut self, packet: ArrayVec<u8, ENDPOINT_0_PACKET>) {
+        let writes = match self.transfer {
+            Transfer::Reads { .. } => false,
+            Transfer::Writes | Transfer::Kept(_) => true,
+            Transfer::Over | Transfer::Due | Transfer::Status(_) => return,
+        };
+        self.transfer = match self.device.out(&packet) {
+            EpAnswer::Ack if writes => Transfer::Due,
+            EpAnswer::Nak if writes => Transfer::Kept(packet),
+            EpAnswer::Ack | EpAnswer::Nak | EpAnswer::Stall(_) | EpAnswer::Packet(_) => Transfer::Over,
+        };
+    }
+
+    /// Tells the controller what endpoint 0 answers from now on.
+    fn fill_endpoint_0<C: Controller>(&mut self, controller: &mut C) {
+        if let Transfer::Kept(packet) = &self.transfer {
+            self.out(packet.clone());
+        }
+        match self.transfer {
+            Transfer::Reads { left } if left > 0 && self.input != Told::Open => self.hand(controller),
+            Transfer::Due => self.hand(controller),
+            _ => {}
+        }
+        let (input, output) = match self.transfer {
+            Transfer::Over => (Told::Stall, Told::Stall),
+            // Behind its last packet there is none.
+            Transfer::Reads { .. } if self.input == Told::Open => (Told::Open, Told::Open),
+            Transfer::Reads { .. } => (Told::Stall, Told::Open),
+            Transfer::Writes => (Told::Nak, Told::Open),
+            Transfer::Kept(_) | Transfer::Due => (Told::Nak, Told::Nak),
+            Transfer::Status(_) => (Told::Open, Told::Stall),
+        };
+        if input != self.input {
+            controller.input_0(if input == Told::Stall { Input::Stall } else { Input::Nak });
+        }
+        if output != self.output {
+            controller.output_0(match output {
+                Told::Nak => Output::Nak,
+                Told::Open => Output::Take,
+                Told::Stall => Output::Stall,
+            });
+        }
+        (self.input, self.output) = (input, output);
+    }
+
+    /// Hands over the packet that endpoint 0 answers next, unless it has to wait or is stalled.
+    fn hand<C: Controller>(&mut self, controller: &mut C) {
+        let (answer, change) = self.device.in_packet();
+        match answer {
+            EpAnswer::Packet(packet) => {
+                self.transfer = match self.transfer {
+                    Transfer::Reads { left } if packet.len() == ENDPOINT_0_PACKET => {
+                        Transfer::Reads { left: left.saturating_sub(ENDPOINT_0_PACKET) }
+                    }
+                    Transfer::Reads { .. } => Transfer::Reads { left: 0 },
+                    _ => Transfer::Status(change),
+                };
+                self.follow(change, controller);
+                controller.input_0(Input::Packet(&packet));
+                self.input = Told::Open;
+            }
+            EpAnswer::Nak => {}
+            EpAnswer::Stall(_) | EpAnswer::Ack => self.transfer = Transfer::Over,
+        }
+    }
+
+    /// Empties the buffers of endpoint 1 where what is in them no longer holds.
+    fn follow<C: Controller>(&mut self, change: Option<Change>, controller: &mut C) {
+        match change {
+            Some(Change::Endpoint1(state)) => {
+                self.reports.taken(controller.drop_1());
+                self.reports.begin_anew();
+                controller.change(Change::Endpoint1(state));
+            }
+            Some(Change::Protocol) => {
+                self.reports.taken(controller.drop_1());
+                self.reports.forget();
+            }
+            Some(Change::Address(_) | Change::Reset) | None => {}
+        }
+    }
+
+    /// Puts packets into the free buffers of endpoint 1, while there are some to be sent.
+    fn fill_endpoint_1<C: Controller>(&mut self, controller: &mut C) {
+        let waits = matches!(self.transfer, Transfer::Status(Some(Change::Endpoint1(_) | Change::Protocol)));
+        if waits || self.device.front().endpoint_1() != Endpoint1::Ready {
+            return;
+        }
+        while self.reports.handed() < if C::PING_PONG { 2 } else { 1 } {
+            match self.reports.hand() {
+                Some(packet) => controller.input_1(&packet),
+                None => match self.device.poll_report() {
+                    PollAnswer::Data(report) => self.reports.begin(self.device.packets(report)),
+                    PollAnswer::Nak | PollAnswer::Stall | PollAnswer::Nothing => return,
+                },
+            }
+        }
+    }
+}

@@ -1,0 +1,101 @@
+//! Tests of the laws of reading and writing, over the descriptors of examples/hid_driver.
+
+use super::{Asked, Reader, Setting, Target, Within};
+use crate::Kind;
+use alloc::vec::Vec;
+
+fn reader_of(hex: &str) -> Reader {
+    let digits: Vec<u32> = hex.chars().filter_map(|letter| letter.to_digit(16)).collect();
+    let bytes: Vec<u8> = digits.chunks(2).map(|pair| (pair[0] * 16 + pair[1]) as u8).collect();
+    Reader::new(&bytes).expect("a descriptor")
+}
+
+fn gamepad() -> Reader {
+    reader_of(include_str!("../../../../examples/hid_driver/gamepad.hex"))
+}
+
+fn keyboard() -> Reader {
+    reader_of(include_str!("../../../../examples/hid_driver/keyboard.hex"))
+}
+
+/// Bytes that look random, the same in each run.
+fn bytes_like_random(seed: &mut u32, count: usize) -> Vec<u8> {
+    (0..count)
+        .map(|_| {
+            *seed = seed.wrapping_mul(1_664_525).wrapping_add(1_013_904_223);
+            (*seed >> 24) as u8
+        })
+        .collect()
+}
+
+fn set(target: Target, asked: Asked) -> Setting {
+    Setting { target, asked }
+}
+
+#[test]
+fn what_was_read_is_written_back() {
+    let reader = gamepad();
+    let mut seed = 1;
+    for _ in 0..1_000 {
+        let report = bytes_like_random(&mut seed, 13);
+        let values: Vec<_> = reader.read(Kind::Input, &report).expect("a report").collect();
+        let in_range = values.iter().filter(|value| value.within == Within::Range);
+        let settings: Vec<Setting> = in_range
+            .map(|value| set(Target::Field { field: value.field, place: value.place.into() }, Asked::Value(value.raw)))
+            .collect();
+        assert_eq!(reader.write(Kind::Input, 0, &settings, Some(&report)), Ok(report));
+    }
+}
+
+#[test]
+fn a_write_changes_no_other_bit() {
+    let reader = gamepad();
+    let mut seed = 2;
+    for raw in 1..=8 {
+        let report = bytes_like_random(&mut seed, 13);
+        let hat = set(Target::Usage { usage: 0x0001_0039, place: 0 }, Asked::Value(raw));
+        let written = reader.write(Kind::Input, 0, &[hat], Some(&report)).expect("a report");
+        let mut wanted = report;
+        wanted[2] = wanted[2] & 0xF0 | raw as u8;
+        assert_eq!(written, wanted);
+    }
+}
+
+#[test]
+fn what_is_asked_for_is_read_by_extract() {
+    let reader = keyboard();
+    for usage in 0x0007_0004..=0x0007_00a4 {
+        let keys = [set(Target::Usage { usage, place: 0 }, Asked::Value(1))];
+        let report = reader.write(Kind::Input, 0, &keys, None).expect("a report");
+        let found = wuzhikar_reader::extract(reader.descriptor(), &report).expect("a report");
+        assert_eq!(wuzhikar_reader::pressed(&found).as_deref(), Ok(&[usage][..]));
+        let up = [set(Target::Usage { usage, place: 0 }, Asked::Value(0))];
+        let released = reader.write(Kind::Input, 0, &up, Some(&report)).expect("a report");
+        assert_eq!(released, [0; 8]);
+    }
+}
+
+#[test]
+fn an_array_has_no_more_room_than_places() {
+    let reader = keyboard();
+    let key = |usage: u32| set(Target::Usage { usage, place: 0 }, Asked::Value(1));
+    let seven: Vec<Setting> = (0x0007_0004..0x0007_000b).map(key).collect();
+    assert_eq!(reader.write(Kind::Input, 0, &seven[..6], None), Ok([0, 0, 4, 5, 6, 7, 8, 9].to_vec()));
+    assert_eq!(reader.write(Kind::Input, 0, &seven, None), Err(super::WriteError::NoRoom(6)));
+}
+
+#[test]
+fn a_new_hat_points_nowhere() {
+    let reader = gamepad();
+    let report = reader.write(Kind::Input, 0, &[], None).expect("a report");
+    let hat = reader.read(Kind::Input, &report).expect("a report").find(|value| value.usage == Some(0x0001_0039));
+    assert_eq!(hat.map(|value| value.within), Some(Within::Null));
+}
+
+#[test]
+fn physical_values_are_exact() {
+    let reader = gamepad();
+    let hat = reader.detail(1).expect("the hat");
+    let told: Vec<_> = (1..=8).map(|value| hat.physical_value(value).expect("limits").decimal(3)).collect();
+    assert_eq!(told, ["0", "45", "90", "135", "180", "225", "270", "315"]);
+}

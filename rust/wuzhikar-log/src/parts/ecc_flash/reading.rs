@@ -1,0 +1,57 @@
+// Exported from crates/ecc_flash/src/reading.rt by bin/export-rust. Edit that file instead.
+//! What two write units read as, as a slot.
+
+/// Bytes of a write unit.
+pub const UNIT_BYTES: usize = 8;
+
+/// An erased unit, and a slot that is Free.
+pub const BLANK: [u8; UNIT_BYTES] = [255; UNIT_BYTES];
+
+/// A slot that is neither Free nor holds a word: all bits are set but bit 31 of its word. A word of a
+/// log has this bit clear, so that a torn program of it may leave this slot.
+pub const SPOILED: [u8; UNIT_BYTES] = [255, 255, 255, 127, 255, 255, 255, 255];
+
+/// The slot that the units hold: Free where both are blank, the word of the first where the second
+/// is its check, and else a slot that is no word.
+pub fn read(first: Option<[u8; UNIT_BYTES]>, second: Option<[u8; UNIT_BYTES]>) -> [u8; UNIT_BYTES] {
+    match first {
+        None => SPOILED,
+        Some(word) => match second {
+            None => SPOILED,
+            Some(check) => {
+                if word == BLANK && check == BLANK {
+                    BLANK
+                } else if is_log_word(word) && check == check_of_word(word) {
+                    word
+                } else {
+                    SPOILED
+                }
+            }
+        },
+    }
+}
+
+/// Whether a unit holds a word with bit 31 clear, beside its complement.
+pub fn is_log_word(unit: [u8; UNIT_BYTES]) -> bool {
+    unit == beside_complement(unit[0], unit[1], unit[2], unit[3]) && unit[3] < 128
+}
+
+/// The check of a word, beside its complement: each byte of the word XOR the one before it, and the
+/// first byte with the last.
+pub fn check_of_word(unit: [u8; UNIT_BYTES]) -> [u8; UNIT_BYTES] {
+    let [a, b, c, d, _, _, _, _] = unit;
+    beside_complement(a ^ d, b ^ a, c ^ b, d ^ c)
+}
+
+/// Four bytes and their complements.
+fn beside_complement(a: u8, b: u8, c: u8, d: u8) -> [u8; UNIT_BYTES] {
+    [a, b, c, d, !a, !b, !c, !d]
+}
+
+/// Whether a unit reads blank.
+pub fn is_blank(unit: Option<[u8; UNIT_BYTES]>) -> bool {
+    match unit {
+        None => false,
+        Some(bytes) => bytes == BLANK,
+    }
+}

@@ -1,0 +1,119 @@
+//! The flash of a log, on a driver of any geometry. Written by hand: tested, not proved.
+
+#[cfg(test)]
+mod tests;
+
+use core::cell::Cell;
+
+use crate::driver::FlashDriver;
+use crate::parts::flash_model::{FlashFault, NorFlash, PAGE_SLOTS, SLOT_BYTES};
+use crate::units::{GeometryError, Units};
+
+/// What a slot reads as where the driver's read failed: neither free nor a word.
+const UNREAD: [u8; SLOT_BYTES] = [255, 255, 255, 127, 255, 255, 255, 255];
+
+/// A flash without error correction as [`NorFlash`], on a driver with whatever units.
+///
+/// Each slot of 8 bytes stands in write units of its own, filled up with FFh, and each page of 512 slots in whole erase
+/// units, so that no write touches another slot and no erase another page. Where the write unit is one of 1, 2, 4 or 8
+/// bytes and the erase unit divides 4,096, that is as tight as it can be.
+///
+/// A driver's `read` has to give what the cells hold, the same each time. Where one fails, the slot reads as neither free
+/// nor a word, and from then on nothing is written ([`SlotFlash::is_unreadable`]), so that a word which could not be read
+/// stays where it is.
+///
+/// ```
+/// # fn main() -> Result<(), Box<dyn core::error::Error>> {
+/// use wuzhikar_log::{FlashLog, SlotFlash};
+/// # use core::convert::Infallible;
+/// # struct Driver(Vec<u8>);
+/// # impl wuzhikar_log::FlashDriver for Driver {
+/// #     type Error = Infallible;
+/// #     const READ_SIZE: usize = 1;
+/// #     const WRITE_SIZE: usize = 16;
+/// #     const ERASE_SIZE: usize = 8192;
+/// #     fn capacity(&self) -> usize { self.0.len() }
+/// #     fn read(&mut self, offset: u32, bytes: &mut [u8]) -> Result<(), Infallible> {
+/// #         bytes.copy_from_slice(&self.0[offset as usize..][..bytes.len()]);
+/// #         Ok(())
+/// #     }
+/// #     fn write(&mut self, offset: u32, bytes: &[u8]) -> Result<(), Infallible> {
+/// #         self.0[offset as usize..][..bytes.len()].copy_from_slice(bytes);
+/// #         Ok(())
+/// #     }
+/// #     fn erase(&mut self, from: u32, to: u32) -> Result<(), Infallible> {
+/// #         self.0[from as usize..to as usize].fill(0xFF);
+/// #         Ok(())
+/// #     }
+/// # }
+/// # let driver = Driver(vec![0xFF; 32768]);
+///
+/// // Two pages from byte 0 on, here of a driver with write units of 16 bytes and erase units of 8,192.
+/// let mut log = FlashLog::mount(SlotFlash::new(driver, 0, 2)?);
+/// log.rewrite([5, 6])?;
+/// log.push(7)?;
+///
+/// let driver = log.into_flash().into_driver();
+/// let log = FlashLog::mount(SlotFlash::new(driver, 0, 2)?);
+/// assert_eq!(log.words().collect::<Vec<u32>>(), [5, 6, 7]);
+/// # Ok(())
+/// # }
+/// ```
+#[derive(Debug)]
+pub struct SlotFlash<D> {
+    units: Units<D, { PAGE_SLOTS as u32 }>,
+    unreadable: Cell<bool>,
+}
+
+impl<D: FlashDriver> SlotFlash<D> {
+    /// The pages from byte `start` of a flash on, `pages` of them. Nothing is read or written.
+    ///
+    /// An error where this flash can't hold them: of its units first, then of the number of pages, of the start, and of
+    /// the capacity. The driver is then dropped.
+    pub fn new(driver: D, start: u32, pages: usize) -> Result<SlotFlash<D>, GeometryError> {
+        Ok(SlotFlash { units: Units::new(driver, start, pages)?, unreadable: Cell::new(false) })
+    }
+
+    /// How many bytes of flash each page takes, or why this flash can hold none.
+    pub fn page_bytes() -> Result<u32, GeometryError> {
+        Units::<D, { PAGE_SLOTS as u32 }>::page_bytes()
+    }
+
+    /// Whether a read of the driver failed since [`SlotFlash::new`]. What was then read may lack words, and nothing is
+    /// written any more.
+    pub fn is_unreadable(&self) -> bool {
+        self.unreadable.get()
+    }
+
+    /// The driver, with what was written by it.
+    pub fn into_driver(self) -> D {
+        self.units.into_driver()
+    }
+}
+
+impl<D: FlashDriver> NorFlash for SlotFlash<D> {
+    fn pages(&self) -> usize {
+        self.units.pages()
+    }
+
+    fn read_slot(&self, page: usize, slot: usize) -> [u8; SLOT_BYTES] {
+        self.units.read(page, slot).unwrap_or_else(|_| {
+            self.unreadable.set(true);
+            UNREAD
+        })
+    }
+
+    fn program_slot(&mut self, page: usize, slot: usize, bytes: [u8; SLOT_BYTES]) -> Result<(), FlashFault> {
+        if self.is_unreadable() {
+            return Err(FlashFault);
+        }
+        self.units.write(page, slot, bytes).map_err(|_| FlashFault)
+    }
+
+    fn erase_page(&mut self, page: usize) -> Result<(), FlashFault> {
+        if self.is_unreadable() {
+            return Err(FlashFault);
+        }
+        self.units.erase(page).map_err(|_| FlashFault)
+    }
+}

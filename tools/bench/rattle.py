@@ -1,0 +1,127 @@
+"""The sections that need Rattle: the proved keyboard on x86-64, lines of scripts, and the proved parser beside the peer's.
+
+Instructions are those of callgrind, as the difference of two runs with more calls and fewer, divided by the calls.
+"""
+
+import os
+import re
+import shutil
+import subprocess
+
+from builds import BENCH, ROOT, Skipped
+from results import Row
+
+# What bench/rattle/calls.rattle calls by its first byte; the peer's number is that of the row of the section x86.
+CALLS = ["scan without an edge", "poll, nothing due", "SETUP, unknown request",
+         "GET_DESCRIPTOR of the report descriptor and its first packet", "GET_REPORT of ID 1 and its first packet, six keys"]
+
+# Lines of scripts, and how many events each is.
+LINES = {"poll": 1, "scan": 1, "setup 8006000100001200": 1, "work": 1, "set 0 4 0005": 1, "fetch": 1, "scans 100 0 1 2 3 4 5": 100}
+
+# The report descriptor that the keyboard serves, and the one that it served at first.
+KEYS = "05010906A1018501050719E029E715002501750195088102190429A495A18102950781030508190129059505910295039103C0"
+VENDOR = "0600FF0901A10185030902150026FF0075089505B102C0"
+TEXTS = {
+    99: KEYS + "050C0901A1018502150026FF0319002AFF03751095048100C0" + VENDOR,
+    128: KEYS + "050C0901A1018502150025017501951009B009B109B209B309B409B509B609B709B809CD09E209E909EA0A92010A23020A24028102C0"
+    + VENDOR,
+}
+
+
+def needs(*tools):
+    """Skips a section where a tool is missing."""
+    packages = {"valgrind": "Debian: valgrind", "gcc": "Debian: gcc, libc6-dev", "rt": "the Rattle toolchain"}
+    for tool in tools:
+        if not shutil.which(tool):
+            raise Skipped(f"there is no {tool} ({packages[tool]})")
+
+
+def instructions(room, words, given):
+    """How many instructions a program takes."""
+    room.run(["valgrind", "--tool=callgrind", "--callgrind-out-file=/dev/null", f"--log-file={room.path('told')}", *words],
+             given=given)
+    with open(room.path("told"), encoding="utf-8") as file:
+        return int(re.search(r"Collected : (\d+)", file.read())[1])
+
+
+def lines_of_crates():
+    """The lines of crates.txt by their crates: what each stands on."""
+    with open(f"{ROOT}/crates.txt", encoding="utf-8") as file:
+        parts = [line.split("#")[0].strip().partition(":") for line in file]
+    return {name: below.split() for name, colon, below in parts if colon}
+
+
+def crates_below(crates):
+    """Some crates of the repository, with all that they stand on."""
+    lines, found, left = lines_of_crates(), [], list(crates)
+    while left:
+        name = left.pop()
+        if name in lines and name not in found:
+            found.append(name)
+            left += lines[name]
+    return [name for name in lines if name in found]
+
+
+def built(room, source, *crates):
+    """A program that Rattle proves and builds over some proved crates, in a folder of its own."""
+    name = source.removesuffix(".rattle")
+    folder = room.path(f"rattle-{name}")
+    shutil.rmtree(folder, ignore_errors=True)
+    os.makedirs(f"{folder}/crates/{name}/src")
+    shutil.copy(f"{BENCH}/rattle/{source}", f"{folder}/crates/{name}/src/main.rt")
+    for crate in crates:
+        room.run(["rt", "lib"], f"{ROOT}/crates/{crate}")
+    lines, below = lines_of_crates(), crates_below(crates)
+    for crate in below:
+        shutil.copytree(f"{ROOT}/crates/{crate}", f"{folder}/crates/{crate}")
+    with open(f"{folder}/crates.txt", "w", encoding="utf-8") as file:
+        file.writelines(f"{crate}: {' '.join(lines[crate])}\n" for crate in below)
+        file.write(f"{name}: {' '.join(crates)}\n")
+    room.run(["rt", "run"], f"{folder}/crates/{name}", given=b"\0\0")
+    return f"{folder}/crates/{name}/out/{name}"
+
+
+def keyboard(room):
+    """The calls of the proved keyboard, as Rattle builds it."""
+    needs("rt", "valgrind")
+    program = built(room, "calls.rattle", "keyboard", "debounce", "flash_model")
+    rows = []
+    for kind, name in enumerate(CALLS):
+        many, few = (instructions(room, [program], bytes([kind, hundreds])) for hundreds in (11, 1))
+        rows.append(Row("rattle", name, round((many - few) / 1000), None))
+    return rows
+
+
+def scripts(room):
+    """A line of a script, through the proved program."""
+    needs("rt", "valgrind")
+    told = subprocess.run([f"{ROOT}/bin/kbsim", "--way", "proved", "--path"], capture_output=True, text=True)
+    if told.returncode:
+        raise Skipped("the program was not proved here (bin/prove)")
+    rows = []
+    for line, events in LINES.items():
+        many, few = (instructions(room, [told.stdout.strip(), "run"], f"{line}\n".encode() * lines) for lines in (2000, 1000))
+        named = f"a line `{line}`" + (f", a {events}th of it" if events > 1 else "")
+        rows.append(Row("scripts", named, round((many - few) / 1000 / events), None))
+    return rows
+
+
+def peer_parser(room):
+    """The peer's parser, as a program."""
+    words = ["gcc", "-std=c11", "-O2", f"-I{BENCH}/peer", f"{BENCH}/parse.c", f"{BENCH}/peer/parser.c", "-o", room.path("parse")]
+    room.run(words)
+    return room.path("parse")
+
+
+def parses(room):
+    """A parse of each text, with what it drops: eleven less one, a tenth of it."""
+    needs("rt", "valgrind", "gcc")
+    ours, peer, rows = built(room, "parses.rattle", "descriptor_parse"), peer_parser(room), []
+    for length, digits in TEXTS.items():
+        counts = [instructions(room, [ours], bytes([times]) + bytes.fromhex(digits)) for times in (11, 1)]
+        in_c = [instructions(room, [peer, str(times)], digits.encode()) for times in (11, 1)]
+        rows.append(Row("parse", f"parse of {length} bytes", *(round((many - one) / 10) for many, one in (counts, in_c))))
+    return rows
+
+
+SECTIONS = {"rattle": keyboard, "scripts": scripts, "parse": parses}

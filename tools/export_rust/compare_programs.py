@@ -1,0 +1,117 @@
+"""Compares two programs `kbsim` over scripts, report descriptors and command lines that are made from numbers.
+
+Standard output, the exit status and what stands on standard error are compared. The first that differs is shown with the command
+that repeats it, and the status is 1. Each kind is counted by what comes of it.
+"""
+
+import argparse
+import collections
+import concurrent.futures
+import os
+import shlex
+import subprocess
+import sys
+import tempfile
+
+sys.dont_write_bytecode = True
+
+from command_lines import command_line
+from scripts import Script, Whole, script
+from texts import text
+
+
+def of_script(number):
+    """The words and the input of a script's run: every second script is of all lines, the others as drivers send them."""
+    pages, lines = script(number, Whole if number % 2 else Script)
+    return ["run", "--pages", str(pages)], lines.encode()
+
+
+def of_text(number):
+    """Those of a report descriptor: as fields, or every third one as items."""
+    return ["parse", "--items"] if number % 3 == 2 else ["parse"], text(number).encode()
+
+
+def of_words(number):
+    """Those of a command line, which reads an empty input."""
+    return command_line(number), b""
+
+
+KINDS = {"scripts": of_script, "texts": of_text, "words": of_words}
+
+
+def run(program, words, given):
+    """What a program answers, in a folder of its own: its status, what it prints, and what it says."""
+    with tempfile.TemporaryDirectory() as folder:
+        ran = subprocess.run([program, *words], input=given, capture_output=True, cwd=folder, timeout=300)
+    return ran.returncode, ran.stdout, ran.stderr
+
+
+def outcome(kind, words, answer):
+    """What a run is counted as."""
+    status, printed, said = answer
+    last = (printed.decode(errors="replace").splitlines() or [""])[-1]
+    if kind == "words":
+        return f"status {status}" + (f" {said.decode(errors='replace').split(chr(39))[0].strip()}" if status == 2 else "")
+    if last.startswith("fault"):
+        return last.rsplit(" at ", 1)[0] if kind == "texts" else "fault " + last.rsplit(": ", 1)[-1].removeprefix("fault ")
+    return "done"
+
+
+def difference(kind, number, one, other):
+    """Why two answers are not the same, in words."""
+    words, _ = KINDS[kind](number)
+    told = f"{kind} {number}: kbsim {shlex.join(words)}\n"
+    for name, first, second in zip(("status", "standard output", "standard error"), one, other):
+        if first == second:
+            continue
+        if isinstance(first, int):
+            return f"{told}{name}: {first}, and {second}"
+        lines = zip(first.split(b"\n") + [b"nothing"], second.split(b"\n") + [b"nothing"])
+        at, (line, changed) = next((at, pair) for at, pair in enumerate(lines, 1) if pair[0] != pair[1])
+        return f"{told}{name}, line {at}: {line.decode(errors='replace')}\nand:  {changed.decode(errors='replace')}"
+    return ""
+
+
+def compare(kind, number, programs):
+    """What is to be counted of a run, and why the two programs differ, if they do."""
+    words, given = KINDS[kind](number)
+    one, other = (run(program, words, given) for program in programs)
+    return outcome(kind, words, one), difference(kind, number, one, other)
+
+
+def show(kind, number):
+    """Prints the words and the input of a run."""
+    words, given = KINDS[kind](number)
+    print(shlex.join(words))
+    sys.stdout.buffer.write(given)
+
+
+def main():
+    words = argparse.ArgumentParser(prog="compare_programs.py", description=__doc__, formatter_class=argparse.RawDescriptionHelpFormatter)
+    words.add_argument("programs", nargs="*", metavar="PROGRAM", help="the two programs")
+    for kind in KINDS:
+        words.add_argument(f"--{kind}", metavar="COUNT", type=int, default=0, help=f"how many {kind} are compared")
+    words.add_argument("--show", nargs=2, metavar=("KIND", "NUMBER"), help="prints one run's words and input, and compares nothing")
+    given = words.parse_args()
+    if given.show:
+        show(given.show[0], int(given.show[1]))
+        return 0
+    if len(given.programs) != 2:
+        words.error("two programs are to be named")
+    programs = [os.path.abspath(program) for program in given.programs]
+    with concurrent.futures.ThreadPoolExecutor(os.cpu_count()) as pool:
+        for kind in KINDS:
+            count, found = getattr(given, kind), collections.Counter()
+            for counted, why in pool.map(lambda number: compare(kind, number, programs), range(count)):
+                if why:
+                    print(f"{why}\nits input: {os.path.relpath(__file__)} --show {why.split(':')[0]}")
+                    pool.shutdown(cancel_futures=True)
+                    return 1
+                found[counted] += 1
+            if count:
+                print(f"{count} {kind}, none differs: " + ", ".join(f"{n} {what}" for what, n in sorted(found.items())))
+    return 0
+
+
+if __name__ == "__main__":
+    sys.exit(main())

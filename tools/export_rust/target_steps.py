@@ -1,0 +1,115 @@
+"""Steps of bin/export-test: other targets than this machine's."""
+
+import os
+import shutil
+
+import crate_steps
+from room import DEBIAN_RUSTC, HERE, Failed, Skipped, debian_sources, say
+from debian_crates import REGISTRY, home
+
+BARE = ("thumbv7em-none-eabi", "thumbv6m-none-eabi", "riscv32imc-unknown-none-elf")
+NARROW = "i686-unknown-linux-gnu"
+
+# What to install where a library can't be made.
+SOURCES = "Debian: rustc-web and rust-web-src, of 1.96; the sources of 1.85 have no compiler_builtins"
+
+# A firmware is no smaller than this, in bytes of text.
+LEAST_TEXT = 10_000
+
+
+def has_library(room, name, target):
+    """Whether the rustc on the PATH has a library for a target."""
+    found = f"{room.run(['rustc', '--print', 'sysroot']).decode().strip()}/lib/rustlib/{target}/lib"
+    return os.path.isdir(found) and any(file.startswith(f"lib{name}-") for file in os.listdir(found))
+
+
+def bare(room, _):
+    """Builds the firmware for chips, which is not to be empty. Where rustc has no core for a target it is built first."""
+    if not shutil.which("ld.lld") or not shutil.which("size"):
+        raise Skipped("there is no ld.lld or no size (Debian: lld, binutils)")
+    folder = crate_steps.example(room, "firmware")
+    lacking = []
+    for target in BARE:
+        more = {}
+        if not has_library(room, "core", target):
+            if not debian_sources():
+                lacking.append(target)
+                continue
+            sysroot = room.path("sysroot")
+            room.run([f"{HERE}/make_core.sh", DEBIAN_RUSTC, debian_sources(), target, sysroot])
+            more = {"RUSTC": DEBIAN_RUSTC, "RUSTFLAGS": f"-D warnings --sysroot {sysroot}"}
+        linker = f"CARGO_TARGET_{target.upper().replace('-', '_')}_LINKER"
+        more[linker] = shutil.which("rust-lld") or shutil.which("ld.lld")
+        room.cargo("build", "--release", "--target", target, cwd=folder, **more)
+        told = room.run(["size", room.program("firmware", target)]).decode().split("\n")[1]
+        text = int(told.split()[0])
+        if text < LEAST_TEXT:
+            raise Failed(f"the firmware for {target} has {text} bytes of text, which is no firmware")
+        say(f"examples/firmware builds for {target}, {text} bytes of text")
+    if lacking:
+        raise Skipped(f"{', '.join(lacking)}, which this rustc has no core for ({SOURCES})")
+
+
+# Each build for 32 bits has one profile, so that std is built once, with overflow checks.
+NARROW_PROFILE = {"CARGO_PROFILE_RELEASE_OPT_LEVEL": "1", "CARGO_PROFILE_RELEASE_OVERFLOW_CHECKS": "true", "RUSTFLAGS": ""}
+
+
+def narrow(room):
+    """How cargo builds for 32 bits: its words and variables."""
+    words = ["--release", "--target", NARROW]
+    if has_library(room, "std", NARROW):
+        return words, NARROW_PROFILE
+    sources = debian_sources()
+    if not sources or not os.path.isdir(f"{sources}/vendor"):
+        raise Skipped(f"this rustc has no std for {NARROW} ({SOURCES})")
+    if not links_narrow(room):
+        raise Skipped("gcc links no programs of 32 bits (Debian: gcc-multilib)")
+    crates = home_with(room, f"{sources}/vendor")
+    return ["-Zbuild-std", *words], {"RUSTC": DEBIAN_RUSTC, "RUSTC_BOOTSTRAP": "1", **crates, **NARROW_PROFILE}
+
+
+def links_narrow(room):
+    """Whether gcc links programs of 32 bits."""
+    with open(room.path("probe.c"), "w", encoding="utf-8") as file:
+        file.write("int main(void) { return 0; }\n")
+    try:
+        room.run(["gcc", "-m32", room.path("probe.c"), "-o", room.path("probe")])
+    except (Failed, FileNotFoundError):
+        return False
+    return True
+
+
+def home_with(room, vendor):
+    """A home for cargo that takes crates from Debian's registry and from those that lie beside std's source."""
+    crates = room.path("crates")
+    os.makedirs(crates, exist_ok=True)
+    for folder in (REGISTRY, vendor):
+        for name in os.listdir(folder):
+            if not os.path.lexists(f"{crates}/{name}"):
+                os.symlink(f"{folder}/{name}", f"{crates}/{name}")
+    return home(room.path("cargo-narrow"), crates)
+
+
+def machines(room):
+    """The ways to build for release: for this machine, and for one of 32 bits where that can be. Each is a name, the words and
+    variables of cargo, and the target."""
+    yield "this machine", ["--release"], {}, ""
+    try:
+        words, more = narrow(room)
+        yield NARROW, words, more, NARROW
+    except Skipped as lacks:
+        say(f"skipped: {NARROW}: {lacks}")
+
+
+def narrow_tests(room, _):
+    """Runs the exported unit tests and those of the crates on a machine of 32 bits, with overflow checks."""
+    words, more = narrow(room)
+    room.tests(*words, "--lib", cwd=crate_steps.with_tests(room), name=f"{NARROW}, the exported unit tests", **more)
+    sim = ["--features", "sim", "-p", "wuzhikar", "-p", "wuzhikar-log"]
+    room.tests(*words, "--lib", *sim, name=f"{NARROW}, wuzhikar and wuzhikar-log", **more)
+
+
+STEPS = {
+    "bare targets": bare,
+    "32 bits": narrow_tests,
+}

@@ -1,0 +1,32 @@
+"""The lists: what a stock Linux is asked about the keyboard, and what it is to say."""
+
+import difflib
+
+EVERY = ["typing", "keymap", "keymap_file", "cuts", "requests", "boot"]
+ALONE = ["asleep"]
+
+
+def expected(text, size):
+    """The lines that Linux is to say where a list is followed, for packets of this size: all but comments and empty lines. SIZE
+    stands for the size, as sysfs has it."""
+    lines = [line for line in text.replace("SIZE", f"{size:04x}").splitlines() if line and not line.startswith("#")]
+    return lines
+
+
+def sections(said):
+    """What was said of each list and serial number, in order, and the times of the guest, by the lines that begin with ---."""
+    found, times, lines = {}, {}, None
+    for line in said.splitlines():
+        words = line.split()
+        if words[:1] == ["---"] and len(words) == 4 and words[2] == "on":
+            lines = found.setdefault((words[1], words[3]), [])
+        elif words[:1] == ["---"] and len(words) == 3:
+            times[words[1]], lines = float(words[2]), None
+        elif lines is not None:
+            lines.append(line)
+    return found, times
+
+
+def differences(wanted, said):
+    """The lines in which two texts differ, with some before them."""
+    return list(difflib.unified_diff(wanted, said, "what it should say", "what Linux says", lineterm="", n=3))

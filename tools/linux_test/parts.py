@@ -1,0 +1,100 @@
+"""What a test needs of the machine: programs, a Linux, and what is built of the repository."""
+
+import fcntl
+import glob
+import os
+import shutil
+import subprocess
+import sys
+
+ROOT = os.path.dirname(os.path.dirname(os.path.dirname(os.path.abspath(__file__))))
+sys.path.insert(0, f"{ROOT}/tools")
+
+from debian_crates import environment, lacking  # noqa: E402
+
+# Programs, and Debian's packages of them.
+PROGRAMS = {
+    "rustc": "rustc", "cargo": "cargo", "cc": "gcc", "qemu-system-x86_64": "qemu-system-x86", "modprobe": "kmod", "depmod": "kmod",
+    "busybox": "busybox-static",
+}
+OVMF = "/usr/share/ovmf/OVMF.fd"
+# The crates of examples/keymap, and their packages.
+KEYMAP = (["arrayvec", "serde_json", "serde_derive"], "librust-serde-json-dev librust-serde-derive-dev")
+
+
+class Missing(Exception):
+    """Something is not installed: what, and what it is of Debian's."""
+
+
+def need_programs():
+    """Looks for the programs. Those of the administrator may not be on the PATH."""
+    os.environ["PATH"] += ":/usr/sbin:/sbin"
+    for name, package in PROGRAMS.items():
+        if not shutil.which(name):
+            raise Missing(f"no {name} (Debian: {package})")
+
+
+def linux():
+    """A folder with boot/vmlinuz-RELEASE and lib/modules/RELEASE, and the release. Debian's is fetched into a cache where it is not
+    there yet; nothing is installed."""
+    tree = os.environ.get("LINUX")
+    if tree and not glob.glob(f"{tree}/boot/vmlinuz-*"):
+        raise Missing(f"no boot/vmlinuz-* in {tree}")
+    if not tree:
+        cache = os.environ.get("CACHE") or os.path.join(os.environ.get("XDG_CACHE_HOME") or os.path.expanduser("~/.cache"), "wuzhikar")
+        tree = f"{cache}/linux"
+        os.makedirs(cache, exist_ok=True)
+        with open(f"{cache}/lock", "w") as lock:
+            fcntl.flock(lock, fcntl.LOCK_EX)
+            if not glob.glob(f"{tree}/boot/vmlinuz-*"):
+                fetch(cache, tree)
+    release = sorted(glob.glob(f"{tree}/boot/vmlinuz-*"))[-1].split("/vmlinuz-")[1]
+    if not os.path.isdir(f"{tree}/lib/modules/{release}"):
+        raise Missing(f"no lib/modules/{release} in {tree}")
+    return tree, release
+
+
+def fetch(cache, tree):
+    """Fetches Debian's kernel, and unpacks it."""
+    for program in ("apt-cache", "apt-get", "dpkg-deb"):
+        if not shutil.which(program):
+            raise Missing(f"no {program}, so Debian's kernel can't be fetched: LINUX may name a folder with boot/vmlinuz-*, lib/modules")
+    told = subprocess.run(["apt-cache", "depends", "linux-image-amd64"], stdout=subprocess.PIPE, stderr=subprocess.DEVNULL, text=True)
+    names = [line.split()[1] for line in told.stdout.splitlines() if line.strip().startswith("Depends: linux-image-")]
+    if not names:
+        raise Missing("apt-cache knows no linux-image-amd64: apt-get update")
+    part = f"{cache}/part"
+    shutil.rmtree(part, ignore_errors=True)
+    os.makedirs(part)
+    got = subprocess.run(["apt-get", "download", names[0]], cwd=part, stdout=subprocess.PIPE, stderr=subprocess.STDOUT, text=True)
+    packages = glob.glob(f"{part}/*.deb")
+    if got.returncode != 0 or not packages:
+        raise Missing(f"apt-get download {names[0]} failed: {got.stdout.strip().splitlines()[-1:]}")
+    subprocess.run(["dpkg-deb", "-x", packages[0], f"{part}/linux"], check=True)
+    os.rename(f"{part}/linux", tree)
+    shutil.rmtree(part)
+
+
+def are_there(crates):
+    """Whether cargo can have these crates: of Debian's packages, or from where it takes them."""
+    return not lacking(*crates)
+
+
+def build(work):
+    """Builds the programs of the guest, which need no library of it: their paths by name. Without its crates keymap is not among
+    them."""
+    host = subprocess.run(["rustc", "-vV"], check=True, stdout=subprocess.PIPE, text=True).stdout
+    target = next(line.split()[1] for line in host.splitlines() if line.startswith("host: "))
+    built = os.environ.get("CARGO_TARGET_DIR") or f"{ROOT}/examples/real_host/target"
+    names = {"real_host": ["arrayvec"]}
+    if not are_there(names["real_host"]):
+        raise Missing("no crate arrayvec (Debian: librust-arrayvec-dev)")
+    if are_there(KEYMAP[0]):
+        names["keymap"] = KEYMAP[0]
+    for name, crates in names.items():
+        variables = {**environment(f"{work}/{name}", *crates), "RUSTFLAGS": "-D warnings -C target-feature=+crt-static"}
+        command = ["cargo", "build", "-q", "--release", "--target", target, "--target-dir", built]
+        subprocess.run(command, cwd=f"{ROOT}/examples/{name}", env=variables, check=True)
+    linux_host = [f"{work}/host", f"{ROOT}/examples/real_host/linux/host.c"]
+    subprocess.run(["cc", "-std=c11", "-D_DEFAULT_SOURCE", "-O1", "-static", "-Wall", "-Wextra", "-Werror", "-o", *linux_host], check=True)
+    return {"host": f"{work}/host", **{name: f"{built}/{target}/release/{name}" for name in names}}

@@ -1,0 +1,1 @@
+"""How web/wuzhikar.html is made."""

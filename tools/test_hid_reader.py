@@ -1,0 +1,171 @@
+"""Tests of examples/hid_reader, the reader from C. They need cargo, rustc and gcc, and valgrind where it is there.
+
+The programs in C are built with AddressSanitizer and UBSan, and once more without for valgrind, which sees what the library
+does too. Fields are compared with those that the program prints that the variable KBSIM names, or else bin/kbsim.
+"""
+
+import os
+import random
+import re
+import shutil
+import subprocess
+import tempfile
+import unittest
+
+from debian_crates import environment
+from test_kbsim import KBSIM, ROOT, read_cases
+
+EXAMPLE = f"{ROOT}/examples/hid_reader"
+WARNINGS = ["-std=c11", "-D_DEFAULT_SOURCE", "-Wall", "-Wextra", "-Wpedantic", "-Werror", "-g", "-O1", "-pthread"]
+SANITIZERS = ["-fsanitize=address,undefined", "-fno-sanitize-recover=all"]
+# Requests for memory go through the test.
+WRAPPED = ["-Wl," + ",".join(f"--wrap={name}" for name in ("malloc", "calloc", "realloc", "posix_memalign"))]
+VALGRIND = ["valgrind", "-q", "--error-exitcode=9", "--leak-check=full", "--show-leak-kinds=all", "--errors-for-leak-kinds=all"]
+ROUNDS, SEEDS = 100_000, 3
+SEED = 1
+
+
+def texts_of_rows():
+    """The texts of tests/descriptors that are hex, each once, as bytes."""
+    with open(f"{ROOT}/examples/media_keys.hex") as file:
+        found = {bytes.fromhex(file.read()): None}
+    for name in ("fields", "faults", "items", "item_faults"):
+        for cases in read_cases(f"{ROOT}/tests/descriptors/{name}.rows").values():
+            for case in cases:
+                try:
+                    found[bytes.fromhex("".join(case.given.decode("ascii").split()))] = None
+                except ValueError:
+                    pass
+    return list(found)
+
+
+def changed(text, chance):
+    """A text with some bytes changed, left out or put in."""
+    bytes_of = bytearray(text)
+    for _ in range(chance.randrange(1, 4)):
+        place = chance.randrange(len(bytes_of) + 1)
+        bytes_of[place : place + chance.randrange(2)] = chance.randbytes(chance.randrange(3))
+    return bytes(bytes_of)
+
+
+class HidReader(unittest.TestCase):
+    """The library, its demo, and its tests in C."""
+
+    @classmethod
+    def setUpClass(cls):
+        folder = tempfile.TemporaryDirectory()
+        cls.addClassCleanup(folder.cleanup)
+        cls.work = folder.name
+        cls.environment = {
+            **environment(cls.work, "arrayvec"),
+            "CARGO_TARGET_DIR": f"{cls.work}/target",
+            "RUSTFLAGS": "-D warnings",
+        }
+        # A copy, so that nothing is written into the repository.
+        for path in ("examples/hid_reader", "rust"):
+            shutil.copytree(f"{ROOT}/{path}", f"{cls.work}/{path}", ignore=shutil.ignore_patterns("target", "Cargo.lock"))
+        cls.example = f"{cls.work}/examples/hid_reader"
+        cls.cargo("build", "-q", "--release")
+        cls.release = f"{cls.work}/target/release"
+        cls.texts = texts_of_rows()
+        cls.files = []
+        for number, text in enumerate(sorted(cls.texts, key=len)[-24:]):
+            cls.files.append(f"{cls.work}/text{number}")
+            with open(cls.files[-1], "wb") as file:
+                file.write(text)
+
+    @classmethod
+    def cargo(cls, *words):
+        """Runs cargo, whose words are shown where it fails."""
+        ran = subprocess.run(
+            ["cargo", *words], cwd=cls.example, env=cls.environment, stdout=subprocess.PIPE, stderr=subprocess.STDOUT, text=True
+        )
+        if ran.returncode != 0:
+            raise AssertionError(f"cargo {' '.join(words)}\n{ran.stdout}")
+
+    @classmethod
+    def built(cls, source, *options, library="libhid_reader.a"):
+        """The path of a program in C, built with these options."""
+        program = f"{cls.work}/program"
+        source = f"{cls.example}/{source}"
+        subprocess.run(["gcc", *WARNINGS, *options, source, f"{cls.release}/{library}", "-o", program], check=True)
+        return program
+
+    def says(self, said, *command, **given):
+        """Runs a program, which has to end well, without a word of a sanitizer, and to print this."""
+        ran = subprocess.run(command, stdout=subprocess.PIPE, stderr=subprocess.PIPE, text=True, **given)
+        self.assertEqual((ran.returncode, ran.stdout), (0, said), f"{command}\n{ran.stderr}")
+        self.assertNotRegex(ran.stderr, "ERROR|runtime error")
+
+    def both(self, source, said, words=(), fewer=(), options=()):
+        """A program of tests/ with the sanitizers, and then, on fewer rounds, under valgrind."""
+        self.says(said, self.built(source, *SANITIZERS, *options), *words)
+        with self.subTest("valgrind"):
+            if not shutil.which("valgrind"):
+                self.skipTest("valgrind is not there (Debian: valgrind)")
+            self.says(said, *VALGRIND, self.built(source, *options), *fewer)
+
+    def test_the_parts_in_rust(self):
+        self.cargo("test", "-q")
+        for part, words in {"clippy": ["-q", "--all-targets", "--", "-D", "warnings"], "fmt": ["--check"]}.items():
+            with self.subTest(part):
+                if not shutil.which(f"cargo-{part}"):
+                    self.skipTest(f"cargo {part} is not there")
+                self.cargo(part, *words)
+
+    def test_the_demo(self):
+        with open(f"{EXAMPLE}/expected") as file:
+            expected = file.read()
+        self.both("demo.c", expected)
+        shared = self.built("demo.c", *SANITIZERS, library="libhid_reader.so")
+        self.says(expected, shared, env={**os.environ, "LD_LIBRARY_PATH": self.release})
+
+    def test_each_refusal_touches_nothing(self):
+        self.both("tests/refusals.c", "each refusal by its own status, and nothing was touched\n")
+
+    def test_each_request_for_memory_is_refused_in_turn(self):
+        said = "each request refused in turn: 6 of a text, 6 in pieces, 3 of readings\n"
+        self.both("tests/memory.c", said, options=WRAPPED)
+
+    def test_threads(self):
+        self.both("tests/threads.c", "8 threads: each reading is right, or its handle was closed\n", ["20000"], ["200"])
+
+    def test_calls_at_random(self):
+        said = "calls at random: each answered as it has to be\n"
+        self.both("tests/fuzz.c", said, [str(ROUNDS), "0", *self.files], ["4000", "1", *self.files])
+        program = self.built("tests/fuzz.c", *SANITIZERS)
+        for seed in range(1, SEEDS):
+            self.says(said, program, str(ROUNDS), str(seed), *self.files)
+
+    def test_fields_are_those_of_kbsim(self):
+        program = self.built("tests/lines.c", *SANITIZERS)
+        chance = random.Random(SEED)
+        texts = [*self.texts, bytes(4096), bytes(4097), *(changed(chance.choice(self.texts), chance) for _ in range(200))]
+        faults = 0
+        for text in texts:
+            wanted = subprocess.run([*KBSIM, "parse"], input=text.hex().encode(), stdout=subprocess.PIPE, stderr=subprocess.DEVNULL)
+            faults += wanted.returncode
+            pieces = [str(piece) for piece in (0, 1, chance.randrange(2, 80))]
+            told = subprocess.run([program, *pieces], input=text, stdout=subprocess.PIPE)
+            three = (wanted.returncode, wanted.stdout * len(pieces))
+            self.assertEqual((told.returncode, told.stdout), three, f"{text.hex()} in pieces of {pieces}")
+        self.assertTrue(50 < faults < len(texts) - 50, f"{faults} of {len(texts)} texts are refused")
+
+    def test_the_names_that_are_seen_are_those_of_the_header(self):
+        with open(f"{EXAMPLE}/hid_reader.h") as file:
+            declared = set(re.findall(r"^[a-z][\w ]*?[ *](hidr_\w+)\(", file.read(), re.M))
+        listed = subprocess.run(
+            ["nm", "-D", "--defined-only", f"{self.release}/libhid_reader.so"], stdout=subprocess.PIPE, check=True, text=True
+        ).stdout
+        self.assertEqual({line.split()[-1] for line in listed.splitlines()}, declared)
+        self.assertEqual(len(declared), 15)
+
+    def test_the_header_in_cpp(self):
+        if not shutil.which("g++"):
+            self.skipTest("g++ is not there (Debian: g++)")
+        words = ["-Wall", "-Wextra", "-Wpedantic", "-Werror", "-fsyntax-only", "-x", "c++", f"{EXAMPLE}/hid_reader.h"]
+        subprocess.run(["g++", *words], check=True)
+
+
+if __name__ == "__main__":
+    unittest.main()

@@ -1,0 +1,290 @@
+"""Runs the tests of the crate wuzhikar-hid, and compares it with tests/reader/plain.py over real and mutated descriptors: what
+they declare, what reports of them say, and what is written. Ends with the number of differences.
+"""
+
+import argparse
+import json
+import pathlib
+import random
+import re
+import subprocess
+import sys
+import tempfile
+
+from debian_crates import environment, lacking
+from test_kbsim import read_cases
+
+ROOT = pathlib.Path(__file__).resolve().parent.parent
+sys.path.insert(0, str(ROOT / "tests/reader"))
+import plain  # noqa: E402
+
+KINDS = (plain.INPUT, plain.OUTPUT, plain.FEATURE)
+READ = {"empty": "Empty", "unknown": "UnknownReport", "short": "Short"}
+PHYSICAL = {"equal": "EqualLimits", "inverted": "InvertedLimits"}
+
+
+def real():
+    """The repository's descriptors: those of the rows and of the examples, each once."""
+    found = {(ROOT / "examples/media_keys.hex").read_text(): None}
+    for file in sorted(ROOT.glob("examples/hid_driver/*.hex")):
+        found[file.read_text()] = None
+    for name in ("real", "fields", "faults", "items", "item_faults"):
+        for cases in read_cases(f"{ROOT}/tests/descriptors/{name}.rows").values():
+            found.update((case.given.decode("latin-1"), None) for case in cases)
+    texts = {}
+    for text in found:
+        try:
+            texts[bytes.fromhex("".join(text.split()))] = None
+        except ValueError:
+            pass
+    return [text for text in texts if text]
+
+
+class Maker:
+    """Texts that look random, the same in each run."""
+
+    def __init__(self, seed, texts):
+        self.random, self.texts = random.Random(seed), texts
+
+    def mutated(self):
+        """A descriptor with some items changed, doubled, left out or put in."""
+        pieces = self.pieces(self.random.choice(self.texts))
+        for _ in range(self.random.randint(1, 4)):
+            at = self.random.randrange(len(pieces) + 1)
+            act = self.random.randrange(5)
+            if act == 0 and pieces:
+                del pieces[at % len(pieces)]
+            elif act == 1 and pieces:
+                pieces.insert(at, self.random.choice(pieces))
+            elif act == 2:
+                pieces.insert(at, self.item())
+            elif pieces:
+                pieces[at % len(pieces)] = self.changed(pieces[at % len(pieces)])
+        return b"".join(pieces)
+
+    @staticmethod
+    def pieces(text):
+        """The bytes of each item."""
+        starts = [offset for offset, _, _ in plain.items(text)] + [len(text)]
+        return [text[first:last] for first, last in zip(starts, starts[1:])]
+
+    def changed(self, item):
+        """An item with a byte changed; mostly one of its data."""
+        at = self.random.randrange(len(item)) if self.random.random() < 0.1 else len(item) - 1
+        value = self.random.choice((0, 1, 2, 0x7F, 0x80, 0xFF, self.random.randrange(256)))
+        return item[:at] + bytes([value]) + item[at + 1:]
+
+    def item(self):
+        """A short item that might stand anywhere."""
+        code = self.random.choice((0x04, 0x14, 0x24, 0x34, 0x44, 0x54, 0x64, 0x74, 0x94, 0x08, 0xA4, 0xB4, 0x80, 0x90, 0xB0, 0xA0, 0xC0))
+        size = self.random.randrange(4)
+        data = self.random.randbytes((0, 1, 2, 4)[size])
+        if code in (0x74, 0x94):
+            size, data = 1, bytes([self.random.randrange(1, 12)])
+        if code in (0x80, 0x90, 0xB0):
+            size, data = 1, bytes([self.random.choice((0, 1, 2, 3, 6, 0x42, 0x40, 0x46))])
+        return bytes([code | size]) + data
+
+    def report(self, descriptor):
+        """A report of a descriptor, or nearly one."""
+        kind, number = self.a_report(descriptor)
+        length = descriptor.length(kind, number) or 1
+        if self.random.random() < 0.05:
+            length = max(0, length + self.random.choice((-1, 1, 3)))
+        fill = self.random.choice((0, 0xFF, None, None))
+        body = self.random.randbytes(length) if fill is None else bytes([fill]) * length
+        return kind, number, (bytes([number]) + body[1:] if descriptor.uses_ids and body else body)
+
+    def a_report(self, descriptor):
+        """A kind and an ID."""
+        known = [(item.kind, item.id) for item in descriptor.declared]
+        if known and self.random.random() < 0.97:
+            return self.random.choice(known)
+        return self.random.choice(KINDS), self.random.randrange(4)
+
+    def setting(self, descriptor, kind, number):
+        """A control of a report, and what it is set to."""
+        fields = [(at, item) for at, item in enumerate(descriptor.fields) if (item.kind, item.id) == (kind, number)]
+        if not fields:
+            return ("field", 0, 0), 0
+        at, item = self.random.choice(fields)
+        usage = item.usage(self.random.randrange(max(min(item.listed, item.count + 8), 1)))
+        wanted = self.random.choice((item.least, item.greatest, 0, 1, item.greatest + 1, item.least - 1,
+                                     self.random.randint(min(item.least, item.greatest), max(item.least, item.greatest)), None))
+        if usage is None or self.random.random() < 0.4:
+            return ("field", at, self.random.randrange(item.count + 1)), wanted
+        asked = self.random.choice((0, 1, 1, 1, 2, None)) if item.array else wanted
+        return ("usage", usage, self.random.choice((0, 0, 0, 1, 2))), asked
+
+
+def sound(text):
+    """Whether a descriptor has no fault."""
+    try:
+        return bool(plain.parse(text))
+    except plain.Refused:
+        return False
+
+
+def told(descriptor):
+    """What is told of a descriptor."""
+    shown = [["-" if number is None else number for number in collection] for collection in descriptor.collections]
+    line = "".join(f"collection {' '.join(map(str, numbers))};" for numbers in shown)
+    for item in descriptor.declared:
+        applications = [place for place in item.around if descriptor.collections[place][1] == 1]
+        numbers = (item.offset, item.kind, item.flags, item.id, item.bit, item.size, item.count, item.least, item.greatest,
+                   *item.physical_extents, item.unit, item.exponent, ",".join(map(str, item.around)),
+                   applications[-1] if applications else "-")
+        line += " ".join(map(str, numbers)) + ";"
+    return line
+
+
+def told_values(descriptor, kind, report):
+    """What is told of a report."""
+    values = plain.read(descriptor, kind, report)
+    if isinstance(values, str):
+        return READ[values]
+    line = ""
+    for place_of_field, place, usage, value, within in values:
+        fraction = plain.physical(descriptor.fields[place_of_field], value)
+        fraction = PHYSICAL[fraction] if isinstance(fraction, str) else f"{fraction.numerator}/{fraction.denominator}"
+        line += f"{place_of_field} {place} {'-' if usage is None else usage} {value} {within} {fraction};"
+    return line
+
+
+def told_written(descriptor, kind, number, settings, onto):
+    """What is told of a report that is written."""
+    try:
+        return plain.write(descriptor, kind, number, settings, onto).hex()
+    except plain.NotWritten as why:
+        return " ".join(map(str, why.args))
+
+
+class Case:
+    """Lines for the crate, and what it is to answer."""
+
+    def __init__(self):
+        self.asked, self.wanted = [], []
+
+    def ask(self, line, wanted):
+        self.asked.append(line)
+        self.wanted.append(wanted)
+
+    def add(self, maker, text, reports):
+        """A descriptor, reports of it, and writes."""
+        try:
+            descriptor = plain.parse(text)
+        except plain.Refused as fault:
+            self.ask(f"D {text.hex()}", f"fault {fault.number} {fault.offset}")
+            return False
+        self.ask(f"D {text.hex()}", told(descriptor))
+        for _ in range(reports):
+            kind, number, report = maker.report(descriptor)
+            self.ask(f"R {kind} {report.hex()}", told_values(descriptor, kind, report))
+            settings = [maker.setting(descriptor, kind, number) for _ in range(maker.random.randint(0, 4))]
+            onto = report if maker.random.random() < 0.5 else None
+            words = [f"{':'.join(map(str, target))}={'null' if value is None else value}" for target, value in settings]
+            given = "-" if onto is None else f"{onto.hex()}."
+            self.ask(" ".join(["W", kind, str(number), given, *words]), told_written(descriptor, kind, number, settings, onto))
+        return True
+
+
+def program(work):
+    """Runs the tests of the crate, and builds the program that asks it."""
+    folder = ROOT / "tests/reader/tell"
+    made = {**environment(work, "arrayvec"), "CARGO_TARGET_DIR": f"{work}/target"}
+    subprocess.run(["cargo", "test", "--quiet"], cwd=ROOT / "rust/wuzhikar-hid", env=made, check=True, stdout=subprocess.DEVNULL)
+    subprocess.run(["cargo", "build", "--release", "--quiet"], cwd=folder, env=made, check=True)
+    return f"{work}/target/release/tell"
+
+
+class Shown:
+    """The commands of docs/USING_READER.md, which begin with `$`, and what they print."""
+
+    def __init__(self, work):
+        kept = {**environment(work, "serde_json"), "CARGO_TARGET_DIR": f"{work}/target"}
+        subprocess.run(["cargo", "build", "--release", "--quiet"], cwd=ROOT / "rust/kbsim-read", env=kept, check=True)
+        self.program = f"{work}/target/release/kbsim-read"
+
+    def ran(self, command):
+        """What a command prints."""
+        command = command.replace("bin/kbsim", self.program)
+        return subprocess.run(["bash", "-c", command], cwd=ROOT, capture_output=True, text=True).stdout
+
+    def wrong(self):
+        """The commands that print something else, with what they print."""
+        blocks = re.findall(r"^```console\n(.*?)^```$", (ROOT / "docs/USING_READER.md").read_text(), re.M | re.S)
+        found = []
+        for part in "".join(blocks).split("$ ")[1:]:
+            command, _, wanted = part.partition("\n")
+            found += [(command, wanted, told)] if (told := self.ran(command)) != wanted else []
+        assert blocks, "docs/USING_READER.md shows no command"
+        return found
+
+    def wrong_values(self, texts):
+        """Descriptors and reports of which the objects of JSON say something else."""
+        found = []
+        for text in texts:
+            told = json.loads(self.ran(f"echo {text.hex()} | bin/kbsim parse --json"))
+            descriptor = plain.parse(text)
+            numbers = [[item.offset, item.bit, item.size, item.count, item.least, item.greatest, *item.physical_extents, item.exponent]
+                       for item in descriptor.declared]
+            shown = [[field["offset"], field["bit"], field["size"], field["count"], *field["logical"], *field["physical"],
+                      field["unit"]["exponent"]] for field in told["fields"]]
+            found += [(text.hex(), numbers, shown)] if (told["version"], shown) != (1, numbers) else []
+        return found
+
+    def goes_on(self):
+        """Whether a report is told before the next one comes."""
+        words = [self.program, "read", str(ROOT / "examples/hid_driver/mouse.hex")]
+        with subprocess.Popen(words, stdin=subprocess.PIPE, stdout=subprocess.PIPE, text=True) as program:
+            for _ in range(3):
+                program.stdin.write("00000000\n")
+                program.stdin.flush()
+                if not program.stdout.readline().startswith("0 "):
+                    return False
+            program.stdin.close()
+        return True
+
+
+def commands(work, texts):
+    """Compares the commands: whether all is as it should be, as far as their program can be built."""
+    if lacking("serde_json"):
+        print(f"skipped: the commands of rust/kbsim-read: {lacking('serde_json')}")
+        return True
+    shown = Shown(work)
+    wrong = shown.wrong() + shown.wrong_values(texts)
+    for command, wanted, told in wrong:
+        print(f"command {command}\nwanted  {wanted}\ntold    {told}")
+    if not shown.goes_on():
+        print("kbsim-read tells a report only when more come")
+        return False
+    return not wrong
+
+
+def main():
+    """Builds, compares, and ends with 1 where there is a difference."""
+    parser = argparse.ArgumentParser(description=__doc__)
+    parser.add_argument("--count", type=int, default=10_000, help="how many descriptors are mutated (10000)")
+    parser.add_argument("--seed", type=int, default=1)
+    parser.add_argument("--program", help="the program of tests/reader/tell, already built")
+    words = parser.parse_args()
+    texts, case = real(), Case()
+    maker = Maker(words.seed, texts)
+    taken = sum(case.add(maker, text, 20) for text in texts)
+    good = sum(case.add(maker, maker.mutated(), 2) for _ in range(words.count))
+    with tempfile.TemporaryDirectory() as work:
+        made = subprocess.run([words.program or program(work)], input="\n".join(case.asked) + "\n", capture_output=True,
+                              text=True, check=True)
+        fine = commands(work, [text for text in texts if sound(text)]) if words.program is None else True
+    answers = made.stdout.splitlines()
+    wrong = [trio for trio in zip(case.asked, case.wanted, answers) if trio[1] != trio[2]]
+    for asked, wanted, answer in wrong[:5]:
+        print(f"asked   {asked}\nwanted  {wanted}\nanswer  {answer}")
+    missing = len(case.asked) != len(answers)
+    print(f"{len(texts)} descriptors of the repository, {taken} of them sound; {words.count} mutated, {good} sound; "
+          f"{len(case.asked)} answers, {len(wrong)} differences{', and answers are missing' if missing else ''}")
+    return int(bool(wrong) or missing or not fine)
+
+
+if __name__ == "__main__":
+    sys.exit(main())

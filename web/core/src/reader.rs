@@ -1,0 +1,194 @@
+//! The reader: one report descriptor, its items, its fields, and the reports that are read by it.
+//!
+//! Numbers of several bytes stand in the buffer with the low byte first.
+
+use crate::memory::Kept;
+use crate::{BUFFER, Buffer, REFUSED, written};
+use wuzhikar_reader::{
+    BOOT_DESCRIPTOR, Descriptor, ExtractError, Found, GlobalTag, Items, Kind, LocalTag, MainTag, Tag, extract, parse, pressed,
+};
+
+static DESCRIPTOR: Kept<Option<Descriptor>> = Kept::new(None);
+
+fn with(act: impl FnOnce(&Descriptor, &mut Buffer) -> i32) -> i32 {
+    DESCRIPTOR.with(|descriptor| match descriptor {
+        Some(descriptor) => BUFFER.with(|buffer| act(descriptor, buffer)),
+        None => REFUSED,
+    })
+}
+
+/// Puts numbers into a record of the buffer.
+struct Record<'a>(&'a mut [u8]);
+
+impl Record<'_> {
+    /// The next number, as so many bytes.
+    fn put(&mut self, number: i64, bytes: usize) {
+        let (now, rest) = core::mem::take(&mut self.0).split_at_mut(bytes);
+        now.copy_from_slice(&number.to_le_bytes()[..bytes]);
+        self.0 = rest;
+    }
+}
+
+/// Reads the first `length` bytes of the buffer as a report descriptor (`parse`): 0, or the number of its first fault, 1 to
+/// 17, whose offset is then the first four bytes of the buffer. The instance holds the descriptor that was read.
+#[unsafe(no_mangle)]
+pub extern "C" fn descriptor(length: usize) -> i32 {
+    BUFFER.with(|buffer| {
+        let Some(text) = buffer.get(..length) else { return REFUSED };
+        match parse(text) {
+            Ok(read) => {
+                DESCRIPTOR.with(|descriptor| *descriptor = Some(read));
+                0
+            }
+            Err(error) => {
+                Record(buffer).put(error.offset as i64, 4);
+                error.fault.number().into()
+            }
+        }
+    })
+}
+
+/// Writes the report descriptor by which a computer reads boot reports. Its length.
+#[unsafe(no_mangle)]
+pub extern "C" fn boot_descriptor() -> i32 {
+    BUFFER.with(|buffer| written(&BOOT_DESCRIPTOR, buffer))
+}
+
+/// The item that begins at `from` in the first `length` bytes of the buffer, wherever that text stands: how many bytes it
+/// takes, times 256, and its tag as [`tag_number`] gives it. 0 where no whole item stands there.
+#[unsafe(no_mangle)]
+pub extern "C" fn item(from: usize, length: usize) -> i32 {
+    BUFFER.with(|buffer| {
+        let Some(text) = buffer.get(from..length) else { return REFUSED };
+        let mut items = Items::new(text);
+        let Some(Ok(item)) = items.next() else { return 0 };
+        let size = match items.next() {
+            Some(Ok(next)) => next.offset,
+            Some(Err(error)) => error.offset,
+            None => text.len(),
+        };
+        (size as i32) << 8 | tag_number(item.tag())
+    })
+}
+
+/// A number for each tag: 1 Input, 2 Output, 3 Feature, 4 Collection, 5 End Collection; 11 to 18 the Global items and 21 to
+/// 24 the Local ones, in the order of `docs/FORMATS.md`; 0 what is passed over.
+fn tag_number(tag: Tag) -> i32 {
+    match tag {
+        Tag::Main(MainTag::Data(kind)) => kind_number(kind),
+        Tag::Main(MainTag::Collection) => 4,
+        Tag::Main(MainTag::EndCollection) => 5,
+        Tag::Global(GlobalTag::UsagePage) => 11,
+        Tag::Global(GlobalTag::LogicalMinimum) => 12,
+        Tag::Global(GlobalTag::LogicalMaximum) => 13,
+        Tag::Global(GlobalTag::ReportSize) => 14,
+        Tag::Global(GlobalTag::ReportId) => 15,
+        Tag::Global(GlobalTag::ReportCount) => 16,
+        Tag::Global(GlobalTag::Push) => 17,
+        Tag::Global(GlobalTag::Pop) => 18,
+        Tag::Local(LocalTag::Usage) => 21,
+        Tag::Local(LocalTag::UsageMinimum) => 22,
+        Tag::Local(LocalTag::UsageMaximum) => 23,
+        Tag::Local(LocalTag::Delimiter) => 24,
+        Tag::Skipped => 0,
+    }
+}
+
+fn kind_number(kind: Kind) -> i32 {
+    match kind {
+        Kind::Input => 1,
+        Kind::Output => 2,
+        Kind::Feature => 3,
+    }
+}
+
+fn kind(number: u32) -> Option<Kind> {
+    [Kind::Input, Kind::Output, Kind::Feature].into_iter().find(|kind| kind_number(*kind) == number as i32)
+}
+
+/// How many fields the descriptor declares.
+#[unsafe(no_mangle)]
+pub extern "C" fn field_count() -> i32 {
+    with(|descriptor, _| descriptor.fields().len() as i32)
+}
+
+/// Whether reports begin with a Report ID: 1, or 0.
+#[unsafe(no_mangle)]
+pub extern "C" fn uses_ids() -> i32 {
+    with(|descriptor, _| descriptor.uses_ids().into())
+}
+
+/// The bytes of a report, its ID counted; `kind` is 1 input, 2 output, 3 feature. 0 where there is no such report.
+#[unsafe(no_mangle)]
+pub extern "C" fn report_length(kind_of: u32, id: u8) -> i32 {
+    with(|descriptor, _| match kind(kind_of) {
+        Some(kind) => descriptor.report_len(kind, id).unwrap_or(0) as i32,
+        None => REFUSED,
+    })
+}
+
+/// Writes a field: kind, Report ID, whether it is an array, bits of a place (a byte each), then its first bit, its places,
+/// and its logical extents (eight bytes each). Its length, 36.
+#[unsafe(no_mangle)]
+pub extern "C" fn field(number: usize) -> i32 {
+    with(|descriptor, buffer| {
+        let Some(field) = descriptor.fields().get(number) else { return REFUSED };
+        let mut record = Record(buffer);
+        for small in [kind_number(field.kind), field.id.into(), field.array.into(), field.size.into()] {
+            record.put(small.into(), 1);
+        }
+        for large in [field.bit as i64, field.count.into(), field.min, field.max] {
+            record.put(large, 8);
+        }
+        36
+    })
+}
+
+/// The usage of a place of a field, or usage `place` of an array's list: 32 bits, the page in the high half; 0 where there is
+/// none.
+#[unsafe(no_mangle)]
+pub extern "C" fn usage(field: usize, place: usize) -> i32 {
+    with(|descriptor, _| descriptor.usage(field, place).unwrap_or(0) as i32)
+}
+
+/// Reads the first `length` bytes of the buffer as an input report (`extract`), and writes what is found: usage (four bytes)
+/// and value (eight), for each. How many there are, or -100 less the number of the refusal, 1 to 4.
+#[unsafe(no_mangle)]
+pub extern "C" fn read(length: usize) -> i32 {
+    with(|descriptor, buffer| match found(descriptor, buffer, length) {
+        Ok(found) => {
+            for (one, place) in found.iter().zip(buffer.chunks_exact_mut(12)) {
+                let mut record = Record(place);
+                record.put(one.usage.into(), 4);
+                record.put(one.value, 8);
+            }
+            found.len() as i32
+        }
+        Err(why) => why,
+    })
+}
+
+/// Reads a report as [`read`] does, and writes the usages that are on (`pressed`), four bytes each. How many there are.
+#[unsafe(no_mangle)]
+pub extern "C" fn read_pressed(length: usize) -> i32 {
+    with(|descriptor, buffer| {
+        let found = match found(descriptor, buffer, length) {
+            Ok(found) => found,
+            Err(why) => return why,
+        };
+        let Ok(usages) = pressed(&found) else { return refusal(ExtractError::Memory) };
+        for (usage, place) in usages.iter().zip(buffer.chunks_exact_mut(4)) {
+            place.copy_from_slice(&usage.to_le_bytes());
+        }
+        usages.len() as i32
+    })
+}
+
+fn found(descriptor: &Descriptor, buffer: &Buffer, length: usize) -> Result<alloc::vec::Vec<Found>, i32> {
+    let report = buffer.get(..length).ok_or(REFUSED)?;
+    extract(descriptor, report).map_err(refusal)
+}
+
+fn refusal(error: ExtractError) -> i32 {
+    -100 - i32::from(error.number())
+}

@@ -1,0 +1,53 @@
+// The power switch, cuts inside a flash operation, and how the flash works.
+
+import { Refused, bytesHex, fromHex } from "./bytes.js";
+import { $, fill, set } from "./dom.js";
+
+const OWN = "own";
+/** What takes effect of a torn operation, with its mask. @type {[string, string][]} */
+const MASKS = [
+    ["-", "nothing of it"], ["ffffffff00000000", "the word, not its complement"], ["00000000ffffffff", "the complement, not the word"],
+    ["55", "every second bit"], ["ffffffffffffff00", "all but the last byte"], ["ff", "all of it"], [OWN, "a mask of your own"],
+];
+
+/** @param {import("./model.js").Model} model */
+export function powerView(model) {
+    const { session } = model;
+    fill($("mask"), MASKS);
+    const choose = () => {
+        const own = $("mask").value === OWN;
+        $("mask-hex").value = own ? bytesHex(crypto.getRandomValues(new Uint8Array(8))) : $("mask").value;
+        set($("mask-hex"), { readOnly: !own });
+    };
+    $("mask").addEventListener("change", choose);
+    $("mask").value = MASKS[1][0];
+    choose();
+
+    function mask() {
+        const text = $("mask-hex").value.trim(), bytes = text === "-" ? new Uint8Array() : fromHex(text);
+        if (!bytes || bytes.length > 4096 || text === "") throw new Refused("it is no hex of 1 to 4,096 bytes, nor a -");
+        return bytes;
+    }
+    $("cut").addEventListener("click", () => {
+        session.bench.cut();
+        model.changed();
+    });
+    $("cut-inside").addEventListener("click", () => model.attempt("The mask", () => {
+        const busy = session.ledger.pending !== null;
+        session.bench.cut(mask());
+        if (!busy) model.say("Nothing was being written, so this was a cut between two operations. Let the flash work by hand, set a key, and cut then.");
+        model.changed();
+    }));
+    $("bus-reset").addEventListener("click", () => {
+        session.bench.reset();
+        model.changed();
+    });
+    $("speed").addEventListener("change", () => {
+        session.speed = $("speed").value;
+        set($("step"), { disabled: session.speed !== "hand" });
+    });
+    $("step").addEventListener("click", () => {
+        if (session.bench.work() === "idle") model.say("No command works: nothing is to be written.");
+        model.changed();
+    });
+}

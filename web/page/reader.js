@@ -1,0 +1,115 @@
+// The exported reader of report descriptors: an instance of the WebAssembly module for each descriptor.
+
+import { Refused } from "./bytes.js";
+import { core } from "./device.js";
+
+export const FAULTS = [
+    "", "Truncated: the text ends within the item", "Delimiter: an item that is not read here", "PopEmpty: a Pop with no Push left", "PushDeep: a Push onto eight",
+    "BadReportId: a Report ID of 0 or over 255", "SizeTooLarge: a data item of more than 32 bits, or a constant one of more than 1,024",
+    "CountTooLarge: a count over 1,024", "EndWithoutCollection: an End Collection with none open", "CollectionDeep: a Collection within 16 open ones",
+    "UnpairedUsage: a Usage Minimum or Maximum without its pair", "UsageInverted: a Usage Minimum over its Maximum",
+    "LogicalInverted: an array whose Logical Minimum is over its Maximum", "TooManyFields: more than 256 fields",
+    "MixedIds: data items with and without a Report ID", "CollectionOpen: the text ends within a collection", "TooLong: the text has more than 4,096 bytes",
+    "Memory: there was no memory for it",
+];
+const REFUSALS = ["", "a report has a byte at least", "no input report has the ID that it begins with", "it is shorter than the descriptor says", "there was no memory for it"];
+export const KINDS = ["", "input", "output", "feature"];
+/** The most bytes that the module takes. */
+const ROOM = 8 * 4096;
+
+/**
+ * A field as the reader gives it.
+ * @typedef {{number: number, kind: number, id: number, array: boolean, size: number, bit: number, count: number, min: number, max: number}} Field
+ */
+
+class Instance {
+    constructor() {
+        /** @type {any} */
+        this.calls = new WebAssembly.Instance(core, {}).exports;
+    }
+    view(length) {
+        return new DataView(this.calls.memory.buffer, this.calls.buffer(), length);
+    }
+    /** @param {ArrayLike<number>} bytes */
+    put(bytes) {
+        if (bytes.length > ROOM) throw new Refused(`more than ${ROOM.toLocaleString("en")} bytes are no report descriptor`);
+        new Uint8Array(this.calls.memory.buffer, this.calls.buffer(), ROOM).set(bytes);
+        return bytes.length;
+    }
+}
+
+/**
+ * The items of a text: offset, bytes, and the number of the tag (web/core/src/reader.rs); then, where the text does not end
+ * with a whole item, what is left.
+ * @param {Uint8Array} text
+ */
+export function itemsOf(text) {
+    const instance = new Instance(), items = [];
+    const length = instance.put(text);
+    for (let offset = 0; offset < length; ) {
+        const told = instance.calls.item(offset, length);
+        if (told === 0) return { items, rest: text.slice(offset), offset };
+        items.push({ offset, bytes: text.slice(offset, offset + (told >> 8)), tag: told & 255 });
+        offset += told >> 8;
+    }
+    return { items, rest: new Uint8Array(), offset: length };
+}
+
+/** The report descriptor by which a computer reads boot reports. */
+export function bootDescriptor() {
+    const instance = new Instance();
+    return new Uint8Array(instance.calls.memory.buffer, instance.calls.buffer(), instance.calls.boot_descriptor()).slice();
+}
+
+export class Descriptor {
+    /**
+     * Reads a text; `fault` is its first fault with its offset, or null.
+     * @param {Uint8Array} text
+     */
+    constructor(text) {
+        this.instance = new Instance();
+        const { calls } = this.instance;
+        const number = calls.descriptor(this.instance.put(text));
+        /** @type {{number: number, offset: number} | null} */
+        this.fault = number === 0 ? null : { number, offset: this.instance.view(4).getUint32(0, true) };
+        this.usesIds = number === 0 && calls.uses_ids() === 1;
+        /** @type {Field[]} */
+        this.fields = number === 0 ? Array.from({ length: calls.field_count() }, (_, n) => this.field(n)) : [];
+    }
+    field(number) {
+        const view = this.instance.view(this.instance.calls.field(number));
+        const [kind, id, array, size] = [0, 1, 2, 3].map((at) => view.getUint8(at));
+        const [bit, count, min, max] = [4, 12, 20, 28].map((at) => Number(view.getBigInt64(at, true)));
+        return { number, kind, id, array: array === 1, size, bit, count, min, max };
+    }
+    /** The usage of a place of a field, or a usage of an array's list: 32 bits, or 0. */
+    usage(field, place) {
+        return this.instance.calls.usage(field, place) >>> 0;
+    }
+    /** The bytes of a report with its ID, or 0. */
+    reportLength(kind, id) {
+        return this.instance.calls.report_length(kind, id);
+    }
+    count(number) {
+        if (number < 0) throw new Refused(REFUSALS[-100 - number] ?? "there is no descriptor");
+        return number;
+    }
+    /**
+     * The usages of an input report with their values. Throws `Refused` for a report that the descriptor does not declare.
+     * @param {Uint8Array} report
+     */
+    read(report) {
+        const count = this.count(this.instance.calls.read(this.instance.put(report)));
+        const view = this.instance.view(12 * count);
+        return Array.from({ length: count }, (_, n) => ({ usage: view.getUint32(12 * n, true), value: Number(view.getBigInt64(12 * n + 4, true)) }));
+    }
+    /**
+     * The usages that are on in an input report, rising.
+     * @param {Uint8Array} report
+     */
+    pressed(report) {
+        const count = this.count(this.instance.calls.read_pressed(this.instance.put(report)));
+        const view = this.instance.view(4 * count);
+        return Array.from({ length: count }, (_, n) => view.getUint32(4 * n, true));
+    }
+}

@@ -1,0 +1,59 @@
+// The simulated keyboard of the page: its bench, its ledger, its clock, and who looks at it.
+
+import { Bench } from "./bench.js";
+import { Ledger } from "./ledger.js";
+
+/** Scans between two polls, a millisecond each. */
+const SCANS = 10;
+/** The steps of the flash work in a tick where it goes by itself. */
+const STEPS = 48;
+/** Ticks of a step where the work is slow. */
+const SLOW = 20;
+
+/** @typedef {"fast" | "slow" | "hand"} Speed */
+
+export class Session {
+    constructor() {
+        /** @type {((what: import("./bench.js").Event, bytes: any, said: any) => void)[]} */
+        this.seers = [];
+        /** @type {(() => void)[]} */
+        this.starters = [];
+        /** @type {(() => void)[]} */
+        this.waiters = [];
+        /** The keys that are closed. @type {() => Iterable<number>} */
+        this.keys = () => [];
+        /** @type {Speed} */
+        this.speed = "fast";
+        this.paused = false;
+        this.ticks = 0;
+        this.start(2);
+    }
+    /**
+     * Starts anew on a flash: so many blank pages, or an image.
+     * @param {number | Uint8Array} flash
+     */
+    start(flash) {
+        this.bench = new Bench(flash, (what, bytes, said) => {
+            this.ledger.event(this.bench, what, bytes, said);
+            for (const see of this.seers) see(what, bytes, said);
+        });
+        this.ledger = new Ledger(this.bench.device.keymap());
+        for (const started of this.starters) started();
+    }
+    /** Waits for the clock. @returns {Promise<void>} */
+    tick() {
+        return new Promise((done) => this.waiters.push(done));
+    }
+    /** A tick of the clock, 10 ms: scans, a poll, and the flash work where it goes by itself. */
+    beat() {
+        if (!this.paused) {
+            this.bench.scan(this.keys(), SCANS);
+            this.bench.poll();
+            this.ticks++;
+            if (this.speed === "fast") for (let n = 0; n < STEPS && this.bench.work() === "working"; n++);
+            else if (this.speed === "slow" && this.ticks % SLOW === 0) this.bench.work();
+        }
+        const waiters = this.waiters.splice(0);
+        for (const done of waiters) done();
+    }
+}

@@ -1,0 +1,147 @@
+"""Describe: report descriptors that are pasted, their faults, their pictures, and reports that are read by them."""
+
+import json
+import re
+import subprocess
+import unittest
+
+from support import EXAMPLES, PageTest, SHOTS, kbsim, quoted
+
+MOUSE = "05 01 09 02 a1 01 09 01 a1 00 05 09 19 01 29 03 15 00 25 01 95 03 75 01 81 02 95 01 75 05 81 03 05 01 09 30 09 31 15 81 25 7f 75 08 95 02 81 06 c0 c0"
+IS_MOUSE = "50 bytes, 26 items, 2 fields, 1 report. No fault."
+# A text as the page reads it: its fault, or a line for each field, with its first usage.
+READ = """(text) => {
+    const read = new page.Descriptor(page.bytesOfText(text)), hex = (usage) => usage ? usage.toString(16).padStart(8, "0") : "-";
+    return [read.fault, read.fields.map((field) => [page.KINDS[field.kind], field.id, field.bit, field.size, field.count, field.min, field.max,
+        field.array ? "array" : "variable", hex(read.usage(field.number, 0))].join(" "))];
+}"""
+
+
+class Described(PageTest):
+    """What stands on the page of a text."""
+
+    def setUp(self):
+        super().setUp()
+        self.view("Describe")
+
+    def describe(self, text, wanted):
+        """Pastes a text, and waits for the sentence about it."""
+        self.b.choose("#descriptor", text)
+        return self.shows("#described", wanted)
+
+    def items(self):
+        """The items: name and what each says."""
+        return self.b.js("[...document.querySelectorAll('#items li')].map((one) => [...one.children].slice(2).map((part) => part.textContent))")
+
+    def test_a_mouse(self):
+        self.describe(MOUSE, IS_MOUSE)
+        items = self.items()
+        self.assertEqual(items[1], ["Usage", "Mouse"])
+        self.assertEqual(items[2], ["Collection", "Application"])
+        self.assertEqual(items[6], ["Usage Minimum", "Button 1"])
+        self.assertEqual(items[12], ["Input", "Data, Variable, Absolute"])
+        self.assertEqual(items[19], ["Logical Minimum", "-127"])
+        self.assertEqual(items[23], ["Input", "Data, Variable, Relative"])
+        self.assertEqual(self.b.js("[...document.querySelectorAll('.fields li')].map((one) => one.textContent)"),
+                         ["bit 0: 3 × 1 bit, variable, 0 to 1: Button 1, Button 2, Button 3", "bit 8: 2 × 8 bits, variable, -127 to 127: X, Y"])
+        self.assertEqual(self.b.js("document.querySelectorAll('.bit').length"), 24)
+        self.b.choose("#report", "05 ff 02")
+        self.shows("#report-said", "5 values, 4 not 0.")
+        found = self.b.js("[...document.querySelectorAll('#found li')].map((one) => one.textContent)")
+        self.assertEqual(found, ["1 Button 1 00090001", "1 Button 3 00090003", "-1 X 00010030", "2 Y 00010031", "0 Button 2 00090002"])
+        self.b.js("document.querySelector('.bytes').focus()")
+        self.b.press("ArrowLeft", "ArrowLeft", 37)
+        self.shows(".bit-said", "Byte 0, bit 1: Button 2")
+        self.b.screenshot(SHOTS / "describe-mouse.png")
+
+    def test_other_ways_to_write_bytes(self):
+        pairs = MOUSE.split()
+        bytes_ = bytes.fromhex(MOUSE)
+        array = "/* a mouse */ static const uint8_t mouse[] PROGMEM = {\n" + ", ".join(f"0x{pair.upper()}" for pair in pairs) + ", // the end\n};"
+        decimal = "{ " + ", ".join(str(byte) for byte in bytes_) + " }"
+        rows = [bytes_[at:at + 16] for at in range(0, len(bytes_), 16)]
+        xxd = "".join(f"{16 * n:08x}: {' '.join(row[at:at + 2].hex() for at in range(0, len(row), 2)):<39}  {'.' * len(row)}\n" for n, row in enumerate(rows))
+        dump = "".join(f"{16 * n:08x}  {row[:8].hex(' ')}  {row[8:].hex(' ')}  |{'.' * len(row)}|\n" for n, row in enumerate(rows)) + f"{len(bytes_):08x}\n"
+        for text in ("".join(pairs), MOUSE.replace(" ", ", "), "0x" + " 0x".join(pairs), " ".join(f"{pair}h" for pair in pairs), array, decimal, xxd, dump, "# a comment\n" + MOUSE):
+            with self.subTest(text[:40]):
+                self.describe("05", re.compile("Fault 1 at byte 0 .*"))
+                self.describe(text, IS_MOUSE)
+        self.describe("05", re.compile("Fault 1 at byte 0 .*"))
+        self.drop("#descriptor-file", "report_descriptor", bytes_)
+        self.shows("#described", IS_MOUSE)
+
+    def test_faults_stand_at_their_items(self):
+        for text, number, offset, name in (("c0", 8, 0, "EndWithoutCollection"), ("05 01 a1 01", 15, 4, "CollectionOpen"), ("05 01 26 ff", 1, 2, "Truncated"),
+                                           ("85 00", 5, 0, "BadReportId"), ("05 01 " * 2049, 16, 4096, "TooLong"), ("a9 01", 2, 0, "Delimiter")):
+            with self.subTest(name):
+                self.describe(text, re.compile(rf"Fault {number} at byte {offset} \({offset:03X}h\): {name}: .+\."))
+                marked = self.b.js("[...document.querySelectorAll('#items li.bad .offset')].map((one) => one.textContent)")
+                self.assertEqual(marked, [f"{offset:03X}"] if offset < 3000 else [])
+        self.assertEqual(self.b.js("document.querySelectorAll('.report').length"), 0)
+        self.b.choose("#report", "00")
+        self.shows("#report-said", "A report is read by a descriptor without a fault.")
+
+    def test_what_is_no_text_of_bytes(self):
+        for text, why in (("", "there is no byte in it"), ("05 zz", '"zz" is no byte'), ("{ 0x05, 300 }", '"300" is no byte'), ("5 1", '"5" is no byte')):
+            self.describe(text, f"This is no report descriptor: {why}.")
+
+    def test_reports_that_are_refused(self):
+        self.b.click("#own-descriptor")
+        for report, why in (("09 00", "no input report has the ID that it begins with"), ("01 02", "it is shorter than the descriptor says"), ("xy", '"xy" is no byte')):
+            self.b.choose("#report", report)
+            self.shows("#report-said", f"This report is not read: {why}.")
+
+    def test_examples(self):
+        for button, said in (("own", "99 bytes, 49 items, 5 fields, 4 reports. No fault."), ("boot", "39 bytes, 20 items, 2 fields, 1 report. No fault."), ("media", "No fault.")):
+            self.b.click(f"#{button}-descriptor")
+            self.shows("#described", re.compile(f".*{said}"))
+        self.b.js("document.querySelector('#described').textContent = ''")
+        self.b.click("#describe")
+        self.shows("#described", re.compile(f".*{said}"))
+
+
+class AsKbsim(PageTest):
+    """The reader of the page beside `kbsim parse`: fields, faults, on the example and on texts that are changed at random."""
+
+    def test_fields_and_faults(self):
+        program = kbsim()
+        media = EXAMPLES.joinpath("media_keys.hex").read_text().split()
+        texts = [" ".join(media)] + [" ".join(media[:at] + [f"{(7 * at + 13 * n) % 256:02x}"] + media[at + 1:]) for at in range(len(media)) for n in range(2)]
+        found = self.b.js(f"{json.dumps(texts)}.map({READ})")
+        faults = set()
+        for text, (fault, fields) in zip(texts, found, strict=True):
+            told = subprocess.run([program, "parse"], input=text, stdout=subprocess.PIPE, stderr=subprocess.DEVNULL, text=True).stdout.splitlines()
+            with self.subTest(text):
+                if fault:
+                    faults.add(fault["number"])
+                    self.assertEqual(told[-1], f"fault parse {fault['number']} at {fault['offset']}")
+                else:
+                    self.assertEqual([re.match(r".* (-|[0-9a-f]{8})", line.split(",")[0].split("-000")[0])[0] for line in told], fields)
+        self.assertGreater(len(faults), 4)
+
+    def test_items(self):
+        lines = [line[6:22].strip() for line in EXAMPLES.joinpath("media_keys.items.expected").read_text().splitlines()]
+        found = self.b.js(f"page.itemsOf(page.bytesOfText({quoted(EXAMPLES.joinpath('media_keys.hex').read_text())})).items.map((item) => page.bytesHex(item.bytes))")
+        self.assertEqual(found, [line.replace(" ", "") for line in lines])
+
+
+class Names(unittest.TestCase):
+    """The data file of usage names."""
+
+    def test_it_is_whole_and_each_usage_stands_once(self):
+        from support import ROOT
+        pages, page = {}, None
+        for line in (ROOT / "rust/wuzhikar-hid/src/usages.txt").read_text().splitlines():
+            first, _, rest = line.partition(" ")
+            if first == "#":
+                continue
+            if first == "page":
+                page = pages.setdefault(int(rest.split()[0], 16), {})
+                continue
+            self.assertTrue(rest and rest == rest.strip(), line)
+            if first != "*":
+                self.assertNotIn(int(first, 16), page, line)
+                self.assertTrue(not page or int(first, 16) > max(page), line)
+                page[int(first, 16)] = rest
+        self.assertLessEqual({0x01, 0x07, 0x08, 0x09, 0x0C}, pages.keys())
+        self.assertTrue(all(usage in pages[0x07] for usage in (*range(0x04, 0xA5), *range(0xE0, 0xE8))), "each key of the keymap has a name")

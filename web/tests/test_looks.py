@@ -1,0 +1,204 @@
+"""How the page looks and sounds: names, roles, the order of focus, contrasts, layout shift, widths, and pictures for a person."""
+
+import re
+
+from support import PageTest, ROOT, SHOTS, page_in_sight
+
+LOOKS = (ROOT / "web/tests/looks.js").read_text()
+# What moved since the last mark: how far, whether input came before, and what.
+SHIFTS = """(() => {
+    const entries = [], observer = new PerformanceObserver((list) => entries.push(...list.getEntries()));
+    let since = 0;
+    observer.observe({ type: "layout-shift", buffered: true });
+    globalThis.mark = () => (since = performance.now());
+    globalThis.shifted = () => {
+        entries.push(...observer.takeRecords());
+        return entries.filter(({ value, startTime }) => value > 0 && startTime >= since)
+            .map(({ value, hadRecentInput, sources }) => [value, hadRecentInput, sources.map(({ node }) => node?.id || node?.className || node?.nodeName).join(" ")]);
+    };
+})();
+"""
+THEMES = {"light": False, "dark": True}
+PLACES = [("Play", "Set keys"), ("Play", "Type"), ("Play", "Script"), ("Configure", ""), ("Describe", "")]
+WIDTHS = {360: 780, 900: 1100, 1600: 1000}
+# Roles that a name is needed for (WAI-ARIA 1.2, section 5.2.8.4 and others).
+NAMED = {"button", "combobox", "textbox", "tab", "tabpanel", "img", "group", "tablist", "application", "region", "progressbar", "image"}
+
+
+class Looks(PageTest):
+    """Every view and tab."""
+
+    def open(self, file):
+        """Opens a file of the page, with what measures it."""
+        super().open(file)
+        self.b.js(f"globalThis.looks = {LOOKS}; true")
+
+    def places(self, filled=False):
+        """Each view and tab in each theme, one after the other."""
+        for theme, dark in THEMES.items():
+            self.b.dark(dark)
+            if filled:
+                self.fill_in()
+            for view, tab in PLACES:
+                self.go(view, tab)
+                yield view, tab, f"{view} {tab}, {theme}"
+
+    def go(self, view, tab):
+        """Goes to a view and a tab."""
+        self.view(view)
+        if tab:
+            self.tab(tab)
+
+    def fill_in(self):
+        """Brings everything onto the page that has a colour: confirmed keys, a broken write, a refusal, tries."""
+        self.go("Play", "Set keys")
+        self.b.choose("#speed", "fast")
+        self.b.choose("#blank-pages", "2")
+        self.b.click("#start-blank")
+        self.forget()
+        self.assigned(0, 5)
+        self.b.js("page.session.bench.set(0, 1, 6); page.session.bench.set(1, 2, 0x40e9)")
+        self.b.choose("#change", "migration")
+        self.b.click("#try")
+        self.has("document.querySelector('#try').disabled", False)
+        self.shows("#tried", re.compile(".* 0 lost\\."))
+        self.b.choose("#speed", "hand")
+        self.assign(20, 29)
+        self.writing()
+        self.ledger(re.compile("Writing.*"))
+
+    def test_contrast_in_every_view_and_theme(self):
+        for view, _, place in self.places(filled=True):
+            self.assertEqual(self.b.js("looks.faint()"), [], place)
+            if view == "Describe":
+                self.b.choose("#descriptor", "05 01 c0")
+                self.assertEqual(self.b.js("looks.faint()"), [], place)
+                self.b.click("#own-descriptor")
+
+    def test_names_and_roles(self):
+        for view, tab, place in self.places():
+            nodes = [node for node in self.b.call("Accessibility.getFullAXTree")["nodes"] if not node["ignored"]]
+            nameless = [node["role"]["value"] for node in nodes if node["role"]["value"] in NAMED and not node.get("name", {}).get("value", "").strip()]
+            self.assertEqual(nameless, [], place)
+            roles = {node["role"]["value"] for node in nodes}
+            self.assertLessEqual({"tab", "tablist", "tabpanel", "main", "banner", "contentinfo", "heading", "button"}, roles, place)
+            self.assertTrue({"generic button", "clickable"}.isdisjoint(roles), place)
+            selected = [node["name"]["value"] for node in nodes if node["role"]["value"] == "tab" for one in node["properties"] if one["name"] == "selected" and one["value"]["value"]]
+            self.assertEqual(selected, [view] + ([tab] if tab else []), place)
+
+    def test_what_tab_reaches_and_that_it_is_seen(self):
+        for *_, place in self.places():
+            stops = self.b.js("looks.stops()")
+            self.b.js("document.activeElement.blur(), window.getSelection().removeAllRanges(), looks.first('#views').focus()")
+            reached = [self.b.js("looks.focused()")[0]]
+            unseen = []
+            for _ in range(len(stops) - 1):
+                self.b.press("Tab", "Tab", 9)
+                name, seen = self.b.js("looks.focused()")
+                reached.append(name)
+                unseen += [] if seen else [name]
+            self.assertEqual(reached, stops, place)
+            self.assertEqual(unseen, [], place)
+            self.assertLess(len(stops), 40, "rows of keys and codes are one stop each")
+
+    def test_a_key_is_set_and_cut_by_the_keyboard_alone(self):
+        self.b.js("looks.first('#keyboard').focus()")
+        for _ in range(4):
+            self.b.press("ArrowDown", "ArrowDown", 40)
+        self.b.press("ArrowRight", "ArrowRight", 39)
+        self.b.press("Enter", "Enter", 13)
+        chosen = self.shows("#chosen", re.compile("Key [1-9][0-9]* on layer 0: .+"))
+        self.b.js("looks.first('#palette').focus()")
+        for _ in range(2):
+            self.b.press("ArrowRight", "ArrowRight", 39)
+        code = int(self.b.js("document.activeElement.dataset.code"))
+        self.b.press("Enter", "Enter", 13)
+        key = int(chosen.split()[1])
+        self.good(re.compile(f"Key {key} on layer 0 is .+: confirmed\\."))
+        self.b.js("document.querySelector('#cut').focus()")
+        self.b.press("Enter", "Enter", 13)
+        self.has("page.session.ledger.cuts", 1)
+        self.ledger("1 change confirmed, all of it is there")
+        self.entry(0, key, code)
+
+    def pictures(self, width):
+        """Keeps a picture of each view and tab at a width, dark and light, where nothing is cut, sticks out or is too small."""
+        self.b.size(width, WIDTHS[width])
+        self.open(page_in_sight())
+        for theme, dark in THEMES.items():
+            self.b.dark(dark)
+            self.fill_in()
+            for view, tab in PLACES:
+                self.go(view, tab)
+                name = f"{width}-{theme}-{view}{'-' + tab if tab else ''}".lower().replace(" ", "-")
+                with self.subTest(name):
+                    self.assertEqual((self.b.js("looks.wide()"), self.b.js("looks.cut()"), self.b.js("looks.small()")), ([], [], []))
+                    self.b.js("scrollTo(0, 0)")
+                    self.b.screenshot(SHOTS / f"{name}.png", whole=True)
+
+    def test_pictures_narrow(self):
+        self.pictures(360)
+
+    def test_pictures_between(self):
+        self.pictures(900)
+
+    def test_pictures_wide(self):
+        self.pictures(1600)
+
+
+class Shifts(PageTest):
+    """Nothing jumps."""
+
+    before = SHIFTS
+
+    def shifted(self):
+        """What moved since the last mark, whether input came before or not."""
+        self.frame()
+        return self.b.js("new Promise((done) => setTimeout(() => done(shifted()), 100))")
+
+    def mark(self):
+        """What moved up to now was meant: another view is shown."""
+        self.frame()
+        self.b.js("mark()")
+
+    def opened_and_used(self, width):
+        """Opens and uses the page at a width, dark and light: nothing moves."""
+        self.b.size(width, WIDTHS[width])
+        for dark in THEMES.values():
+            self.b.dark(dark)
+            self.open(page_in_sight())
+            with self.subTest(dark=dark):
+                self.assertEqual(self.shifted(), [])
+                self.use_play()
+                self.assertEqual(self.shifted(), [])
+                self.view("Configure")
+                self.mark()
+                self.b.js("document.querySelector('#read-all').click()")
+                self.shows("#progress-text", re.compile("384 entries read in .*"))
+                self.assertEqual(self.shifted(), [])
+                self.view("Describe")
+                self.mark()
+                for text in ("05 01", "05 01 c0", ""):
+                    self.b.choose("#descriptor", text)
+                self.assertEqual(self.shifted(), [])
+
+    def test_narrow(self):
+        self.opened_and_used(360)
+
+    def test_between(self):
+        self.opened_and_used(900)
+
+    def test_wide(self):
+        self.opened_and_used(1600)
+
+    def use_play(self):
+        """What a user does in Play, without input that would excuse a shift."""
+        self.b.js("""(async () => {
+            const click = async (selector) => {
+                document.querySelector(selector).click();
+                await new Promise((done) => setTimeout(done, 35));
+            };
+            for (const selector of ['#keyboard button[data-key="3"]', '#palette button[data-code="7"]', '#groups button:nth-child(2)', '#palette button[data-code="33"]', '#groups button:nth-child(8)',
+                '#cut', '#cut-inside', '#bus-reset', '#layers button:nth-child(2)', '#undo', '#reset-layer', '#reset-all', '#try']) await click(selector);
+        })()""")
+        self.shows("#tried", re.compile(".* 0 lost\\."))
