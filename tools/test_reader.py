@@ -24,9 +24,9 @@ PHYSICAL = {"equal": "EqualLimits", "inverted": "InvertedLimits"}
 
 
 def real():
-    """The repository's descriptors: those of the rows and of the examples, each once."""
+    """The repository's descriptors: those of the rows and of the examples, and one of fields of more than 256 places, each once."""
     found = {(ROOT / "examples/media_keys.hex").read_text(): None}
-    for file in sorted(ROOT.glob("examples/hid_driver/*.hex")):
+    for file in [*sorted(ROOT.glob("examples/hid_driver/*.hex")), ROOT / "tests/reader/many_places.hex"]:
         found[file.read_text()] = None
     for name in ("real", "fields", "faults", "items", "item_faults"):
         for cases in read_cases(f"{ROOT}/tests/descriptors/{name}.rows").values():
@@ -76,7 +76,8 @@ class Maker:
 
     def item(self):
         """A short item that might stand anywhere."""
-        code = self.random.choice((0x04, 0x14, 0x24, 0x34, 0x44, 0x54, 0x64, 0x74, 0x94, 0x08, 0xA4, 0xB4, 0x80, 0x90, 0xB0, 0xA0, 0xC0))
+        code = self.random.choice((0x04, 0x14, 0x24, 0x34, 0x44, 0x54, 0x64, 0x74, 0x94, 0x08, 0xA4, 0xB4, 0x80, 0x90, 0xB0, 0xA0, 0xC0,
+                                   *plain.NAMING, 0x54, 0x64))
         size = self.random.randrange(4)
         data = self.random.randbytes((0, 1, 2, 4)[size])
         if code in (0x74, 0x94):
@@ -129,13 +130,28 @@ def told(descriptor):
     """What is told of a descriptor."""
     shown = [["-" if number is None else number for number in collection] for collection in descriptor.collections]
     line = "".join(f"collection {' '.join(map(str, numbers))};" for numbers in shown)
+    for place, collection in enumerate(descriptor.collections):
+        if collection[1] == 1:
+            line += f"application {place} {reports_told(descriptor.reports(place))};"
+    line += "".join(f"report {kind} {number} {descriptor.bits(kind, number)};" for kind, number in descriptor.reports())
     for item in descriptor.declared:
-        applications = [place for place in item.around if descriptor.collections[place][1] == 1]
+        application = descriptor.application(item)
         numbers = (item.offset, item.kind, item.flags, item.id, item.bit, item.size, item.count, item.least, item.greatest,
                    *item.physical_extents, item.unit, item.exponent, ",".join(map(str, item.around)),
-                   applications[-1] if applications else "-")
+                   "-" if application is None else application, names_told(item.names["string"]), names_told(item.names["designator"]),
+                   item.dimensions if isinstance(item.dimensions, str) else ",".join(map(str, item.dimensions)))
         line += " ".join(map(str, numbers)) + ";"
     return line
+
+
+def reports_told(reports):
+    """Kinds and IDs of reports."""
+    return ",".join(f"{kind}:{number}" for kind, number in reports)
+
+
+def names_told(ranges):
+    """Ranges of strings or designators."""
+    return ",".join(f"{first}:{last}" for first, last in ranges)
 
 
 def told_values(descriptor, kind, report):
@@ -146,7 +162,11 @@ def told_values(descriptor, kind, report):
     line = ""
     for place_of_field, place, usage, value, within in values:
         fraction = plain.physical(descriptor.fields[place_of_field], value)
-        fraction = PHYSICAL[fraction] if isinstance(fraction, str) else f"{fraction.numerator}/{fraction.denominator}"
+        if isinstance(fraction, str):
+            fraction = PHYSICAL[fraction]
+        else:
+            exponent = descriptor.fields[place_of_field].exponent
+            fraction = f"{fraction.numerator}/{fraction.denominator} {plain.decimal(fraction, exponent, 5)}"
         line += f"{place_of_field} {place} {'-' if usage is None else usage} {value} {within} {fraction};"
     return line
 
@@ -273,14 +293,15 @@ def main():
     taken = sum(case.add(maker, text, 20) for text in texts)
     good = sum(case.add(maker, maker.mutated(), 2) for _ in range(words.count))
     with tempfile.TemporaryDirectory() as work:
-        made = subprocess.run([words.program or program(work)], input="\n".join(case.asked) + "\n", capture_output=True,
-                              text=True, check=True)
+        made = subprocess.run([words.program or program(work)], input="\n".join(case.asked) + "\n", capture_output=True, text=True)
         fine = commands(work, [text for text in texts if sound(text)]) if words.program is None else True
     answers = made.stdout.splitlines()
     wrong = [trio for trio in zip(case.asked, case.wanted, answers) if trio[1] != trio[2]]
     for asked, wanted, answer in wrong[:5]:
         print(f"asked   {asked}\nwanted  {wanted}\nanswer  {answer}")
-    missing = len(case.asked) != len(answers)
+    missing = made.returncode != 0 or len(case.asked) != len(answers)
+    if missing:
+        print(f"{made.stderr[-500:]}asked   {case.asked[min(len(answers), len(case.asked) - 1)][:500]}")
     print(f"{len(texts)} descriptors of the repository, {taken} of them sound; {words.count} mutated, {good} sound; "
           f"{len(case.asked)} answers, {len(wrong)} differences{', and answers are missing' if missing else ''}")
     return int(bool(wrong) or missing or not fine)

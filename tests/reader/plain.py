@@ -12,6 +12,8 @@ COLLECTION, END = 0xA0, 0xC0
 PAGE, MINIMUM, MAXIMUM, PHYSICAL_MINIMUM, PHYSICAL_MAXIMUM, EXPONENT, UNIT = 0x04, 0x14, 0x24, 0x34, 0x44, 0x54, 0x64
 SIZE, ID, COUNT, PUSH, POP = 0x74, 0x84, 0x94, 0xA4, 0xB4
 USAGE, USAGE_MINIMUM, USAGE_MAXIMUM, DELIMITER = 0x08, 0x18, 0x28, 0xA8
+NAMING = {0x78: "string", 0x88: "string", 0x98: "string", 0x38: "designator", 0x48: "designator", 0x58: "designator"}
+INDICES, LEAST_OF_NAMING = {0x78, 0x38}, {0x88, 0x48}
 MAIN = {*DATA, COLLECTION, END}
 SET = {PAGE, MINIMUM, MAXIMUM, PHYSICAL_MINIMUM, PHYSICAL_MAXIMUM, EXPONENT, UNIT, SIZE, ID, COUNT}
 
@@ -71,6 +73,7 @@ class Declared:
     exponent: int
     usages: list             # first and last of ranges
     around: list             # the collections around it, outermost first, by their numbers
+    names: dict              # first and last of strings and of designators
 
     def has(self, bit):
         """A bit of the item's data."""
@@ -90,6 +93,18 @@ class Declared:
     def physical_extents(self):
         """The declared ones, or the logical ones where both are 0."""
         return (self.least, self.greatest) if self.physical == (0, 0) else self.physical
+
+    @property
+    def dimensions(self):
+        """The exponents of length, mass, time, temperature, current and luminous intensity; or the name of why there are none."""
+        system, reserved = self.unit & 15, self.unit >> 28
+        if reserved:
+            return "ReservedDigit"
+        if system == 0 and self.unit:
+            return "NoSystem"
+        if system > 4:
+            return "Vendor" if system == 15 else "ReservedSystem"
+        return [nibble(self.unit >> 4 * place & 15) for place in range(1, 7)]
 
     def usage(self, number):
         """The usage with a number in the list that the ranges make, or None."""
@@ -127,6 +142,15 @@ class Descriptor:
         bits = self.bits(kind, number)
         return (bits + 7) // 8 + self.uses_ids if bits else None
 
+    def application(self, item):
+        """The innermost application around a data item, or None."""
+        return next((place for place in reversed(item.around) if self.collections[place][1] == 1), None)
+
+    def reports(self, application=None):
+        """Kind and ID of the reports, by their first data items; those of an application alone."""
+        return list(dict.fromkeys((item.kind, item.id) for item in self.declared
+                                  if application is None or self.application(item) == application))
+
 
 class Parser:
     """Goes over the items once, with what is in force."""
@@ -139,6 +163,7 @@ class Parser:
     def forget(self):
         """Ends the Local items."""
         self.ranges, self.half, self.first = [], None, None
+        self.names, self.begun = {"string": [], "designator": []}, {}
 
     def data(self, code):
         """The data of a Global item in force."""
@@ -229,9 +254,21 @@ class Parser:
                 self.half = None
             else:
                 self.half = (code, data)
+        elif code in NAMING:
+            self.name(code, unsigned(data))
         elif code in MAIN:
             self.main(offset, code, data)
             self.forget()
+
+    def name(self, code, number):
+        """Takes a String or Designator: an Index is a range of its own, and a Minimum waits for the Maximum behind it."""
+        naming = NAMING[code]
+        if code in INDICES:
+            self.names[naming].append((number, number))
+        elif code in LEAST_OF_NAMING:
+            self.begun[naming] = number
+        elif naming in self.begun:
+            self.names[naming].append((self.begun.pop(naming), number))
 
     def main(self, offset, code, data):
         """Takes a Main item."""
@@ -257,7 +294,8 @@ class Parser:
             offset, kind, flags, number, self.out.bits(kind, number), size, count, least, greatest,
             (physical, self.greatest(physical, PHYSICAL_MAXIMUM)), self.number(UNIT),
             nibble(exponent) if exponent < 16 else signed(self.data(EXPONENT)),
-            [(self.usage(first), self.usage(last)) for first, last in self.ranges], list(self.open)))
+            [(self.usage(first), self.usage(last)) for first, last in self.ranges], list(self.open),
+            self.names))
 
 
 def parse(text):
@@ -328,6 +366,15 @@ def physical(item, value):
         return "inverted"
     least, greatest = item.physical_extents
     return least + Fraction((value - item.least) * (greatest - least), item.greatest - item.least)
+
+
+def decimal(fraction, exponent, digits):
+    """A fraction times a power of ten as a decimal, cut off."""
+    if abs(exponent) <= 18:
+        fraction, exponent = fraction * Fraction(10) ** exponent, 0
+    whole, rest = divmod(abs(fraction.numerator) * 10**digits // fraction.denominator, 10**digits)
+    behind = f".{rest:0{digits}}".rstrip("0").rstrip(".")
+    return f"{'-' if fraction < 0 else ''}{whole}{behind}{f'e{exponent}' if exponent else ''}"
 
 
 # ---- writing

@@ -65,12 +65,14 @@ pub fn unit_words(detail: &Detail) -> String {
     let name = match detail.unit_name() {
         _ if detail.unit == 0 => return String::new(),
         Some(name) => name.to_string(),
-        None => {
-            let dimensions = Dimension::ALL.into_iter().map(|dimension| (dimension, detail.unit_exponent_of(dimension)));
-            let parts = dimensions.filter(|(_, exponent)| *exponent != 0);
-            let named: Vec<String> = parts.map(|(dimension, exponent)| format!("{dimension:?}^{exponent}")).collect();
-            format!("unit {:X}h ({})", detail.unit, named.join(" "))
-        }
+        None => match detail.unit_exponents() {
+            Err(why) => format!("unit {:X}h ({why})", detail.unit),
+            Ok(exponents) => {
+                let parts = Dimension::ALL.into_iter().zip(exponents).filter(|(_, exponent)| *exponent != 0);
+                let named: Vec<String> = parts.map(|(dimension, exponent)| format!("{dimension:?}^{exponent}")).collect();
+                format!("unit {:X}h ({})", detail.unit, named.join(" "))
+            }
+        },
     };
     if detail.exponent == 0 { name } else { format!("{name} e{}", detail.exponent) }
 }
@@ -110,7 +112,7 @@ fn put_field(
     }
     for (naming, word) in [(Naming::String, "strings"), (Naming::Designator, "designators")] {
         let all: Vec<String> =
-            namings(text, detail.offset, naming).iter().map(|range| format!("{}-{}", range.start(), range.end())).collect();
+            namings(text, detail.offset, naming).map(|range| format!("{}-{}", range.start(), range.end())).collect();
         if !all.is_empty() {
             line += &format!(", {word} {}", all.join(" "));
         }

@@ -20,12 +20,12 @@ fn unit(detail: &Detail) -> Json {
         "name": detail.unit_name(),
         "exponent": detail.exponent,
         "dimensions": dimensions,
+        "error": detail.unit_exponents().err().map(|why| format!("{why:?}")),
     })
 }
 
 fn named(text: &[u8], detail: &Detail, naming: Naming) -> Json {
-    let all = namings(text, detail.offset, naming);
-    all.iter().map(|range| json!([range.start(), range.end()])).collect()
+    namings(text, detail.offset, naming).map(|range| json!([range.start(), range.end()])).collect()
 }
 
 fn field(text: &[u8], reader: &Reader, place: usize, number: Option<usize>) -> Json {
@@ -53,7 +53,7 @@ fn field(text: &[u8], reader: &Reader, place: usize, number: Option<usize>) -> J
         "physical": [least, greatest],
         "unit": unit(detail),
         "usages": usages,
-        "collections": reader.details().around(place),
+        "collections": reader.details().around(place).collect::<Vec<_>>(),
         "application": reader.details().application(place),
         "strings": named(text, detail, Naming::String),
         "designators": named(text, detail, Naming::Designator),
@@ -87,7 +87,6 @@ pub fn parse(path: &str, out: &mut impl Write) -> Result<(), Ended> {
     }
     let reports: Json = told
         .reports()
-        .iter()
         .map(|report| {
             let places: Vec<usize> = told.report(report.kind, report.id).map(|placed| placed.place).collect();
             let bytes = report.bytes() + u64::from(reader.descriptor().uses_ids());

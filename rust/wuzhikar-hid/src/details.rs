@@ -5,7 +5,7 @@ mod facts;
 mod questions;
 mod walk;
 
-pub use facts::{Collection, Detail, Dimension};
+pub use facts::{Collection, Detail, Dimension, NoUnit};
 pub use questions::{Naming, Placed, ReportFacts, namings};
 
 use alloc::vec::Vec;

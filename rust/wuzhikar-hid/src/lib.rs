@@ -44,7 +44,7 @@ mod details;
 mod names;
 mod values;
 
-pub use crate::details::{Collection, Detail, Details, Dimension, Naming, Placed, ReportFacts, details, namings};
+pub use crate::details::{Collection, Detail, Details, Dimension, Naming, NoUnit, Placed, ReportFacts, details, namings};
 pub use crate::names::{UsageName, page_name};
 pub use crate::values::{
     Asked, NoPhysical, Physical, Reader, ReaderError, Reading, ReadingError, Setting, Target, Value, Within, WriteError,

@@ -1,6 +1,7 @@
 //! What one data item and one collection say. Written by hand: tested, not proved.
 
 use crate::Kind;
+use core::fmt;
 
 /// What an Input, Output or Feature item declares: `count` places of `size` bits (HID 1.11, 6.2.2.4 to 6.2.2.7).
 #[derive(Clone, Copy, Debug, PartialEq, Eq)]
@@ -86,6 +87,11 @@ impl Detail {
         self.has(8)
     }
 
+    /// Its report: the kind, and the Report ID.
+    pub(super) fn report(&self) -> (Kind, u32) {
+        (self.kind, self.id)
+    }
+
     /// The physical extents, least and greatest: those that are declared, 0 where one is not, and the logical ones where
     /// both are 0 (6.2.2.7).
     pub fn physical(&self) -> (i64, i64) {
@@ -111,6 +117,17 @@ impl Detail {
     /// The highest digit of the unit, which is reserved: 0 in a unit that the standard knows.
     pub fn unit_reserved(&self) -> u8 {
         (self.unit >> 28) as u8
+    }
+
+    /// The exponents of all dimensions in the unit, in the order of [`Dimension::ALL`]; all 0 where no unit is declared.
+    pub fn unit_exponents(&self) -> Result<[i8; 6], NoUnit> {
+        match self.unit_system() {
+            _ if self.unit_reserved() != 0 => Err(NoUnit::ReservedDigit),
+            0 if self.unit != 0 => Err(NoUnit::NoSystem),
+            5..=14 => Err(NoUnit::ReservedSystem),
+            15 => Err(NoUnit::Vendor),
+            _ => Ok(Dimension::ALL.map(|dimension| self.unit_exponent_of(dimension))),
+        }
     }
 
     /// The name of a usual unit, as "centimetre", or `None` for one that is made up of others.
@@ -172,6 +189,32 @@ impl Dimension {
         Dimension::LuminousIntensity,
     ];
 }
+
+/// Why the digits of a unit are none that HID 1.11 (6.2.2.7) knows. Where several hold, the first is told.
+#[derive(Clone, Copy, Debug, PartialEq, Eq)]
+pub enum NoUnit {
+    /// The highest digit, which is reserved, is not 0.
+    ReservedDigit,
+    /// There are exponents, and the system is none.
+    NoSystem,
+    /// The system is reserved: 5 to 14.
+    ReservedSystem,
+    /// The system is the vendor's: 15.
+    Vendor,
+}
+
+impl fmt::Display for NoUnit {
+    fn fmt(&self, f: &mut fmt::Formatter<'_>) -> fmt::Result {
+        f.write_str(match self {
+            NoUnit::ReservedDigit => "the highest digit of the unit is reserved",
+            NoUnit::NoSystem => "the unit has exponents and no system",
+            NoUnit::ReservedSystem => "the system of the unit is reserved",
+            NoUnit::Vendor => "the system of the unit is the vendor's",
+        })
+    }
+}
+
+impl core::error::Error for NoUnit {}
 
 /// A digit of four bits in two's complement.
 fn signed_digit(digit: u32) -> i8 {

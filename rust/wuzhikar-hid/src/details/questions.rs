@@ -2,9 +2,8 @@
 
 use super::walk::unsigned;
 use super::{Collection, Detail, Details};
-use alloc::vec::Vec;
 use core::ops::RangeInclusive;
-use wuzhikar_reader::{Items, Kind, Tag};
+use wuzhikar_reader::{Item, Items, Kind, Tag};
 
 /// A data item with its place among all of a descriptor.
 #[derive(Clone, Copy, Debug, PartialEq, Eq)]
@@ -63,15 +62,17 @@ impl Details {
     }
 
     /// All reports, in order of their first data items.
-    pub fn reports(&self) -> Vec<ReportFacts> {
-        let mut all: Vec<ReportFacts> = Vec::new();
-        for detail in &self.fields {
-            match all.iter_mut().find(|report| report.kind == detail.kind && report.id == detail.id) {
-                Some(report) => report.bits = detail.end(),
-                None => all.push(ReportFacts { kind: detail.kind, id: detail.id, bits: detail.end() }),
-            }
-        }
-        all
+    pub fn reports(&self) -> impl Iterator<Item = ReportFacts> {
+        self.fields.iter().enumerate().filter(|(place, _)| self.is_first(*place, |_| true)).map(|(_, first)| {
+            let last = self.fields.iter().rev().find(|detail| detail.report() == first.report());
+            ReportFacts { kind: first.kind, id: first.id, bits: last.map_or(0, Detail::end) }
+        })
+    }
+
+    /// Whether a data item is the first of its report among those of which this holds.
+    fn is_first(&self, place: usize, holds: impl Fn(usize) -> bool) -> bool {
+        let report = self.fields[place].report();
+        !self.fields[..place].iter().enumerate().any(|(before, detail)| detail.report() == report && holds(before))
     }
 
     /// The Application collections with their places in `collections`, in order.
@@ -85,11 +86,11 @@ impl Details {
         core::iter::successors(inside, |inner| self.collections.get(*inner)?.outer)
     }
 
-    /// The collections around a data item, outermost first, by their places in `collections`.
-    pub fn around(&self, place: usize) -> Vec<usize> {
-        let mut all: Vec<usize> = self.outwards(place).collect();
-        all.reverse();
-        all
+    /// The collections around a data item, outermost first, by their places in `collections`. There are none where there is
+    /// no such item.
+    pub fn around(&self, place: usize) -> impl Iterator<Item = usize> {
+        let depth = self.outwards(place).count();
+        (0..depth).rev().filter_map(move |depth| self.outwards(place).nth(depth))
     }
 
     /// The innermost Application collection around a data item, by its place in `collections`, if it is in one.
@@ -98,40 +99,47 @@ impl Details {
     }
 
     /// The reports that have a data item in an application, innermost, in order of their first data items in it. One report
-    /// may be of several.
-    pub fn reports_of(&self, application: usize) -> Vec<(Kind, u32)> {
-        let mut all = Vec::new();
-        for (place, detail) in self.fields.iter().enumerate() {
-            if self.application(place) == Some(application) && !all.contains(&(detail.kind, detail.id)) {
-                all.push((detail.kind, detail.id));
-            }
-        }
-        all
+    /// may be of several. The application is given by its place in `collections`.
+    pub fn reports_of(&self, application: usize) -> impl Iterator<Item = (Kind, u32)> {
+        let is_inside = move |place: usize| self.application(place) == Some(application);
+        let first = move |place: &usize| is_inside(*place) && self.is_first(*place, is_inside);
+        (0..self.fields.len()).filter(first).map(|place| self.fields[place].report())
     }
 }
 
 /// The strings or designators that the Local items before the Main item at `offset` give it, in order: an Index alone, and
 /// a Minimum with the Maximum after it. A Minimum or Maximum without its other half gives none; where the Minimum is over
 /// the Maximum the range is empty.
-pub fn namings(text: &[u8], offset: usize, naming: Naming) -> Vec<RangeInclusive<u32>> {
+pub fn namings(text: &[u8], offset: usize, naming: Naming) -> impl Iterator<Item = RangeInclusive<u32>> {
     let (index, minimum, maximum) = match naming {
         Naming::String => (0x78, 0x88, 0x98),
         Naming::Designator => (0x38, 0x48, 0x58),
     };
-    let mut all = Vec::new();
+    let begin = local_begin(text, offset);
     let mut first = None;
-    for item in Items::new(text).map_while(Result::ok).take_while(|item| item.offset < offset) {
+    let before = items_before(&text[begin..], offset.saturating_sub(begin));
+    before.filter_map(move |item| {
         let (code, number) = (item.prefix & 0xFC, unsigned(item.bytes));
-        if matches!(item.tag(), Tag::Main(_)) {
-            all.clear();
-            first = None;
-        } else if code == index {
-            all.push(number..=number);
-        } else if code == minimum {
-            first = Some(number);
-        } else if code == maximum {
-            all.extend(first.take().map(|first| first..=number));
+        if code == index {
+            return Some(number..=number);
         }
+        if code == minimum {
+            first = Some(number);
+        }
+        if code == maximum { first.take().map(|first| first..=number) } else { None }
+    })
+}
+
+/// The items of a text that begin before an offset.
+fn items_before(text: &[u8], offset: usize) -> impl Iterator<Item = Item<'_>> {
+    Items::new(text).map_while(Result::ok).take_while(move |item| item.offset < offset)
+}
+
+/// Where the items begin that the Main item at an offset has before it, behind the Main item before.
+fn local_begin(text: &[u8], offset: usize) -> usize {
+    let mut begin = None;
+    for item in items_before(text, offset) {
+        begin = if matches!(item.tag(), Tag::Main(_)) { None } else { begin.or(Some(item.offset)) };
     }
-    all
+    begin.unwrap_or(text.len())
 }

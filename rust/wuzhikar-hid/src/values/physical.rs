@@ -1,7 +1,6 @@
 //! What a value is in its unit, exactly. Written by hand: tested, not proved.
 
 use crate::Detail;
-use alloc::format;
 use alloc::string::String;
 use core::fmt;
 
@@ -64,10 +63,16 @@ impl Detail {
 }
 
 impl Physical {
-    /// The value as a decimal, cut off after so many digits behind the point; with `e` and the power of ten behind it where
-    /// that is beyond 18 either way.
+    /// The value as a decimal, cut off after so many digits behind the point, at most 18; with `e` and the power of ten
+    /// behind it where that is beyond 18 either way, or the whole would have more than 38 digits.
     pub fn decimal(&self, digits: u32) -> String {
-        let digits = digits.min(18);
+        let mut text = String::new();
+        let _ = self.write_decimal(digits, &mut text);
+        text
+    }
+
+    /// Writes what [`decimal`](Physical::decimal) gives, and takes no memory itself.
+    pub fn write_decimal(&self, digits: u32, out: &mut impl fmt::Write) -> fmt::Result {
         let (mut above, mut below, mut left) = (self.numerator, self.denominator, self.exponent);
         if (-18..=18).contains(&left) {
             let scale = 10i128.pow(left.unsigned_abs() as u32);
@@ -78,20 +83,29 @@ impl Physical {
             }
         }
         let sign = if above < 0 { "-" } else { "" };
-        let (whole, mut rest) = (above.unsigned_abs() / below.unsigned_abs(), above.unsigned_abs() % below.unsigned_abs());
-        let mut text = format!("{sign}{whole}");
-        if digits > 0 && rest > 0 {
-            text.push('.');
-            for _ in 0..digits {
-                rest *= 10;
-                text.push(char::from(b'0' + (rest / below.unsigned_abs()) as u8));
-                rest %= below.unsigned_abs();
-            }
-            text.truncate(text.trim_end_matches('0').trim_end_matches('.').len());
+        let (whole, rest) = (above.unsigned_abs() / below.unsigned_abs(), above.unsigned_abs() % below.unsigned_abs());
+        write!(out, "{sign}{whole}")?;
+        let behind = digits_behind(rest, below.unsigned_abs(), digits.min(18));
+        if behind.1 > 0 {
+            write!(out, ".{:0count$}", behind.0, count = behind.1)?;
         }
         if left != 0 {
-            text += &format!("e{left}");
+            write!(out, "e{left}")?;
         }
-        text
+        Ok(())
     }
+}
+
+/// The digits behind the point of a fraction below 1, at most so many, without zeros at the end: their number, and how many
+/// they are.
+fn digits_behind(mut rest: u128, below: u128, most: u32) -> (u64, usize) {
+    let (mut number, mut count) = (0u64, 0);
+    for _ in 0..most {
+        rest *= 10;
+        (number, rest, count) = (number * 10 + (rest / below) as u64, rest % below, count + 1);
+    }
+    while count > 0 && number % 10 == 0 {
+        (number, count) = (number / 10, count - 1);
+    }
+    (number, count)
 }

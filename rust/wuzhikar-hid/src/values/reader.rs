@@ -99,7 +99,7 @@ impl Reader {
             places.push(placed.place);
             kept.push(Kept { field: *field, number, detail: placed.place, has_null });
         }
-        kept.sort_by_key(|kept| (kept.field.kind as u8, kept.field.id));
+        kept.sort_unstable_by_key(|kept| (kept.field.kind as u8, kept.field.id, kept.number));
         let mut spots = Vec::new();
         let mut reports: Vec<KeptReport> = Vec::new();
         reports.try_reserve(details.fields.len()).map_err(|_| ReaderError::Memory)?;

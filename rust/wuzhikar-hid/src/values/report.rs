@@ -45,6 +45,8 @@ pub enum ReadingError {
     Short,
     /// It has no such field, or the field is not of Buffered Bytes.
     NoSuchField,
+    /// There was no memory.
+    Memory,
 }
 
 impl fmt::Display for ReadingError {
@@ -54,6 +56,7 @@ impl fmt::Display for ReadingError {
             ReadingError::UnknownReport => "the descriptor has no such report",
             ReadingError::Short => "the report is too short",
             ReadingError::NoSuchField => "the report has no such field of Buffered Bytes",
+            ReadingError::Memory => "out of memory",
         })
     }
 }
@@ -102,7 +105,10 @@ impl Reader {
         let kept = fields.iter().find(is_it).ok_or(ReadingError::NoSuchField)?;
         let bits = u64::from(kept.field.size) * u64::from(kept.field.count);
         let byte_at = |done: u64| number_at(reading.bytes, kept.field.bit + done, (bits - done).min(8) as u8) as u8;
-        Ok((0..bits.div_ceil(8)).map(|byte| byte_at(8 * byte)).collect())
+        let mut bytes = Vec::new();
+        bytes.try_reserve_exact(bits.div_ceil(8) as usize).map_err(|_| ReadingError::Memory)?;
+        bytes.extend((0..bits.div_ceil(8)).map(|byte| byte_at(8 * byte)));
+        Ok(bytes)
     }
 }
 

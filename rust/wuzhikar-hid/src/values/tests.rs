@@ -99,3 +99,24 @@ fn physical_values_are_exact() {
     let told: Vec<_> = (1..=8).map(|value| hat.physical_value(value).expect("limits").decimal(3)).collect();
     assert_eq!(told, ["0", "45", "90", "135", "180", "225", "270", "315"]);
 }
+
+#[test]
+fn a_field_has_more_than_256_places() {
+    let reader = reader_of(include_str!("../../../../tests/reader/many_places.hex"));
+    let set_place = |field, place, value| set(Target::Field { field, place }, Asked::Value(value));
+    let settings = [set_place(0, 256, 5), set_place(0, 299, 3), set_place(1, 256, 0x29), set_place(2, 1_023, -2)];
+    let report = reader.write(Kind::Input, 0, &settings, None).expect("a report");
+    let values: Vec<_> = reader.read(Kind::Input, &report).expect("a report").collect();
+    let at = |field: usize, place: u16| values.iter().find(|value| (value.field, value.place) == (field, place)).copied();
+    let told = |field, place| at(field, place).map(|value| (value.usage, value.raw, value.within));
+    assert_eq!(values.len(), 300 + 257 + 1_024);
+    assert_eq!(told(0, 1), Some((Some(0x0009_0002), 0, Within::Range)));
+    assert_eq!(told(0, 256), Some((Some(0x0009_0004), 5, Within::Range)));
+    assert_eq!(told(0, 299), Some((Some(0x0009_0004), 3, Within::Range)));
+    assert_eq!(told(1, 256), Some((Some(0x0007_0029), 0x29, Within::Range)));
+    assert_eq!(told(2, 1_022), Some((Some(0xff00_0001), 128, Within::Null)));
+    assert_eq!(told(2, 1_023), Some((Some(0xff00_0001), -2, Within::Range)));
+    assert_eq!(report.len(), 1_490);
+    // Place 256 of the first field has bits 768 to 770; the last place of the last one begins at bit 11,906, behind 10b of a null.
+    assert_eq!((report[96], &report[1_488..]), (0x05, &[0xf9, 0x07][..]));
+}

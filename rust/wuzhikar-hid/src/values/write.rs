@@ -5,7 +5,6 @@ use super::reader::{Kept, Reader};
 use super::report::ReadingError;
 use super::spots::Spot;
 
-use alloc::vec;
 use alloc::vec::Vec;
 use core::fmt;
 use wuzhikar_reader::{FieldUsages, Kind};
@@ -71,6 +70,8 @@ pub enum WriteError {
     OutOfRange(usize),
     /// Each place of the Array names another usage, or none can say that it names no usage.
     NoRoom(usize),
+    /// There was no memory.
+    Memory,
 }
 
 impl fmt::Display for WriteError {
@@ -86,6 +87,7 @@ impl fmt::Display for WriteError {
             WriteError::TooLarge(number) => write!(f, "setting {number}: the value does not fit"),
             WriteError::OutOfRange(number) => write!(f, "setting {number}: the value is out of range"),
             WriteError::NoRoom(number) => write!(f, "setting {number}: the array has no room"),
+            WriteError::Memory => f.write_str("out of memory"),
         }
     }
 }
@@ -151,6 +153,7 @@ impl<'a> Writing<'a> {
         if self.set.contains(&(kept.number, place)) {
             return Err(WriteError::Twice(number));
         }
+        self.set.try_reserve(1).map_err(|_| WriteError::Memory)?;
         self.set.push((kept.number, place));
         Ok(())
     }
@@ -253,20 +256,20 @@ impl<'a> Writing<'a> {
             spot.value(writing.reader, spot.bits(writing.bytes), 0).usage
         };
         let places = 0..usize::from(kept.field.count);
-        let has: Vec<usize> = places.clone().filter(|place| named(self, *place) == Some(usage)).collect();
+        let has = |writing: &Self, place: usize| named(writing, place) == Some(usage);
         if !on {
             let none = unused(kept, &usages).ok_or(WriteError::NoRoom(number))?;
-            for place in has {
-                self.mark(kept, place, number)?;
-                self.put(kept, place, none);
+            for place in places {
+                if has(self, place) {
+                    self.mark(kept, place, number)?;
+                    self.put(kept, place, none);
+                }
             }
             return Ok(());
         }
         let is_free = |place: &usize| named(self, *place).is_none_or(|usage| usage & 0xFFFF == 0);
-        let place = match has.first() {
-            Some(place) => *place,
-            None => places.clone().find(is_free).ok_or(WriteError::NoRoom(number))?,
-        };
+        let its = places.clone().find(|place| has(self, *place));
+        let place = its.or_else(|| places.clone().find(is_free)).ok_or(WriteError::NoRoom(number))?;
         self.mark(kept, place, number)?;
         self.put(kept, place, value);
         Ok(())
@@ -279,10 +282,12 @@ impl Reader {
     pub fn write(&self, kind: Kind, id: u8, settings: &[Setting], onto: Option<&[u8]>) -> Result<Vec<u8>, WriteError> {
         let (fields, len) = self.fields(kind, id).ok_or(WriteError::UnknownReport)?;
         let uses_ids = self.uses_ids();
-        let mut report = match onto {
-            Some(given) => given.to_vec(),
-            None => vec![0; len],
-        };
+        let mut report = Vec::new();
+        report.try_reserve_exact(onto.map_or(len, <[u8]>::len)).map_err(|_| WriteError::Memory)?;
+        match onto {
+            Some(given) => report.extend_from_slice(given),
+            None => report.resize(len, 0),
+        }
         match (onto.map(|given| self.split(given)), uses_ids) {
             (Some(Err(ReadingError::Empty)), _) => return Err(WriteError::Short),
             (Some(Ok((other, _))), true) if other != id => return Err(WriteError::OtherId),

@@ -7,7 +7,8 @@
 
 use std::fmt::Write as _;
 use std::io::{BufRead, Write};
-use wuzhikar_hid::{Asked, Kind, Reader, ReaderError, Setting, Target, Within, WriteError, details};
+use wuzhikar_hid::{Asked, Kind, Naming, Reader, ReaderError, Setting, Target, Value, Within, WriteError, details, namings};
+use wuzhikar_reader::extract;
 
 fn bytes_of(hex: &str) -> Vec<u8> {
     (0..hex.len() / 2).map(|at| u8::from_str_radix(&hex[2 * at..2 * at + 2], 16).expect("hex")).collect()
@@ -18,6 +19,14 @@ fn hex_of(bytes: &[u8]) -> String {
         let _ = write!(hex, "{byte:02x}");
         hex
     })
+}
+
+fn kind_word(kind: Kind) -> &'static str {
+    match kind {
+        Kind::Input => "input",
+        Kind::Output => "output",
+        Kind::Feature => "feature",
+    }
 }
 
 fn kind_of(word: &str) -> Kind {
@@ -45,13 +54,28 @@ fn descriptor(text: &[u8]) -> (String, Option<Reader>) {
         let usage = option(collection.usage);
         let _ = write!(line, "collection {} {} {usage} {};", collection.offset, collection.kind, option(collection.outer));
     }
+    for (place, _) in told.applications() {
+        let reports: Vec<String> = told.reports_of(place).map(|(kind, id)| format!("{}:{id}", kind_word(kind))).collect();
+        let _ = write!(line, "application {place} {};", reports.join(","));
+    }
+    for report in told.reports() {
+        let _ = write!(line, "report {} {} {};", kind_word(report.kind), report.id, report.bits);
+    }
     for (place, detail) in told.fields.iter().enumerate() {
+        let named = |naming| {
+            let ranges = namings(text, detail.offset, naming).map(|range| format!("{}:{}", range.start(), range.end()));
+            ranges.collect::<Vec<_>>().join(",")
+        };
+        let dimensions = match detail.unit_exponents() {
+            Ok(exponents) => exponents.map(|exponent| exponent.to_string()).join(","),
+            Err(why) => format!("{why:?}"),
+        };
         let (least, greatest) = detail.physical();
-        let around: Vec<String> = told.around(place).iter().map(usize::to_string).collect();
-        let kind = format!("{:?}", detail.kind).to_lowercase();
+        let around: Vec<String> = told.around(place).map(|outer| outer.to_string()).collect();
+        let kind = kind_word(detail.kind);
         let _ = write!(
             line,
-            "{} {} {} {} {} {} {} {} {} {least} {greatest} {} {} {} {};",
+            "{} {} {} {} {} {} {} {} {} {least} {greatest} {} {} {} {} {} {} {dimensions};",
             detail.offset,
             kind,
             detail.flags,
@@ -65,6 +89,8 @@ fn descriptor(text: &[u8]) -> (String, Option<Reader>) {
             detail.exponent,
             around.join(","),
             option(told.application(place)),
+            named(Naming::String),
+            named(Naming::Designator),
         );
     }
     (line, Some(reader))
@@ -75,6 +101,7 @@ fn read(reader: &Reader, kind: Kind, report: &[u8]) -> String {
     match reader.read(kind, report) {
         Err(error) => format!("{error:?}"),
         Ok(values) => {
+            check_read(reader, kind, report);
             for value in values {
                 let within = match value.within {
                     Within::Range => "range",
@@ -82,13 +109,73 @@ fn read(reader: &Reader, kind: Kind, report: &[u8]) -> String {
                     Within::Out => "out",
                 };
                 let physical = match reader.detail(value.field).expect("a field").physical_value(value.raw) {
-                    Ok(physical) => format!("{}/{}", physical.numerator, physical.denominator),
+                    Ok(physical) => format!("{}/{} {}", physical.numerator, physical.denominator, physical.decimal(5)),
                     Err(why) => format!("{why:?}"),
                 };
                 let _ =
                     write!(line, "{} {} {} {} {within} {physical};", value.field, value.place, option(value.usage), value.raw);
             }
             line
+        }
+    }
+}
+
+/// Whether a value is told to stay as it is where it is written back: of a Variable place one in range, of an Array one that
+/// names a usage of a number that its field lists once.
+fn is_kept(reader: &Reader, value: &Value) -> bool {
+    let usages = || reader.descriptor().usages(value.field);
+    let listed = |usage: u32| usages().filter(|listed| *listed == usage).count();
+    match value.usage {
+        _ if value.within != Within::Range => false,
+        _ if !reader.descriptor().fields()[value.field].array => true,
+        Some(usage) => usage & 0xFFFF != 0 && listed(usage) == 1,
+        None => false,
+    }
+}
+
+/// A write of what was read gives the same bytes, and what `extract` finds is what was read.
+fn check_read(reader: &Reader, kind: Kind, report: &[u8]) {
+    let reading = reader.read(kind, report).expect("a report");
+    let (id, values): (u8, Vec<Value>) = (reading.id(), reading.collect());
+    let kept = values.iter().filter(|value| is_kept(reader, value));
+    let settings: Vec<Setting> = kept
+        .map(|value| Setting {
+            target: Target::Field { field: value.field, place: value.place.into() },
+            asked: Asked::Value(value.raw),
+        })
+        .collect();
+    assert_eq!(reader.write(kind, id, &settings, Some(report)).as_deref(), Ok(report));
+    if kind == Kind::Input {
+        let is_array = |value: &Value| reader.descriptor().fields()[value.field].array;
+        let found: Vec<(u32, i64)> = extract(reader.descriptor(), report)
+            .expect("a report")
+            .iter()
+            .filter(|found| found.usage & 0xFFFF != 0)
+            .map(|found| (found.usage, found.value))
+            .collect();
+        let told = values.iter().filter_map(|value| Some((value.usage?, if is_array(value) { 1 } else { value.raw })));
+        assert_eq!(found, told.filter(|(usage, _)| usage & 0xFFFF != 0).collect::<Vec<_>>());
+    }
+}
+
+/// What `extract` finds in a report that was written is what was asked for, where no Array has the usage.
+fn check_written(reader: &Reader, kind: Kind, report: &[u8], settings: &[Setting]) {
+    if kind != Kind::Input {
+        return;
+    }
+    let found = extract(reader.descriptor(), report).expect("a report");
+    for setting in settings {
+        if let (Target::Usage { usage, place }, Asked::Value(value)) = (setting.target, setting.asked) {
+            let fields = || reader.descriptor().fields().iter().enumerate().filter(|(_, field)| field.kind == kind);
+            let listed = |array: bool| {
+                fields().any(|(at, field)| field.array == array && reader.descriptor().usages(at).any(|listed| listed == usage))
+            };
+            let its: Vec<i64> = found.iter().filter(|found| found.usage == usage).map(|found| found.value).collect();
+            if !listed(true) && usage & 0xFFFF != 0 {
+                assert_eq!(its.get(place), Some(&value));
+            } else if !listed(false) && place == 0 && settings.len() == 1 && usage & 0xFFFF != 0 && value == 1 {
+                assert!(its.contains(&1));
+            }
         }
     }
 }
@@ -109,7 +196,10 @@ fn written(reader: &Reader, words: &[&str]) -> String {
     let settings: Vec<Setting> = words[3..].iter().map(|word| setting(word)).collect();
     let onto = (words[2] != "-").then(|| bytes_of(words[2].trim_end_matches('.')));
     match reader.write(kind_of(words[0]), words[1].parse().expect("an ID"), &settings, onto.as_deref()) {
-        Ok(report) => hex_of(&report),
+        Ok(report) => {
+            check_written(reader, kind_of(words[0]), &report, &settings);
+            hex_of(&report)
+        }
         Err(WriteError::UnknownReport) => "unknown-report".into(),
         Err(WriteError::Short) => "short".into(),
         Err(WriteError::OtherId) => "other-id".into(),
@@ -120,6 +210,7 @@ fn written(reader: &Reader, words: &[&str]) -> String {
         Err(WriteError::TooLarge(number)) => format!("too-large {number}"),
         Err(WriteError::OutOfRange(number)) => format!("out-of-range {number}"),
         Err(WriteError::NoRoom(number)) => format!("no-room {number}"),
+        Err(WriteError::Memory) => "memory".into(),
     }
 }
 
