@@ -8,7 +8,9 @@ import re
 import shutil
 import subprocess
 
+import cases
 from builds import BENCH, ROOT, Skipped
+from cases import PARSE
 from results import Row
 
 # What bench/rattle/calls.rattle calls by its first byte; the peer's number is that of the row of the section x86.
@@ -113,14 +115,22 @@ def peer_parser(room):
     return room.path("parse")
 
 
+def counted(room, program, call, text, report=b""):
+    """The instructions of a call of bench/rattle/parses.rattle, with what it drops: eleven less one, a tenth of it."""
+    head = len(report).to_bytes(2, "little") + report + text
+    many, one = (instructions(room, [program], bytes([call, times]) + head) for times in (11, 1))
+    return round((many - one) / 10)
+
+
 def parses(room):
-    """A parse of each text, with what it drops: eleven less one, a tenth of it."""
+    """A parse of each text of the keyboard beside the peer's, and parses and readings of others."""
     needs("rt", "valgrind", "gcc")
-    ours, peer, rows = built(room, "parses.rattle", "descriptor_parse"), peer_parser(room), []
+    ours, peer, rows = built(room, "parses.rattle", "descriptor_parse", "host_extract"), peer_parser(room), []
     for length, digits in TEXTS.items():
-        counts = [instructions(room, [ours], bytes([times]) + bytes.fromhex(digits)) for times in (11, 1)]
-        in_c = [instructions(room, [peer, str(times)], digits.encode()) for times in (11, 1)]
-        rows.append(Row("parse", f"parse of {length} bytes", *(round((many - one) / 10) for many, one in (counts, in_c))))
+        many, one = (instructions(room, [peer, str(times)], digits.encode()) for times in (11, 1))
+        rows.append(Row("parse", f"parse of {length} bytes", counted(room, ours, PARSE, bytes.fromhex(digits)), round((many - one) / 10)))
+    for what, call, text, report in cases.cases(TEXTS):
+        rows.append(Row("parse", what, counted(room, ours, call, text, report), None))
     return rows
 
 
