@@ -1,6 +1,6 @@
 """Report descriptors and reports whose parse or reading the section `parse` counts, beside the keyboard's own."""
 
-# What bench/rattle/parses.rattle calls, by its first byte.
+# What bench/rattle/readings.rattle calls, by its first byte.
 PARSE, PARSE_IN_PIECES, READ = range(3)
 
 BOOT = bytes.fromhex("05010906A101050719E029E715002501750195088102950175088103950625A4190029A48100C0")

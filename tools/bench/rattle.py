@@ -10,7 +10,6 @@ import subprocess
 
 import cases
 from builds import BENCH, ROOT, Skipped
-from cases import PARSE
 from results import Row
 
 # What bench/rattle/calls.rattle calls by its first byte; the peer's number is that of the row of the section x86.
@@ -79,7 +78,7 @@ def built(room, source, *crates):
     with open(f"{folder}/crates.txt", "w", encoding="utf-8") as file:
         file.writelines(f"{crate}: {' '.join(lines[crate])}\n" for crate in below)
         file.write(f"{name}: {' '.join(crates)}\n")
-    room.run(["rt", "run"], f"{folder}/crates/{name}", given=b"\0\0")
+    room.run(["rt", "run"], f"{folder}/crates/{name}", given=bytes(4))
     return f"{folder}/crates/{name}/out/{name}"
 
 
@@ -116,7 +115,7 @@ def peer_parser(room):
 
 
 def counted(room, program, call, text, report=b""):
-    """The instructions of a call of bench/rattle/parses.rattle, with what it drops: eleven less one, a tenth of it."""
+    """The instructions of a call of bench/rattle/readings.rattle, with what it drops: eleven less one, a tenth of it."""
     head = len(report).to_bytes(2, "little") + report + text
     many, one = (instructions(room, [program], bytes([call, times]) + head) for times in (11, 1))
     return round((many - one) / 10)
@@ -125,12 +124,14 @@ def counted(room, program, call, text, report=b""):
 def parses(room):
     """A parse of each text of the keyboard beside the peer's, and parses and readings of others."""
     needs("rt", "valgrind", "gcc")
-    ours, peer, rows = built(room, "parses.rattle", "descriptor_parse", "host_extract"), peer_parser(room), []
+    ours, peer, rows = built(room, "parses.rattle", "descriptor_parse"), peer_parser(room), []
     for length, digits in TEXTS.items():
-        many, one = (instructions(room, [peer, str(times)], digits.encode()) for times in (11, 1))
-        rows.append(Row("parse", f"parse of {length} bytes", counted(room, ours, PARSE, bytes.fromhex(digits)), round((many - one) / 10)))
+        counts = [instructions(room, [ours], bytes([times]) + bytes.fromhex(digits)) for times in (11, 1)]
+        in_c = [instructions(room, [peer, str(times)], digits.encode()) for times in (11, 1)]
+        rows.append(Row("parse", f"parse of {length} bytes", *(round((many - one) / 10) for many, one in (counts, in_c))))
+    others = built(room, "readings.rattle", "descriptor_parse", "host_extract")
     for what, call, text, report in cases.cases(TEXTS):
-        rows.append(Row("parse", what, counted(room, ours, call, text, report), None))
+        rows.append(Row("parse", what, counted(room, others, call, text, report), None))
     return rows
 
 
