@@ -1,6 +1,6 @@
 """Tests of examples/hid_reader, the reader from C. They need cargo, rustc and gcc, and valgrind where it is there.
 
-The programs in C are built with AddressSanitizer and UBSan, and once more without for valgrind, which sees what the library
+What its calls tell of details, values and writes is compared with tests/reader/plain.py. The programs in C are built with AddressSanitizer and UBSan, and once more without for valgrind, which sees what the library
 does too. Fields are compared with those that the program prints that the variable KBSIM names, or else bin/kbsim.
 """
 
@@ -62,7 +62,7 @@ class HidReader(unittest.TestCase):
             "RUSTFLAGS": "-D warnings",
         }
         # A copy, so that nothing is written into the repository.
-        for path in ("examples/hid_reader", "rust"):
+        for path in ("examples/hid_reader", "examples/hid_driver", "rust"):
             shutil.copytree(f"{ROOT}/{path}", f"{cls.work}/{path}", ignore=shutil.ignore_patterns("target", "Cargo.lock"))
         cls.example = f"{cls.work}/examples/hid_reader"
         cls.cargo("build", "-q", "--release")
@@ -127,6 +127,27 @@ class HidReader(unittest.TestCase):
         said = "each request refused in turn: 6 of a text, 6 in pieces, 3 of readings\n"
         self.both("tests/memory.c", said, options=WRAPPED)
 
+    def test_the_calls_of_a_reader(self):
+        said = "each refusal of a reader's calls; requests refused in turn: 17 of a reader, 1 of bytes, 3 of a report\n"
+        self.both("tests/kept.c", said, options=WRAPPED)
+
+    def test_details_and_values_are_those_of_a_plain_program(self):
+        program = self.built("tests/tell.c", *SANITIZERS)
+        ran = subprocess.run(
+            ["python3", "-B", f"{ROOT}/tools/test_reader.py", "--count", "1500", "--program", program], stdout=subprocess.PIPE, text=True
+        )
+        self.assertEqual(ran.returncode, 0, ran.stdout)
+        self.assertRegex(ran.stdout, r" [0-9]{4} answers, 0 differences\n$")
+
+    def test_the_drivers(self):
+        with open(f"{ROOT}/examples/hid_driver/README.md") as file:
+            shown = re.findall(r"^```text\n(.*?)^```$", file.read(), re.M | re.S)
+        drivers = {"mouse": ("mouse", 0), "gamepad": ("gamepad", 1), "touch_screen": ("touch_screen", 2), "num_lock": ("keyboard", 4)}
+        for name, (given, place) in drivers.items():
+            with self.subTest(name):
+                program = self.built(f"../hid_driver/c/{name}.c", *SANITIZERS, f"-I{EXAMPLE}")
+                self.says(shown[place], program, f"{ROOT}/examples/hid_driver/{given}.hex")
+
     def test_threads(self):
         self.both("tests/threads.c", "8 threads: each reading is right, or its handle was closed\n", ["20000"], ["200"])
 
@@ -158,7 +179,7 @@ class HidReader(unittest.TestCase):
             ["nm", "-D", "--defined-only", f"{self.release}/libhid_reader.so"], stdout=subprocess.PIPE, check=True, text=True
         ).stdout
         self.assertEqual({line.split()[-1] for line in listed.splitlines()}, declared)
-        self.assertEqual(len(declared), 15)
+        self.assertEqual(len(declared), 37)
 
     def test_the_header_in_cpp(self):
         if not shutil.which("g++"):

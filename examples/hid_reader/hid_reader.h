@@ -1,15 +1,21 @@
 // SPDX-License-Identifier: MIT OR Apache-2.0
-/* A reader of HID report descriptors and of input reports (HID 1.11, sections 5.6 and 6.2.2).
+/* A reader of HID report descriptors and of reports (HID 1.11, sections 5.6 and 6.2.2): first what fields there are and which
+ * usages are on, then, from hidr_reader_open on, what the fields mean, the values of reports, and reports from values.
  *
  * A call answers a status. HIDR_OK: it did what it says. Any other is a refusal: then nothing was written behind a pointer
- * (but the fault of a text, at HIDR_FAULT), and no handle was opened or closed. Where several refusals hold, the first one
- * of this list is told: HIDR_NULL, HIDR_LENGTH, the handle's, the text's or the report's, HIDR_FULL. A call with a pointer may
- * answer HIDR_NULL, one with a count or a length HIDR_LENGTH, one with a handle HIDR_NO_HANDLE, HIDR_CLOSED and
+ * (but the fault of a text, at HIDR_FAULT, and the number of what hidr_write refuses), and no handle was opened or closed.
+ * Where several refusals hold, the first one of this list is told: HIDR_NULL, HIDR_LENGTH, the handle's, HIDR_OVERLAP, the
+ * text's or the report's, HIDR_FULL. A call with a pointer may answer HIDR_NULL, one with a count or a length HIDR_LENGTH, one with a handle HIDR_NO_HANDLE, HIDR_CLOSED and
  * HIDR_WRONG_KIND; the others are named at each call.
  *
  * Texts and reports may be any bytes. Behind a pointer that is not null have to stand as many values as its count says, as
- * ever in C; they need no alignment and may overlap, and no pointer is kept. A pointer may be null where its count or length
- * is 0, and that of an error always.
+ * ever in C; they need no alignment and may overlap (but for what HIDR_OVERLAP refuses), and no pointer is kept. A pointer may
+ * be null where its count or length is 0, and that of an error, of the rest of a report and of what hidr_write refuses always.
+ *
+ * Memory: what a call gives is written behind the caller's pointers and is the caller's, but for names that are given as a
+ * pointer, which stay. Nothing is to be freed; a handle is closed by hidr_close. Where HIDR_NO_MEMORY is named, the call takes
+ * memory by malloc: that of hidr_parse, of a parser and of hidr_reader_open is kept until the handle is closed, all other is
+ * given back before the call ends. A call at which it is not named takes none.
  *
  * Calls may come from any thread at any time. Those on one handle take turns; those on different handles don't wait for each
  * other, but for the moment in which a slot is taken or given back. A handle may be closed while another thread uses it:
@@ -27,8 +33,9 @@ extern "C" {
 /* Handles: numbers, and no pointers. 0 is none, and one that was closed is never given again. */
 typedef uint64_t hidr_parser;
 typedef uint64_t hidr_descriptor;
+typedef uint64_t hidr_reader; /* it may stand wherever a descriptor is wanted */
 
-/* As many may be open at once, parsers and descriptors together. */
+/* As many may be open at once, parsers, descriptors and readers together. */
 #define HIDR_HANDLES 256
 
 /* What a call came to. */
@@ -39,14 +46,31 @@ enum {
     HIDR_LENGTH = 2,        /* a length or a count that nothing in memory has */
     HIDR_NO_HANDLE = 3,     /* the number is no handle that was given */
     HIDR_CLOSED = 4,        /* the handle was closed */
-    HIDR_WRONG_KIND = 5,    /* a parser where a descriptor is wanted, or the other way round */
+    HIDR_WRONG_KIND = 5,    /* a handle of another kind, as that of a parser where a descriptor is wanted */
     HIDR_FULL = 6,          /* HIDR_HANDLES handles are open */
     HIDR_NO_MEMORY = 7,     /* there was no memory */
     HIDR_FAULT = 8,         /* the text has a fault */
     HIDR_ABSENT = 9,        /* no such field, place or report */
     HIDR_EMPTY_REPORT = 10, /* the report has no byte */
     HIDR_UNKNOWN_ID = 11,   /* report IDs are used, and no input report has the first byte as its ID */
-    HIDR_SHORT_REPORT = 12  /* the report is shorter than its descriptor says */
+    HIDR_SHORT_REPORT = 12, /* the report is shorter than its descriptor says */
+    /* Of a reader: */
+    HIDR_UNKNOWN_REPORT = 13,  /* the descriptor has no report of this kind and ID */
+    HIDR_OTHER_ID = 14,        /* the report that is given begins with another ID */
+    HIDR_NO_UNUSED = 15,       /* in a new report an array can't say that it names no usage */
+    HIDR_UNKNOWN_CONTROL = 16, /* the report does not have this usage so many times, or this field or place */
+    HIDR_TWICE = 17,           /* the place is set twice */
+    HIDR_NO_NULL = 18,         /* a null, and the field has no Null State, or no value for it */
+    HIDR_TOO_LARGE = 19,       /* a number that does not fit */
+    HIDR_OUT_OF_RANGE = 20,    /* a value outside the logical extents, or neither 0 nor 1 for a usage of an array */
+    HIDR_NO_ROOM = 21,         /* each place of the array names another usage, or none can say that it names no usage */
+    HIDR_EQUAL_LIMITS = 22,    /* the logical extents are equal, so that there is no physical value */
+    HIDR_INVERTED_LIMITS = 23, /* the same where the Logical Minimum is over the Logical Maximum */
+    HIDR_RESERVED_DIGIT = 24,  /* the highest digit of the unit is reserved, and not 0 */
+    HIDR_NO_SYSTEM = 25,       /* the unit has exponents, and no system */
+    HIDR_RESERVED_SYSTEM = 26, /* the system of the unit is reserved: 5 to 14 */
+    HIDR_VENDOR_SYSTEM = 27,   /* the system of the unit is the vendor's: 15 */
+    HIDR_OVERLAP = 28          /* what is read and what is written share memory, and may not */
 };
 
 /* The first fault of a text: 1 to 16, which hidr_fault_name names, and the offset in bytes of the item that it falls on. */
@@ -129,6 +153,181 @@ hidr_status hidr_extract(hidr_descriptor descriptor, const uint8_t *report, size
  * It refuses what hidr_extract refuses. */
 hidr_status hidr_pressed(hidr_descriptor descriptor, const uint8_t *report, size_t length, uint32_t *into, size_t room,
                          size_t *count);
+
+/* ---- A reader: what fields mean, values, and reports from values. It is tested, not proved. ---- */
+
+/* The reader of a whole text of at most 4,096 bytes: a handle, to be closed. HIDR_FAULT with the first fault of the text in
+ * *error; HIDR_NO_MEMORY; HIDR_FULL. */
+hidr_status hidr_reader_open(const uint8_t *text, size_t length, hidr_reader *reader, hidr_error *error);
+
+/* No place in a list. */
+#define HIDR_NONE UINT32_MAX
+
+/* The bits of an Input, Output or Feature item (HID 1.11, 6.2.2.5); where one is not set it is Data, Array, Absolute, No Wrap,
+ * Linear, Preferred State, no Null State, Non Volatile, Bit Field. */
+enum {
+    HIDR_CONSTANT = 1,
+    HIDR_VARIABLE = 2,
+    HIDR_RELATIVE = 4,
+    HIDR_WRAPS = 8,
+    HIDR_NONLINEAR = 16,
+    HIDR_NO_PREFERRED = 32,
+    HIDR_NULL_STATE = 64,
+    HIDR_VOLATILE = 128,
+    HIDR_BUFFERED = 256
+};
+
+/* What an Input, Output or Feature item declares. Those that are not Constant are the fields, in their order; the others are
+ * padding. */
+typedef struct hidr_detail {
+    uint64_t offset;                    /* of the item in the text, in bytes */
+    uint64_t bit;                       /* as that of hidr_field */
+    int64_t min, max;                   /* the logical extents */
+    int64_t physical_min, physical_max; /* those that hold: as declared, 0 where one is not, the logical ones where both are 0 */
+    int64_t exponent;                   /* the power of ten of the unit: data of 0 to 15 are four bits in two's complement */
+    uint32_t flags;                     /* HIDR_CONSTANT and the others */
+    uint32_t size, count;               /* `count` places of `size` bits */
+    uint32_t unit;                      /* the digits of the unit, 0 where there is none */
+    uint32_t field;                     /* its number as hidr_field_at and hidr_ranges have it; HIDR_NONE of padding */
+    uint32_t collection;                /* the innermost collection around it; HIDR_NONE */
+    uint32_t application;               /* the innermost Application around it; HIDR_NONE */
+    uint8_t kind;                       /* HIDR_INPUT, HIDR_OUTPUT or HIDR_FEATURE */
+    uint8_t id;                         /* the Report ID; 0 where none is used */
+} hidr_detail;
+
+/* How many items there are, padding among them, and item number `item`, from 0 on. HIDR_ABSENT. */
+hidr_status hidr_detail_count(hidr_reader reader, size_t *count);
+hidr_status hidr_detail_at(hidr_reader reader, size_t item, hidr_detail *into);
+
+/* The number of the item that is field number `field`. HIDR_ABSENT. */
+hidr_status hidr_detail_of(hidr_reader reader, size_t field, size_t *item);
+
+/* A collection (HID 1.11, 6.2.2.6). */
+typedef struct hidr_collection {
+    uint64_t offset;   /* of the item in the text, in bytes */
+    uint32_t type;     /* 0 Physical, 1 Application, 2 Logical, and so on */
+    uint32_t usage;    /* the first Usage before it, the page in the high half; 0 where there is none */
+    uint32_t outer;    /* the collection right around it; HIDR_NONE */
+    uint8_t has_usage; /* 1 where there is a usage */
+} hidr_collection;
+
+/* How many collections there are, and collection number `collection`, from 0 on, in order of declaration. HIDR_ABSENT. */
+hidr_status hidr_collection_count(hidr_reader reader, size_t *count);
+hidr_status hidr_collection_at(hidr_reader reader, size_t collection, hidr_collection *into);
+
+/* The numbers of the collections around an item, outermost first: the first `room`, and in *count how many there are, at most
+ * 16. HIDR_ABSENT where there is no such item. */
+hidr_status hidr_around(hidr_reader reader, size_t item, uint32_t *into, size_t room, size_t *count);
+
+/* The numbers of the Application collections, in order: the first `room`, and in *count how many there are. */
+hidr_status hidr_applications(hidr_reader reader, uint32_t *into, size_t room, size_t *count);
+
+/* A report: its bits, padding among them, without the ID byte, and its bytes with it. */
+typedef struct hidr_report {
+    uint64_t bits, bytes;
+    uint8_t kind; /* HIDR_INPUT, HIDR_OUTPUT or HIDR_FEATURE */
+    uint8_t id;   /* 0 where none is used */
+} hidr_report;
+
+/* All reports, in order of their first items: the first `room`, and in *count how many there are. */
+hidr_status hidr_reports(hidr_reader reader, hidr_report *into, size_t room, size_t *count);
+
+/* The same of those that have an item in an Application, innermost; one report may be of several. HIDR_ABSENT where the
+ * collection with this number is none, or is not there. */
+hidr_status hidr_reports_of(hidr_reader reader, size_t application, hidr_report *into, size_t room, size_t *count);
+
+/* The numbers of the items of a report, in order, padding among them: the first `room`, and in *count how many there are.
+ * HIDR_ABSENT where there is no such report. */
+hidr_status hidr_report_details(hidr_reader reader, uint8_t kind, uint8_t id, uint32_t *into, size_t room, size_t *count);
+
+/* What names a control for a person (HID 1.11, 6.2.2.8). */
+enum { HIDR_STRING = 0, HIDR_DESIGNATOR = 1 };
+
+/* The strings or designators that the text gives the item at an offset, as ranges of numbers: the first `room`, and in *count
+ * how many there are. A Minimum or Maximum without its other half gives none; one over the other gives a range whose first
+ * number is over its last. HIDR_ABSENT where `naming` is neither; HIDR_OVERLAP of text and ranges. */
+hidr_status hidr_namings(const uint8_t *text, size_t length, uint64_t offset, uint8_t naming, hidr_range *into, size_t room,
+                         size_t *count);
+
+/* The exponents in an item's unit, -8 to 7, of length, mass, time, temperature, current and luminous intensity, behind `into`:
+ * six numbers, all 0 where there is no unit. HIDR_ABSENT; HIDR_RESERVED_DIGIT, HIDR_NO_SYSTEM, HIDR_RESERVED_SYSTEM,
+ * HIDR_VENDOR_SYSTEM: the first of them that holds. */
+hidr_status hidr_unit_exponents(hidr_reader reader, size_t item, int8_t *into);
+
+/* Names, as text that ends with a NUL: as much as fits into `room` characters, the NUL among them, and in *length how long the
+ * whole is without it; where room is 0 nothing is written. That of an item's unit, as "degree", of a collection's type, as
+ * "Logical", and of a page, as "LED": empty where there is none. That of a usage, as "Num Lock": where none is known, its page
+ * and number. HIDR_ABSENT of an item or a collection that there isn't. */
+hidr_status hidr_unit_name(hidr_reader reader, size_t item, char *into, size_t room, size_t *length);
+hidr_status hidr_collection_name(hidr_reader reader, size_t collection, char *into, size_t room, size_t *length);
+hidr_status hidr_usage_name(uint32_t usage, char *into, size_t room, size_t *length);
+hidr_status hidr_page_name(uint16_t page, char *into, size_t room, size_t *length);
+
+/* Where a value is, by the logical extents of its field: within them; outside, in a variable field with Null State, so that
+ * the control has no value; outside, in any other. */
+enum { HIDR_IN_RANGE = 0, HIDR_IS_NULL = 1, HIDR_IS_OUT = 2 };
+
+/* The value of a place of a field. */
+typedef struct hidr_value {
+    int64_t raw;       /* the number in the bits, in two's complement where the Logical Minimum is negative */
+    uint32_t usage;    /* of a variable field that of the place; of an array that which the value names; 0 where there is none */
+    uint32_t field;    /* as hidr_field_at counts */
+    uint16_t place;    /* from 0 on */
+    uint8_t within;    /* HIDR_IN_RANGE, HIDR_IS_NULL or HIDR_IS_OUT */
+    uint8_t has_usage; /* 1 where there is a usage */
+} hidr_value;
+
+/* The values of a report of a kind, in the order of its fields and places: the first `room`, in *count how many there are, and
+ * in *rest, where there is a place for it, how many bytes stand behind the report's end. HIDR_OVERLAP of report and values;
+ * HIDR_EMPTY_REPORT, HIDR_UNKNOWN_REPORT, HIDR_SHORT_REPORT. */
+hidr_status hidr_read(hidr_reader reader, uint8_t kind, const uint8_t *report, size_t length, hidr_value *into, size_t room,
+                      size_t *count, size_t *rest);
+
+/* The bytes of a field of Buffered Bytes in a report, its places one after the other, the last byte filled with 0: the first
+ * `room`, and in *count how many there are. What hidr_read refuses of a report; HIDR_ABSENT where the report has no such field,
+ * or it is not of Buffered Bytes; HIDR_NO_MEMORY. */
+hidr_status hidr_buffered(hidr_reader reader, uint8_t kind, const uint8_t *report, size_t length, size_t field, uint8_t *into,
+                          size_t room, size_t *count);
+
+/* numerator / denominator times ten to the power of exponent, in lowest terms; the denominator is at least 1. */
+typedef struct hidr_fraction {
+    int64_t numerator, denominator, exponent;
+} hidr_fraction;
+
+/* What a value of a field is in its unit, exactly: on the line through the logical and the physical extents, also past their
+ * ends. HIDR_ABSENT; HIDR_EQUAL_LIMITS, HIDR_INVERTED_LIMITS; HIDR_TOO_LARGE where it does not fit into 64 bits, as far outside
+ * of extents that are very wide. */
+hidr_status hidr_physical(hidr_reader reader, size_t field, int64_t raw, hidr_fraction *into);
+
+/* The same as a decimal, cut off after so many digits behind the point, at most 18, as a text like a name's: at most 63
+ * characters. With `e` and the power of ten behind it where that is beyond 18 either way, or the whole would have more than 38
+ * digits. HIDR_ABSENT; HIDR_EQUAL_LIMITS, HIDR_INVERTED_LIMITS. */
+hidr_status hidr_decimal(hidr_reader reader, size_t field, int64_t raw, uint32_t digits, char *into, size_t room, size_t *length);
+
+/* Which control a setting is about: that which has this usage, the page in the high half, where `place` counts what in the
+ * report has it, in order, from 0 on, each place of a variable field and each array whose list has it; or this place of this
+ * field, as hidr_field_at counts. */
+enum { HIDR_BY_USAGE = 0, HIDR_BY_FIELD = 1 };
+
+/* A control of a report, and what it is set to. For a usage of an array 1 puts it into a place that names none, and 0 takes it
+ * out of all. */
+typedef struct hidr_setting {
+    int64_t value;    /* what it is set to, where `null` is 0 */
+    uint32_t control; /* the usage, or the field */
+    uint32_t place;
+    uint8_t by;   /* HIDR_BY_USAGE or HIDR_BY_FIELD */
+    uint8_t null; /* 1: no value, where the field has Null State */
+} hidr_setting;
+
+/* A report of a kind and ID, 0 where none is used, with `count` controls set: its first `room` bytes, and in *length how many
+ * there are, the ID byte among them. Each other bit is that of the report `onto`, of `onto_length` bytes; where that is 0 the
+ * report is new: places with Null State are null, places of arrays name no usage, and the rest is 0. The report may be written
+ * over `onto`. The first of these, and of several settings that of the first one: HIDR_NO_MEMORY for the settings,
+ * HIDR_UNKNOWN_REPORT, HIDR_NO_MEMORY for the report, HIDR_OTHER_ID, HIDR_SHORT_REPORT, HIDR_NO_UNUSED with the field in *which;
+ * and with the number of the setting in *which HIDR_UNKNOWN_CONTROL, HIDR_TWICE, HIDR_NO_NULL, HIDR_TOO_LARGE,
+ * HIDR_OUT_OF_RANGE, HIDR_NO_ROOM. */
+hidr_status hidr_write(hidr_reader reader, uint8_t kind, uint8_t id, const hidr_setting *settings, size_t count,
+                       const uint8_t *onto, size_t onto_length, uint8_t *into, size_t room, size_t *length, size_t *which);
 
 /* The name of a fault, as "EndWithoutCollection", and of a status, as "Closed"; "" of another number. They stay. */
 const char *hidr_fault_name(uint32_t fault);

@@ -3,34 +3,12 @@
 //!
 //! A call looks at its pointers and lengths, then at its handle, and writes once nothing is left to be refused.
 
-use crate::edge::{Input, Output, Outputs, Place};
+use crate::edge::{Input, Output, Outputs};
+use crate::handles::{Entry, Error, TABLE, both, kind_of, number_of, of, tell, told};
 use crate::names;
 use crate::status::Status;
-use crate::table::Table;
 use core::ffi::c_char;
-use wuzhikar_reader::{Descriptor, Field, Found, Kind, ParseError, ParseFault, Parser, extract, parse, pressed};
-
-/// As many handles as may be open at once: `HIDR_HANDLES`.
-const HANDLES: usize = 256;
-
-static TABLE: Table<Entry, HANDLES> = Table::new();
-
-/// What a handle stands for.
-#[allow(clippy::large_enum_variant)] // it stands in the table itself, so that no memory has to be there
-enum Entry {
-    Parser(Parser),
-    /// A parser that has ended with a fault, which it answers again.
-    Refused(ParseError),
-    Descriptor(Descriptor),
-}
-
-/// `hidr_error`
-#[repr(C)]
-#[derive(Clone, Copy)]
-pub struct Error {
-    offset: u64,
-    fault: u32,
-}
+use wuzhikar_reader::{Field, Found, Parser, extract, parse, pressed};
 
 /// `hidr_field`
 #[repr(C)]
@@ -88,7 +66,7 @@ pub extern "C" fn hidr_parser_feed(parser: u64, piece: Input, length: usize, err
         TABLE.with(parser, |entry| match entry {
             Entry::Parser(parser) => parser.feed(piece).map_err(|found| tell(found, error.place_if_any())),
             Entry::Refused(found) => Err(tell(*found, error.place_if_any())),
-            Entry::Descriptor(_) => Err(Status::WrongKind),
+            Entry::Descriptor(_) | Entry::Reader(_) => Err(Status::WrongKind),
         })
     })
 }
@@ -104,7 +82,7 @@ pub extern "C" fn hidr_parser_finish(parser: u64, descriptor: Output<u64>, error
                     Err(found) => found,
                 },
                 Entry::Refused(found) => found,
-                Entry::Descriptor(_) => return (entry, Err(Status::WrongKind)),
+                Entry::Descriptor(_) | Entry::Reader(_) => return (entry, Err(Status::WrongKind)),
             };
             (Entry::Refused(refused), Err(tell(refused, error.place_if_any())))
         })?);
@@ -180,10 +158,7 @@ pub extern "C" fn hidr_report_length(descriptor: u64, kind: u8, id: u8, bytes: O
     told(|| {
         let bytes = bytes.place()?;
         bytes.put(of(descriptor, |descriptor| {
-            [Kind::Input, Kind::Output, Kind::Feature]
-                .get(usize::from(kind))
-                .and_then(|kind| descriptor.report_len(*kind, id))
-                .ok_or(Status::Absent)
+            kind_of(kind).and_then(|kind| descriptor.report_len(kind, id)).ok_or(Status::Absent)
         })?);
         Ok(())
     })
@@ -237,49 +212,16 @@ pub extern "C" fn hidr_status_name(status: i32) -> *const c_char {
     names::of_status(status).as_ptr()
 }
 
-/// Both, or why not: that a pointer is null is told before that a length is wrong.
-fn both<A, B>(one: Result<A, Status>, other: Result<B, Status>) -> Result<(A, B), Status> {
-    match (one, other) {
-        (Ok(one), Ok(other)) => Ok((one, other)),
-        (Err(Status::Null), _) | (_, Err(Status::Null)) => Err(Status::Null),
-        (Err(status), _) | (_, Err(status)) => Err(status),
+impl Range {
+    /// The usages or numbers from one to another.
+    pub fn new(first: u32, last: u32) -> Range {
+        Range { first, last }
     }
-}
-
-/// The status of what a call came to.
-fn told(call: impl FnOnce() -> Result<(), Status>) -> Status {
-    match call() {
-        Ok(()) => Status::Ok,
-        Err(status) => status,
-    }
-}
-
-/// What a call makes of the descriptor that a handle stands for.
-fn of<R>(handle: u64, call: impl FnOnce(&Descriptor) -> Result<R, Status>) -> Result<R, Status> {
-    TABLE.with(handle, |entry| match entry {
-        Entry::Descriptor(descriptor) => call(descriptor),
-        Entry::Parser(_) | Entry::Refused(_) => Err(Status::WrongKind),
-    })
-}
-
-/// The status of a text that is refused, whose fault is written where there is a place for it.
-fn tell(found: ParseError, error: Option<Place<Error>>) -> Status {
-    if found.fault == ParseFault::Memory {
-        return Status::NoMemory;
-    }
-    if let Some(place) = error {
-        place.put(Error { offset: found.offset as u64, fault: found.fault.number().into() });
-    }
-    Status::Fault
 }
 
 impl From<&Field> for FieldOut {
     fn from(field: &Field) -> FieldOut {
-        let kind = match field.kind {
-            Kind::Input => 0,
-            Kind::Output => 1,
-            Kind::Feature => 2,
-        };
+        let kind = number_of(field.kind);
         FieldOut {
             bit: field.bit,
             min: field.min,

@@ -88,9 +88,32 @@ impl<T: Copy> Places<T> {
     /// Puts the first values, as many as there is room for.
     pub fn put(self, values: impl Iterator<Item = T>) {
         for (number, value) in values.take(self.room).enumerate() {
+            self.set(number, value);
+        }
+    }
+
+    /// Puts the first values, as many as there is room for, and gives how many there are.
+    pub fn put_all(self, values: impl Iterator<Item = T>) -> usize {
+        values.enumerate().map(|(number, value)| self.set(number, value)).count()
+    }
+
+    /// Puts a value into the place with this number, if there is one.
+    pub fn set(&self, number: usize, value: T) {
+        if number < self.room {
             // SAFETY: the places came from `Outputs`, behind which the caller owes room for `room` values; `number` is below
             // that, and their bytes fit into `isize`.
             unsafe { self.start.add(number).write_unaligned(value) }
         }
+    }
+
+    /// Whether these bytes and the places share memory.
+    pub fn overlap(&self, bytes: &[u8]) -> bool {
+        let (start, other) = (self.start.as_ptr().addr(), bytes.as_ptr().addr());
+        start < other.saturating_add(bytes.len()) && other < start.saturating_add(self.room.saturating_mul(size_of::<T>()))
+    }
+
+    /// How many places there are.
+    pub fn room(&self) -> usize {
+        self.room
     }
 }

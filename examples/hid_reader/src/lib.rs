@@ -2,15 +2,20 @@
 //! The reader of HID report descriptors and reports behind a C ABI. `hid_reader.h` says of each call what it takes, gives
 //! and refuses.
 //!
-//! [`calls`] are the calls of the header, [`table`] keeps what handles stand for, [`names`] has the names of faults and
-//! statuses. [`edge`] has the only `unsafe` blocks: reading and writing behind the pointers of a caller. Written by hand:
+//! [`calls`], [`details`] and [`values`] are the calls of the header, [`handles`] and [`table`] keep what handles stand for,
+//! [`names`] has the names of faults and statuses. [`edge`] has the only `unsafe` blocks: reading and writing behind the pointers of a caller. Written by hand:
 //! tested, not proved.
 #![deny(unsafe_code, clippy::undocumented_unsafe_blocks)]
 
 #[allow(unsafe_code)] // the names that the linker sees, and nothing else
 mod calls;
+#[allow(unsafe_code)] // the same
+mod details;
 #[allow(unsafe_code)]
 mod edge;
+mod handles;
 mod names;
 mod status;
 mod table;
+#[allow(unsafe_code)] // the names that the linker sees, and nothing else
+mod values;

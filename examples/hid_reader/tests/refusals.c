@@ -318,13 +318,14 @@ static void anywhere(void) {
 
 static void names(void) {
     static const uint32_t no_faults[] = {0, 18, 256 + 8, UINT32_MAX};
-    static const int32_t no_statuses[] = {-1, 13, INT32_MAX, INT32_MIN};
+    static const int32_t no_statuses[] = {-1, 29, INT32_MAX, INT32_MIN};
     for (size_t number = 0; number < 4; number++)
         CHECK(*hidr_fault_name(no_faults[number]) == 0 && *hidr_status_name(no_statuses[number]) == 0);
     for (uint32_t fault = 1; fault <= 17; fault++)
         CHECK(*hidr_fault_name(fault) != 0);
     CHECK(strcmp(hidr_fault_name(1), "Truncated") == 0 && strcmp(hidr_fault_name(17), "Memory") == 0);
     CHECK(strcmp(hidr_status_name(HIDR_OK), "Ok") == 0 && strcmp(hidr_status_name(HIDR_SHORT_REPORT), "ShortReport") == 0);
+    CHECK(strcmp(hidr_status_name(HIDR_UNKNOWN_REPORT), "UnknownReport") == 0 && strcmp(hidr_status_name(HIDR_OVERLAP), "Overlap") == 0);
 }
 
 int main(void) {

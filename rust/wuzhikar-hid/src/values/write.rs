@@ -47,15 +47,16 @@ pub struct Setting {
     pub asked: Asked,
 }
 
-/// Why nothing is written. Where several hold, the first in this order is told; of several settings the first one.
+/// Why nothing is written. Where several hold, the first in this order is told, and of several settings that of the first
+/// one; `Memory` where memory is asked for and there is none.
 #[derive(Clone, Copy, Debug, PartialEq, Eq)]
 pub enum WriteError {
     /// The descriptor has no such report.
     UnknownReport,
-    /// The report that was given is too short.
-    Short,
     /// The report that was given begins with another ID.
     OtherId,
+    /// The report that was given is too short.
+    Short,
     /// In a new report a place of this Array, by its place in `Descriptor::fields`, can't say that it names no usage.
     NoUnused(usize),
     /// The report does not have the usage, so many times, or the field or place. The number is that of the setting.

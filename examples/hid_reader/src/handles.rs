@@ -1,0 +1,90 @@
+// SPDX-License-Identifier: MIT OR Apache-2.0
+//! What handles stand for, and what all calls share.
+
+use crate::edge::Place;
+use crate::status::Status;
+use crate::table::Table;
+use wuzhikar_hid::Reader;
+use wuzhikar_reader::{Descriptor, Kind, ParseError, ParseFault, Parser};
+
+/// As many handles as may be open at once: `HIDR_HANDLES`.
+const HANDLES: usize = 256;
+
+pub static TABLE: Table<Entry, HANDLES> = Table::new();
+
+/// What a handle stands for.
+#[allow(clippy::large_enum_variant)] // it stands in the table itself, so that no memory has to be there
+pub enum Entry {
+    Parser(Parser),
+    /// A parser that has ended with a fault, which it answers again.
+    Refused(ParseError),
+    Descriptor(Descriptor),
+    Reader(Reader),
+}
+
+/// `hidr_error`
+#[repr(C)]
+#[derive(Clone, Copy)]
+pub struct Error {
+    offset: u64,
+    fault: u32,
+}
+
+/// The kind of reports with this number.
+pub fn kind_of(number: u8) -> Option<Kind> {
+    [Kind::Input, Kind::Output, Kind::Feature].get(usize::from(number)).copied()
+}
+
+/// The number of a kind of reports.
+pub fn number_of(kind: Kind) -> u8 {
+    match kind {
+        Kind::Input => 0,
+        Kind::Output => 1,
+        Kind::Feature => 2,
+    }
+}
+
+/// Both, or why not: that a pointer is null is told before that a length is wrong.
+pub fn both<A, B>(one: Result<A, Status>, other: Result<B, Status>) -> Result<(A, B), Status> {
+    match (one, other) {
+        (Ok(one), Ok(other)) => Ok((one, other)),
+        (Err(Status::Null), _) | (_, Err(Status::Null)) => Err(Status::Null),
+        (Err(status), _) | (_, Err(status)) => Err(status),
+    }
+}
+
+/// The status of what a call came to.
+pub fn told(call: impl FnOnce() -> Result<(), Status>) -> Status {
+    match call() {
+        Ok(()) => Status::Ok,
+        Err(status) => status,
+    }
+}
+
+/// What a call makes of the descriptor that a handle stands for, its own or that of a reader.
+pub fn of<R>(handle: u64, call: impl FnOnce(&Descriptor) -> Result<R, Status>) -> Result<R, Status> {
+    TABLE.with(handle, |entry| match entry {
+        Entry::Descriptor(descriptor) => call(descriptor),
+        Entry::Reader(reader) => call(reader.descriptor()),
+        Entry::Parser(_) | Entry::Refused(_) => Err(Status::WrongKind),
+    })
+}
+
+/// What a call makes of the reader that a handle stands for.
+pub fn of_reader<R>(handle: u64, call: impl FnOnce(&Reader) -> Result<R, Status>) -> Result<R, Status> {
+    TABLE.with(handle, |entry| match entry {
+        Entry::Reader(reader) => call(reader),
+        Entry::Parser(_) | Entry::Refused(_) | Entry::Descriptor(_) => Err(Status::WrongKind),
+    })
+}
+
+/// The status of a text that is refused, whose fault is written where there is a place for it.
+pub fn tell(found: ParseError, error: Option<Place<Error>>) -> Status {
+    if found.fault == ParseFault::Memory {
+        return Status::NoMemory;
+    }
+    if let Some(place) = error {
+        place.put(Error { offset: found.offset as u64, fault: found.fault.number().into() });
+    }
+    Status::Fault
+}

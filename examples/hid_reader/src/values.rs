@@ -1,0 +1,214 @@
+// SPDX-License-Identifier: MIT OR Apache-2.0
+//! The calls of `hid_reader.h` that read and write reports.
+
+use crate::details::put_text;
+use crate::edge::{Input, Output, Outputs};
+use crate::handles::{both, kind_of, of_reader, told};
+use crate::status::Status;
+use core::ffi::c_char;
+use core::mem::offset_of;
+use wuzhikar_hid::{Asked, Detail, Setting, Target, Value, Within};
+
+/// `hidr_value`
+#[repr(C)]
+#[derive(Clone, Copy)]
+pub struct ValueOut {
+    raw: i64,
+    usage: u32,
+    field: u32,
+    place: u16,
+    within: u8,
+    has_usage: u8,
+}
+
+/// `hidr_fraction`
+#[repr(C)]
+#[derive(Clone, Copy)]
+pub struct Fraction {
+    numerator: i64,
+    denominator: i64,
+    exponent: i64,
+}
+
+/// `hidr_setting`. It is read from its bytes, so that nothing is asked of its alignment.
+#[repr(C)]
+pub struct SettingIn {
+    value: i64,
+    control: u32,
+    place: u32,
+    by: u8,
+    null: u8,
+}
+
+/// So many bytes from one on.
+fn bytes_at<const N: usize>(bytes: &[u8], first: usize) -> [u8; N] {
+    core::array::from_fn(|number| bytes.get(first + number).copied().unwrap_or(0))
+}
+
+/// A setting of its bytes.
+fn setting_of(bytes: &[u8]) -> Setting {
+    let value = i64::from_ne_bytes(bytes_at(bytes, offset_of!(SettingIn, value)));
+    let control = u32::from_ne_bytes(bytes_at(bytes, offset_of!(SettingIn, control)));
+    let place = u32::from_ne_bytes(bytes_at(bytes, offset_of!(SettingIn, place))) as usize;
+    let [by] = bytes_at(bytes, offset_of!(SettingIn, by));
+    let [null] = bytes_at(bytes, offset_of!(SettingIn, null));
+    let target = match by {
+        0 => Target::Usage { usage: control, place },
+        1 => Target::Field { field: control as usize, place },
+        _ => Target::Field { field: usize::MAX, place },
+    };
+    Setting { target, asked: if null == 0 { Asked::Value(value) } else { Asked::Null } }
+}
+
+/// The settings of their bytes.
+fn settings_of(bytes: &[u8]) -> Result<Vec<Setting>, Status> {
+    let all = bytes.chunks_exact(size_of::<SettingIn>());
+    let mut settings = Vec::new();
+    settings.try_reserve_exact(all.len()).map_err(|_| Status::NoMemory)?;
+    settings.extend(all.map(setting_of));
+    Ok(settings)
+}
+
+#[unsafe(no_mangle)]
+pub extern "C" fn hidr_read(
+    reader: u64,
+    kind: u8,
+    report: Input,
+    length: usize,
+    into: Outputs<ValueOut>,
+    room: usize,
+    count: Output<usize>,
+    rest: Output<usize>,
+) -> Status {
+    told(|| {
+        let count = count.place()?;
+        let (into, report) = both(into.places(room), report.bytes(length))?;
+        let (told, left) = of_reader(reader, |reader| {
+            if into.overlap(report) {
+                return Err(Status::Overlap);
+            }
+            let kind = kind_of(kind).ok_or(if report.is_empty() { Status::EmptyReport } else { Status::UnknownReport })?;
+            let reading = reader.read(kind, report)?;
+            let left = reading.rest().len();
+            Ok((into.put_all(reading.map(ValueOut::from)), left))
+        })?;
+        count.put(told);
+        if let Some(place) = rest.place_if_any() {
+            place.put(left);
+        }
+        Ok(())
+    })
+}
+
+#[unsafe(no_mangle)]
+pub extern "C" fn hidr_buffered(
+    reader: u64,
+    kind: u8,
+    report: Input,
+    length: usize,
+    field: usize,
+    into: Outputs<u8>,
+    room: usize,
+    count: Output<usize>,
+) -> Status {
+    told(|| {
+        let count = count.place()?;
+        let (into, report) = both(into.places(room), report.bytes(length))?;
+        let bytes = of_reader(reader, |reader| {
+            let kind = kind_of(kind).ok_or(if report.is_empty() { Status::EmptyReport } else { Status::UnknownReport })?;
+            Ok(reader.buffered(kind, report, field)?)
+        })?;
+        count.put(into.put_all(bytes.into_iter()));
+        Ok(())
+    })
+}
+
+/// What a call makes of the detail of a field.
+fn of_field<R>(reader: u64, field: usize, call: impl FnOnce(&Detail) -> Result<R, Status>) -> Result<R, Status> {
+    of_reader(reader, |reader| call(reader.detail(field).ok_or(Status::Absent)?))
+}
+
+#[unsafe(no_mangle)]
+pub extern "C" fn hidr_physical(reader: u64, field: usize, raw: i64, into: Output<Fraction>) -> Status {
+    told(|| {
+        let into = into.place()?;
+        let exact = of_field(reader, field, |detail| Ok(detail.physical_value(raw)?))?;
+        let small = |number: i128| i64::try_from(number).map_err(|_| Status::TooLarge);
+        into.put(Fraction {
+            numerator: small(exact.numerator)?,
+            denominator: small(exact.denominator)?,
+            exponent: exact.exponent,
+        });
+        Ok(())
+    })
+}
+
+#[unsafe(no_mangle)]
+pub extern "C" fn hidr_decimal(
+    reader: u64,
+    field: usize,
+    raw: i64,
+    digits: u32,
+    into: Outputs<c_char>,
+    room: usize,
+    length: Output<usize>,
+) -> Status {
+    told(|| {
+        let (length, into) = (length.place()?, into.places(room)?);
+        let exact = of_field(reader, field, |detail| Ok(detail.physical_value(raw)?))?;
+        length.put(put_text(into, |out| exact.write_decimal(digits, out)));
+        Ok(())
+    })
+}
+
+#[unsafe(no_mangle)]
+#[allow(clippy::too_many_arguments)] // as C has them
+pub extern "C" fn hidr_write(
+    reader: u64,
+    kind: u8,
+    id: u8,
+    settings: Input,
+    count: usize,
+    onto: Input,
+    onto_length: usize,
+    into: Outputs<u8>,
+    room: usize,
+    length: Output<usize>,
+    which: Output<usize>,
+) -> Status {
+    told(|| {
+        let length = length.place()?;
+        let settings = settings.bytes(count.saturating_mul(size_of::<SettingIn>()));
+        let ((into, settings), onto) = both(both(into.places(room), settings), onto.bytes(onto_length))?;
+        let report = of_reader(reader, |reader| {
+            let kind = kind_of(kind).ok_or(Status::UnknownReport)?;
+            let onto = (!onto.is_empty()).then_some(onto);
+            reader.write(kind, id, &settings_of(settings)?, onto).map_err(|error| {
+                let (status, number) = Status::of_write(error);
+                if let (Some(number), Some(place)) = (number, which.place_if_any()) {
+                    place.put(number);
+                }
+                status
+            })
+        })?;
+        length.put(into.put_all(report.into_iter()));
+        Ok(())
+    })
+}
+
+impl From<Value> for ValueOut {
+    fn from(value: Value) -> ValueOut {
+        ValueOut {
+            raw: value.raw,
+            usage: value.usage.unwrap_or(0),
+            field: value.field as u32,
+            place: value.place,
+            within: match value.within {
+                Within::Range => 0,
+                Within::Null => 1,
+                Within::Out => 2,
+            },
+            has_usage: value.usage.is_some().into(),
+        }
+    }
+}
