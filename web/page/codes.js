@@ -60,7 +60,7 @@ export function legend(code, layout) {
     if (code === NOTHING) return "✕";
     if (code === TRANSPARENT) return "▽";
     if (isLayer(code)) return `Layer ${code - LAYER}`;
-    if (isConsumer(code)) return legendOf(CONSUMER_PAGE, code - CONSUMER) || `Use ${hex(code - CONSUMER, 3)}`;
+    if (isConsumer(code)) return legendOf(CONSUMER_PAGE, code - CONSUMER) || `C ${hex(code - CONSUMER, 3)}h`;
     const typed = isKeypad(code) ? null : layout[code];
     if (!typed || code === 0x2c) return legendOf(KEY_PAGE, code) || `Key ${hex(code, 2)}`;
     const [plain, shifted] = typed;

@@ -32,7 +32,7 @@ export function keymapView(model) {
         for (const [done, at] of entries.entries()) {
             const [layer, key, code] = [Math.floor(at / KEYS), at % KEYS, wanted[at]];
             progress(`${done} of ${entries.length} changes confirmed`, done / entries.length);
-            if (await model.command(`Layer ${layer}, key ${key} is ${codeName(code)}`, 1, layer, key, code)) continue;
+            if (await model.command(`Set key ${key} on layer ${layer} to ${codeName(code)}`, 1, layer, key, code)) continue;
             const why = model.says.text;
             model.say(`${why} ${done} of ${entries.length} changes of ${name} were confirmed; "Go on" sends the rest.`, "bad");
             return false;

@@ -10,9 +10,17 @@ import { Refused } from "./bytes.js";
 
 const GAP = 0.06;
 
+/** How small a legend stands on a key of this width, so that no word of it is broken. */
+function sizesOf(text, wide) {
+    const words = text.split(/\s+/), longest = Math.max(...words.map((word) => word.length - (word.match(/[ijl]/g)?.length ?? 0) / 2)) / wide;
+    const tiny = longest >= 6.5 || words.length > 3 * wide;
+    return { tiny, small: !tiny && (longest > 5 || words.length > 2 * wide) };
+}
+
 /** @param {import("./model.js").Model} model */
 export function keysView(model) {
     const root = $("keyboard"), refresh = roving(root);
+    let more = "";
     choices($("layers"), [0, 1, 2, 3].map((layer) => `Layer ${layer}`), (layer) => {
         model.layer = layer;
         model.changed();
@@ -51,9 +59,9 @@ export function keysView(model) {
         const all = keys.flatMap(corners);
         const width = Math.max(...all.map(([x]) => x)), height = Math.max(...all.map(([, y]) => y));
         const field = h("div", { class: "field" });
-        Object.assign(field.style, { aspectRatio: `${width} / ${height}`, minWidth: `${Math.min(width * 34, 720)}px` });
+        Object.assign(field.style, { aspectRatio: `${width} / ${height}`, minWidth: `${Math.min(width * 40, 720)}px` });
         field.append(...keys.map(({ key, x, y, w, h: tall, turn }) => {
-            const button = h("button", { type: "button", "data-key": key, onpointerdown: (event) => press(event, key), onclick: (event) => click(event, key) });
+            const button = h("button", { type: "button", "data-key": key, "data-wide": w, onpointerdown: (event) => press(event, key), onclick: (event) => click(event, key) });
             const part = (number, of) => `${((number / of) * 100).toFixed(4)}%`;
             Object.assign(button.style, { left: part(x, width), top: part(y, height), width: part(w - GAP, width), height: part(tall - GAP, height) });
             if (turn) Object.assign(button.style, { transform: `rotate(${turn[0]}deg)`, transformOrigin: `${part(turn[1] - x, w - GAP)} ${part(turn[2] - y, tall - GAP)}` });
@@ -61,8 +69,14 @@ export function keysView(model) {
         }));
         root.replaceChildren(field);
         refresh();
+        measure();
+    }
+    /** Says how the keys are reached that a narrow window has no room for. */
+    function measure() {
+        more = root.scrollWidth > root.clientWidth ? " Swipe for the keys at its right." : "";
         draw();
     }
+    addEventListener("resize", measure);
 
     /** By the mouse a key is down while the button is; with Shift it stays down until it is clicked again. */
     function press(event, key) {
@@ -103,17 +117,18 @@ export function keysView(model) {
     function draw() {
         const { keymap, down, layer, layout } = model;
         for (const button of root.querySelectorAll("button")) {
-            const key = Number(button.dataset.key), own = keymap[entryOf(layer, key)];
+            const key = Number(button.dataset.key), own = keymap[entryOf(layer, key)], textContent = legend(through(keymap, key), layout);
             const classes = {
+                ...sizesOf(textContent, Number(button.dataset.wide)),
                 through: own === TRANSPARENT, changed: own !== defaultCode(layer, key), layer: own > LAYER, down: down.has(key),
                 waiting: model.waiting.has(entryOf(layer, key)), chosen: model.choosing && model.key === key,
             };
             const className = Object.keys(classes).filter((name) => classes[name]).join(" ");
             const says = `Key ${key}, layer ${layer}: ${codeName(own)}`;
-            set(button, { className, textContent: legend(through(keymap, key), layout), title: says, "aria-label": says, "aria-pressed": model.choosing ? model.key === key : down.has(key) });
+            set(button, { className, textContent, title: says, "aria-label": says, "aria-pressed": model.choosing ? model.key === key : down.has(key) });
         }
         set($("message"), { textContent: model.says.text, className: `message ${model.says.kind}` });
-        set($("keys-hint"), { textContent: model.choosing ? "Choose a key, then what it is." : "Press keys with the mouse; Shift and a click holds one down." });
+        set($("keys-hint"), { textContent: `${model.choosing ? "Choose a key, then what it is." : "Press keys with the mouse; Shift and a click holds one down."}${more}` });
     }
     model.on(draw);
     offer(innerWidth < 640 ? 2 : 0);

@@ -17,6 +17,8 @@ export class Ledger {
         this.waits = false;
         this.feature = false;
         this.confirmed = 0;
+        /** Commands that the keyboard took. */
+        this.commands = 0;
         this.cuts = 0;
         this.checks = 0;
         /** The first event after which the keymap was another one, or null. @type {string | null} */
@@ -49,6 +51,7 @@ export class Ledger {
     out(packet, said) {
         if (!this.feature || said.kind !== "ack" || packet.length !== 6 || packet[1] === 0) return;
         const [, operation, layer, key, low, high] = packet;
+        this.commands++;
         this.pending = after(this.told, operation, layer, key, low | (high << 8));
         this.waits = true;
         if (same(this.pending, this.told)) this.settle();

@@ -13,12 +13,16 @@ export function ledgerView(model) {
             ? ["bad", "✗", "The keymap is not what the computer was told"]
             : ledger.pending
               ? ["wait", "…", "Writing: not confirmed yet"]
-              : ["good", "✓", ledger.confirmed ? `${counted(ledger.confirmed, "change")} confirmed, all of it is there` : "Nothing was lost"];
+              : ledger.commands || ledger.cuts
+                ? ["good", "✓", ledger.confirmed ? `${counted(ledger.confirmed, "change")} confirmed, all of it is there` : "Nothing was lost"]
+                : ["good", "○", "Set a key, then cut the power"];
         const more = ledger.broken
             ? `After ${ledger.broken === "work" ? "a step of the flash work" : `a ${ledger.broken}`}.`
             : ledger.pending
               ? "Cut the power now: it will be there as a whole, or not at all."
-              : `${counted(ledger.cuts, "power cut")}, ${counted(ledger.checks, "comparison")}.${LEFT[ledger.left]}`;
+              : ledger.commands || ledger.cuts
+                ? `${counted(ledger.cuts, "power cut")}; compared ${counted(ledger.checks, "time")}.${LEFT[ledger.left]}`
+                : "After each event this card says whether all that was confirmed is there.";
         set($("ledger"), { className: `card ledger ${state}` });
         set($("ledger-mark"), { textContent: mark });
         set($("ledger-head"), { textContent: head });

@@ -1,6 +1,6 @@
 // What the page shows: which view, layer and key, which keyboard, and who is told when it changes.
 
-import { after } from "./codes.js";
+import { after, codeName } from "./codes.js";
 import { LAYERS, KEYS, entryOf } from "./device.js";
 import { Refused } from "./bytes.js";
 import { SimKeyboard } from "./keyboards.js";
@@ -119,7 +119,7 @@ export class Model {
     }
     /**
      * Sends a command and says when it is confirmed, or why it was refused.
-     * @param {string} text what is then true
+     * @param {string} text what it does
      * @param {number} operation
      * @param {{keep?: boolean}} [options] `keep`: whether it can be undone
      * @returns {Promise<boolean>} whether it was confirmed
@@ -145,7 +145,7 @@ export class Model {
         const changes = this.undos.pop() ?? [];
         for (const [at, code] of changes) {
             const [layer, key] = [Math.floor(at / KEYS), at % KEYS];
-            if (!(await this.command(`Layer ${layer}, key ${key} is what it was`, 1, layer, key, code, { keep: false }))) return;
+            if (!(await this.command(`Set key ${key} on layer ${layer} back to ${codeName(code)}`, 1, layer, key, code, { keep: false }))) return;
         }
     }
     /**

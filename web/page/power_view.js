@@ -33,11 +33,17 @@ export function powerView(model) {
         model.changed();
     });
     $("cut-inside").addEventListener("click", () => model.attempt("The mask", () => {
-        const busy = session.ledger.pending !== null;
-        session.bench.cut(mask());
-        if (!busy) model.say("Nothing was being written, so this was a cut between two operations. Let the flash work by hand, set a key, and cut then.");
+        if (session.armed) {
+            session.armed = null;
+            model.say("The next write is not cut.");
+        } else if (session.ledger.pending) session.cutInside(mask());
+        else {
+            session.armed = mask();
+            model.say("Now set a key: the power goes inside its write.");
+        }
         model.changed();
     }));
+    model.on(() => set($("cut-inside"), { "aria-pressed": session.armed !== null }));
     $("bus-reset").addEventListener("click", () => {
         session.bench.reset();
         model.changed();

@@ -25,6 +25,8 @@ export class Session {
         /** @type {Speed} */
         this.speed = "fast";
         this.paused = false;
+        /** The mask of the cut that waits for the next write. @type {Uint8Array | null} */
+        this.armed = null;
         this.ticks = 0;
         this.start(2);
     }
@@ -38,7 +40,13 @@ export class Session {
             for (const see of this.seers) see(what, bytes, said);
         });
         this.ledger = new Ledger(this.bench.device.keymap());
+        this.armed = null;
         for (const started of this.starters) started();
+    }
+    /** Cuts the power inside the write that is next. */
+    cutInside(mask) {
+        this.armed = null;
+        this.bench.cut(mask);
     }
     /** Waits for the clock. @returns {Promise<void>} */
     tick() {
@@ -50,7 +58,8 @@ export class Session {
             this.bench.scan(this.keys(), SCANS);
             this.bench.poll();
             this.ticks++;
-            if (this.speed === "fast") for (let n = 0; n < STEPS && this.bench.work() === "working"; n++);
+            if (this.armed && this.ledger.pending) this.cutInside(this.armed);
+            else if (this.speed === "fast") for (let n = 0; n < STEPS && this.bench.work() === "working"; n++);
             else if (this.speed === "slow" && this.ticks % SLOW === 0) this.bench.work();
         }
         const waiters = this.waiters.splice(0);

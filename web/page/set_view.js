@@ -16,7 +16,7 @@ export function setView(model) {
 
     const assign = (code) => {
         const { key, layer } = model;
-        return model.command(`Key ${key} on layer ${layer} is ${codeName(code)}`, 1, layer, key, code);
+        return model.command(`Set key ${key} on layer ${layer} to ${codeName(code)}`, 1, layer, key, code);
     };
     const button = (code) => h("button", {
         type: "button", "data-code": code, title: `${codeName(code)} (${hex(code, 4)}h)`, "aria-label": codeName(code), onclick: () => assign(code),
@@ -35,8 +35,8 @@ export function setView(model) {
         for (const one of root.children) set(one, { "aria-pressed": Number(one.dataset.code) === own });
     }
     $("undo").addEventListener("click", () => model.undo());
-    $("reset-layer").addEventListener("click", () => model.command(`Layer ${model.layer} is as by default`, 2, model.layer));
-    $("reset-all").addEventListener("click", () => model.command("All layers are as by default", 3, 0));
+    $("reset-layer").addEventListener("click", () => model.command(`Reset layer ${model.layer}`, 2, model.layer));
+    $("reset-all").addEventListener("click", () => model.command("Reset all layers", 3, 0));
     model.on(draw);
     draw();
 }

@@ -14,10 +14,11 @@ SECONDS = 90
 
 
 class Browser:
-    """A browser with one page, with a profile of its own that has these preferences. `said` holds the errors of the page."""
+    """A browser with one page, with a profile of its own that has these preferences. `said` holds the errors of the page. It is run
+    `slow` times slower; on a machine that is slow itself, only the waits are `patience` times as long."""
 
-    def __init__(self, program="chromium", slow=1, preferences=None):
-        self.seconds = SECONDS * slow
+    def __init__(self, program="chromium", slow=1, patience=1, preferences=None, flags=()):
+        self.seconds = SECONDS * slow * patience
         self.home = tempfile.TemporaryDirectory(prefix="page-test-")
         if preferences:
             os.mkdir(f"{self.home.name}/Default")
@@ -32,7 +33,7 @@ class Browser:
             os.dup2(one, 3)
             os.dup2(other, 4)
 
-        self.process = subprocess.Popen([program, *FLAGS, f"--user-data-dir={self.home.name}", "about:blank"], preexec_fn=descriptors,
+        self.process = subprocess.Popen([program, *FLAGS, *flags, f"--user-data-dir={self.home.name}", "about:blank"], preexec_fn=descriptors,
                                         close_fds=False, stdout=subprocess.DEVNULL, stderr=subprocess.DEVNULL)
         os.close(to_read)
         os.close(to_write)
@@ -59,6 +60,13 @@ class Browser:
                     raise RuntimeError(f"{method}: {answer['error']}")
                 return answer["result"]
             self.event(answer)
+
+    def version(self):
+        """Which browser it is."""
+        session, self.session = self.session, None
+        product = self.call("Browser.getVersion")["product"]
+        self.session = session
+        return product
 
     def receive(self, until):
         """The next message."""

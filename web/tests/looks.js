@@ -65,6 +65,24 @@
         /** Texts of buttons that don't fit. */
         cut: () => [...document.querySelectorAll("button, h1, h2, .tag, label, .card p")].filter((element) => shown(element) && !element.closest("#keyboard, .palette, .bits-head")
             && (element.scrollWidth > element.clientWidth + 1 && getComputedStyle(element).display !== "inline")).map(named),
+        /** Choices whose chosen text does not fit. */
+        narrow: () => [...document.querySelectorAll("select")].filter((element) => {
+            if (!shown(element)) return false;
+            const style = getComputedStyle(element), pen = new OffscreenCanvas(1, 1).getContext("2d"), arrow = 18;
+            pen.font = `${style.fontSize} ${style.fontFamily}`;
+            return pen.measureText(element.selectedOptions[0]?.textContent ?? "").width > element.clientWidth - parseFloat(style.paddingLeft) - parseFloat(style.paddingRight) - arrow;
+        }).map(named),
+        /** Legends of keys of which a word of up to 8 letters is broken, or that don't fit their key. */
+        broken: () => [...document.querySelectorAll("#keyboard button")].filter((element) => {
+            if (!shown(element) || !element.firstChild) return false;
+            const range = document.createRange(), text = element.firstChild.data;
+            const broken = [...text.matchAll(/(?<!\S)\S{1,8}(?!\S)/g)].some((word) => {
+                range.setStart(element.firstChild, word.index);
+                range.setEnd(element.firstChild, word.index + word[0].length);
+                return range.getClientRects().length > 1;
+            });
+            return broken || element.scrollHeight > element.clientHeight + 1;
+        }).map((element) => element.textContent),
         small: () => [...document.querySelectorAll("main button, header button, main select")].filter((element) => shown(element) && Math.min(element.getBoundingClientRect().width, element.getBoundingClientRect().height) < 20).map(named),
     };
 })()

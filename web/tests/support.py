@@ -142,7 +142,7 @@ class PageTest(unittest.TestCase):
         name = self.b.js(f"document.querySelector('#palette button[data-code=\"{code}\"]').getAttribute('aria-label')")
         layer = self.b.js("[...document.querySelector('#layers').children].findIndex((one) => one.getAttribute('aria-pressed') === 'true')")
         self.b.click(f'#palette button[data-code="{code}"]')
-        return f"Key {key} on layer {layer} is {name}"
+        return f"Set key {key} on layer {layer} to {name}"
 
     def assigned(self, key, code, group=""):
         """Assigns a code, and waits until this command is confirmed."""

@@ -37,7 +37,7 @@ class Every(PageTest):
         self.has("document.querySelectorAll('#keyboard button').length", 96)
         asked = self.b.js(ASSIGN_ALL)
         layer, key, _, name = asked[-1]
-        self.good(f"Key {key} on layer {layer} is {name}: confirmed.")
+        self.good(f"Set key {key} on layer {layer} to {name}: confirmed.")
         self.assertEqual(len({code for _, _, code, _ in asked}), len(asked), "no code stands twice")
         keymap = self.b.js("[...page.session.bench.device.keymap()]")
         self.assertEqual([keymap[96 * layer + key] for layer, key, _, _ in asked], [code for _, _, code, _ in asked])

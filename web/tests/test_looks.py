@@ -114,12 +114,24 @@ class Looks(PageTest):
         code = int(self.b.js("document.activeElement.dataset.code"))
         self.b.press("Enter", "Enter", 13)
         key = int(chosen.split()[1])
-        self.good(re.compile(f"Key {key} on layer 0 is .+: confirmed\\."))
+        self.good(re.compile(f"Set key {key} on layer 0 to .+: confirmed\\."))
         self.b.js("document.querySelector('#cut').focus()")
         self.b.press("Enter", "Enter", 13)
         self.has("page.session.ledger.cuts", 1)
         self.ledger("1 change confirmed, all of it is there")
         self.entry(0, key, code)
+
+    def test_every_legend_fits_its_key(self):
+        """Each code that is offered stands on a key of one unit, on each computer."""
+        self.b.choose("#picture", "3")
+        codes = self.b.js("page.PALETTE.flatMap(([, codes]) => codes)")
+        for width in WIDTHS:
+            self.b.size(width, WIDTHS[width])
+            for at in range(0, len(codes), 96):
+                self.b.js(f"{codes[at:at + 96]}.forEach((code, key) => page.session.bench.set(0, key, code))")
+                self.frame()
+                self.assertEqual(self.b.js("looks.broken()"), [], width)
+        self.b.size(1600, WIDTHS[1600])
 
     def pictures(self, width):
         """Keeps a picture of each view and tab at a width, dark and light, where nothing is cut, sticks out or is too small."""
@@ -132,7 +144,7 @@ class Looks(PageTest):
                 self.go(view, tab)
                 name = f"{width}-{theme}-{view}{'-' + tab if tab else ''}".lower().replace(" ", "-")
                 with self.subTest(name):
-                    self.assertEqual((self.b.js("looks.wide()"), self.b.js("looks.cut()"), self.b.js("looks.small()")), ([], [], []))
+                    self.assertEqual({at: self.b.js(f"looks.{at}()") for at in ("wide", "cut", "narrow", "broken", "small")}, dict.fromkeys(("wide", "cut", "narrow", "broken", "small"), []))
                     self.b.js("scrollTo(0, 0)")
                     self.b.screenshot(SHOTS / f"{name}.png", whole=True)
 

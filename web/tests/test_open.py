@@ -18,10 +18,10 @@ class Opened(PageTest):
         self.open(compose.PAGE)
 
     def test_it_says_what_it_promises_and_keeps_it(self):
-        self.assertIn("Set a key. Cut the power, even inside a write. See that it is still there.", self.b.text(".lead"))
-        self.ledger("Nothing was lost")
+        self.assertIn("A key that this keyboard confirmed is never lost.", self.b.text(".lead"))
+        self.ledger("Set a key, then cut the power")
         self.assign(0, 5)
-        self.good("Key 0 on layer 0 is B: confirmed.")
+        self.good("Set key 0 on layer 0 to B: confirmed.")
         self.b.click("#cut")
         self.ledger("1 change confirmed, all of it is there")
         self.legend(0, "B")

@@ -78,7 +78,7 @@ class Examples(PageTest):
                 self.b.click("#script-run")
                 self.becomes(self.lines, script.with_suffix(".expected").read_text().splitlines())
                 self.has("document.querySelector('#script-run').disabled", True)
-                self.ledger(re.compile("Nothing was lost|[0-9]+ changes? confirmed, all of it is there|Writing: not confirmed yet"))
+                self.ledger(re.compile("Set a key, then cut the power|Nothing was lost|[0-9]+ changes? confirmed, all of it is there|Writing: not confirmed yet"))
 
     def test_steps_back_and_again(self):
         self.tab("Script")
