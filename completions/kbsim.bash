@@ -21,8 +21,14 @@ _kbsim() {
             kbsim,parse)
                 cmd="kbsim__parse"
                 ;;
+            kbsim,read)
+                cmd="kbsim__read"
+                ;;
             kbsim,run)
                 cmd="kbsim__run"
+                ;;
+            kbsim,write)
+                cmd="kbsim__write"
                 ;;
             kbsim__help,describe)
                 cmd="kbsim__help__describe"
@@ -33,8 +39,14 @@ _kbsim() {
             kbsim__help,parse)
                 cmd="kbsim__help__parse"
                 ;;
+            kbsim__help,read)
+                cmd="kbsim__help__read"
+                ;;
             kbsim__help,run)
                 cmd="kbsim__help__run"
+                ;;
+            kbsim__help,write)
+                cmd="kbsim__help__write"
                 ;;
             *)
                 ;;
@@ -43,7 +55,7 @@ _kbsim() {
 
     case "${cmd}" in
         kbsim)
-            opts="-h -V --help --version run describe parse help"
+            opts="-h -V --help --version run describe parse read write help"
             if [[ ${cur} == -* || ${COMP_CWORD} -eq 1 ]] ; then
                 COMPREPLY=( $(compgen -W "${opts}" -- "${cur}") )
                 return 0
@@ -71,7 +83,7 @@ _kbsim() {
             return 0
             ;;
         kbsim__help)
-            opts="run describe parse help"
+            opts="run describe parse read write help"
             if [[ ${cur} == -* || ${COMP_CWORD} -eq 2 ]] ; then
                 COMPREPLY=( $(compgen -W "${opts}" -- "${cur}") )
                 return 0
@@ -126,6 +138,20 @@ _kbsim() {
             COMPREPLY=( $(compgen -W "${opts}" -- "${cur}") )
             return 0
             ;;
+        kbsim__help__read)
+            opts=""
+            if [[ ${cur} == -* || ${COMP_CWORD} -eq 3 ]] ; then
+                COMPREPLY=( $(compgen -W "${opts}" -- "${cur}") )
+                return 0
+            fi
+            case "${prev}" in
+                *)
+                    COMPREPLY=()
+                    ;;
+            esac
+            COMPREPLY=( $(compgen -W "${opts}" -- "${cur}") )
+            return 0
+            ;;
         kbsim__help__run)
             opts=""
             if [[ ${cur} == -* || ${COMP_CWORD} -eq 3 ]] ; then
@@ -140,13 +166,49 @@ _kbsim() {
             COMPREPLY=( $(compgen -W "${opts}" -- "${cur}") )
             return 0
             ;;
+        kbsim__help__write)
+            opts=""
+            if [[ ${cur} == -* || ${COMP_CWORD} -eq 3 ]] ; then
+                COMPREPLY=( $(compgen -W "${opts}" -- "${cur}") )
+                return 0
+            fi
+            case "${prev}" in
+                *)
+                    COMPREPLY=()
+                    ;;
+            esac
+            COMPREPLY=( $(compgen -W "${opts}" -- "${cur}") )
+            return 0
+            ;;
         kbsim__parse)
-            opts="-h --from --items --help [FILE]"
+            opts="-h --from --items --details --json --help [FILE]"
             if [[ ${cur} == -* || ${COMP_CWORD} -eq 2 ]] ; then
                 COMPREPLY=( $(compgen -W "${opts}" -- "${cur}") )
                 return 0
             fi
             case "${prev}" in
+                --from)
+                    COMPREPLY=($(compgen -W "hex c bytes" -- "${cur}"))
+                    return 0
+                    ;;
+                *)
+                    COMPREPLY=()
+                    ;;
+            esac
+            COMPREPLY=( $(compgen -W "${opts}" -- "${cur}") )
+            return 0
+            ;;
+        kbsim__read)
+            opts="-h --names --json --raw --kind --from --help <DESCRIPTOR> [REPORTS]"
+            if [[ ${cur} == -* || ${COMP_CWORD} -eq 2 ]] ; then
+                COMPREPLY=( $(compgen -W "${opts}" -- "${cur}") )
+                return 0
+            fi
+            case "${prev}" in
+                --kind)
+                    COMPREPLY=($(compgen -W "input output feature" -- "${cur}"))
+                    return 0
+                    ;;
                 --from)
                     COMPREPLY=($(compgen -W "hex c bytes" -- "${cur}"))
                     return 0
@@ -175,6 +237,32 @@ _kbsim() {
                     ;;
                 --save)
                     COMPREPLY=($(compgen -f "${cur}"))
+                    return 0
+                    ;;
+                *)
+                    COMPREPLY=()
+                    ;;
+            esac
+            COMPREPLY=( $(compgen -W "${opts}" -- "${cur}") )
+            return 0
+            ;;
+        kbsim__write)
+            opts="-h --kind --onto --from --help <DESCRIPTOR> <ID> [CONTROL=VALUE]..."
+            if [[ ${cur} == -* || ${COMP_CWORD} -eq 2 ]] ; then
+                COMPREPLY=( $(compgen -W "${opts}" -- "${cur}") )
+                return 0
+            fi
+            case "${prev}" in
+                --kind)
+                    COMPREPLY=($(compgen -W "input output feature" -- "${cur}"))
+                    return 0
+                    ;;
+                --onto)
+                    COMPREPLY=($(compgen -f "${cur}"))
+                    return 0
+                    ;;
+                --from)
+                    COMPREPLY=($(compgen -W "hex c bytes" -- "${cur}"))
                     return 0
                     ;;
                 *)

@@ -1,4 +1,5 @@
-"""Compares the completions and the man page with what the program's help says.
+"""Compares the completions and the man page with what the program's help says, and with that of the commands that are plain
+Rust's alone, rust/kbsim-read/src/help (tools/test_reader.py compares those with what their program prints).
 
 They run on the program that the variable KBSIM names, or else on bin/kbsim.
 """
@@ -25,11 +26,22 @@ def help_of(*words):
     return subprocess.run([*KBSIM, *words, "--help"], stdout=subprocess.PIPE, check=True, text=True).stdout
 
 
+def options_of(text):
+    """The options that a help lists."""
+    return set(re.findall(r"^ +(?:-\w, )?(--[a-z]+)", text, re.M)) - ALWAYS
+
+
 def commands():
     """The commands that the program's help lists, each with its options; `help` itself stands apart."""
     listed = help_of().split("Commands:\n")[1].split("\n\n")[0]
     names = set(re.findall(r"^  ([a-z]+) ", listed, re.M)) - {"help"}
-    return {name: set(re.findall(r"^ +(?:-\w, )?(--[a-z]+)", help_of(name), re.M)) - ALWAYS for name in names}
+    return {name: options_of(help_of(name)) for name in names}
+
+
+def commands_of_reader():
+    """The same of those that are plain Rust's alone."""
+    listed = re.findall(r"^  ([a-z]+)(?: --[a-z]+)?  ", read("rust/kbsim-read/src/help/more.txt"), re.M)
+    return {name: options_of(read(f"rust/kbsim-read/src/help/{name}.txt")) for name in listed}
 
 
 class Completions(unittest.TestCase):
@@ -38,9 +50,14 @@ class Completions(unittest.TestCase):
     @classmethod
     def setUpClass(cls):
         cls.commands = commands()
+        cls.assertEqual(cls(), set(cls.commands), {"run", "parse", "describe"})
+        for name, options in commands_of_reader().items():
+            cls.commands[name] = cls.commands.get(name, set()) | options
 
     def test_the_help_lists_the_commands(self):
-        self.assertEqual(set(self.commands), {"run", "parse", "describe"})
+        self.assertEqual(set(self.commands), {"run", "parse", "describe", "read", "write"})
+        self.assertEqual(self.commands["read"], {"--names", "--json", "--raw", "--kind", "--from"})
+        self.assertEqual(options_of(read("rust/kbsim-read/src/help/parse_more.txt")) | {"--from"}, commands_of_reader()["parse"])
 
     def bash(self, *words):
         """What bash completes the last of these words with."""
@@ -56,6 +73,7 @@ class Completions(unittest.TestCase):
                 self.assertEqual({word for word in self.bash(name, "--") if word.startswith("--")} - ALWAYS, options)
         self.assertEqual(self.bash("run", "--pages", ""), {"2", "3", "4", "5", "6", "7", "8"})
         self.assertEqual(self.bash("parse", "--from", ""), {"hex", "c", "bytes"})
+        self.assertEqual(self.bash("write", "--kind", ""), {"input", "output", "feature"})
 
     def test_zsh(self):
         told = read("completions/_kbsim")
@@ -83,8 +101,8 @@ class Completions(unittest.TestCase):
         for name, options in self.commands.items():
             with self.subTest(name):
                 self.assertEqual(set(re.findall(r"^\\fB(--[a-z]+)", parts[name], re.M)), options)
-                synopsis = re.search(rf"^\.B kbsim {name}\n(.*?)(?=^\.)", told, re.M | re.S)
-                self.assertEqual(set(re.findall(r"--[a-z]+", synopsis[1] if synopsis else "")), options)
+                synopsis = re.findall(rf"^\.B kbsim {name}\n(.*?)(?=^\.)", told, re.M | re.S)
+                self.assertEqual(set(re.findall(r"--[a-z]+", "".join(synopsis))), options)
 
 
 if __name__ == "__main__":

@@ -71,6 +71,19 @@ class Door(unittest.TestCase):
         self.add_cargo()
         self.assertEqual(self.call("run", "a b"), (0, "proved run a b\n", ""))
 
+    def test_help_says_what_plain_rust_alone_does(self):
+        self.prove()
+        self.assertEqual(self.call("--help"), (0, "proved --help\n", ""))
+        os.makedirs(f"{self.top}/rust/kbsim-read/src/help")
+        self.write("rust/kbsim-read/src/help/more.txt", "more\n")
+        self.write("rust/kbsim-read/src/help/parse_more.txt", "more of parse\n")
+        for words in (["--help"], ["-h"], ["help"]):
+            self.assertEqual(self.call(*words), (0, f"proved {' '.join(words)}\nmore\n", ""))
+        for words in (["parse", "--help"], ["help", "parse"]):
+            self.assertEqual(self.call(*words), (0, f"proved {' '.join(words)}\nmore of parse\n", ""))
+        for words in (["help", "run"], ["run", "--help"], ["parse"]):
+            self.assertEqual(self.call(*words), (0, f"proved {' '.join(words)}\n", ""))
+
     def test_an_edit_is_seen_and_its_end_too(self):
         self.prove()
         self.write("crates/low/src/lib.rt", "2\n")

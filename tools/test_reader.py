@@ -253,6 +253,13 @@ class Shown:
             found += [(text.hex(), numbers, shown)] if (told["version"], shown) != (1, numbers) else []
         return found
 
+    def wrong_helps(self):
+        """The words that ask for help and print something else."""
+        helps = ROOT / "rust/kbsim-read/src/help"
+        asked = [(f"{name} --help", name) for name in ("parse", "read", "write")] + [("help read", "read"), ("write 1 -h", "write")]
+        wanted = [(words, (helps / f"{name}.txt").read_text()) for words, name in asked]
+        return [(words, text, told) for words, text in wanted if (told := self.ran(f"bin/kbsim {words}")) != text]
+
     def goes_on(self):
         """Whether a report is told before the next one comes."""
         words = [self.program, "read", str(ROOT / "examples/hid_driver/mouse.hex")]
@@ -272,7 +279,7 @@ def commands(work, texts):
         print(f"skipped: the commands of rust/kbsim-read: {lacking('serde_json')}")
         return True
     shown = Shown(work)
-    wrong = shown.wrong() + shown.wrong_values(texts)
+    wrong = shown.wrong() + shown.wrong_values(texts) + shown.wrong_helps()
     for command, wanted, told in wrong:
         print(f"command {command}\nwanted  {wanted}\ntold    {told}")
     if not shown.goes_on():

@@ -121,8 +121,8 @@ fn put_field(
 }
 
 /// Prints the tree of a descriptor, and its reports.
-pub fn parse(path: &str, out: &mut impl Write) -> Result<(), Ended> {
-    let (text, reader) = given::reader_of(path)?;
+pub fn parse(path: &str, from: Option<given::From>, out: &mut impl Write) -> Result<(), Ended> {
+    let (text, reader) = given::reader_of((path, from))?;
     let mut fields = 0;
     for (node, depth) in nodes(&reader) {
         let indent = "  ".repeat(depth);

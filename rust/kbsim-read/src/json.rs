@@ -61,8 +61,8 @@ fn field(text: &[u8], reader: &Reader, place: usize, number: Option<usize>) -> J
 }
 
 /// Prints a descriptor as one object.
-pub fn parse(path: &str, out: &mut impl Write) -> Result<(), Ended> {
-    let (text, reader) = given::reader_of(path)?;
+pub fn parse(path: &str, from: Option<given::From>, out: &mut impl Write) -> Result<(), Ended> {
+    let (text, reader) = given::reader_of((path, from))?;
     let told = reader.details();
     let collections: Json = told
         .collections

@@ -137,15 +137,46 @@ impl<W: Write> Teller<'_, W> {
     /// Tells a line: hex digits, or a line of usbmon with its data behind an equals sign.
     fn tell_line(&mut self, line: &[u8]) -> io::Result<()> {
         self.number += 1;
+        let is_other = is_usbmon(line) && !holds_report(line, self.kind);
         let behind = line.windows(3).position(|three| three == b" = ").map_or(0, |at| at + 3);
         let data = line[behind..].trim_ascii();
-        if data.is_empty() || data.starts_with(b"#") {
+        if is_other || data.is_empty() || data.starts_with(b"#") {
             return Ok(());
         }
         let mut report = std::mem::take(&mut self.report);
         let told = if given::hex_into(data, &mut report) { self.tell(&report) } else { self.refuse("Hex") };
         self.report = report;
         told
+    }
+}
+
+/// The words of a line of usbmon as text: a tag, a time, the event, the address, and what follows.
+fn words_of(line: &[u8]) -> impl Iterator<Item = &[u8]> {
+    line.split(|byte| byte.is_ascii_whitespace()).filter(|word| !word.is_empty())
+}
+
+/// Whether a line is one of usbmon (Linux, Documentation/usb/usbmon.rst): its third word is an event, and its fourth an address.
+fn is_usbmon(line: &[u8]) -> bool {
+    let mut behind = words_of(line).skip(2);
+    let event = matches!(behind.next(), Some(b"S" | b"C" | b"E"));
+    event && matches!(behind.next(), Some([b'C' | b'Z' | b'I' | b'B', b'i' | b'o', b':', ..]))
+}
+
+/// Whether it holds a report of a kind: of an interrupt endpoint, or of a SET_REPORT (HID 1.11, 7.2.2).
+fn holds_report(line: &[u8], kind: Kind) -> bool {
+    if !line.windows(3).any(|three| three == b" = ") {
+        return false;
+    }
+    let is_set = |high: &[u8]| {
+        let setup: Vec<&[u8]> = words_of(line).skip(4).take(4).collect();
+        matches!(setup.as_slice(), [b"s", b"21", b"09", value] if value.starts_with(high))
+    };
+    match (words_of(line).nth(3).and_then(|address| address.get(..2)), kind) {
+        (Some(b"Ii"), kind) => kind == Kind::Input,
+        (Some(b"Io"), kind) => kind == Kind::Output,
+        (Some(b"Co"), Kind::Output) => is_set(b"02"),
+        (Some(b"Co"), Kind::Feature) => is_set(b"03"),
+        _ => false,
     }
 }
 
@@ -248,7 +279,13 @@ fn is_device(_: &File) -> bool {
 }
 
 /// Tells each report of a file or of standard input; the status is 1 where one was refused.
-pub fn read(descriptor: &str, reports: &str, kind: Kind, form: Form, out: &mut impl Write) -> Result<ExitCode, Ended> {
+pub fn read(
+    descriptor: (&str, Option<given::From>),
+    reports: &str,
+    kind: Kind,
+    form: Form,
+    out: &mut impl Write,
+) -> Result<ExitCode, Ended> {
     let (_, reader) = given::reader_of(descriptor)?;
     let mut file = match reports {
         "-" => None,

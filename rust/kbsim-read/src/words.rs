@@ -1,33 +1,21 @@
 //! The words of the command line. Written by hand: tested, not proved.
 
-use crate::{Ended, details, json, read, write};
+use crate::given::From;
+use crate::{Ended, details, given, json, read, write};
 use std::io::Write;
 use std::process::ExitCode;
 use wuzhikar_hid::Kind;
 
-const HELP: &str = "\
-Reads and writes HID reports, and tells what a report descriptor declares
+/// The commands, each with what it does and its help.
+const COMMANDS: [(&str, &str); 3] = [
+    ("parse", include_str!("help/parse.txt")),
+    ("read", include_str!("help/read.txt")),
+    ("write", include_str!("help/write.txt")),
+];
 
-Usage:
-  kbsim parse --details [FILE]
-  kbsim parse --json [FILE]
-  kbsim read [--names] [--json] [--raw] [--kind KIND] DESCRIPTOR [REPORTS]
-  kbsim write [--kind KIND] [--onto HEX] DESCRIPTOR ID TARGET=VALUE...
-
-FILE and DESCRIPTOR hold a report descriptor as raw bytes, hex digits or an array
-of C; - is standard input. KIND is input (read), output (write) or feature.
-REPORTS holds a report in hex in each line, with its ID if there is one, or lines
-of usbmon; with --raw reports one after the other, as /dev/hidraw0 gives them.
-A TARGET is a usage in hex, as 00080001, or f and the place of a field, as f2;
-behind it may stand a place in brackets, as 00010039[1]. A VALUE is a number or
-null. ID is 0 where the descriptor uses none.
-
-Exit status:
-  0  all was done
-  1  a fault, whose line is the last one on standard output, or the output was
-     refused, or a report was
-  2  the command line was refused
-";
+/// The help of the whole; `bin/kbsim --help` prints the second part of it behind the help of `kbsim`.
+const ALL: &str =
+    concat!("Reads and writes HID reports, and tells what a report descriptor declares\n", include_str!("help/more.txt"));
 
 /// The options and the other words of a command line.
 #[derive(Default)]
@@ -35,6 +23,7 @@ struct Split {
     flags: Vec<String>,
     kind: Option<Kind>,
     onto: Option<Vec<u8>>,
+    from: Option<From>,
     rest: Vec<String>,
 }
 
@@ -53,27 +42,69 @@ fn kind_of(word: &str) -> Result<Kind, Ended> {
     }
 }
 
-/// Parts the words, of which these are options without a value.
-fn split(words: &[String], flags: &[&str]) -> Result<Split, Ended> {
+fn form_of(word: &str) -> Result<From, Ended> {
+    match word {
+        "hex" => Ok(From::Hex),
+        "c" => Ok(From::C),
+        "bytes" => Ok(From::Bytes),
+        _ => Err(Ended::words(format!("{word} is no form of a descriptor: hex, c or bytes"))),
+    }
+}
+
+fn hex_of(word: &str) -> Result<Vec<u8>, Ended> {
+    given::hex(word).ok_or_else(|| Ended::words(format!("{word} is not pairs of hex digits")))
+}
+
+/// Parts the words, of which these are options. Behind `--` none is one.
+fn split(words: &[String], options: &[&str]) -> Result<Split, Ended> {
     let mut found = Split::default();
     let mut words = words.iter();
     while let Some(word) = words.next() {
-        let mut value = || words.next().ok_or_else(|| Ended::words(format!("{word} wants a value")));
-        match word.as_str() {
-            "--kind" => found.kind = Some(kind_of(value()?)?),
-            "--onto" => {
-                let hex = value()?;
-                let bytes = crate::given::hex(hex);
-                found.onto = Some(bytes.ok_or_else(|| Ended::words(format!("{hex} is not pairs of hex digits")))?);
+        if word == "--" {
+            found.rest.extend(words.by_ref().cloned());
+            break;
+        }
+        if word.len() < 2 || !word.starts_with('-') {
+            found.rest.push(word.clone());
+            continue;
+        }
+        let (name, given) = word.split_once('=').map_or((word.as_str(), None), |(name, value)| (name, Some(value)));
+        if !options.contains(&name) {
+            return Err(Ended::words(format!("{name} is no option here; --help names them")));
+        }
+        let takes = matches!(name, "--kind" | "--onto" | "--from");
+        let value = match given.or(if takes { words.next().map(String::as_str) } else { None }) {
+            Some(value) if takes => value,
+            None if takes => return Err(Ended::words(format!("{name} wants a value"))),
+            Some(_) => return Err(Ended::words(format!("{name} takes no value"))),
+            None => "",
+        };
+        let twice = match name {
+            "--kind" => found.kind.replace(kind_of(value)?).is_some(),
+            "--onto" => found.onto.replace(hex_of(value)?).is_some(),
+            "--from" => found.from.replace(form_of(value)?).is_some(),
+            _ => {
+                let twice = found.has(name);
+                found.flags.push(name.into());
+                twice
             }
-            flag if flags.contains(&flag) => found.flags.push(flag.into()),
-            other if other.len() > 1 && other.starts_with('-') => {
-                return Err(Ended::words(format!("{other} is no option here; --help names them")));
-            }
-            _ => found.rest.push(word.clone()),
+        };
+        if twice {
+            return Err(Ended::words(format!("{name} comes twice")));
         }
     }
     Ok(found)
+}
+
+/// The help that these words ask for, if they do.
+fn help(command: &str, rest: &[String]) -> Option<&'static str> {
+    let asks = |word: &str| word == "--help" || word == "-h";
+    let named = if asks(command) || command == "help" { rest.first().map_or("", String::as_str) } else { command };
+    let before = rest.split(|word| word == "--").next().unwrap_or(&[]);
+    if named == command && !before.iter().any(|word| asks(word)) {
+        return None;
+    }
+    Some(COMMANDS.iter().find(|(name, _)| *name == named).map_or(ALL, |(_, text)| *text))
 }
 
 /// Does what the words ask for.
@@ -81,38 +112,43 @@ pub fn run(words: &[String], out: &mut impl Write) -> Result<ExitCode, Ended> {
     let Some((command, rest)) = words.split_first() else {
         return Err(Ended::words("a command is missing; --help names them"));
     };
-    if command.trim_start_matches('-') == "help" || words.iter().any(|word| word == "--help" || word == "-h") {
-        out.write_all(HELP.as_bytes())?;
+    if let Some(text) = help(command, rest) {
+        out.write_all(text.as_bytes())?;
         return Ok(ExitCode::SUCCESS);
     }
     match command.as_str() {
         "parse" => {
-            let found = split(rest, &["--details", "--json"])?;
+            let found = split(rest, &["--details", "--json", "--from"])?;
             let [path] = &at_most_one(&found.rest)?;
-            if found.has("--json") {
-                json::parse(path, out)?
-            } else {
-                details::parse(path, out)?
+            match (found.has("--details"), found.has("--json")) {
+                (true, true) => return Err(Ended::words("--details and --json can't both be")),
+                (false, false) => return Err(Ended::words("parse wants --details or --json here")),
+                (_, true) => json::parse(path, found.from, out)?,
+                (true, _) => details::parse(path, found.from, out)?,
             }
             Ok(ExitCode::SUCCESS)
         }
         "read" => {
-            let found = split(rest, &["--names", "--json", "--raw"])?;
+            let found = split(rest, &["--names", "--json", "--raw", "--kind", "--from"])?;
             let (descriptor, reports) = match found.rest.as_slice() {
                 [descriptor] => (descriptor, "-"),
                 [descriptor, reports] => (descriptor, reports.as_str()),
                 _ => return Err(Ended::words("read wants DESCRIPTOR and REPORTS")),
             };
+            if descriptor == "-" && reports == "-" {
+                return Err(Ended::words("standard input can't be both, the descriptor and the reports"));
+            }
             let form = read::Form { names: found.has("--names"), json: found.has("--json"), raw: found.has("--raw") };
-            read::read(descriptor, reports, found.kind.unwrap_or(Kind::Input), form, out)
+            read::read((descriptor, found.from), reports, found.kind.unwrap_or(Kind::Input), form, out)
         }
         "write" => {
-            let found = split(rest, &[])?;
+            let found = split(rest, &["--kind", "--onto", "--from"])?;
             let [descriptor, id, settings @ ..] = found.rest.as_slice() else {
-                return Err(Ended::words("write wants DESCRIPTOR, ID and TARGET=VALUE"));
+                return Err(Ended::words("write wants DESCRIPTOR, ID and CONTROL=VALUE"));
             };
             let id = id.parse().map_err(|_| Ended::words(format!("{id} is no Report ID: 0 to 255")))?;
-            write::write(descriptor, found.kind.unwrap_or(Kind::Output), id, settings, found.onto.as_deref(), out)?;
+            let kind = found.kind.unwrap_or(Kind::Output);
+            write::write((descriptor, found.from), kind, id, settings, found.onto.as_deref(), out)?;
             Ok(ExitCode::SUCCESS)
         }
         other => Err(Ended::words(format!("{other} is no command here; --help names them"))),

@@ -18,13 +18,14 @@ fn setting(word: &str) -> Result<Setting, Ended> {
         _ if name.len() == 8 => Target::Usage { usage: u32::from_str_radix(name, 16).map_err(|_| wrong())?, place },
         _ => return Err(wrong()),
     };
-    let asked = if value == "null" { Asked::Null } else { Asked::Value(value.parse().map_err(|_| wrong())?) };
+    let asked =
+        if value == "null" || value == "none" { Asked::Null } else { Asked::Value(value.parse().map_err(|_| wrong())?) };
     Ok(Setting { target, asked })
 }
 
 /// Prints the report in hex.
 pub fn write(
-    descriptor: &str,
+    descriptor: (&str, Option<given::From>),
     kind: Kind,
     id: u8,
     words: &[String],
