@@ -32,8 +32,8 @@ def read_edit(path):
                 changes.append(parts)
             elif word == "new" and parts:
                 parts[2] = text
-            elif parts and parts[2]:
-                parts[2] += line
+            elif parts:
+                parts[2 if parts[2] else 1] += line
             else:
                 raise ValueError(f"{path}: no change begins with {line.strip()!r}")
     if not changes or any(not old or not new or name is None for name, old, new in changes):
