@@ -13,8 +13,11 @@ NARROW = "i686-unknown-linux-gnu"
 # What to install where a library can't be made.
 SOURCES = "Debian: rustc-web and rust-web-src, of 1.96; the sources of 1.85 have no compiler_builtins"
 
-# A firmware is no smaller than this, in bytes of text.
-LEAST_TEXT = 10_000
+# Of each program for chips: its folder in examples/, its targets, and bytes of text that it is no smaller than.
+PROGRAMS = {
+    "firmware": ("firmware", BARE, 10_000),
+    "settings_stm32g0": ("settings", ("thumbv6m-none-eabi",), 2_000),
+}
 
 
 def has_library(room, name, target):
@@ -23,31 +26,46 @@ def has_library(room, name, target):
     return os.path.isdir(found) and any(file.startswith(f"lib{name}-") for file in os.listdir(found))
 
 
+def variables(room, target):
+    """Cargo's variables to build for a chip, or none where rustc has no core for it. A core that is not there is built first."""
+    more = {f"CARGO_TARGET_{target.upper().replace('-', '_')}_LINKER": shutil.which("rust-lld") or shutil.which("ld.lld")}
+    if has_library(room, "core", target):
+        return more
+    if not debian_sources():
+        return None
+    sysroot = room.path("sysroot")
+    if not os.path.isdir(f"{sysroot}/lib/rustlib/{target}"):
+        room.run([f"{HERE}/make_core.sh", DEBIAN_RUSTC, debian_sources(), target, sysroot])
+    return more | {"RUSTC": DEBIAN_RUSTC, "RUSTFLAGS": f"-D warnings --sysroot {sysroot}"}
+
+
+def build_bare(room, name, target, more):
+    """Builds a program for a chip, which is not to be empty."""
+    folder, _, least = PROGRAMS[name]
+    copy = crate_steps.example(room, folder)
+    inner = "" if name == folder else f"/{name.removeprefix(folder + '_')}"
+    room.cargo("build", "--release", "--target", target, cwd=copy + inner, **more)
+    told = room.run(["size", room.program(name, target)]).decode().split("\n")[1]
+    text = int(told.split()[0])
+    if text < least:
+        raise Failed(f"{name} for {target} has {text} bytes of text, which is no firmware")
+    say(f"examples/{folder}{inner} builds for {target}, {text} bytes of text")
+
+
 def bare(room, _):
-    """Builds the firmware for chips, which is not to be empty. Where rustc has no core for a target it is built first."""
+    """Builds the programs for chips."""
     if not shutil.which("ld.lld") or not shutil.which("size"):
         raise Skipped("there is no ld.lld or no size (Debian: lld, binutils)")
-    folder = crate_steps.example(room, "firmware")
     lacking = []
-    for target in BARE:
-        more = {}
-        if not has_library(room, "core", target):
-            if not debian_sources():
+    for name, (_, targets, _) in PROGRAMS.items():
+        for target in targets:
+            more = variables(room, target)
+            if more is None:
                 lacking.append(target)
-                continue
-            sysroot = room.path("sysroot")
-            room.run([f"{HERE}/make_core.sh", DEBIAN_RUSTC, debian_sources(), target, sysroot])
-            more = {"RUSTC": DEBIAN_RUSTC, "RUSTFLAGS": f"-D warnings --sysroot {sysroot}"}
-        linker = f"CARGO_TARGET_{target.upper().replace('-', '_')}_LINKER"
-        more[linker] = shutil.which("rust-lld") or shutil.which("ld.lld")
-        room.cargo("build", "--release", "--target", target, cwd=folder, **more)
-        told = room.run(["size", room.program("firmware", target)]).decode().split("\n")[1]
-        text = int(told.split()[0])
-        if text < LEAST_TEXT:
-            raise Failed(f"the firmware for {target} has {text} bytes of text, which is no firmware")
-        say(f"examples/firmware builds for {target}, {text} bytes of text")
+            else:
+                build_bare(room, name, target, more)
     if lacking:
-        raise Skipped(f"{', '.join(lacking)}, which this rustc has no core for ({SOURCES})")
+        raise Skipped(f"{', '.join(sorted(set(lacking)))}, which this rustc has no core for ({SOURCES})")
 
 
 # Each build for 32 bits has one profile, so that std is built once, with overflow checks.
