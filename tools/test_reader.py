@@ -26,7 +26,8 @@ PHYSICAL = {"equal": "EqualLimits", "inverted": "InvertedLimits"}
 def real():
     """The repository's descriptors: those of the rows and of the examples, and one of fields of more than 256 places, each once."""
     found = {(ROOT / "examples/media_keys.hex").read_text(): None}
-    for file in [*sorted(ROOT.glob("examples/hid_driver/*.hex")), ROOT / "tests/reader/many_places.hex"]:
+    files = [*ROOT.glob("examples/hid_driver/*.hex"), *ROOT.glob("tests/reader/devices/*.hex"), ROOT / "tests/reader/many_places.hex"]
+    for file in sorted(files):
         found[file.read_text()] = None
     for name in ("real", "fields", "faults", "items", "item_faults"):
         for cases in read_cases(f"{ROOT}/tests/descriptors/{name}.rows").values():

@@ -1,11 +1,12 @@
 """Hangs the exported keyboard on a stock Linux, on a BIOS and on UEFI, in QEMU, and compares what they say with what they should.
 
 One Linux boots with a keyboard for each packet size of endpoint 1, by USB/IP, and one behind the machine's own controller, by USB
-redirection. The lists of examples/real_host/linux are followed on each. SeaBIOS is started once for each size and controller, the
+redirection. The lists of examples/real_host/linux are followed on each. Then it gets devices of real report descriptors, by uhid,
+and what it makes of their reports is compared with what `kbsim read` says of them (values.py). SeaBIOS is started once for each size and controller, the
 shell of UEFI once with a keyboard of each size.
 
 It needs rustc, cargo, the crate arrayvec, gcc with a static libc, qemu-system-x86_64, busybox-static and kmod; OVMF for UEFI, and
-serde_json and serde_derive for examples/keymap. What is not there is skipped by name. The variable LINUX names a folder with
+serde_json and serde_derive for examples/keymap, serde_json for `kbsim read`. What is not there is skipped by name. The variable LINUX names a folder with
 boot/vmlinuz-* and lib/modules; without it Debian's kernel is fetched by apt-get download into a cache (CACHE, or wuzhikar in
 ~/.cache), and nothing is installed.
 """
@@ -23,6 +24,7 @@ import lists
 import machines
 import parts
 from processes import Silent
+from values import Values
 
 HERE = f"{parts.ROOT}/examples/real_host/linux"
 SIZES = [8, 16, 32, 64]
@@ -38,6 +40,7 @@ class Test:
         self.work, self.sizes, self.failed = work, sizes, False
         self.programs = parts.build(work)
         self.program = self.programs["real_host"]
+        self.values = None
 
     def tell(self, name, begun, differing):
         """Says what came of a machine."""
@@ -70,10 +73,14 @@ class Test:
 
     def disk(self, tree, release):
         """The RAM disk."""
-        return guest.disk(tree, release, HERE, self.programs)
+        return guest.disk(tree, release, HERE, self.programs, self.values.lines() if self.values else b"")
 
     def linux(self):
         """A stock Linux, and the lists."""
+        reader = parts.reader()
+        if not reader:
+            print(f"linux-test: skipped: the values of reports, as Linux has them (Debian: {parts.READER[1]})")
+        self.values = Values(reader, self.work) if reader else None
         try:
             kernel, disk, release = self.boot()
         except parts.Missing as error:
@@ -82,7 +89,7 @@ class Test:
         every = [name for name in lists.EVERY if name != "keymap_file" or "keymap" in self.programs]
         if "keymap" not in self.programs:
             print(f"linux-test: skipped: examples/keymap, whose crates are not there (Debian: {parts.KEYMAP[1]})")
-        words = f"attach={','.join(map(str, self.sizes))} wire={WIRE} lists={','.join(every)} alone={','.join(lists.ALONE)}"
+        words = f"attach={','.join(map(str, self.sizes))} wire={WIRE} lists={','.join(every)} alone={','.join(lists.ALONE)} values=1"
         begun, said = time.monotonic(), ""
         try:
             said = machines.linux(self.work, self.program, kernel, disk, words, WIRE)
@@ -96,6 +103,8 @@ class Test:
             with open(f"{HERE}/lists/{name}", encoding="utf-8") as file:
                 lines = lists.differences(lists.expected(file.read(), size), found.get((name, serial), []))
             differing += [f"{name}, serial number {serial}:", *lines] if lines else []
+        if self.values:
+            differing += self.values.differences(found.get(("values", "uhid"), []))
         self.tell(f"Linux {release}, packets of {', '.join(map(str, self.sizes))} bytes", begun, differing)
 
     def bios(self):

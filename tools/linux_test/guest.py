@@ -7,7 +7,7 @@ import stat
 import struct
 import subprocess
 
-MODULES = ["evdev", "usbhid", "hid-generic", "vhci-hcd", "xhci-pci"]
+MODULES = ["evdev", "usbhid", "hid-generic", "vhci-hcd", "xhci-pci", "uhid"]
 PAGE, SLOTS, LAYERS, KEYS = 4096, 512, 4, 96
 
 
@@ -48,8 +48,8 @@ def modules(tree, release):
     return list(dict.fromkeys(paths))
 
 
-def disk(tree, release, here, programs):
-    """The RAM disk: busybox, modules, the files of `here`, and programs by their names."""
+def disk(tree, release, here, programs, reports):
+    """The RAM disk: busybox, modules, the files of `here`, programs by their names, and the reports for uhid."""
     paths = modules(tree, release)
     files = {f"modules.d/{os.path.basename(path)}": read(path) for path in paths}
     files["modules"] = "".join(f"/modules.d/{os.path.basename(path)}\n" for path in paths).encode()
@@ -57,6 +57,7 @@ def disk(tree, release, here, programs):
     files.update({f"lists/{name}": read(f"{here}/lists/{name}") for name in os.listdir(f"{here}/lists")})
     files.update({name: read(path) for name, path in programs.items()})
     files.update({"bin/busybox": read("/bin/busybox"), "bin/sh": read("/bin/busybox"), "full.image": full_image()})
+    files["reports"] = reports
     files.update({f"{folder}/.there": b"" for folder in ("proc", "sys", "dev", "tmp")})
     return archive(files)
 

@@ -21,6 +21,9 @@ OVMF = "/usr/share/ovmf/OVMF.fd"
 # The crates of examples/keymap, and their packages.
 KEYMAP = (["arrayvec", "serde_json", "serde_derive"], "librust-serde-json-dev librust-serde-derive-dev")
 
+# Those of rust/kbsim-read.
+READER = (["arrayvec", "serde_json"], "librust-arrayvec-dev librust-serde-json-dev")
+
 
 class Missing(Exception):
     """Something is not installed: what, and what it is of Debian's."""
@@ -95,6 +98,16 @@ def build(work):
         variables = {**environment(f"{work}/{name}", *crates), "RUSTFLAGS": "-D warnings -C target-feature=+crt-static"}
         command = ["cargo", "build", "-q", "--release", "--target", target, "--target-dir", built]
         subprocess.run(command, cwd=f"{ROOT}/examples/{name}", env=variables, check=True)
-    linux_host = [f"{work}/host", f"{ROOT}/examples/real_host/linux/host.c"]
-    subprocess.run(["cc", "-std=c11", "-D_DEFAULT_SOURCE", "-O1", "-static", "-Wall", "-Wextra", "-Werror", "-o", *linux_host], check=True)
-    return {"host": f"{work}/host", **{name: f"{built}/{target}/release/{name}" for name in names}}
+    in_c = {name: f"{work}/{name}" for name in ("host", "uhid")}
+    for name, path in in_c.items():
+        words = ["-std=c11", "-D_DEFAULT_SOURCE", "-O1", "-static", "-Wall", "-Wextra", "-Werror", "-o", path]
+        subprocess.run(["cc", *words, f"{ROOT}/examples/real_host/linux/{name}.c"], check=True)
+    return {**in_c, **{name: f"{built}/{target}/release/{name}" for name in names}}
+
+
+def reader():
+    """The program of `kbsim read`, which runs beside the guest; empty where its crates are not there."""
+    if not are_there(READER[0]):
+        return ""
+    words = [f"{ROOT}/bin/kbsim", "--way", "plain", "--path", "read"]
+    return subprocess.run(words, check=True, stdout=subprocess.PIPE, text=True).stdout.strip()

@@ -13,6 +13,7 @@ sys.path.insert(0, os.path.dirname(os.path.abspath(__file__)))
 import guest  # noqa: E402
 import lists  # noqa: E402
 import parts  # noqa: E402
+import values  # noqa: E402
 from machines import SECTOR  # noqa: E402
 from processes import Silent, running  # noqa: E402
 
@@ -53,6 +54,61 @@ class Guest(unittest.TestCase):
     def test_the_boot_sector_fits(self):
         self.assertLess(len(SECTOR), 510)
         self.assertEqual(SECTOR.index(b"ready"), 0x31)
+
+
+class Values(unittest.TestCase):
+    """The rules of Linux by which values become keys and axes."""
+
+    def device(self, keys):
+        """A hat, eight buttons, an array of two keys and a wheel, in application 0."""
+        def item(place, says, first, last, count, logical):
+            return {"field": place, "kind": "input", "says": says, "usages": [{"first": first, "last": last}], "count": count,
+                    "logical": logical, "physical": logical, "application": 0, "collections": [0]}
+        told = {"collections": [{"type": 1}], "fields": [
+            item(0, ["Data", "Variable", "Absolute"], values.HAT, values.HAT, 1, [1, 8]),
+            item(1, ["Data", "Variable", "Absolute"], 0x90001, 0x90002, 2, [0, 1]),
+            item(2, ["Data", "Array", "Absolute"], 0x70000, 0x70065, 2, [0, 101]),
+            item(3, ["Data", "Variable", "Relative"], 0x10038, 0x10038, 1, [-127, 127])]}
+        self.rules = values.collections.Counter()
+        return values.Linux(told, keys, self.rules)
+
+    @staticmethod
+    def of(field, *told):
+        return [{"field": field, "place": place, "usage": usage, "value": value, "within": within}
+                for place, (usage, value, within) in enumerate(told)]
+
+    def test_a_hat_is_two_axes(self):
+        device = self.device({})
+        for value, axes in ((1, (0, -1)), (3, (1, 0)), (6, (-1, 1)), (0, (0, 0)), (9, (0, 0)), (15, (0, 0))):
+            device.take(self.of(0, (values.HAT, value, "range" if 1 <= value <= 8 else "null")))
+            self.assertEqual((device.axes[0, 16], device.axes[0, 17]), axes, value)
+        self.assertEqual(self.rules["a hat outside its extents is at rest"], 3)
+
+    def test_a_button_that_comes_again_has_no_key(self):
+        device = self.device({0x90001: [272]})
+        device.take(self.of(1, (0x90001, 1, "range"), (0x90002, 1, "range")))
+        self.assertEqual((device.down, self.rules["a usage has no key and no axis"]), ({272}, 1))
+        device.take(self.of(1, (0x90001, 0, "range"), (0x90002, 0, "range")))
+        self.assertEqual(device.down, set())
+
+    def test_two_usages_of_one_key(self):
+        device = self.device({0x70031: [43], 0x70032: [43]})
+        device.take(self.of(2, (0x70000, 0, "range"), (0x70031, 49, "range")))
+        self.assertEqual(device.down, {43})
+        device.take(self.of(2, (0x70032, 50, "range"), (0x70000, 0, "range")))
+        self.assertEqual(device.down, set(), "the first is pressed before the second is let go")
+        device.take(self.of(2, (values.ROLLOVER, 1, "range"), (values.ROLLOVER, 1, "range")))
+        device.take(self.of(2, (0x70032, 50, "range"), (0x70031, 49, "range")))
+        self.assertEqual(device.down, {43})
+
+    def test_a_wheel_is_told_in_120ths(self):
+        device = self.device({})
+        device.take(self.of(3, (0x10038, -2, "range")))
+        self.assertEqual(device.moves, {(0, 11): -240})
+
+    def test_there_are_real_descriptors(self):
+        self.assertGreaterEqual(len(values.texts()), 10)
+        self.assertGreaterEqual(len(values.texts()) * values.REPORTS, 1000)
 
 
 class Lists(unittest.TestCase):
