@@ -31,6 +31,107 @@
 //! # Ok::<(), Box<dyn std::error::Error>>(())
 //! ```
 //!
+//! A usage is a number of 32 bits: the page in its high half, its ID there in the low one. So X is `0x0001_0030`, and button 3
+//! `0x0009_0003`; `src/usages.txt` has the numbers with their names. An ID of 0 stands for no control: an Array whose places
+//! are free mostly names such a usage.
+//!
+//! On Linux the bytes of a device are the file `/sys/class/hidraw/hidraw0/device/report_descriptor`, and each read of
+//! `/dev/hidraw0` gives a report as [`Reader::read`] takes it, with its ID where IDs are used: which report it is need not be
+//! known before.
+//!
+//! # A mouse
+//!
+//! The application says what a device is. A value of a field that is relative is added, any other is where the axis is.
+//!
+//! ```
+//! use wuzhikar_hid::{Kind, Reader};
+//!
+//! # let text = [
+//! #     0x05, 0x01, 0x09, 0x02, 0xa1, 0x01, 0x05, 0x09, 0x19, 0x01, 0x29, 0x08, 0x25, 0x01, 0x75, 0x01, 0x95, 0x08, 0x81, 0x02,
+//! #     0x05, 0x01, 0x09, 0x30, 0x09, 0x31, 0x15, 0x81, 0x25, 0x7f, 0x75, 0x08, 0x95, 0x02, 0x81, 0x06, 0xc0,
+//! # ];
+//! let reader = Reader::new(&text)?;
+//! assert!(reader.details().applications().any(|(_, application)| application.usage == Some(0x0001_0002)));
+//! let (mut x, mut y, mut buttons) = (0, 0, Vec::new());
+//! for report in [[0x01, 5, 0xfd], [0x00, 2, 0]] {
+//!     buttons.clear();
+//!     for value in reader.read(Kind::Input, &report)? {
+//!         let is_relative = reader.detail(value.field).is_some_and(|detail| detail.is_relative());
+//!         match value.usage {
+//!             Some(0x0001_0030) => x = if is_relative { x + value.raw } else { value.raw },
+//!             Some(0x0001_0031) => y = if is_relative { y + value.raw } else { value.raw },
+//!             Some(usage) if usage >> 16 == 9 && value.raw != 0 => buttons.push(usage & 0xffff),
+//!             _ => {}
+//!         }
+//!     }
+//! }
+//! assert_eq!((x, y, buttons), (7, -3, vec![]));
+//! # Ok::<(), Box<dyn std::error::Error>>(())
+//! ```
+//!
+//! # A gamepad
+//!
+//! A hat switch is at rest where its value is [`Within::Null`], or [`Within::Out`], since there are devices that don't declare
+//! Null State. An axis goes from [`Detail::min`] to [`Detail::max`]; [`Detail::physical_value`] is what a value is in its unit.
+//!
+//! ```
+//! use wuzhikar_hid::{Kind, Reader, Within};
+//!
+//! # let text = [
+//! #     0x05, 0x01, 0x09, 0x05, 0xa1, 0x01, 0x09, 0x39, 0x15, 0x01, 0x25, 0x08, 0x35, 0x00, 0x46, 0x3b, 0x01, 0x65, 0x14, 0x75,
+//! #     0x08, 0x95, 0x01, 0x81, 0x02, 0x65, 0x00, 0x45, 0x00, 0x09, 0x30, 0x15, 0x81, 0x25, 0x7f, 0x81, 0x02, 0xc0,
+//! # ];
+//! let reader = Reader::new(&text)?;
+//! let (mut hat, mut stick) = (None, 0.0);
+//! for value in reader.read(Kind::Input, &[3, 0x81])? {
+//!     let Some(detail) = reader.detail(value.field) else { continue };
+//!     match (value.usage, value.within) {
+//!         (Some(0x0001_0039), Within::Range) => hat = Some(detail.physical_value(value.raw)?.decimal(0)),
+//!         (Some(0x0001_0039), _) => hat = None,
+//!         (Some(0x0001_0030), Within::Range) => stick = value.raw as f64 / detail.max as f64,
+//!         _ => {}
+//!     }
+//! }
+//! assert_eq!((hat.as_deref(), stick), (Some("90"), -1.0));
+//! # Ok::<(), Box<dyn std::error::Error>>(())
+//! ```
+//!
+//! # A touch screen
+//!
+//! The values of one finger are those whose innermost collection, [`Detail::inside`], is the same. Tip Switch says whether it
+//! touches, and Contact Identifier which finger it is from report to report. A device may have other applications, so
+//! [`Reader::placed`] says which one a value belongs to.
+//!
+//! ```
+//! use std::collections::BTreeMap;
+//! use wuzhikar_hid::{Kind, Reader};
+//!
+//! # let text = [
+//! #     0x05, 0x0d, 0x09, 0x04, 0xa1, 0x01, 0x09, 0x22, 0xa1, 0x02, 0x09, 0x42, 0x25, 0x01, 0x75, 0x01, 0x95, 0x01, 0x81, 0x02,
+//! #     0x95, 0x07, 0x81, 0x03, 0x09, 0x51, 0x25, 0x7f, 0x75, 0x08, 0x95, 0x01, 0x81, 0x02, 0x05, 0x01, 0x09, 0x30, 0x81, 0x02,
+//! #     0xc0, 0xc0,
+//! # ];
+//! let reader = Reader::new(&text)?;
+//! let screen = reader.details().applications().find(|(_, application)| application.usage == Some(0x000d_0004));
+//! let mut fingers: BTreeMap<usize, (bool, i64, i64)> = BTreeMap::new();
+//! for value in reader.read(Kind::Input, &[0x01, 5, 40])? {
+//!     let Some(placed) = reader.placed(value.field) else { continue };
+//!     if reader.details().application(placed.place) != screen.map(|(place, _)| place) {
+//!         continue;
+//!     }
+//!     let Some(finger) = placed.detail.inside else { continue };
+//!     let (touches, number, x) = fingers.entry(finger).or_default();
+//!     match value.usage {
+//!         Some(0x000d_0042) => *touches = value.raw != 0,
+//!         Some(0x000d_0051) => *number = value.raw,
+//!         Some(0x0001_0030) => *x = value.raw,
+//!         _ => {}
+//!     }
+//! }
+//! assert_eq!(fingers.into_values().collect::<Vec<_>>(), [(true, 5, 40)]);
+//! # Ok::<(), Box<dyn std::error::Error>>(())
+//! ```
+//!
 //! **Written by hand: tested, not proved.** What it takes from `wuzhikar-reader`, the fields and their usages, is exported
 //! from a proved source; this crate is compared with a program in another language over some ten thousand descriptors.
 //! Any bytes may come: nothing panics on them. Where a call says nothing of memory, it takes memory as std does.

@@ -24,16 +24,15 @@ struct Contact {
 
 /// The contacts of a report, by the collection that the values stand in.
 fn contacts(reader: &Reader, report: &[u8]) -> Result<Vec<Contact>, Box<dyn Error>> {
-    let placed: Vec<_> = reader.details().data_fields().collect();
     let mut found: BTreeMap<usize, Contact> = BTreeMap::new();
     for value in reader.read(Kind::Input, report)? {
-        let field = placed[value.field];
+        let Some(detail) = reader.detail(value.field) else { continue };
         // The innermost collection around the fields of one finger is its own.
-        let Some(finger) = field.detail.inside else { continue };
+        let Some(finger) = detail.inside else { continue };
         let contact = found.entry(finger).or_default();
         let place = || -> Result<String, Box<dyn Error>> {
-            let physical = field.detail.physical_value(value.raw)?;
-            Ok(format!("{} {}s", physical.decimal(2), field.detail.unit_name().unwrap_or("unit")))
+            let physical = detail.physical_value(value.raw)?;
+            Ok(format!("{} {}s", physical.decimal(2), detail.unit_name().unwrap_or("unit")))
         };
         match value.usage {
             Some(usage::TIP_SWITCH) => contact.down = value.raw != 0,

@@ -1,7 +1,7 @@
 //! A kept reader. Written by hand: tested, not proved.
 
 use super::spots::{Spot, push_spots};
-use crate::{Details, details};
+use crate::{Details, Placed, details};
 use alloc::vec::Vec;
 use core::fmt;
 use core::ops::Range;
@@ -132,9 +132,17 @@ impl Reader {
         &self.details
     }
 
-    /// What the field with this place in `Descriptor::fields` declares; `None` if there is no such field.
+    /// What the field with this place in `Descriptor::fields`, as [`Value::field`](crate::Value) has it, declares; `None` if
+    /// there is no such field.
     pub fn detail(&self, field: usize) -> Option<&crate::Detail> {
         self.details.fields.get(*self.places.get(field)?)
+    }
+
+    /// The same with its place in [`Details::fields`], as [`Details::around`] and [`Details::application`] take it: there
+    /// padding counts, too.
+    pub fn placed(&self, field: usize) -> Option<Placed<'_>> {
+        let place = *self.places.get(field)?;
+        Some(Placed { place, detail: self.details.fields.get(place)? })
     }
 
     #[inline(always)]

@@ -120,3 +120,12 @@ fn a_field_has_more_than_256_places() {
     // Place 256 of the first field has bits 768 to 770; the last place of the last one begins at bit 11,906, behind 10b of a null.
     assert_eq!((report[96], &report[1_488..]), (0x05, &[0xf9, 0x07][..]));
 }
+
+#[test]
+fn a_field_has_its_place_among_all_items() {
+    let reader = gamepad();
+    let places: Vec<usize> = (0..5).filter_map(|field| reader.placed(field)).map(|placed| placed.place).collect();
+    assert_eq!(places, [0, 2, 4, 5]);
+    assert!(reader.placed(1).is_some_and(|placed| placed.detail.has_null_state()));
+    assert_eq!(reader.placed(3).map(|placed| reader.details().around(placed.place).count()), Some(1));
+}
