@@ -221,7 +221,7 @@ _kbsim() {
             return 0
             ;;
         kbsim__run)
-            opts="-h --pages --image --save --help [FILE]"
+            opts="-h --pages --image --save --explain --help [FILE]"
             if [[ ${cur} == -* || ${COMP_CWORD} -eq 2 ]] ; then
                 COMPREPLY=( $(compgen -W "${opts}" -- "${cur}") )
                 return 0

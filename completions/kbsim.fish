@@ -9,6 +9,7 @@ complete -c kbsim -n "__fish_use_subcommand" -f -a "help" -d 'Print this message
 complete -c kbsim -n "__fish_seen_subcommand_from run" -l pages -d 'How many pages the flash has' -r -f -a "{2	,3	,4	,5	,6	,7	,8	}"
 complete -c kbsim -n "__fish_seen_subcommand_from run" -l image -d 'Starts on a flash that holds the bytes of FILE' -r -F
 complete -c kbsim -n "__fish_seen_subcommand_from run" -l save -d 'Writes the flash\'s bytes to FILE after a run without a fault' -r -F
+complete -c kbsim -n "__fish_seen_subcommand_from run" -l explain -d 'Says on standard error what each answer means'
 complete -c kbsim -n "__fish_seen_subcommand_from run" -s h -l help -d 'Print help information'
 complete -c kbsim -n "__fish_seen_subcommand_from describe" -s h -l help -d 'Print help information'
 complete -c kbsim -n "__fish_seen_subcommand_from parse" -l from -d 'How the text says the bytes' -r -f -a "{hex	,c	,bytes	}"

@@ -61,6 +61,7 @@ STEPS = [
     Step("one version everywhere", [*PYTHON, "tools/check_version.py"]),
     Step("what the documents name", ["bin/check-docs"]),
     Step("a test at the largest input of each call", [*PYTHON, "tools/check_extremes.py"]),
+    Step("names of usages are those of the reader", [*PYTHON, "tools/usage_names.py"]),
     Step("right bodies can be applied", [*PYTHON, "tools/right_bodies.py", "--apply"]),
     Step("how documents are checked", [*PYTHON, "tools/test_check_documents.py", "--quiet"]),
     Step("what tools/check runs", [*PYTHON, "tools/test_check_crate.py", "--quiet"]),

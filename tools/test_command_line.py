@@ -37,6 +37,9 @@ REFUSED = [
     (["parse", "--from"], "a value is required for '--from <FORM>' but none was supplied"),
     (["parse", "--from=c", "--from=c"], "the argument '--from <FORM>' cannot be used multiple times"),
     (["run", "--from", "c"], "unexpected argument '--from' found"),
+    (["run", "--explain=x"], "unexpected value 'x' for '--explain' found; no more were expected"),
+    (["parse", "--explain"], "unexpected argument '--explain' found"),
+    (["run", "--explain", "--explain"], "the argument '--explain' cannot be used multiple times"),
 ]
 
 # Words that ask for help or the version, and a line of what is printed.
@@ -49,11 +52,16 @@ HELPS = [
     (["--version"], "kbsim 0.1.0"),
 ]
 
+WRONG_STAGE = "WrongStage: the packet does not belong to this stage of the transfer, or there is none"
+
 # Words, what is given, the status, what is printed, and what is said on standard error.
 ENDS = [
     (["run"], "work\nin x\n", 1, "fault line 2: wrong words\n", "line 2: in takes no word; here it has 1\n"),
     (["run", "-"], "work\nin x\n", 1, "fault line 2: wrong words\n", "line 2: in takes no word; here it has 1\n"),
     (["run", "--pages", "8"], "slot 7 511\n", 0, "1 ffffffffffffffff\n", ""),
+    (["run", "--explain", "--pages", "8"], "slot 7 511\n", 0, "1 ffffffffffffffff\n", "line 1: page 7, slot 511: free\n"),
+    (["run", "-", "--explain"], "\n# a\nin", 0, "3 stall 16\n", f"line 3: {WRONG_STAGE}\n"),
+    (["run", "--explain"], "", 0, "", ""),
     (["parse"], "05\n", 1, "fault parse 1 at 0\n", "byte 0, item 05: truncated item\n"),
     (["parse", "-"], "5\n", 1, "fault hex\n", "the text has 1 hex digits, and a byte takes two\n"),
     (["parse", "--from", "hex"], "75 08 95 01 81 02", 0, "input 0 0 8 1 0 0 variable -\n", ""),
@@ -148,6 +156,21 @@ class Words(Calls):
                 status, _, said = self.call(words, "05", stdout=full)
                 told = (MISSING if "missing" in words else "") + "error: the output can't be written\n"
                 self.assertEqual((status, said), ((0, "") if words == ["parse", "hex"] else (1, told)))
+
+    def test_what_was_not_printed_is_not_explained(self):
+        with open("/dev/full", "wb") as full:
+            told = self.call(["run", "--explain"], "in\n" * 2000, stdout=full)
+        self.assertEqual((told[0], told[2]), (1, "error: the output can't be written\n"))
+
+    def test_an_explanation_that_can_not_be_written_changes_nothing(self):
+        with open("/dev/full", "wb") as full:
+            ran = subprocess.run([*KBSIM, "run", "--explain"], input=b"in\nin\n", stdout=subprocess.PIPE, stderr=full, cwd=self.folder)
+        self.assertEqual((ran.returncode, ran.stdout), (0, b"1 stall 16\n2 stall 16\n"))
+
+    def test_an_explained_flash_is_saved(self):
+        self.ends(0, "1 ack\n", ["run", "--save", "saved"], "set 0 0 0005\n")
+        self.ends(0, "1 ack\n", ["run", "--explain", "--save", "explained"], "set 0 0 0005\n")
+        self.assertEqual(self.read("saved"), self.read("explained"))
 
     def test_a_closed_standard_error_changes_nothing(self):
         for words in (["run"], ["parse"], ["run", "missing"]):

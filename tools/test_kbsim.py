@@ -21,6 +21,17 @@ def make_image(pages, slots, file):
     subprocess.run([f"{ROOT}/bin/make-image", str(pages)], input="\n".join(slots).encode(), stdout=file, check=True)
 
 
+def full_of_format_1():
+    """The slots of a full page of format 1: each of the 384 entries is 0000, and then entry (0, 0) is 0005 and 0000 in turn.
+    Page 1 is not blank."""
+    slots = ["0 0 01000010feffffef", "1 9 0000000000000000"]
+    for slot in range(1, 512):
+        place, code = (slot - 1, 0) if slot <= 384 else (0, 5 * (slot % 2))
+        word = bytes([code, 0, place % 96, 0x10 | place // 96])
+        slots.append(f"0 {slot} {word.hex()}{bytes(255 - byte for byte in word).hex()}")
+    return slots
+
+
 class Program(unittest.TestCase):
     """The program, as its tests call it."""
 
@@ -106,7 +117,8 @@ def case_of_dialog(place, lines):
     if any(line.startswith((">", "! ")) for line in printed):
         raise ValueError(f"{place}: first what is given, then what is printed, and then what is said")
     told = "".join(f"{line}\n" for line in said) if said else None
-    return Case(place, [], unescaped("\n".join(given)), "".join(f"{line}\n" for line in printed), told)
+    slots = [line.removeprefix("# flash ") for line in given if line.startswith("# flash ")]
+    return Case(place, slots, unescaped("\n".join(given)), "".join(f"{line}\n" for line in printed), told)
 
 
 def case_of_script(place, lines):
@@ -178,6 +190,65 @@ def add_tests(folder):
 
 add_tests("scripts")
 add_tests("descriptors")
+
+
+class Explained(Program):
+    """Each script of the rows once more with `--explain`: the same is printed, and a sentence is said of each answer."""
+
+    def explains(self, words, case):
+        given = ["run", "--explain", *words[1:]]
+        ran = subprocess.run([*KBSIM, *given], input=case.given, capture_output=True)
+        printed = case.printed.encode()
+        self.assertEqual(ran.stdout.splitlines(), printed.splitlines(), case.place)
+        self.assertEqual(ran.returncode, 1 if printed.startswith(b"fault ") else 0, case.place)
+        numbers = [line.split(b" ")[0] for line in printed.splitlines() if not line.startswith(b"fault ")]
+        said = [line.partition(b": ")[0] for line in ran.stderr.splitlines()]
+        self.assertEqual(said[: len(numbers)], [b"line " + number for number in numbers], case.place)
+        self.assertEqual(len(said) - len(numbers), ran.returncode, case.place)
+        lines = case.given.decode(errors="replace").split("\n")
+        for answer, sentence in zip(case.printed.splitlines(), ran.stderr.decode().splitlines()):
+            number, _, answer = answer.partition(" ")
+            if number != "fault":
+                self.agrees(lines[int(number) - 1].split()[0], answer, sentence)
+
+    def agrees(self, word, answer, sentence):
+        """What is said of a step and of a slot comes from the second keyboard and its flash: it has to be as the first one's."""
+        if word in ("work", "workfault"):
+            self.assertEqual(answer == "idle", sentence.endswith("no operation is made"), sentence)
+        if word == "slot":
+            self.assertEqual(answer == 16 * "f", sentence.endswith(": free"), sentence)
+
+    def test_the_rows(self):
+        for path in sorted(glob.glob(f"{ROOT}/tests/scripts/*.rows")):
+            for heading, cases in read_cases(path).items():
+                words = heading.partition(": ")[2].split()
+                for case in cases:
+                    if words[0] == "run" and "--image" not in words and "--explain" not in words:
+                        with self.subTest(case.place):
+                            self.explains(words, case)
+
+    def test_a_mebibyte_of_short_lines(self):
+        count = 349_525
+        printed = "".join(f"{number} stall 16\n" for number in range(1, count + 1))
+        meaning = "WrongStage: the packet does not belong to this stage of the transfer, or there is none"
+        said = "".join(f"line {number}: {meaning}\n" for number in range(1, count + 1))
+        self.prints(["run", "--explain"], "in\n" * count, printed, said=said)
+
+    def test_the_longest_command_is_explained(self):
+        with tempfile.NamedTemporaryFile() as image:
+            make_image(2, full_of_format_1(), image)
+            said = "line 1: stored: erase of page 1, 384 copies, header of page 1, record in page 1, slot 385: layer 0, key 0 = nothing\n"
+            self.prints(["run", "--explain", "--image", image.name], "set 0 0 0000\n", "1 ack\n", said=said)
+
+    def test_the_longest_line(self):
+        # All 96 keys of a report, by their names, from key 0, the letter a, on.
+        keys = " ".join(str(key) for key in range(96))
+        ran = subprocess.run([*KBSIM, "run", "--explain"], input=f"fetch\nscans 5 {keys}\npoll\n".encode(), capture_output=True)
+        said = ran.stderr.decode().splitlines()
+        self.assertTrue(said[2].startswith("line 3: the host reads Keyboard a and A; Keyboard b and B; "))
+        self.assertTrue(said[2].endswith("; Keyboard RightAlt; Keyboard Right GUI"))
+        # (A semicolon between each two of them, and one in the name of key 47.)
+        self.assertEqual((len(said), said[2].count("; ")), (3, 96))
 
 
 def around_multiples(size, count):
@@ -321,20 +392,13 @@ class Long(Program):
         self.prints(["run"], "scans 0" + " 95" * 97, "fault line 1: wrong words\n", 1)
 
     def test_the_longest_command_takes_387_steps(self):
-        # A full page of format 1: each of the 384 entries is 0000, and then entry (0, 0) is 0005 and 0000 in turn. Page 1
-        # is not blank.
-        slots = ["0 0 01000010feffffef", "1 9 0000000000000000"]
-        for slot in range(1, 512):
-            place, code = (slot - 1, 0) if slot <= 384 else (0, 5 * (slot % 2))
-            word = bytes([code, 0, place % 96, 0x10 | place // 96])
-            slots.append(f"0 {slot} {word.hex()}{bytes(255 - byte for byte in word).hex()}")
         rows = [("setup 2109030300000600", "ack"), ("out 030100000000", "ack")]
         rows += [("work", "working")] * 386
         rows += [("entry 0 0", "0005"), ("work", "settled"), ("in", "data -"), ("slot 1 0", "02000020fdffffdf")]
         rows += [("slot 1 1", "05000010faffffef"), ("slot 1 384", "00005f13ffffa0ec"), ("slot 1 385", "00000010ffffffef")]
         rows += [("slot 1 386", "ffffffffffffffff"), ("entry 0 0", "0000")]
         with tempfile.NamedTemporaryFile() as image:
-            make_image(2, slots, image)
+            make_image(2, full_of_format_1(), image)
             script = "".join(f"{line}\n" for line, _ in rows)
             printed = "".join(f"{number} {answer}\n" for number, (_, answer) in enumerate(rows, 1))
             self.prints(["run", "--image", image.name], script, printed)

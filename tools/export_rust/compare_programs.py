@@ -1,7 +1,8 @@
 """Compares two programs `kbsim` over scripts, report descriptors and command lines that are made from numbers.
 
 Standard output, the exit status and what stands on standard error are compared. The first that differs is shown with the command
-that repeats it, and the status is 1. Each kind is counted by what comes of it.
+that repeats it, and the status is 1. Each kind is counted by what comes of it. The runs that are explained are those of scripts
+with `--explain`, and standard output and status are compared with those of the same run without it.
 """
 
 import argparse
@@ -36,7 +37,13 @@ def of_words(number):
     return command_line(number), b""
 
 
-KINDS = {"scripts": of_script, "texts": of_text, "words": of_words}
+def of_explained(number):
+    """Those of a script's run whose answers are explained."""
+    words, given = of_script(number)
+    return [*words, "--explain"], given
+
+
+KINDS = {"scripts": of_script, "explained": of_explained, "texts": of_text, "words": of_words}
 
 
 def run(program, words, given):
@@ -76,7 +83,11 @@ def compare(kind, number, programs):
     """What is to be counted of a run, and why the two programs differ, if they do."""
     words, given = KINDS[kind](number)
     one, other = (run(program, words, given) for program in programs)
-    return outcome(kind, words, one), difference(kind, number, one, other)
+    why = difference(kind, number, one, other)
+    if kind == "explained" and not why:
+        unexplained = run(programs[0], [word for word in words if word != "--explain"], given)
+        why = difference(kind, number, one[:2], unexplained[:2])
+    return outcome(kind, words, one), why
 
 
 def show(kind, number):

@@ -11,6 +11,7 @@ from room import HERE, ROOT, Failed, Skipped, say
 # Changes of a copy, of which the comparison has to see each: by which kind of input, and by how many at most.
 PLANTED = [
     ("scripts", 300, "wuzhikar/src/parts/reports/poller.rs", "const IDLE_ONE: u8 = 125;", "const IDLE_ONE: u8 = 124;"),
+    ("explained", 300, "kbsim/src/parts/explanations/slot.rs", "if head >> 28 != 1", "if head >> 28 == 1"),
     ("texts", 300, "wuzhikar-reader/src/parts/descriptor_parse/reports.rs", "MAX_COUNT: u32 = 1024;", "MAX_COUNT: u32 = 1023;"),
     ("words", 300, "kbsim/src/program/refusal.rs", "const SIMILAR: f64 = 0.7;", "const SIMILAR: f64 = 0.9;"),
 ]
@@ -55,7 +56,7 @@ def programs(room, given):
     """Compares both programs: scripts, report descriptors and command lines."""
     kbsim, (proved, named) = built(room), reference()
     say(f"kbsim in plain Rust is compared with {named}")
-    status, told = compare([proved, kbsim], scripts=given.scripts, texts=given.texts, words=given.words)
+    status, told = compare([proved, kbsim], scripts=given.scripts, explained=given.scripts, texts=given.texts, words=given.words)
     if status != 0:
         raise Failed(told)
     for line in told.split("\n"):

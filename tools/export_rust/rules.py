@@ -99,7 +99,7 @@ READER = Rules(
 
 SIMULATOR = Rules(
     name="kbsim",
-    crates=("host", "world", "text_io", "script", "kbsim", "c_array", "parse_lines", "sentences"),
+    crates=("host", "world", "text_io", "script", "kbsim", "c_array", "parse_lines", "sentences", "explanations"),
     below=(KEYBOARD, LOG, READER),
     tests=("descriptor_plain", "host_tests", "script_tests", "kbsim_tests"),
     allocs=True,
@@ -109,7 +109,8 @@ SIMULATOR = Rules(
           ("kbsim", ""): [("The program `kbsim_cli` calls it", "The program of this crate calls it")],
           ("parse_lines", ""): [("The program `kbsim_cli` calls them", "The program of this crate calls them")],
           ("c_array", ""): [("The program `kbsim_cli` calls it", "The program of this crate calls it")],
-          ("sentences", ""): [("The program `kbsim_cli`\n//! prints them", "The program of this crate\n//! prints them")]},
+          ("sentences", ""): [("The program `kbsim_cli`\n//! prints them", "The program of this crate\n//! prints them")],
+          ("explanations", ""): [("The program `kbsim_cli` has", "The program of this crate has")]},
 )
 
 # All crates of plain Rust that are made, lowest first.

@@ -25,6 +25,7 @@ of a file:
   kbsim run FILE
   kbsim run < FILE
   kbsim run --image OLD --save NEW FILE
+  kbsim run --explain FILE
 
 A script is lines of words. Each line is events of the keyboard, or a look at
 it, and prints one line: its number and the answer. `scan` and `scans` press
@@ -41,6 +42,10 @@ whole script, at most 1048576 bytes, is checked before its first line is run.
 An image is the bytes of a flash, 2 to 8 pages of 4096 bytes, and is read before
 the script. The file of --save is written after a run without a fault, by way of
 FILE.part beside it, and is else left as it was.
+
+With --explain standard error says in a sentence beside each answer what it
+means: the reason of a stall, the name of a request, the usages of a report, the
+operation that a step of the flash work made. Standard output is the same.
 
 The line of a fault, as `fault line 2: bad number`, is the last one on standard
 output; on standard error a sentence says what is wrong there. docs/SCRIPT.md
@@ -141,12 +146,13 @@ pub enum Form {
 /// What the command line asks for.
 #[derive(Clone, Copy, Debug, PartialEq, Eq)]
 pub enum Request<'a> {
-    /// To run a script, and to write the flash's bytes to the file with the path `save` after a run
-    /// without a fault.
+    /// To run a script, to write the flash's bytes to the file with the path `save` after a run
+    /// without a fault, and where `explain` is set to say what each answer means.
     Run {
         start: Start<'a>,
         source: Source<'a>,
         save: Option<&'a str>,
+        explain: bool,
     },
     /// To print the keyboard's descriptors.
     Describe,
@@ -187,10 +193,15 @@ fn asked<'a>(matches: &ArgMatches<'a>) -> Request<'a> {
     };
     let source = source_of(run.and_then(|run| run.get_str("file")));
     let save = run.and_then(|run| run.get_str("save"));
+    let explain = match run {
+        Some(run) => run.get_flag("explain"),
+        None => false,
+    };
     Request::Run {
         start,
         source,
         save,
+        explain,
     }
 }
 
@@ -240,6 +251,7 @@ fn run<'a>(alloc: Global) -> Result<Command<'a>, AllocError> {
         .arg(pages(alloc))?
         .arg(image)?
         .arg(save(alloc))?
+        .arg(explain(alloc))?
         .arg(file(alloc))
 }
 
@@ -264,6 +276,13 @@ fn save<'a>(alloc: Global) -> Arg<'a> {
     Arg::new(alloc, "save").long("save").value_name("FILE").help(
         "Writes the flash's bytes to FILE after a run without a fault",
     )
+}
+
+fn explain<'a>(alloc: Global) -> Arg<'a> {
+    Arg::new(alloc, "explain")
+        .long("explain")
+        .help("Says on standard error what each answer means")
+        .action(ArgAction::SetTrue)
 }
 
 /// The text that is read.

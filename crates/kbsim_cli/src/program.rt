@@ -37,8 +37,9 @@ pub fn status<R: Env + AllocGlobal + Files + Input + Print + Eprint>(rt: &R) -> 
                 start,
                 source,
                 save,
+                explain,
             },
-        ) => run(rt, start, source, save),
+        ) => run(rt, start, source, save, explain),
         Ok(Request::Describe) => status_of(print_descriptors(rt)),
         Ok(
             Request::Parse {
@@ -51,16 +52,18 @@ pub fn status<R: Env + AllocGlobal + Files + Input + Print + Eprint>(rt: &R) -> 
     }
 }
 
-/// Runs the script of a source, and keeps the flash's bytes in the file `save`, if one is named.
+/// Runs the script of a source, and keeps the flash's bytes in the file `save`, if one is named. With `explain` standard error
+/// says what each answer means.
 fn run<R: AllocGlobal + Files + Input + Print + Eprint>(
     rt: &R,
     start: Start<'_>,
     source: Source<'_>,
     save: Option<&str>,
+    explain: bool,
 ) -> u8
     ensures { (result ≡ DONE) ⊎ (result ≡ FAULT) }
 {
-    let ended = run_from(rt, start, source);
+    let ended = run_from(rt, start, source, explain);
     finish(rt, ended, &mut Place { rt, path: save })
 }
 

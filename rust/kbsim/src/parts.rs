@@ -4,6 +4,7 @@
 #![allow(dead_code, unused_imports, unused_variables, clippy::all)]
 
 pub mod c_array;
+pub mod explanations;
 pub mod host;
 pub mod kbsim;
 pub mod parse_lines;

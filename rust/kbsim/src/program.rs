@@ -19,7 +19,7 @@ pub fn status() -> ExitCode {
         return ExitCode::from(2);
     };
     match ask::read(&words) {
-        Asked::Run { start, source, save } => run::run(start, &source, save.as_deref()),
+        Asked::Run { start, source, save, explain } => run::run(start, &source, save.as_deref(), explain),
         Asked::Describe => parse::describe(),
         Asked::Parse { source, form, items } => parse::parse(&source, &form, items),
         Asked::Shown(text) => shown(text),

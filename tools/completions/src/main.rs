@@ -59,11 +59,13 @@ fn kbsim() -> Command {
         .value_name("N")
         .value_parser(["2", "3", "4", "5", "6", "7", "8"])
         .help("How many pages the flash has");
+    let explain = Arg::new("explain").long("explain").action(ArgAction::SetTrue).help("Says on standard error what each answer means");
     let run = Command::new("run")
         .about("Runs a script")
         .arg(pages)
         .arg(file("image", "Starts on a flash that holds the bytes of FILE"))
         .arg(file("save", "Writes the flash's bytes to FILE after a run without a fault"))
+        .arg(explain)
         .arg(text());
     let parse = Command::new("parse")
         .about("Prints the fields, or the items, of a report descriptor")

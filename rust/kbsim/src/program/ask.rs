@@ -8,8 +8,9 @@ use clap::{Arg, ArgAction, ArgMatches, Command};
 
 /// What is asked for.
 pub enum Asked {
-    /// To run a script, and to write the flash's bytes to the file with the path `save` after it.
-    Run { start: Start, source: Source, save: Option<String> },
+    /// To run a script, to write the flash's bytes to the file with the path `save` after it, and where `explain` is set to say
+    /// what each answer means.
+    Run { start: Start, source: Source, save: Option<String>, explain: bool },
     /// To print the keyboard's descriptors.
     Describe,
     /// To print the fields of a report descriptor, or its items.
@@ -82,7 +83,7 @@ fn asked(matches: &ArgMatches) -> Asked {
                 Some(path) => Start::Image(path),
                 None => Start::Blank { pages: run.get_one("pages").copied().unwrap_or(2) },
             };
-            Asked::Run { start, source: source(run), save: path("save") }
+            Asked::Run { start, source: source(run), save: path("save"), explain: run.get_flag("explain") }
         }
         None => Asked::Shown(HELPS[0].1),
     }
@@ -129,13 +130,14 @@ fn kbsim() -> Command {
     let version = Arg::new("version").short('V').long("version").action(ArgAction::Version);
     let from = Arg::new("from").long("from").value_name("FORM").value_parser(FORMS);
     let items = Arg::new("items").long("items").action(ArgAction::SetTrue);
+    let explain = Arg::new("explain").long("explain").action(ArgAction::SetTrue);
     command("kbsim", [])
         .arg(version)
         .disable_version_flag(true)
         .version(env!("CARGO_PKG_VERSION"))
         .override_help("kbsim")
         .subcommand_required(true)
-        .subcommand(command("run", [pages(), file("image").conflicts_with("pages"), file("save"), text()]))
+        .subcommand(command("run", [pages(), file("image").conflicts_with("pages"), file("save"), explain, text()]))
         .subcommand(command("describe", []))
         .subcommand(command("parse", [from, items, text()]))
 }

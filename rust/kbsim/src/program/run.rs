@@ -2,15 +2,17 @@
 
 use super::source::{Unread, opened, text_of};
 use super::{Source, Start, tell, tell_output};
+use kbsim::parts::explanations::{Explainer, Explaining, Tell};
 use kbsim::parts::sentences::of_line;
 use kbsim::{RunError, SimFlash, blank_flash, image_flash, print_fault, run_on};
+use std::fmt::Display;
 use std::fs::{self, OpenOptions};
 use std::io::{self, Write};
 use std::process::ExitCode;
 
-/// Runs the script of a source. Standard error says in a sentence what a fault is.
-pub fn run(start: Start, source: &Source, save: Option<&str>) -> ExitCode {
-    match run_from(start, source) {
+/// Runs the script of a source. Standard error says in a sentence what a fault is, and with `explain` what each answer means.
+pub fn run(start: Start, source: &Source, save: Option<&str>, explain: bool) -> ExitCode {
+    match run_from(start, source, explain) {
         Ok(flash) => kept(&flash, save),
         Err(RunError::Output) => tell_output(),
         Err(_) => ExitCode::FAILURE,
@@ -18,10 +20,10 @@ pub fn run(start: Start, source: &Source, save: Option<&str>) -> ExitCode {
 }
 
 /// Runs the script of a source on the flash that a run starts on.
-fn run_from(start: Start, source: &Source) -> Result<SimFlash, RunError> {
+fn run_from(start: Start, source: &Source, explain: bool) -> Result<SimFlash, RunError> {
     let flash = flash_of(start)?;
     match text_of(source) {
-        Ok(text) => run_text(flash, &text),
+        Ok(text) => run_text(flash, &text, explain),
         Err(Unread::Closed) => Err(print_fault(RunError::Input, &mut io::stdout().lock())),
         Err(Unread::Read(error)) => Err(put(error.into())),
     }
@@ -39,15 +41,32 @@ fn flash_of(start: Start) -> Result<SimFlash, RunError> {
 }
 
 /// Runs a script on a flash.
-fn run_text(flash: SimFlash, mut text: &[u8]) -> Result<SimFlash, RunError> {
+fn run_text(flash: SimFlash, mut text: &[u8], explain: bool) -> Result<SimFlash, RunError> {
     let (pages, script) = (flash.image().len() / 4096, text);
-    let ended = run_on(flash, &mut text, &mut io::stdout().lock());
+    let out = io::stdout().lock();
+    let ended = match explain.then(|| Explainer::new((), &flash, script)) {
+        Some(Ok(explainer)) => run_on(flash, &mut text, &mut Explaining::new(out, StandardError, explainer)),
+        Some(Err(_)) => {
+            tell(&"out of memory to explain the answers");
+            run_on(flash, &mut text, &mut { out })
+        }
+        None => run_on(flash, &mut text, &mut { out }),
+    };
     match &ended {
         Ok(_) | Err(RunError::Output) => {}
         Err(RunError::Line { line, .. }) => of_line((), pages, script, *line).iter().for_each(|sentence| tell(sentence)),
         Err(error) => tell(error),
     }
     ended
+}
+
+/// Standard error, as a place of sentences.
+struct StandardError;
+
+impl Tell for StandardError {
+    fn tell<T: Display>(&mut self, sentence: &T) {
+        tell(sentence);
+    }
 }
 
 /// Prints the line of a fault, and says in a sentence what it is.
