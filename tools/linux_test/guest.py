@@ -38,12 +38,12 @@ def read(path):
         return file.read()
 
 
-def modules(tree, release):
-    """The paths of the kernel's modules in a tree, each behind those that it needs."""
+def modules(tree, release, names=MODULES):
+    """The paths of some of the kernel's modules in a tree, each behind those that it needs."""
     if not os.path.exists(f"{tree}/lib/modules/{release}/modules.dep"):
         subprocess.run(["depmod", "-b", tree, release], check=True)
     command = ["modprobe", "-d", tree, "-S", release, "--show-depends"]
-    told = "".join(subprocess.run([*command, name], check=True, stdout=subprocess.PIPE, text=True).stdout for name in MODULES)
+    told = "".join(subprocess.run([*command, name], check=True, stdout=subprocess.PIPE, text=True).stdout for name in names)
     paths = [line.split()[1] for line in told.splitlines() if line.startswith("insmod ")]
     return list(dict.fromkeys(paths))
 

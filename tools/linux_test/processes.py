@@ -23,8 +23,8 @@ class Silent(Exception):
 class Program:
     """A running program, what it has said, and what is to be said to it."""
 
-    def __init__(self, command, fds=(), patience=PATIENCE):
-        self.name, self.patience, self.said = os.path.basename(command[0]), patience, b""
+    def __init__(self, command, fds=(), patience=PATIENCE, longest=LONGEST):
+        self.name, self.patience, self.longest, self.said = os.path.basename(command[0]), patience, longest, b""
         self.process = subprocess.Popen(command, stdin=subprocess.PIPE, stdout=subprocess.PIPE, stderr=subprocess.STDOUT, pass_fds=fds)
         os.set_blocking(self.process.stdout.fileno(), False)
 
@@ -33,10 +33,10 @@ class Program:
         self.process.stdin.write(text.encode())
         self.process.stdin.flush()
 
-    def until(self, *texts):
-        """Reads until it has said one of these texts; which."""
+    def until(self, *texts, hear=lambda: None):
+        """Reads until it has said one of these texts; which. `hear` is called whenever it has said more."""
         wanted, last = " or ".join(map(repr, texts)), time.monotonic()
-        longest = last + LONGEST
+        longest = last + self.longest
         while True:
             for text in texts:
                 if text.encode() in self.said:
@@ -48,6 +48,7 @@ class Program:
                 if read == b"":
                     raise Silent(f"{self.name} ended, and did not say {wanted}", self.text())
                 self.said, last = self.said + (read or b""), time.monotonic()
+                hear()
 
     def text(self):
         """What it has said, as text."""
@@ -62,9 +63,9 @@ class Program:
 
 
 @contextlib.contextmanager
-def running(command, fds=(), patience=PATIENCE):
+def running(command, fds=(), patience=PATIENCE, longest=LONGEST):
     """A program that is ended behind the block."""
-    program = Program(command, fds, patience)
+    program = Program(command, fds, patience, longest)
     try:
         yield program
     finally:

@@ -177,6 +177,19 @@ class Processes(unittest.TestCase):
             program.say("two\n")
             self.assertEqual(program.until("three", "two"), "two")
 
+    def test_what_is_said_is_heard_as_it_comes(self):
+        heard = []
+        with running(["sh", "-c", "echo one; read word; echo two"]) as program:
+            program.until("one", hear=lambda: heard.append(program.text()))
+            self.assertEqual(heard, ["one\n"])
+            program.say("more\n")
+            program.until("two", hear=lambda: heard.append(program.text()))
+        self.assertEqual(heard, ["one\n", "one\ntwo\n"])
+
+    def test_a_program_that_goes_on_and_on(self):
+        with running(["sh", "-c", "while echo x; do sleep 0.05; done"], longest=0.3) as program, self.assertRaisesRegex(Silent, "sh did not say 'y'"):
+            program.until("y")
+
     def test_a_program_that_ends_or_is_silent(self):
         with running(["echo", "something"]) as program, self.assertRaisesRegex(Silent, "echo ended, and did not say 'x'") as met:
             program.until("x")
