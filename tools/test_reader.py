@@ -261,6 +261,42 @@ class Shown:
         wanted = [(words, (helps / f"{name}.txt").read_text()) for words, name in asked]
         return [(words, text, told) for words, text in wanted if (told := self.ran(f"bin/kbsim {words}")) != text]
 
+    def wrong_refusals(self):
+        """The words that are refused otherwise than they should be: status, standard output, and a part of standard error."""
+        pad, none = "examples/hid_driver/gamepad.hex", "status 2, '' and"
+        asked = [
+            ("bin/kbsim parse --details --json", none + " can't both be"), ("bin/kbsim parse --json=1", none + " takes no value"),
+            ("bin/kbsim read --kind lamp x", none + " is no kind of report"), ("bin/kbsim read --kind", none + " wants a value"),
+            ("bin/kbsim read --raw --raw x", none + " comes twice"), ("bin/kbsim read - -", none + " can't be both"),
+            ("bin/kbsim read --colour x", none + " is no option here"), ("bin/kbsim write x 256", none + " is no Report ID"),
+            ("bin/kbsim write --onto 0 x 0", none + " is not pairs of hex digits"), (f"bin/kbsim write {pad} 0 X=1", none + " is no setting"),
+            ("bin/kbsim read --from json x", none + " is no form of a descriptor"), ("bin/kbsim parse --json a b", none + " a word too many"),
+            ("echo 0 | bin/kbsim parse --json", "status 1, 'fault hex' and neither hex digits nor an array of C"),
+            ("echo 0x5x | bin/kbsim parse --json --from c", "status 1, 'fault c' and is no array of C"),
+            ("echo 05 | bin/kbsim parse --json", "status 1, 'fault parse 1 at 0' and Truncated"),
+            ("bin/kbsim parse --json nothing.hex", "status 1, 'fault input' and can't be read"),
+            (f"echo 00 | bin/kbsim read --kind output {pad}", "status 1, 'fault UnknownReport at 1' and "),
+            (f"bin/kbsim write --kind input {pad} 0 00010030=40000", "status 1, 'fault write TooLarge 0' and does not fit"),
+            (f"bin/kbsim write --kind input {pad} 0 00010039=9", "status 1, 'fault write OutOfRange 0' and is out of range"),
+            (f"bin/kbsim write --kind input {pad} 0 00010030=1 00010030=none", "status 1, 'fault write Twice 1' and set twice"),
+            (f"bin/kbsim write --kind input {pad} 0 00010030=none", "status 1, 'fault write NoNull 0' and has no null"),
+            (f"bin/kbsim write --kind input {pad} 0 f9=1", "status 1, 'fault write Unknown 0' and no such usage"),
+            (f"bin/kbsim write --kind input --onto 00 {pad} 0", "status 1, 'fault write Short' and too short"),
+            (f"bin/kbsim write {pad} 0", "status 1, 'fault write UnknownReport' and no such report"),
+        ]
+        found = []
+        for command, wanted in asked:
+            ran = subprocess.run(["bash", "-c", command.replace("bin/kbsim", self.program)], cwd=ROOT, capture_output=True, text=True)
+            head, _, part = wanted.partition(" and ")
+            told = f"status {ran.returncode}, '{ran.stdout.strip()}'"
+            found += [(command, wanted, told + ran.stderr)] if told != head or part.strip() not in ran.stderr else []
+        return found
+
+    def stays_small(self):
+        """Whether many reports take no more memory than few: it is limited to 64 MB."""
+        limit = "ulimit -v 65536; yes 01020304 | head -n 300000 | bin/kbsim read examples/hid_driver/mouse.hex | wc -l"
+        return self.ran(limit).strip() == "300000"
+
     def goes_on(self):
         """Whether a report is told before the next one comes."""
         words = [self.program, "read", str(ROOT / "examples/hid_driver/mouse.hex")]
@@ -280,11 +316,11 @@ def commands(work, texts):
         print(f"skipped: the commands of rust/kbsim-read: {lacking('serde_json')}")
         return True
     shown = Shown(work)
-    wrong = shown.wrong() + shown.wrong_values(texts) + shown.wrong_helps()
+    wrong = shown.wrong() + shown.wrong_values(texts) + shown.wrong_helps() + shown.wrong_refusals()
     for command, wanted, told in wrong:
         print(f"command {command}\nwanted  {wanted}\ntold    {told}")
-    if not shown.goes_on():
-        print("kbsim-read tells a report only when more come")
+    if not shown.goes_on() or not shown.stays_small():
+        print("kbsim-read tells a report only when more come, or takes more memory for more of them")
         return False
     return not wrong
 

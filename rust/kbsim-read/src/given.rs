@@ -69,7 +69,8 @@ fn array(text: &str) -> Option<Vec<u8>> {
 /// The bytes of a text of numbers `0x05, 0x01, ...`, with commas or without, or of pairs of hex digits; `None` where it is
 /// neither.
 fn bytes_in(text: &str) -> Option<Vec<u8>> {
-    if let Some(bytes) = hex(text).or_else(|| array(text)) {
+    let is_array = text.contains([',', '{', 'x', 'X']);
+    if let Some(bytes) = hex(text).or_else(|| if is_array { array(text) } else { None }) {
         return Some(bytes);
     }
     let text = without_comments(text)?;

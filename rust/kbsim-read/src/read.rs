@@ -157,6 +157,9 @@ fn words_of(line: &[u8]) -> impl Iterator<Item = &[u8]> {
 
 /// Whether a line is one of usbmon (Linux, Documentation/usb/usbmon.rst): its third word is an event, and its fourth an address.
 fn is_usbmon(line: &[u8]) -> bool {
+    if !line.contains(&b':') {
+        return false;
+    }
     let mut behind = words_of(line).skip(2);
     let event = matches!(behind.next(), Some(b"S" | b"C" | b"E"));
     event && matches!(behind.next(), Some([b'C' | b'Z' | b'I' | b'B', b'i' | b'o', b':', ..]))
