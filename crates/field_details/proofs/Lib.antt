@@ -1,0 +1,3 @@
+pub mod GlobalLemmas
+pub mod ReportLemmas
+pub mod WalkLemmas

@@ -1,0 +1,300 @@
+-- What an item changes in all that is kept.
+use Rattle.std.proofs.Common.{◌≡◌, ◌≢◌, ℕ, zero, suc, ◌+◌, ◌-◌, ◌*◌, ◌^◌, ◌≤◌, ◌%◌, List, [], ◌∷◌, ◌++◌, length, take, drop, refl, arith, sym, ◌∙◌, ap, Bool, true, false, cond, Some, None, inl, inr, length-append, length-drop, Result, Ok, Err, OnOk}
+use Rattle.std.proofs.lemmas.Bool.{cases_Bool, cond_both, ne_eqb, ltb-false}
+use Rattle.std.proofs.lemmas.List.{length-take}
+use Rattle.std.specs.Prelude.{filter, min, nat_lt, ◌==◌, option_map, Option}
+use Rattle.std.specs.Option.{option_or}
+use Rattle.descriptor_parse.specs.declared.fault.ParseError.{ParseError}
+use Rattle.descriptor_parse.specs.declared.field.Kind.{Kind}
+use Rattle.descriptor_parse.specs.declared.tag.Tag.{Tag}
+use Rattle.descriptor_parse.specs.declared.tag.Tag.TheVariants.{Main, Global, Local, Skipped}
+use Rattle.descriptor_parse.specs.declared.tag.MainTag.{MainTag}
+use Rattle.descriptor_parse.specs.declared.tag.MainTag.TheVariants.{Data, Collection, EndCollection}
+use Rattle.descriptor_parse.specs.declared.tag.LocalTag.{LocalTag}
+use Rattle.descriptor_parse.specs.declared.tag.LocalTag.TheVariants.{Usage}
+use Rattle.descriptor_parse.specs.Items.{ItemValue, data_size, item_size, front_item, first_items, items_at}
+use Rattle.descriptor_parse.specs.Tags.{tag, tag_of, is_main, is_data, is_collection, is_end_collection}
+use Rattle.descriptor_parse.specs.Globals.{unsigned, in_force}
+use Rattle.descriptor_parse.specs.Locals.{has_page, since_main, usage_number}
+use Rattle.descriptor_parse.specs.Fields.{takes_bit, report_bits}
+use Rattle.descriptor_parse.specs.Faults.{onto, all_items}
+use Rattle.field_details.specs.declared.usage.Usage.{Usage as Written}
+use Rattle.field_details.specs.declared.usage.Usage.TheVariants.{Short, Whole}
+use Rattle.field_details.specs.declared.walk.Walk.{Walk}
+use Rattle.field_details.specs.declared.globals.Globals.{Globals}
+use Rattle.field_details.specs.Collections.{is_usage, first_usage, open_now, collections, collection_count, without_last, innermost, declared_collection}
+use Rattle.field_details.specs.Details.{details, declared_detail}
+use Rattle.field_details.specs.Stands.{WalkStands, GlobalsStand, usage_of, usage_on, globals_of, detail_by}
+use Rattle.field_details.proofs.GlobalLemmas.{stand_silent, is_silent}
+use Rattle.field_details.proofs.ReportLemmas.{details_other}
+
+pub on_ok : {A E : Type 0} (r : Result A E) {P Q : Type 0} → (P → Q) → OnOk r P → OnOk r Q
+on_ok (Ok x) f p = f p
+on_ok (Err e) f p = tt
+
+-- ---- usages
+
+or_none : {A : Type 0} (o : Option A) → option_or o None ≡ o
+or_none None = refl
+or_none (Some x) = refl
+
+-- of the items since a Main item there is none
+pub usage_after_main : (before : List ItemValue) (item : ItemValue) → is_main (tag item) ≡ true → first_usage (since_main (item ∷ before)) ≡ None
+usage_after_main before item e = rw e refl
+
+usage_same : (before : List ItemValue) (item : ItemValue) → is_main (tag item) ≡ false → is_usage (tag item) ≡ false
+    → first_usage (since_main (item ∷ before)) ≡ first_usage (since_main before)
+usage_same before item m u = rw (m, u) (or_none (first_usage (since_main before)))
+
+usage_more : (before : List ItemValue) (item : ItemValue) → tag item ≡ Local Usage
+    → first_usage (since_main (item ∷ before)) ≡ option_or (first_usage (since_main before)) (Some item.bytes)
+usage_more before item e =
+    let m : is_main (tag item) ≡ false = ap is_main e in
+    let u : is_usage (tag item) ≡ true = ap is_usage e in rw (m, u) refl
+
+mapped_or : {A B : Type 0} (f : A → B) (o : Option A) (x : A) → option_map f (option_or o (Some x)) ≡ option_or (option_map f o) (Some (f x))
+mapped_or f None x = refl
+mapped_or f (Some y) x = refl
+
+-- the usage of a short or whole one is the one that its data write
+pub usage_is : (page : ℕ) (bytes : List ℕ) → usage_on page (usage_of bytes) ≡ usage_number page bytes
+usage_is page bytes = elim (has_page bytes) as (λ b. usage_on page (cond b (Whole (unsigned bytes)) (Short (unsigned bytes))) ≡ cond b (unsigned bytes) (page * 2 ^ 16 + unsigned bytes)) [ true ↦ refl | false ↦ refl ]
+
+-- the usage that was kept is that of a collection
+pub usage_told : (page : ℕ) (o : Option (List ℕ)) → option_map (usage_on page) (option_map usage_of o) ≡ option_map (usage_number page) o
+usage_told page None = refl
+usage_told page (Some bytes) = ap Some (usage_is page bytes)
+
+-- what the Globals in force make of a data item
+pub detail_is : (before : List ItemValue) (item : ItemValue) (k : Kind) (g : Globals) (bit : ℕ) (inside : Option ℕ)
+    → tag item ≡ Main (Data k) → g ≡ globals_of (in_force before) → bit ≡ min (2 ^ 64 - 1) (report_bits k g.id before) → inside ≡ innermost (open_now before)
+    → detail_by k item.offset (unsigned item.bytes) bit inside g ≡ declared_detail before item
+detail_is before item k g bit inside e is b i = rw (b, i, is, e) refl
+
+-- ---- an item that declares, opens and closes nothing
+
+pub record IsPlain (t : Tag) : Type 0 where
+  pub main : is_main t ≡ false
+  pub items : is_data t ≡ false
+  pub opens : is_collection t ≡ false
+  pub ends : is_end_collection t ≡ false
+
+plain_local : (l : LocalTag) → IsPlain (Local l)
+plain_local l = record { main = refl; items = refl; opens = refl; ends = refl }
+
+not_main : (t : Tag) → is_main t ≡ false → IsPlain t
+not_main (Main m) n = cc
+not_main (Global g) n = record { main = refl; items = refl; opens = refl; ends = refl }
+not_main (Local l) n = record { main = refl; items = refl; opens = refl; ends = refl }
+not_main Skipped n = record { main = refl; items = refl; opens = refl; ends = refl }
+
+open_same : (before : List ItemValue) (item : ItemValue) → is_collection (tag item) ≡ false → is_end_collection (tag item) ≡ false → open_now (item ∷ before) ≡ open_now before
+unfolding open_now
+open_same before item o e = rw (o, e) refl
+
+collections_same : (before : List ItemValue) (item : ItemValue) → is_collection (tag item) ≡ false → collections (item ∷ before) ≡ collections before
+unfolding collections
+collections_same before item o = rw o refl
+
+plain : (before : List ItemValue) (item : ItemValue) (old new : Walk) → IsPlain (tag item) → GlobalsStand (item ∷ before) new.globals
+    → new.usage ≡ option_map usage_of (first_usage (since_main (item ∷ before))) → new.opened ≡ old.opened → new.told ≡ old.told
+    → WalkStands before old → WalkStands (item ∷ before) new
+plain before item old new p globals usage opened told s = record {
+  globals = globals;
+  usage = usage;
+  opened = ap (λ v. v.items) opened ∙ s.opened ∙ sym (open_same before item p.opens p.ends);
+  fields = ap (λ d. d.fields.items) told ∙ s.fields ∙ sym (details_other before item p.items);
+  groups = ap (λ d. d.collections.items) told ∙ s.groups ∙ sym (collections_same before item p.opens);
+}
+
+-- a Global item, or one that is skipped
+pub stand_globals : (before : List ItemValue) (item : ItemValue) (old new : Walk) → is_main (tag item) ≡ false → is_usage (tag item) ≡ false → GlobalsStand (item ∷ before) new.globals
+    → new.usage ≡ old.usage → new.opened ≡ old.opened → new.told ≡ old.told → WalkStands before old → WalkStands (item ∷ before) new
+stand_globals before item old new m u globals usage opened told s =
+    plain before item old new (not_main (tag item) m) globals (usage ∙ s.usage ∙ sym (ap (option_map usage_of) (usage_same before item m u))) opened told s
+
+local_globals : (before : List ItemValue) (item : ItemValue) (l : LocalTag) (walk : Walk) → tag item ≡ Local l → WalkStands before walk → GlobalsStand (item ∷ before) walk.globals
+local_globals before item l walk e s = stand_silent before item walk.globals (ap is_silent e) s.globals
+
+no_usage : (l : LocalTag) → (l ≡ Usage → ⊥) → is_usage (Local l) ≡ false
+no_usage Usage n = absurd (n refl)
+no_usage _ n = refl
+
+-- a Local item other than Usage
+pub stand_local : (before : List ItemValue) (item : ItemValue) (l : LocalTag) (walk : Walk) → tag item ≡ Local l → (l ≡ Usage → ⊥)
+    → WalkStands before walk → WalkStands (item ∷ before) walk
+stand_local before item l walk e n s =
+    stand_globals before item walk walk (ap is_main e) (ap is_usage e ∙ no_usage l n) (local_globals before item l walk e s) refl refl refl s
+
+pub stand_usage : (before : List ItemValue) (item : ItemValue) (usage : Written) (old new : Walk) → tag item ≡ Local Usage → usage ≡ usage_of item.bytes
+    → new ≡ record old { usage = option_or old.usage (Some usage) } → WalkStands before old → WalkStands (item ∷ before) new
+stand_usage before item usage old new e u w s =
+    let globals : new.globals ≡ old.globals = ap (λ v. v.globals) w in
+    plain before item old new (rw e (plain_local Usage)) (rw globals (local_globals before item Usage old e s))
+    (ap (λ v. v.usage) w ∙ rw (s.usage, u, usage_more before item e) (sym (mapped_or usage_of (first_usage (since_main before)) item.bytes)))
+    (ap (λ v. v.opened) w) (ap (λ v. v.told) w) s
+
+-- ---- Main items
+
+main_globals : (before : List ItemValue) (item : ItemValue) (m : MainTag) (old new : Walk) → tag item ≡ Main m → new.globals ≡ old.globals → WalkStands before old → GlobalsStand (item ∷ before) new.globals
+main_globals before item m old new e g s = rw g (stand_silent before item old.globals (ap is_silent e) s.globals)
+
+main_usage : (before : List ItemValue) (item : ItemValue) (m : MainTag) → tag item ≡ Main m → None ≡ option_map usage_of (first_usage (since_main (item ∷ before)))
+main_usage before item m e = sym (ap (option_map usage_of) (usage_after_main before item (ap is_main e)))
+
+details_placed : (before : List ItemValue) (item : ItemValue) (k : Kind) → tag item ≡ Main (Data k) → takes_bit before ≡ true
+    → details (item ∷ before) ≡ details before ++ declared_detail before item ∷ []
+unfolding details
+details_placed before item k e t = rw (e, t) refl
+
+details_empty : (before : List ItemValue) (item : ItemValue) (k : Kind) → tag item ≡ Main (Data k) → takes_bit before ≡ false
+    → details (item ∷ before) ≡ details before
+unfolding details
+details_empty before item k e t = rw (e, t) refl
+
+-- a data item that takes a bit
+pub stand_placed : (before : List ItemValue) (item : ItemValue) (k : Kind) (old new : Walk) → tag item ≡ Main (Data k) → takes_bit before ≡ true
+    → new.globals ≡ old.globals → new.usage ≡ None → new.opened ≡ old.opened
+    → new.told.fields.items ≡ old.told.fields.items ++ declared_detail before item ∷ [] → new.told.collections ≡ old.told.collections
+    → WalkStands before old → WalkStands (item ∷ before) new
+stand_placed before item k old new e t globals usage opened fields groups s = record {
+  globals = main_globals before item (Data k) old new e globals s;
+  usage = usage ∙ main_usage before item (Data k) e;
+  opened = ap (λ v. v.items) opened ∙ s.opened ∙ sym (open_same before item (ap is_collection e) (ap is_end_collection e));
+  fields = fields ∙ ap (λ xs. xs ++ declared_detail before item ∷ []) s.fields ∙ sym (details_placed before item k e t);
+  groups = ap (λ v. v.items) groups ∙ s.groups ∙ sym (collections_same before item (ap is_collection e));
+}
+
+-- one that takes none
+pub stand_empty : (before : List ItemValue) (item : ItemValue) (k : Kind) (old new : Walk) → tag item ≡ Main (Data k) → takes_bit before ≡ false
+    → new.globals ≡ old.globals → new.usage ≡ None → new.opened ≡ old.opened → new.told ≡ old.told
+    → WalkStands before old → WalkStands (item ∷ before) new
+stand_empty before item k old new e t globals usage opened told s = record {
+  globals = main_globals before item (Data k) old new e globals s;
+  usage = usage ∙ main_usage before item (Data k) e;
+  opened = ap (λ v. v.items) opened ∙ s.opened ∙ sym (open_same before item (ap is_collection e) (ap is_end_collection e));
+  fields = ap (λ d. d.fields.items) told ∙ s.fields ∙ sym (details_empty before item k e t);
+  groups = ap (λ d. d.collections.items) told ∙ s.groups ∙ sym (collections_same before item (ap is_collection e));
+}
+
+-- the number of the next collection
+count_is : (before : List ItemValue) → length (collections before) ≡ collection_count before
+unfolding collections
+count_is [] = refl
+count_is (item ∷ before) =
+    let P : Bool → Type 0 = λ b. length (cond b (collections before ++ declared_collection before item ∷ []) (collections before)) ≡ length (cond b (item ∷ filter (λ i. is_collection (tag i)) before) (filter (λ i. is_collection (tag i)) before)) in
+    elim (is_collection (tag item)) as P [
+      | true ↦ length-append (collections before) (declared_collection before item ∷ []) ∙ (let ih = count_is before in omega arith)
+      | false ↦ count_is before
+    ]
+
+open_more : (before : List ItemValue) (item : ItemValue) → tag item ≡ Main Collection → open_now (item ∷ before) ≡ open_now before ++ collection_count before ∷ []
+unfolding open_now
+open_more before item e = rw e refl
+
+collections_more : (before : List ItemValue) (item : ItemValue) → tag item ≡ Main Collection → collections (item ∷ before) ≡ collections before ++ declared_collection before item ∷ []
+unfolding collections
+collections_more before item e = rw e refl
+
+pub stand_opened : (before : List ItemValue) (item : ItemValue) (old new : Walk) → tag item ≡ Main Collection
+    → new.globals ≡ old.globals → new.usage ≡ None → new.opened.items ≡ old.opened.items ++ length old.told.collections.items ∷ []
+    → new.told.fields ≡ old.told.fields → new.told.collections.items ≡ old.told.collections.items ++ declared_collection before item ∷ []
+    → WalkStands before old → WalkStands (item ∷ before) new
+stand_opened before item old new e globals usage opened fields groups s =
+    let number : length old.told.collections.items ≡ collection_count before = ap length s.groups ∙ count_is before in
+    record {
+      globals = main_globals before item Collection old new e globals s;
+      usage = usage ∙ main_usage before item Collection e;
+      opened = opened ∙ rw (s.opened, number) (sym (open_more before item e));
+      fields = ap (λ v. v.items) fields ∙ s.fields ∙ sym (details_other before item (ap is_data e));
+      groups = groups ∙ ap (λ xs. xs ++ declared_collection before item ∷ []) s.groups ∙ sym (collections_more before item e);
+    }
+
+open_fewer : (before : List ItemValue) (item : ItemValue) → tag item ≡ Main EndCollection → open_now (item ∷ before) ≡ without_last (open_now before)
+unfolding open_now
+open_fewer before item e = rw e refl
+
+pub stand_closed : (before : List ItemValue) (item : ItemValue) (old new : Walk) → tag item ≡ Main EndCollection
+    → new.globals ≡ old.globals → new.usage ≡ None → new.opened.items ≡ without_last old.opened.items → new.told ≡ old.told
+    → WalkStands before old → WalkStands (item ∷ before) new
+stand_closed before item old new e globals usage opened told s = record {
+  globals = main_globals before item EndCollection old new e globals s;
+  usage = usage ∙ main_usage before item EndCollection e;
+  opened = opened ∙ ap without_last s.opened ∙ sym (open_fewer before item e);
+  fields = ap (λ d. d.fields.items) told ∙ s.fields ∙ sym (details_other before item (ap is_data e));
+  groups = ap (λ d. d.collections.items) told ∙ s.groups ∙ sym (collections_same before item (ap is_collection e));
+}
+
+pub stand_new : (walk : Walk) → GlobalsStand [] walk.globals → walk.usage ≡ None → walk.opened.items ≡ [] → walk.told.fields.items ≡ [] → walk.told.collections.items ≡ [] → WalkStands [] walk
+unfolding open_now details collections
+stand_new walk globals usage opened fields groups = record { globals = globals; usage = usage; opened = opened; fields = fields; groups = groups }
+
+-- a long item is skipped
+pub long_skipped : (prefix : ℕ) (t : Tag) → tag_of prefix ≡ t → (t ≡ Skipped → ⊥) → prefix ≢ 254
+unfolding tag_of
+long_skipped prefix t e n = λ long. n (sym e ∙ (rw long refl))
+
+-- ---- all items of a text
+
+-- a short item has 0, 1, 2 or 4 bytes of data
+abbrev pub AreShort : List (Result ItemValue ParseError) → Type 0
+AreShort [] = Unit
+AreShort (Ok item ∷ more) = (item.prefix ≢ 254 → (length item.bytes ≤ 4) × (length item.bytes ≢ 3)) × AreShort more
+AreShort (Err e ∷ more) = Unit
+
+data_few : (prefix : ℕ) → (data_size prefix ≤ 4) × (data_size prefix ≢ 3)
+data_few prefix = cond_both (prefix % 4 == 3) 4 (prefix % 4) (λ n. (n ≤ 4) × (n ≢ 3)) (λ e. (omega arith, omega arith))
+    (λ e. (omega arith, λ three. let no = rw three at e in cc))
+
+front_few : (offset b : ℕ) (bs : List ℕ) → b ≢ 254 → item_size (b ∷ bs) ≤ length (b ∷ bs)
+    → (length (front_item offset (b ∷ bs)).bytes ≤ 4) × (length (front_item offset (b ∷ bs)).bytes ≢ 3)
+front_few offset b bs short whole =
+    let no : (b == 254) ≡ false = ne_eqb b 254 short in
+    let few = data_few b in
+    let fits : 1 + data_size b ≤ length (b ∷ bs) = (rw no at whole) in
+    let all : length (drop 1 (take (1 + data_size b) (b ∷ bs))) ≡ data_size b =
+    (let d : length (drop 1 (take (1 + data_size b) (b ∷ bs))) ≡ length (take (1 + data_size b) (b ∷ bs)) - 1 = length-drop 1 (take (1 + data_size b) (b ∷ bs)) in
+    let t : length (take (1 + data_size b) (b ∷ bs)) ≡ min (1 + data_size b) (length (b ∷ bs)) = length-take (1 + data_size b) (b ∷ bs) in
+    omega arith) in
+    rw (no, all) few
+
+all_short : (n offset : ℕ) (text : List ℕ) → AreShort (first_items n offset text)
+unfolding first_items
+all_short zero offset text = tt
+all_short (suc n) offset [] = tt
+all_short (suc n) offset (b ∷ bs) =
+    elim (cases_Bool (nat_lt (length (b ∷ bs)) (item_size (b ∷ bs)))) [
+      | inl cut ↦ rw cut tt
+      | inr whole ↦ rw whole (λ short. front_few offset b bs short (ltb-false _ _ whole), all_short n (offset + item_size (b ∷ bs)) (drop (item_size (b ∷ bs)) (b ∷ bs)))
+    ]
+
+all_short_items : (text : List ℕ) → AreShort (items_at 0 text)
+unfolding items_at
+all_short_items text = all_short (length text) 0 text
+
+-- The items before are taken; the rest of them is left.
+pub record Walked (text : List ℕ) (rest : List (Result ItemValue ParseError)) (first now : Walk) : Type 0 where
+  pub before : List ItemValue
+  pub stands : WalkStands [] first → WalkStands before now
+  pub short : AreShort rest
+  pub left : all_items text ≡ onto before rest
+
+pub walked_none : (text : List ℕ) (walk : Walk) → Walked text (items_at 0 text) walk walk
+unfolding all_items
+walked_none text walk = record { before = []; stands = λ s. s; short = all_short_items text; left = refl }
+
+pub walked_more : (text : List ℕ) (item : ItemValue) (more : List (Result ItemValue ParseError)) (first old new : Walk) → Walked text (Ok item ∷ more) first old
+    → ((before : List ItemValue) → WalkStands before old → WalkStands (item ∷ before) new) → Walked text more first new
+walked_more text item more first old new w takes = record {
+  before = item ∷ w.before;
+  stands = λ s. takes w.before (w.stands s);
+  short = w.short.1;
+  left = w.left;
+}
+
+pub walked_cut : (text : List ℕ) (e : ParseError) (more : List (Result ItemValue ParseError)) (first now : Walk) → Walked text (Err e ∷ more) first now
+    → WalkStands [] first → WalkStands (all_items text) now
+walked_cut text e more first now w s = rw w.left (w.stands s)
+
+pub walked_end : (text : List ℕ) (first now : Walk) → Walked text [] first now → WalkStands [] first → WalkStands (all_items text) now
+walked_end text first now w s = rw w.left (w.stands s)

@@ -1,0 +1,10 @@
+use Rattle.std.proofs.Common.{◌≤◌, ◌<◌, length, arith}
+use Rattle.descriptor_parse.specs.Globals.{unsigned}
+use Rattle.descriptor_parse.proofs.LocalLemmas.{unsigned_two}
+use Rattle.field_details.proofs.usage.Usage.read.Goals as goal
+
+pub overflow_cast-result : goal.overflow_cast-result
+overflow_cast-result c =
+    let two : length c.args.bytes.now ≤ 2 = omega arith in
+    let small : unsigned c.args.bytes.now < 65536 = unsigned_two c.args.bytes.now (λ i. omega (arith, c.type_inv.bytes i)) two in
+    record { fits = omega arith }

@@ -1,0 +1,6 @@
+pub mod Bits
+pub mod Extents
+pub mod Units
+pub mod Collections
+pub mod Details
+pub mod Stands
