@@ -1,0 +1,89 @@
+//! Texts of the greatest length, and numbers that are as large as they can be.
+
+use super::{push_byte, same};
+use field_details::{Details, details_of};
+use std::alloc::Global;
+use std::process::Abort;
+
+/// So many bytes of a text, and then these over and over.
+fn filled(rt: &impl Abort, alloc: Global, start: &[u8], again: &[u8]) -> Vec<u8> {
+    let mut text = Vec::new(alloc);
+    for byte in start {
+        push_byte(rt, &mut text, *byte);
+    }
+    for _ in 0..4096 {
+        for byte in again {
+            if text.len() < 4096 {
+                push_byte(rt, &mut text, *byte);
+            }
+        }
+    }
+    text
+}
+
+fn told(rt: &impl Abort, alloc: Global, start: &[u8], again: &[u8]) -> Details {
+    let text = filled(rt, alloc, start, again);
+    details_of(alloc, &text).ok().expect(rt, "memory")
+}
+
+fn check_told(rt: &impl Abort, alloc: Global, told: &Details, wanted: &str) {
+    let last = told
+        .fields
+        .last()
+        .map(|detail| (detail.bit, detail.id, detail.inside));
+    let inner = told
+        .collections
+        .last()
+        .map(|collection| (collection.usage, collection.outer));
+    let line = format!(in alloc;
+        "{} {last:?} {} {inner:?}",
+        told.fields.len(),
+        told.collections.len()
+    )
+    .ok()
+    .expect(rt, "memory");
+    same(rt, line.as_str(), wanted, "of 4,096 bytes");
+}
+
+/// 2,046 data items of one report.
+#[test]
+fn as_many_data_items_as_there_can_be(rt: HostRuntime) {
+    let told = told(&rt, rt.alloc(), &[0x75, 1, 0x95, 1], &[0x81, 2]);
+    check_told(&rt, rt.alloc(), &told, "2046 Some((2045, 0, None)) 0 None");
+}
+
+/// 2,048 collections, each within the one before.
+#[test]
+fn as_many_collections_as_there_can_be(rt: HostRuntime) {
+    let told = told(&rt, rt.alloc(), &[], &[0xA1, 1]);
+    check_told(
+        &rt,
+        rt.alloc(),
+        &told,
+        "0 None 2048 Some((None, Some(2046)))",
+    );
+}
+
+/// 4,090 Pushes, and what is in force after them.
+#[test]
+fn as_many_pushes_as_there_can_be(rt: HostRuntime) {
+    let mut text = filled(&rt, rt.alloc(), &[0x75, 1, 0x95, 1], &[0xA4]);
+    text.truncate(4094);
+    push_byte(&rt, &mut text, 0x81);
+    push_byte(&rt, &mut text, 2);
+    let told = details_of(rt.alloc(), &text).ok().expect(&rt, "memory");
+    check_told(&rt, rt.alloc(), &told, "1 Some((0, 0, None)) 0 None");
+}
+
+/// Items of 2 ^ 64 - 2 ^ 33 + 1 bits, of which 64 bits count one.
+#[test]
+fn bits_past_what_64_bits_count(rt: HostRuntime) {
+    let start = [0x77, 0xFF, 0xFF, 0xFF, 0xFF, 0x97, 0xFF, 0xFF, 0xFF, 0xFF];
+    let told = told(&rt, rt.alloc(), &start, &[0x81, 2]);
+    check_told(
+        &rt,
+        rt.alloc(),
+        &told,
+        "2043 Some((18446744073709551615, 0, None)) 0 None",
+    );
+}
