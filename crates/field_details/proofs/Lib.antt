@@ -1,3 +1,4 @@
 pub mod GlobalLemmas
 pub mod ReportLemmas
 pub mod WalkLemmas
+pub mod FieldLemmas

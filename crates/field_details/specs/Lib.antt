@@ -4,3 +4,4 @@ pub mod Units
 pub mod Collections
 pub mod Details
 pub mod Stands
+pub mod AsFields

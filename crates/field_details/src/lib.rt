@@ -10,6 +10,7 @@
 pub mod collection;
 pub mod detail;
 mod globals;
+pub mod laws;
 mod text;
 mod told;
 pub mod unit;
