@@ -1,9 +1,9 @@
 -- The fields of the parser among the data items that are told.
-use Rattle.std.proofs.Common.{◌≡◌, List, [], ◌∷◌, ◌++◌, refl, ap, ◌∙◌, sym, Bool, true, false, cond, inl, inr, map}
+use Rattle.std.proofs.Common.{◌≡◌, List, [], ◌∷◌, ◌++◌, refl, ap, ◌∙◌, true, false, cond, inl, inr, map}
 use Rattle.std.proofs.lemmas.Bool.{cases_Bool}
 use Rattle.std.proofs.lemmas.List.{map-append, append-nil}
 use Rattle.std.proofs.lemmas.List.Elements.{filter-append}
-use Rattle.std.specs.Prelude.{filter, not, ◌&&◌}
+use Rattle.std.specs.Prelude.{filter}
 use Rattle.descriptor_parse.specs.Items.{ItemValue}
 use Rattle.descriptor_parse.specs.Tags.{tag, is_data}
 use Rattle.descriptor_parse.specs.Fields.{fields, declared_field, is_constant, takes_bit}

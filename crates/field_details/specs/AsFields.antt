@@ -1,5 +1,5 @@
 -- Believed: the fields of the parser among the data items that are told.
-use Rattle.std.specs.Prelude.{ℕ, ◌-◌, ◌/◌, ◌%◌, ◌^◌, ◌==◌, min, not, Bool}
+use Rattle.std.specs.Prelude.{◌-◌, ◌/◌, ◌%◌, ◌^◌, ◌==◌, min, not, Bool}
 use Rattle.descriptor_parse.specs.declared.field.Field.{Field}
 use Rattle.field_details.specs.declared.detail.Detail.{Detail}
 
