@@ -9,8 +9,8 @@ const RULES = "/etc/udev/rules.d/70-wuzhikar.rules";
 /** What the page says of the browser and of where it was opened from. */
 export function situation(hid, protocol) {
     if (!hid) return "This browser has no WebHID (Chrome, Edge and Opera have it), so the simulated keyboard stands here. All works on it but the cable.";
-    if (protocol === "file:") return "This page was opened from a file: a browser may ask for the keyboard anew each time. Served by a web server, also one on localhost, it remembers.";
-    return "A keyboard that you once chose comes back by itself when this page is opened.";
+    const back = "A keyboard with a serial number that you once chose comes back by itself; for one without the browser may ask anew.";
+    return protocol === "file:" ? `${back} A choice from a file is for all files.` : back;
 }
 
 /** The rule by which udev lets the user at the machine open a device. */

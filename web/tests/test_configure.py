@@ -156,7 +156,7 @@ class Simulated(Configured):
 
     def test_the_page_says_which_it_is(self):
         self.shows("#which", "These are the keys of the simulated keyboard. Connect a real one to set its keys.")
-        self.shows("#situation", re.compile(".*opened from a file.*"))
+        self.shows("#situation", re.compile(".*comes back by itself.* A choice from a file is for all files\\."))
         said = self.b.js("[page.situation(null, 'https:'), page.situation({}, 'https:')]")
         self.assertIn("This browser has no WebHID", said[0])
         self.assertIn("comes back by itself", said[1])
