@@ -162,6 +162,15 @@ class Words(Calls):
             told = self.call(["run", "--explain"], "in\n" * 2000, stdout=full)
         self.assertEqual((told[0], told[2]), (1, "error: the output can't be written\n"))
 
+    def test_each_explanation_stands_behind_its_answer(self):
+        # Where both go to the same place, as docs/SCRIPT.md shows it.
+        command = "$ kbsim run --explain examples/stored_key.kbs\n"
+        with open(f"{ROOT}/docs/SCRIPT.md", encoding="utf-8") as file:
+            shown = file.read().split(command)[1].split("```")[0]
+        words = [*KBSIM, "run", "--explain", "examples/stored_key.kbs"]
+        told = subprocess.run(words, stdout=subprocess.PIPE, stderr=subprocess.STDOUT, cwd=ROOT, text=True)
+        self.assertEqual((told.returncode, told.stdout), (0, shown))
+
     def test_an_explanation_that_can_not_be_written_changes_nothing(self):
         with open("/dev/full", "wb") as full:
             ran = subprocess.run([*KBSIM, "run", "--explain"], input=b"in\nin\n", stdout=subprocess.PIPE, stderr=full, cwd=self.folder)

@@ -1,62 +1,102 @@
 //! Finding what the lines of a run mean.
 
+ghost use Rattle.std.specs.Prelude.{◌≤◌, length};
+
 use crate::Tell;
 use crate::edges::KeyChanges;
 use crate::explanation::{Explanation, bytes_of};
 use crate::follower::Follower;
 use debounce::Debouncer;
 use flash_model::{NorFlash, SimFlash};
-use script::{Action, Line, ScriptError, Statement, read_lines};
+use script::{Action, ScriptError, Statement, read_lines};
 use std::alloc::{AllocError, Global};
 
 /// What explains the lines that a run of a script prints, in their order.
 #[derive(Debug, Drop)]
 pub struct Explainer<'t> {
-    lines: Vec<Line<'t>>,
-    /// How many lines were explained.
-    explained: usize,
+    alloc: Global,
+    /// How many pages the flash has.
+    pages: u8,
+    /// The script behind the lines that were passed, and how many these are.
+    rest: &'t [u8],
+    passed: usize,
     follower: Follower,
     debouncer: Debouncer,
     /// How many bytes the latest request has read; none where it reads nothing.
     read: Option<u16>,
+    /// There was no memory for a line, so that those after it can't be explained.
+    ended: bool,
 }
 
 impl<'t> Explainer<'t> {
-    /// Before the first line of a run of this script on this flash, with which nothing is armed. Of a script that is refused
-    /// no line is explained. `AllocError` where there was no memory for the lines, or for a second keyboard and flash.
+    /// Before the first line of a run of this script on this flash, with which nothing is armed. `AllocError` where there was
+    /// no memory for a second keyboard and flash. More memory is taken for one line of the script at a time.
     pub fn new(
         alloc: Global,
         flash: &SimFlash,
         script: &'t [u8],
     ) -> Result<Explainer<'t>, AllocError> {
-        let lines = match read_lines(alloc, flash.pages(), script) {
-            Ok(lines) => lines,
-            Err(ScriptError::Line { .. }) => Vec::new(alloc),
-            Err(ScriptError::Memory) => return Err(AllocError),
-        };
         Ok(Explainer {
-            lines,
-            explained: 0,
+            alloc,
+            pages: flash.pages() as u8,
+            rest: script,
+            passed: 0,
             follower: Follower::new(alloc, flash)?,
             debouncer: Debouncer::new(),
             read: None,
+            ended: false,
         })
     }
 
     /// Says what the next line that was printed means, which ends with an LF. The line of a fault has no sentence here.
     pub(crate) fn explain<T: Tell>(&mut self, printed: &[u8], sentences: &mut T) {
-        let Some(answer) = answer_in(printed) else {
+        let Some((number, answer)) = answer_in(printed) else {
             return;
         };
-        let Some(line) = self.lines.get(self.explained) else {
+        if self.ended {
             return;
-        };
-        self.explained = self.explained.saturating_add(1);
-        let read = read_before(self.read, &line.statement);
-        let changes = changes_of(&mut self.debouncer, &line.statement);
-        let made = self.follower.follow(&line.statement);
+        }
+        let line = self.line(number);
+        match read_lines(self.alloc, self.pages as usize, line) {
+            Ok(lines) => {
+                if let Some(line) = lines.first() {
+                    self.say(number, &line.statement, answer, sentences);
+                }
+            }
+            Err(ScriptError::Memory) => {
+                self.ended = true;
+                sentences.tell(&"out of memory to explain more answers");
+            }
+            Err(ScriptError::Line { .. }) => {}
+        }
+    }
+
+    /// The line of the script with this number, counted from 1, of those that were not passed; the lines up to it are.
+    fn line(&mut self, number: usize) -> &'t [u8] {
+        let mut line = self.rest;
+        for _line in self.passed..number {
+            let (first, rest) = self.rest.split_at(line_length(self.rest));
+            line = first;
+            self.rest = rest;
+        }
+        self.passed = number;
+        line
+    }
+
+    /// Says what the answer of a line means.
+    fn say<T: Tell>(
+        &mut self,
+        number: usize,
+        statement: &Statement<'_>,
+        answer: &str,
+        sentences: &mut T,
+    ) {
+        let read = read_before(self.read, statement);
+        let changes = changes_of(&mut self.debouncer, statement);
+        let made = self.follower.follow(statement);
         let explanation = Explanation {
-            line,
+            number,
+            statement,
             answer,
             made,
             changes,
@@ -68,14 +108,20 @@ impl<'t> Explainer<'t> {
     }
 }
 
-/// The answer of a line that was printed, without its number and its LF; `None` where it has none.
-fn answer_in(printed: &[u8]) -> Option<&str> {
+/// How many bytes the first line has here, with its LF.
+pub(crate) fn line_length(bytes: &[u8]) -> usize
+    ensures { result ≤ length bytes.now }
+{
+    let before = bytes.iter().take_while(|byte| **byte != b'\n').count();
+    bytes.len().min(before.saturating_add(1))
+}
+
+/// The number and the answer of a line that was printed, without its LF; `None` where it has none.
+fn answer_in(printed: &[u8]) -> Option<(usize, &str)> {
     let line = str::from_utf8(printed).ok()?;
     let (number, answer) = line.split_once(' ')?;
-    if number == "fault" {
-        return None;
-    }
-    Some(answer.trim_end())
+    let number = number.parse::<usize>().ok()?;
+    Some((number, answer.trim_end()))
 }
 
 /// How many bytes the latest request had read before a line's answer: a SETUP packet begins another one, which reads where

@@ -1,8 +1,9 @@
 //! The writer that explains what it hands on.
 
-ghost use Rattle.std.specs.Prelude.{◌≡◌, ◌≤◌, length};
+ghost use Rattle.std.specs.Prelude.{◌≡◌};
 
 use crate::Explainer;
+use crate::explainer::line_length;
 use arrayvec::ArrayVec;
 use std::fmt::Display;
 use std::io;
@@ -65,12 +66,4 @@ impl<W: Write, T: Tell> Write for Explaining<'_, W, T> {
     fn flush(&mut self) -> io::Result<()> {
         self.writer.flush()
     }
-}
-
-/// How many bytes the first line has here, with its LF.
-fn line_length(bytes: &[u8]) -> usize
-    ensures { result ≤ length bytes.now }
-{
-    let before = bytes.iter().take_while(|byte| **byte != b'\n').count();
-    bytes.len().min(before.saturating_add(1))
 }

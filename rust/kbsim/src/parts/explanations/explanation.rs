@@ -10,13 +10,14 @@ use crate::parts::explanations::report::ShownReading;
 use crate::parts::explanations::request::ShownRequest;
 use crate::parts::explanations::slot::ShownSlot;
 use wuzhikar::parts::layers::Command;
-use crate::parts::script::{Action, Line, Statement};
+use crate::parts::script::{Action, Statement};
 use core::fmt;
 
 /// What the answer of a line means, in a sentence.
 pub(crate) struct Explanation<'e, 't> {
-    /// The line of the script, and its answer as it was printed.
-    pub(crate) line: &'e Line<'t>,
+    /// The number of the line, what it says, and its answer as it was printed.
+    pub(crate) number: usize,
+    pub(crate) statement: &'e Statement<'t>,
     pub(crate) answer: &'e str,
     /// The operations and the changes of keys that it made.
     pub(crate) made: Made,
@@ -29,9 +30,9 @@ pub(crate) struct Explanation<'e, 't> {
 
 impl fmt::Display for Explanation<'_, '_> {
     fn fmt(&self, f: &mut fmt::Formatter<'_>) -> fmt::Result {
-        let number = self.line.number;
+        let number = self.number;
         write!(f, "line {number}: ")?;
-        match &self.line.statement {
+        match self.statement {
             Statement::One(action) => {
                 let shown = OfAction {
                     action,

@@ -2,6 +2,7 @@
 //! The writer that explains what it hands on.
 
 use crate::parts::explanations::Explainer;
+use crate::parts::explanations::explainer::line_length;
 use arrayvec::ArrayVec;
 use core::fmt::Display;
 use std::io;
@@ -58,10 +59,4 @@ impl<W: Write, T: Tell> Write for Explaining<'_, W, T> {
     fn flush(&mut self) -> io::Result<()> {
         self.writer.flush()
     }
-}
-
-/// How many bytes the first line has here, with its LF.
-fn line_length(bytes: &[u8]) -> usize {
-    let before = bytes.iter().take_while(|byte| **byte != b'\n').count();
-    bytes.len().min(before.saturating_add(1))
 }
