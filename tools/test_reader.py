@@ -7,6 +7,7 @@ import json
 import pathlib
 import random
 import re
+import shutil
 import subprocess
 import sys
 import tempfile
@@ -214,8 +215,18 @@ def program(work):
     folder = ROOT / "tests/reader/tell"
     made = {**environment(work, "arrayvec"), "CARGO_TARGET_DIR": f"{work}/target"}
     subprocess.run(["cargo", "test", "--quiet"], cwd=ROOT / "rust/wuzhikar-hid", env=made, check=True, stdout=subprocess.DEVNULL)
+    looked_at(ROOT / "rust/wuzhikar-hid", made)
+    looked_at(folder, made)
     subprocess.run(["cargo", "build", "--release", "--quiet"], cwd=folder, env=made, check=True)
     return f"{work}/target/release/tell"
+
+
+def looked_at(folder, made):
+    """Whether rustfmt and clippy find nothing in a crate, and each link of its docs leads somewhere."""
+    for part, words in {"fmt": ["--check"], "clippy": ["--quiet", "--all-targets", "--", "-D", "warnings"]}.items():
+        if shutil.which(f"cargo-{part}"):
+            subprocess.run(["cargo", part, *words], cwd=folder, env=made, check=True)
+    subprocess.run(["cargo", "doc", "--quiet", "--no-deps"], cwd=folder, env={**made, "RUSTDOCFLAGS": "-D warnings"}, check=True)
 
 
 class Shown:
@@ -224,6 +235,7 @@ class Shown:
     def __init__(self, work):
         kept = {**environment(work, "serde_json"), "CARGO_TARGET_DIR": f"{work}/target"}
         subprocess.run(["cargo", "build", "--release", "--quiet"], cwd=ROOT / "rust/kbsim-read", env=kept, check=True)
+        looked_at(ROOT / "rust/kbsim-read", kept)
         self.program = f"{work}/target/release/kbsim-read"
 
     def ran(self, command):
