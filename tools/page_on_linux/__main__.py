@@ -7,9 +7,9 @@ read beside it. The profile of the browser has a grant of an earlier day, as Chr
 localhost and from a file. What is seen is told a line each, pictures are kept in out/page, and the first thing that is otherwise than
 it should be ends it.
 
-By KVM it takes a minute or two, by QEMU's interpreter many times as long. It needs chromium, rustc, cargo, the crate arrayvec, gcc,
-qemu-system-x86_64, busybox-static and kmod. Debian's kernel (or LINUX, as bin/linux-test takes it) and udev are fetched by apt-get
-download into a cache, and nothing is installed.
+By QEMU's interpreter it takes half an hour and more; KVM is used where a Linux runs by it. It needs chromium, rustc, cargo, the
+crate arrayvec, gcc, qemu-system-x86_64, busybox-static and kmod. Debian's kernel (or LINUX, as bin/linux-test takes it) and udev are
+fetched by apt-get download into a cache, and nothing is installed.
 """
 
 import argparse
