@@ -4,3 +4,4 @@ pub mod Images
 pub mod OfCells
 pub mod Operating
 pub mod Leaving
+mod Words

@@ -246,7 +246,8 @@ fn is_erased<F: EccFlash>(flash: &F, page: usize) -> bool
     true
 }
 
-/// Whether a unit reads blank.
+/// Whether a unit reads blank. A driver's read is long, and would stand in four places.
+#[inline(never)]
 fn is_free<F: EccFlash>(flash: &F, page: usize, unit: usize) -> bool
     requires in_pages { page < F.page_total flash.now }
     requires in_page { unit < PAGE_UNITS }

@@ -1,6 +1,6 @@
 //! What two write units read as, as a slot.
 
-ghost use Rattle.std.specs.Prelude.{◌≡◌, ◌↔◌, IsTrue, Some};
+ghost use Rattle.std.specs.Prelude.{◌≡◌, ◌+◌, ◌*◌, ◌<◌, ◌↔◌, ℕ, IsTrue, Some};
 ghost use Rattle.ecc_flash.specs.Reading.{blank, paired, is_word, check_of, slot_read};
 
 /// Bytes of a write unit.
@@ -41,7 +41,10 @@ pub fn read(first: Option<[u8; UNIT_BYTES]>, second: Option<[u8; UNIT_BYTES]>) -
 pub fn is_log_word(unit: [u8; UNIT_BYTES]) -> bool
     ensures { result ≡ is_word unit }
 {
-    unit == beside_complement(unit[0], unit[1], unit[2], unit[3]) && unit[3] < 128
+    let [a, b, c, d, e, f, g, h] = unit;
+    let word = u32::from_le_bytes([a, b, c, d]);
+    let beside = u32::from_le_bytes([e, f, g, h]);
+    beside == !word && d < 128
 }
 
 /// The check of a word, beside its complement: each byte of the word XOR the one before it, and the
@@ -51,15 +54,19 @@ pub fn check_of_word(unit: [u8; UNIT_BYTES]) -> [u8; UNIT_BYTES]
     ensures { result ≡ check_of unit }
 {
     let [a, b, c, d, _, _, _, _] = unit;
-    beside_complement(a ^ d, b ^ a, c ^ b, d ^ c)
+    let word = u32::from_le_bytes([a, b, c, d]);
+    // Turned by a byte, so that each meets the one before it.
+    beside_complement(word ^ word.rotate_left(8))
 }
 
-/// Four bytes and their complements.
+/// The bytes of a number, the low one first, and their complements.
 #[tactic(auto, unfolding(crate::specs::Reading::paired))]
-fn beside_complement(a: u8, b: u8, c: u8, d: u8) -> [u8; UNIT_BYTES]
-    ensures { result ≡ paired a b c d }
+fn beside_complement(number: u32) -> [u8; UNIT_BYTES]
+    ensures { (a b c d : ℕ) → a < 256 → b < 256 → c < 256 → d < 256 → number ≡ a + 256 * b + 65536 * c + 16777216 * d → result ≡ paired a b c d }
 {
-    [a, b, c, d, !a, !b, !c, !d]
+    let [a, b, c, d] = number.to_le_bytes();
+    let [e, f, g, h] = (!number).to_le_bytes();
+    [a, b, c, d, e, f, g, h]
 }
 
 /// Whether a unit reads blank.

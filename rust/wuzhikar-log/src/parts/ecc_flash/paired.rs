@@ -160,7 +160,8 @@ fn is_erased<F: EccFlash>(flash: &F, page: usize) -> bool {
     true
 }
 
-/// Whether a unit reads blank.
+/// Whether a unit reads blank. A driver's read is long, and would stand in four places.
+#[inline(never)]
 fn is_free<F: EccFlash>(flash: &F, page: usize, unit: usize) -> bool {
     is_blank(flash.read_unit(page, unit))
 }

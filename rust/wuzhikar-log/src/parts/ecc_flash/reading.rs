@@ -33,19 +33,26 @@ pub fn read(first: Option<[u8; UNIT_BYTES]>, second: Option<[u8; UNIT_BYTES]>) -
 
 /// Whether a unit holds a word with bit 31 clear, beside its complement.
 pub fn is_log_word(unit: [u8; UNIT_BYTES]) -> bool {
-    unit == beside_complement(unit[0], unit[1], unit[2], unit[3]) && unit[3] < 128
+    let [a, b, c, d, e, f, g, h] = unit;
+    let word = u32::from_le_bytes([a, b, c, d]);
+    let beside = u32::from_le_bytes([e, f, g, h]);
+    beside == !word && d < 128
 }
 
 /// The check of a word, beside its complement: each byte of the word XOR the one before it, and the
 /// first byte with the last.
 pub fn check_of_word(unit: [u8; UNIT_BYTES]) -> [u8; UNIT_BYTES] {
     let [a, b, c, d, _, _, _, _] = unit;
-    beside_complement(a ^ d, b ^ a, c ^ b, d ^ c)
+    let word = u32::from_le_bytes([a, b, c, d]);
+    // Turned by a byte, so that each meets the one before it.
+    beside_complement(word ^ word.rotate_left(8))
 }
 
-/// Four bytes and their complements.
-fn beside_complement(a: u8, b: u8, c: u8, d: u8) -> [u8; UNIT_BYTES] {
-    [a, b, c, d, !a, !b, !c, !d]
+/// The bytes of a number, the low one first, and their complements.
+fn beside_complement(number: u32) -> [u8; UNIT_BYTES] {
+    let [a, b, c, d] = number.to_le_bytes();
+    let [e, f, g, h] = (!number).to_le_bytes();
+    [a, b, c, d, e, f, g, h]
 }
 
 /// Whether a unit reads blank.
