@@ -125,10 +125,16 @@ fn answer_in(printed: &[u8]) -> Option<(usize, &str)> {
 }
 
 /// How many bytes the latest request had read before a line's answer: a SETUP packet begins another one, which reads where
-/// bit 7 of bmRequestType is set (USB 2.0 section 9.3.1), and a whole transfer ends it.
+/// bit 7 of bmRequestType is set and wLength is not 0 (USB 2.0 sections 9.3.1 and 9.3.5), and a whole transfer ends it.
 fn read_before(read: Option<u16>, statement: &Statement<'_>) -> Option<u16> {
     match statement {
-        Statement::One(Action::Setup([kind, ..])) => if *kind >= 0x80 { Some(0) } else { None },
+        Statement::One(Action::Setup([kind, _, _, _, _, _, low, high])) => {
+            if *kind >= 0x80 && (*low != 0 || *high != 0) {
+                Some(0)
+            } else {
+                None
+            }
+        }
         Statement::Set { .. } | Statement::Fetch => None,
         Statement::One(_) | Statement::Scans { .. } => read,
     }
