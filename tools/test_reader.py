@@ -216,6 +216,7 @@ def program(work):
     made = {**environment(work, "arrayvec"), "CARGO_TARGET_DIR": f"{work}/target"}
     subprocess.run(["cargo", "test", "--quiet"], cwd=ROOT / "rust/wuzhikar-hid", env=made, check=True, stdout=subprocess.DEVNULL)
     looked_at(ROOT / "rust/wuzhikar-hid", made)
+    looked_at(ROOT / "examples/hid_driver", made)
     looked_at(folder, made)
     subprocess.run(["cargo", "build", "--release", "--quiet"], cwd=folder, env=made, check=True)
     return f"{work}/target/release/tell"

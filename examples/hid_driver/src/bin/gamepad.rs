@@ -22,11 +22,7 @@ fn told(reader: &Reader, report: &[u8]) -> Result<String, Box<dyn Error>> {
             usage::HAT_SWITCH => {
                 hat = format!("{} {}s", detail.physical_value(value.raw)?.decimal(0), detail.unit_name().unwrap_or("unit"));
             }
-            usage if usage >> 16 == usage::BUTTON_PAGE => {
-                if value.raw != 0 {
-                    buttons.push(usage & 0xffff);
-                }
-            }
+            usage if usage >> 16 == usage::BUTTON_PAGE && value.raw != 0 => buttons.push(usage & 0xffff),
             usage if value.raw != 0 => {
                 let share = value.raw as f64 / detail.max as f64;
                 axes.push(format!("{} {share:.2}", UsageName(usage)));
