@@ -5,7 +5,7 @@ use Rattle.keyboard.proofs.keyboard.Keyboard.setup.Goals as goal
 
 pub returns-clause-stands : goal.returns-clause-stands
 returns-clause-stands c start past s =
-    let t = rw (← c.self-2.view_is) at s in
+    let t = rw (← c.self.view_is) at s in
     stands_setup start past c.args.packet (view_after start past) c.setup_from.new.self _ t refl
     (c.setup_from.ensures.stands (view_after start past) (ep_calls start past)
     (record { start = start; past = past; keys = t.now.keys; store = t.now.store; protocol = t.now.protocol; leds = t.now.leds; layer = t.now.layer; key = t.now.key; view_is = refl })
