@@ -1,7 +1,5 @@
 //! What a SETUP packet is answered from: the keyboard without its endpoint.
 
-ghost use Rattle.std.specs.Prelude.{◌≡◌, ℕ, List};
-ghost use Rattle.control_ep.specs.declared.answer.DeviceView.{DeviceView};
 ghost use Rattle.keyboard.specs.Shown.{Shows};
 
 use control_ep::DeviceReports;
