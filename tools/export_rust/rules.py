@@ -77,8 +77,7 @@ KEYBOARD = Rules(
     hidden=frozenset({("keyboard", "Keyboard::start"), ("keyboard", "Keyboard::start_in")}),
     calls={("keyboard", "Keyboard::start"): "KeyboardCalls", ("keyboard", "Keyboard::start_in"): "KeyboardCalls", ("layers", "LayerNo::known"): "Known", ("layers", "KeyNo::known"): "Known",
            ("debounce", "Scan::has"): "ScanCalls", ("debounce", "Scan::with"): "ScanCalls", ("debounce", "Debouncer::is_down"): "DebouncerCalls"},
-    docs={("control_ep", "request"): [(" (`laws::input_reports_unread`).", ".")],
-          ("descriptor_build", ""): [("`parse_lines` prints them", "the crate `kbsim` prints them")],
+    docs={("descriptor_build", ""): [("`parse_lines` prints them", "the crate `kbsim` prints them")],
           ("keyboard", ""): [("A firmware calls it, as `firmware_example` does; `world`", "A firmware calls it, and the crate `kbsim`")]},
 )
 

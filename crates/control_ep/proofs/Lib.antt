@@ -4,4 +4,3 @@ pub mod Moves
 pub mod Reports
 pub mod Joined
 mod Next
-pub mod Inputs

@@ -140,15 +140,3 @@ checked (Some asked) request =
 -- the transfer that a SETUP packet begins, or why it is refused
 unfoldable pub transfer_of : SetupFields → DeviceView → Result Transfer Why
 transfer_of request view = checked (asked_at (requests view request.value) request.kind request.code) request
-
--- GET_REPORT of an input report: type 1 in wValue's high byte
-abbrev pub asks_for_input : SetupFields → Bool
-asks_for_input request = (request.kind == 0xA1) && ((request.code == 0x01) && (request.value / 256 == 1))
-
--- the same device, but for its input reports
-pub record SameBesideInputs (a b : DeviceView) : Type 0 where
-  pub protocol : a.protocol ≡ b.protocol
-  pub idle_one : a.idle_one ≡ b.idle_one
-  pub idle_two : a.idle_two ≡ b.idle_two
-  pub leds : a.leds ≡ b.leds
-  pub feature : a.feature ≡ b.feature

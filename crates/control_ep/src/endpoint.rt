@@ -3,6 +3,7 @@
 ghost use Rattle.std.specs.Prelude.{◌≡◌, ◌+◌, List, [], ◌∷◌, None, IsSome, IsTrue};
 ghost use Rattle.std.specs.Option.{option_map};
 ghost use Rattle.control_ep.specs.Packets.{packet_at};
+ghost use Rattle.control_ep.specs.declared.answer.DeviceView.{DeviceView};
 ghost use Rattle.control_ep.specs.declared.answer.EpAnswer.{EpAnswer};
 ghost use Rattle.control_ep.specs.declared.answer.Effect.{Effect};
 ghost use Rattle.control_ep.specs.declared.answer.OutStep.{OutStep};
@@ -16,7 +17,7 @@ use crate::data::ReadData;
 use crate::packets::packet_at;
 use crate::report::received_report;
 use crate::request::{HostReport, Request, Transfer};
-use crate::{DeviceView, Effect, EpAnswer, OutStep, Verdict, Why};
+use crate::{DeviceReports, DeviceView, Effect, EpAnswer, OutStep, Verdict, Why};
 use arrayvec::ArrayVec;
 use std::marker::Model;
 
@@ -109,19 +110,27 @@ impl ControlEp {
 
     /// Takes a SETUP packet of 8 bytes (USB 2.0 sections 8.5.3 and 9.3), which is always acknowledged and
     /// ends the transfer under way, also one that waits for a command. What is read is what `view` has
-    /// now; its input reports are looked at only where `asks_for_input` holds. A request that is refused
-    /// leaves the new transfer stalled, by the first of these that holds: `UnknownRequest` where
-    /// bmRequestType and bRequest are not served; `WrongInterface` where wIndex is not 0, but for requests
-    /// to the device; `UnknownDescriptor`, `UnknownReport` or `BadProtocol` where wValue names none;
-    /// `WrongLength` where wLength is not the report's length in SET_REPORT, or not 0 in SET_IDLE and
-    /// SET_PROTOCOL.
-    #[tactic(auto, using(crate::proofs::Next::next_setup))]
+    /// now. A request that is refused leaves the new transfer stalled, by the first of these that holds:
+    /// `UnknownRequest` where bmRequestType and bRequest are not served; `WrongInterface` where wIndex is
+    /// not 0, but for requests to the device; `UnknownDescriptor`, `UnknownReport` or `BadProtocol` where
+    /// wValue names none; `WrongLength` where wLength is not the report's length in SET_REPORT, or not 0
+    /// in SET_IDLE and SET_PROTOCOL.
     pub fn setup(&mut self, setup: [u8; 8], view: &DeviceView)
         ensures stands { (past : List EpCall) → StandsFor past self.old
             → StandsFor (Setup setup view.now ∷ past) self.new }
         ensures left { self.new ≡ begun setup view.now }
     {
-        self.begin(setup, view);
+        self.setup_from(setup, view);
+    }
+
+    /// `setup` for a device that is asked for what is read, and for nothing else.
+    #[tactic(auto, using(crate::proofs::Next::next_setup))]
+    pub fn setup_from<D: DeviceReports>(&mut self, setup: [u8; 8], device: &D)
+        ensures stands { (view : DeviceView) (past : List EpCall) → D.shows device.now view → StandsFor past self.old
+            → StandsFor (Setup setup view ∷ past) self.new }
+        ensures left { (view : DeviceView) → D.shows device.now view → self.new ≡ begun setup view }
+    {
+        self.begin(setup, device);
     }
 
     /// Takes an IN packet (USB 2.0 section 8.5.3): the next data packet of at most 8 bytes, the empty
@@ -214,11 +223,11 @@ impl ControlEp {
 
     /// Begins the transfer that a SETUP packet asks for, or stalls it.
     #[tactic(auto, using(crate::proofs::Next::begun_by))]
-    fn begin(&mut self, setup: [u8; 8], view: &DeviceView)
-        ensures { self.new ≡ begun setup view.now }
+    fn begin<D: DeviceReports>(&mut self, setup: [u8; 8], device: &D)
+        ensures { (view : DeviceView) → D.shows device.now view → self.new ≡ begun setup view }
     {
         let request = Request::read(setup);
-        self.stage = match request.transfer(view) {
+        self.stage = match request.transfer(device) {
             Ok(transfer) => first_stage(transfer, request.length),
             Err(why) => Stage::Stalled(why),
         };

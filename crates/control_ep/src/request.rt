@@ -1,13 +1,14 @@
 //! What a SETUP packet asks for.
 
 ghost use Rattle.std.specs.Prelude.{◌≡◌, ◌≤◌, ◌/◌, ◌%◌, length};
+ghost use Rattle.control_ep.specs.declared.answer.DeviceView.{DeviceView};
 ghost use Rattle.control_ep.specs.declared.why.Why.{Why};
-ghost use Rattle.control_ep.specs.Requests.{request_of, requests, asked_at, device_descriptors, interface_descriptors, reports_read, idle_values, protocol_byte, reports_taken, length_of, takes_length, idle_effects, protocol_effects, named, transfer_of, asks_for_input};
+ghost use Rattle.control_ep.specs.Requests.{request_of, requests, asked_at, device_descriptors, interface_descriptors, reports_read, idle_values, protocol_byte, reports_taken, length_of, takes_length, idle_effects, protocol_effects, named, transfer_of};
 ghost use Rattle.control_ep.specs.Transfers.{Reads};
 ghost use Rattle.control_ep.specs.Views.{fields_view, report_view, transfer_view, begun_view, asked_view};
 
 use crate::data::ReadData;
-use crate::{DeviceView, Effect, Why};
+use crate::{DeviceReports, Effect, Why};
 use descriptor_build::{CONFIGURATION, DEVICE, HID, SERVED_REPORT};
 use reports::{IdleId, Protocol};
 
@@ -24,16 +25,6 @@ pub(crate) struct Request {
     index: u16,
     /// wLength.
     pub(crate) length: u16,
-}
-
-/// Whether a SETUP packet asks for an input report (HID 1.11 section 7.2.1). Only then does
-/// `ControlEp::setup` look at the view's input reports, so that a device need not make them for any
-/// other packet (`laws::input_reports_unread`).
-pub fn asks_for_input(setup: [u8; 8]) -> bool
-    ensures { result ≡ asks_for_input (request_of setup) }
-{
-    let request = Request::read(setup);
-    request.kind == 0xA1 && request.code == 0x01 && request.value / 256 == 1
 }
 
 /// The reports that SET_REPORT takes.
@@ -86,10 +77,11 @@ impl Request {
     /// bmRequestType and bRequest, `WrongInterface` by wIndex, but for requests to the device, the
     /// reason of a wValue that names nothing, and `WrongLength` by wLength.
     #[tactic(auto, unfolding(crate::specs::Requests::transfer_of))]
-    pub(crate) fn transfer(self, view: &DeviceView) -> Result<Transfer, Why>
-        ensures { begun_view result ≡ transfer_of (fields_view self) view.now }
+    pub(crate) fn transfer<D: DeviceReports>(self, device: &D) -> Result<Transfer, Why>
+        ensures { (view : DeviceView) → D.shows device.now view
+            → begun_view result ≡ transfer_of (fields_view self) view }
     {
-        let Some(asked) = self.asked(view) else {
+        let Some(asked) = self.asked(device) else {
             return Err(Why::UnknownRequest);
         };
         if self.kind != 0x80 && self.index != 0 {
@@ -103,16 +95,17 @@ impl Request {
     }
 
     /// What wValue asks for; none where bmRequestType and bRequest are not served.
-    fn asked(self, view: &DeviceView) -> Option<Result<Transfer, Why>>
-        ensures { asked_view result ≡ asked_at (requests view.now self.value) self.kind self.code }
+    fn asked<D: DeviceReports>(self, device: &D) -> Option<Result<Transfer, Why>>
+        ensures { (view : DeviceView) → D.shows device.now view
+            → asked_view result ≡ asked_at (requests view self.value) self.kind self.code }
     {
         match (self.kind, self.code) {
             (0x80, 0x06) => Some(device_descriptor(self.value)),
             (0x81, 0x06) => Some(interface_descriptor(self.value)),
-            (0xA1, 0x01) => Some(get_report(self.value, view)),
-            (0xA1, 0x02) => Some(get_idle(self.value, view)),
-            (0xA1, 0x03) => Some(Ok(copied(&[protocol_byte(view.protocol)]))),
-            (0x21, 0x09) => Some(set_report(self.value, view.protocol)),
+            (0xA1, 0x01) => Some(get_report(self.value, device)),
+            (0xA1, 0x02) => Some(get_idle(self.value, device)),
+            (0xA1, 0x03) => Some(Ok(copied(&[protocol_byte(device.protocol())]))),
+            (0x21, 0x09) => Some(set_report(self.value, device.protocol())),
             (0x21, 0x0A) => Some(set_idle(self.value)),
             (0x21, 0x0B) => Some(set_protocol(self.value)),
             _ => None,
@@ -185,27 +178,29 @@ fn interface_descriptor(value: u16) -> Result<Transfer, Why>
 }
 
 /// GET_REPORT (HID 1.11 section 7.2.1).
-fn get_report(value: u16, view: &DeviceView) -> Result<Transfer, Why>
-    ensures { begun_view result ≡ named Why.UnknownReport (reports_read view.now view.now.protocol) value }
+fn get_report<D: DeviceReports>(value: u16, device: &D) -> Result<Transfer, Why>
+    ensures { (view : DeviceView) → D.shows device.now view
+        → begun_view result ≡ named Why.UnknownReport (reports_read view view.protocol) value }
 {
-    match (view.protocol, value) {
-        (Protocol::Report, 0x0101) => Ok(copied(&view.bitmap)),
-        (Protocol::Report, 0x0102) => Ok(copied(&view.consumer)),
-        (Protocol::Report, 0x0201) => Ok(copied(&[0x01, view.leds])),
-        (Protocol::Boot, 0x0100) => Ok(copied(&view.boot)),
-        (Protocol::Boot, 0x0200) => Ok(copied(&[view.leds])),
-        (_, 0x0303) => Ok(copied(&view.feature)),
+    match (device.protocol(), value) {
+        (Protocol::Report, 0x0101) => Ok(copied(&device.bitmap())),
+        (Protocol::Report, 0x0102) => Ok(copied(&device.consumer())),
+        (Protocol::Report, 0x0201) => Ok(copied(&[0x01, device.leds()])),
+        (Protocol::Boot, 0x0100) => Ok(copied(&device.boot())),
+        (Protocol::Boot, 0x0200) => Ok(copied(&[device.leds()])),
+        (_, 0x0303) => Ok(copied(&device.feature())),
         _ => Err(Why::UnknownReport),
     }
 }
 
 /// GET_IDLE (HID 1.11 section 7.2.3).
-fn get_idle(value: u16, view: &DeviceView) -> Result<Transfer, Why>
-    ensures { begun_view result ≡ named Why.UnknownReport (idle_values view.now) value }
+fn get_idle<D: DeviceReports>(value: u16, device: &D) -> Result<Transfer, Why>
+    ensures { (view : DeviceView) → D.shows device.now view
+        → begun_view result ≡ named Why.UnknownReport (idle_values view) value }
 {
     match value {
-        0x0000 | 0x0001 => Ok(copied(&[view.idle_one])),
-        0x0002 => Ok(copied(&[view.idle_two])),
+        0x0000 | 0x0001 => Ok(copied(&[device.idle_one()])),
+        0x0002 => Ok(copied(&[device.idle_two()])),
         _ => Err(Why::UnknownReport),
     }
 }

@@ -107,27 +107,36 @@ impl KeyReports {
     }
 
     /// The bytes that the boot report has now. To ask for them sends nothing.
-    #[tactic(auto, using(crate::proofs::Standing::boot_after))]
     pub fn boot(&self) -> [u8; 8]
         ensures { (past : List KeyCall) → StandsFor past self.now → result ≡ wanted_after past Input.Boot }
     {
-        reports::boot(&self.usages())
+        if self.poller.is_made_for(Protocol::Boot) {
+            self.poller.made_boot()
+        } else {
+            self.boot_anew()
+        }
     }
 
     /// The bytes that the report of ID 1 has now. To ask for them sends nothing.
-    #[tactic(auto, using(crate::proofs::Standing::bitmap_after))]
     pub fn bitmap(&self) -> [u8; 23]
         ensures { (past : List KeyCall) → StandsFor past self.now → result ≡ wanted_after past Input.One }
     {
-        reports::bitmap(&self.usages())
+        if self.poller.is_made_for(Protocol::Report) {
+            self.poller.made_bitmap()
+        } else {
+            self.bitmap_anew()
+        }
     }
 
     /// The bytes that the report of ID 2 has now. To ask for them sends nothing.
-    #[tactic(auto, using(crate::proofs::Standing::consumer_bytes_after))]
     pub fn consumer(&self) -> [u8; 9]
         ensures { (past : List KeyCall) → StandsFor past self.now → result ≡ wanted_after past Input.Two }
     {
-        reports::consumer(&self.usages())
+        if self.poller.is_made_for(Protocol::Report) {
+            self.poller.made_consumer()
+        } else {
+            self.consumer_anew()
+        }
     }
 
     /// Sets the idle value of a report, or of all, in units of 4 ms; 0 stands for no repeats (HID 1.11
@@ -159,5 +168,32 @@ impl KeyReports {
         ensures { (past : List KeyCall) → StandsFor past self.old → StandsFor (Asked was_reset ∷ past) self.new }
     {
         self.poller.reset()
+    }
+
+    /// The bytes of the boot report, made of the held keys. Rare, and with the usages on its own stack.
+    #[inline(never)]
+    #[tactic(auto, using(crate::proofs::Standing::boot_after))]
+    fn boot_anew(&self) -> [u8; 8]
+        ensures { (past : List KeyCall) → StandsFor past self.now → result ≡ wanted_after past Input.Boot }
+    {
+        reports::boot(&self.usages())
+    }
+
+    /// The bytes of the report of ID 1, made of the held keys. Rare, and with the usages on its own stack.
+    #[inline(never)]
+    #[tactic(auto, using(crate::proofs::Standing::bitmap_after))]
+    fn bitmap_anew(&self) -> [u8; 23]
+        ensures { (past : List KeyCall) → StandsFor past self.now → result ≡ wanted_after past Input.One }
+    {
+        reports::bitmap(&self.usages())
+    }
+
+    /// The bytes of the report of ID 2, made of the held keys. Rare, and with the usages on its own stack.
+    #[inline(never)]
+    #[tactic(auto, using(crate::proofs::Standing::consumer_bytes_after))]
+    fn consumer_anew(&self) -> [u8; 9]
+        ensures { (past : List KeyCall) → StandsFor past self.now → result ≡ wanted_after past Input.Two }
+    {
+        reports::consumer(&self.usages())
     }
 }

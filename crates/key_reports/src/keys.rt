@@ -47,6 +47,16 @@ pub(crate) fn make_for(poller: &mut Poller, held: &Held, protocol: Protocol)
         → IsMade (wanted_after past) poller.old → IsMadeFor protocol (wanted_after past) poller.new }
 {
     if !poller.is_made_for(protocol) {
-        poller.make(&held.usages(), protocol);
+        make_anew(poller, held, protocol);
     }
+}
+
+/// Makes the bytes of the protocol's reports. Rare, and with the usages on its own stack.
+#[inline(never)]
+fn make_anew(poller: &mut Poller, held: &Held, protocol: Protocol)
+    ensures stands { (calls : List PollerCall) → StandsFor calls poller.old → StandsFor calls poller.new }
+    ensures made { (past : List KeyCall) → HeldStandsFor (held_calls past) held.now
+        → IsMadeFor protocol (wanted_after past) poller.new }
+{
+    poller.make(&held.usages(), protocol);
 }

@@ -25,9 +25,7 @@ use Rattle.control_ep.specs.Calls.{EpCall, Setup, Out as EpOut, In as EpIn, Rese
 use Rattle.control_ep.specs.Packets.{packet_at}
 use Rattle.control_ep.specs.Stage.{is_empty_packet}
 use Rattle.control_ep.specs.Answers.{out_step, in_answer, in_effect, packet_or_stall, received_report, report_step, closing_step, has_id}
-use Rattle.control_ep.specs.Requests.{request_of, asks_for_input, SameBesideInputs}
 use Rattle.control_ep.specs.Stands as control_ep
-use Rattle.control_ep.proofs.Inputs.{stands_same}
 use Rattle.keymap_store.specs.Value.{StoreValue}
 use Rattle.keymap_store.specs.Store.{working as working_in}
 use Rattle.keyboard.specs.Calls.{Call, Scanned, SetUp, Out, In, Polled, BusReset, setup_of, image_after, keymap}
@@ -138,13 +136,6 @@ stands_setup start past packet view ep old h v e =
       key = h.now.key;
     })
     tt
-
--- one that asks for no input report
-pub stands_setup_beside : (start : List ℕ) (past : List Call) (packet : List ℕ) (view : DeviceView) (ep : Stage) (old : KeyboardValue) → StandsFor start past old
-    → asks_for_input (request_of packet) ≡ false → SameBesideInputs view (view_after start past) → control_ep.StandsFor (Setup packet view ∷ ep_calls start past) ep
-    → StandsFor start (SetUp packet ∷ past) (record old { ep = ep })
-stands_setup_beside start past packet view ep old h n v e =
-    stands_setup start past packet (view_after start past) ep old h refl (stands_same (ep_calls start past) packet view (view_after start past) ep n v e)
 
 -- a bus reset
 pub stands_reset : (start : List ℕ) (past : List Call) (ep : Stage) (keys : KeysValue) (old : KeyboardValue) → StandsFor start past old

@@ -1,11 +1,10 @@
 -- What a SETUP packet is answered from.
-use Rattle.std.proofs.Common.{◌≡◌, ℕ, ◌<◌, ◌%◌, ◌/◌, List, [], ◌∷◌, refl, ◌∙◌, get_or, arith}
+use Rattle.std.proofs.Common.{◌≡◌, ℕ, ◌<◌, ◌%◌, ◌/◌, List, [], ◌∷◌, refl, sym, ap, ◌∙◌, get_or, arith}
 use Rattle.reports.specs.declared.Protocol.{Protocol}
 use Rattle.reports.specs.declared.Input.TheVariants.{Boot, One, Two}
 use Rattle.reports.specs.Poll.{idle_value}
 use Rattle.key_reports.specs.Past.{wanted_after, poller_calls}
 use Rattle.control_ep.specs.declared.answer.DeviceView.{DeviceView}
-use Rattle.control_ep.specs.Requests.{SameBesideInputs}
 use Rattle.keyboard.specs.Calls.{Call, image_after, keymap}
 use Rattle.keyboard.specs.Effects.{Entry, leds_after, selected, protocol_after}
 use Rattle.keyboard.specs.Keys.{key_calls}
@@ -23,15 +22,35 @@ feature_is entry entries layer key code bytes l k c f e =
     let is : code ≡ entries entry.layer entry.key = c ∙ rw (l, k) refl in
     rw (low_byte code bytes e, high_byte code bytes f e, is, l, k) refl
 
-pub view_is : (start : List ℕ) (past : List Call) (view : DeviceView) (bitmap consumer boot : List ℕ) → SameBesideInputs view (view_after start past) → bitmap ≡ wanted_after (key_calls start past) One
-    → consumer ≡ wanted_after (key_calls start past) Two → boot ≡ wanted_after (key_calls start past) Boot
-    → record view { bitmap = bitmap; consumer = consumer; boot = boot } ≡ view_after start past
+-- each part of the view after a session
+pub view_protocol : (start : List ℕ) (past : List Call) (view : DeviceView) (x : Protocol) → view ≡ view_after start past → x ≡ protocol_after past → x ≡ view.protocol
 unfolding view_after
-view_is start past view bitmap consumer boot s f g h = rw (s.protocol, s.idle_one, s.idle_two, s.leds, s.feature, f, g, h) refl
+view_protocol start past view x v e = e ∙ sym (ap (λ (d : DeviceView). d.protocol) v)
 
-pub beside_inputs : (start : List ℕ) (past : List Call) (protocol : Protocol) (one two leds : ℕ) (feature bitmap consumer boot : List ℕ) → protocol ≡ protocol_after past
-    → one ≡ idle_value One (poller_calls (key_calls start past)) → two ≡ idle_value Two (poller_calls (key_calls start past)) → leds ≡ leds_after past
-    → feature ≡ feature_report (selected past) (keymap (image_after start past))
-    → SameBesideInputs (record { protocol = protocol; idle_one = one; idle_two = two; leds = leds; feature = feature; bitmap = bitmap; consumer = consumer; boot = boot }) (view_after start past)
+pub view_idle_one : (start : List ℕ) (past : List Call) (view : DeviceView) (x : ℕ) → view ≡ view_after start past → x ≡ idle_value One (poller_calls (key_calls start past)) → x ≡ view.idle_one
 unfolding view_after
-beside_inputs start past protocol one two leds feature bitmap consumer boot a b c d e = record { protocol = a; idle_one = b; idle_two = c; leds = d; feature = e }
+view_idle_one start past view x v e = e ∙ sym (ap (λ (d : DeviceView). d.idle_one) v)
+
+pub view_idle_two : (start : List ℕ) (past : List Call) (view : DeviceView) (x : ℕ) → view ≡ view_after start past → x ≡ idle_value Two (poller_calls (key_calls start past)) → x ≡ view.idle_two
+unfolding view_after
+view_idle_two start past view x v e = e ∙ sym (ap (λ (d : DeviceView). d.idle_two) v)
+
+pub view_leds : (start : List ℕ) (past : List Call) (view : DeviceView) (x : ℕ) → view ≡ view_after start past → x ≡ leds_after past → x ≡ view.leds
+unfolding view_after
+view_leds start past view x v e = e ∙ sym (ap (λ (d : DeviceView). d.leds) v)
+
+pub view_feature : (start : List ℕ) (past : List Call) (view : DeviceView) (x : List ℕ) → view ≡ view_after start past → x ≡ feature_report (selected past) (keymap (image_after start past)) → x ≡ view.feature
+unfolding view_after
+view_feature start past view x v e = e ∙ sym (ap (λ (d : DeviceView). d.feature) v)
+
+pub view_bitmap : (start : List ℕ) (past : List Call) (view : DeviceView) (x : List ℕ) → view ≡ view_after start past → x ≡ wanted_after (key_calls start past) One → x ≡ view.bitmap
+unfolding view_after
+view_bitmap start past view x v e = e ∙ sym (ap (λ (d : DeviceView). d.bitmap) v)
+
+pub view_consumer : (start : List ℕ) (past : List Call) (view : DeviceView) (x : List ℕ) → view ≡ view_after start past → x ≡ wanted_after (key_calls start past) Two → x ≡ view.consumer
+unfolding view_after
+view_consumer start past view x v e = e ∙ sym (ap (λ (d : DeviceView). d.consumer) v)
+
+pub view_boot : (start : List ℕ) (past : List Call) (view : DeviceView) (x : List ℕ) → view ≡ view_after start past → x ≡ wanted_after (key_calls start past) Boot → x ≡ view.boot
+unfolding view_after
+view_boot start past view x v e = e ∙ sym (ap (λ (d : DeviceView). d.boot) v)

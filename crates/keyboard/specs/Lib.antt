@@ -15,3 +15,4 @@ pub mod Value
 pub mod Stands
 pub mod Turnovers
 pub mod Private
+pub mod Shown

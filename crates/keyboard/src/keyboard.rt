@@ -6,7 +6,6 @@ ghost use Rattle.layers.specs.Entries.{changed};
 ghost use Rattle.layers.specs.Keymaps.{HasEntries};
 ghost use Rattle.layers.specs.Usages.{has_key, has_consumer};
 ghost use Rattle.control_ep.specs.Answers.{in_answer, judged_answer, IfNak, IfStall};
-ghost use Rattle.control_ep.specs.Requests.{SameBesideInputs};
 ghost use Rattle.control_ep.specs.Transfers.{Stalled};
 ghost use Rattle.control_ep.specs.declared.answer.EpAnswer.{EpAnswer};
 ghost use Rattle.key_reports.specs.Past.{keys_after, consumer_after, answer_after};
@@ -18,16 +17,17 @@ ghost use Rattle.keyboard.specs.Effects.{leds_after, selected, protocol_after};
 ghost use Rattle.keyboard.specs.Commands.{accepted, settled_of};
 ghost use Rattle.keyboard.specs.Keys.{key_calls};
 ghost use Rattle.keyboard.specs.Feature.{command_in, select_answer};
-ghost use Rattle.keyboard.specs.Endpoint.{feature_report, view_after, verdict_told, stage_after};
+ghost use Rattle.keyboard.specs.Endpoint.{verdict_told, stage_after};
 ghost use Rattle.keyboard.specs.Private.{Judges};
 ghost use Rattle.keyboard.specs.Restart.{CutsLegally};
 ghost use Rattle.keyboard.specs.Lawful.{IsAnswered, MakesSuch};
 
 use crate::feature::{command_in, verdict_of};
 use crate::room::Room;
-use control_ep::{ControlEp, DeviceView, Effect, EpAnswer, OutStep, Verdict, Why, asks_for_input};
+use crate::shown::Shown;
+use control_ep::{ControlEp, Effect, EpAnswer, OutStep, Verdict, Why};
 use flash_model::NorFlash;
-use key_reports::{IdleId, KeyReports, Protocol, Report, Scan};
+use key_reports::{KeyReports, Protocol, Report, Scan};
 use keymap_store::{Store, Work};
 use layers::{Command, KeyNo, Keymap, LayerNo, Usages};
 use std::alloc::{AllocError, Global};
@@ -129,12 +129,15 @@ impl Keyboard {
         // it still runs on its flash
         ensures runs_on { (image : List ℕ) → RunsOn image self.old → RunsOn image self.new }
     {
-        let view = if asks_for_input(packet) {
-            self.view()
-        } else {
-            self.view_beside_inputs()
+        let shown = Shown {
+            keys: &self.keys,
+            store: &self.store,
+            protocol: self.protocol,
+            leds: self.leds,
+            layer: self.layer,
+            key: self.key,
         };
-        self.ep.setup(packet, &view);
+        self.ep.setup_from(packet, &shown);
     }
 
     /// Takes an OUT packet of endpoint 0 (USB 2.0 section 8.5.3): the closing packet of a read, an
@@ -294,44 +297,6 @@ impl Keyboard {
             → result ≡ leds_after past }
     {
         self.leds
-    }
-
-    /// What a SETUP packet is answered from.
-    fn view(&self) -> DeviceView
-        ensures { (start : List ℕ) (past : List Call) → StandsFor start past self.now → result ≡ view_after start past }
-    {
-        DeviceView {
-            bitmap: self.keys.bitmap(),
-            consumer: self.keys.consumer(),
-            boot: self.keys.boot(),
-            ..self.view_beside_inputs()
-        }
-    }
-
-    /// What a SETUP packet is answered from that asks for no input report.
-    fn view_beside_inputs(&self) -> DeviceView
-        ensures { (start : List ℕ) (past : List Call) → StandsFor start past self.now → SameBesideInputs result (view_after start past) }
-    {
-        DeviceView {
-            protocol: self.protocol,
-            idle_one: self.keys.idle(IdleId::One),
-            idle_two: self.keys.idle(IdleId::Two),
-            leds: self.leds,
-            feature: self.feature(),
-            bitmap: [0; 23],
-            consumer: [0; 9],
-            boot: [0; 8],
-        }
-    }
-
-    /// The feature report with the selected entry.
-    fn feature(&self) -> [u8; 6]
-        ensures { (start : List ℕ) (past : List Call) → StandsFor start past self.now
-            → result ≡ feature_report (selected past) (keymap (image_after start past)) }
-    {
-        let code = self.store.keymap().get(self.layer, self.key);
-        let [low, high] = code.bits().to_le_bytes();
-        [3, 0, self.layer.number(), self.key.number(), low, high]
     }
 
     /// Takes an OUT packet and answers it.

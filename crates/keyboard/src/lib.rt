@@ -19,6 +19,7 @@ mod feature;
 mod keyboard;
 pub mod laws;
 mod room;
+mod shown;
 
 pub use control_ep::{EpAnswer, Why};
 pub use flash_model::NorFlash;

@@ -167,6 +167,27 @@ impl Poller {
         self.made_for == protocol
     }
 
+    /// The bytes of the boot report, as they were made last.
+    pub fn made_boot(&self) -> [u8; 8]
+        ensures { (bytes : Input → List ℕ) → IsMadeFor Protocol.Boot bytes self.now → result ≡ bytes Input.Boot }
+    {
+        *self.boot.made()
+    }
+
+    /// The bytes of the report of ID 1, as they were made last.
+    pub fn made_bitmap(&self) -> [u8; 23]
+        ensures { (bytes : Input → List ℕ) → IsMadeFor Protocol.Report bytes self.now → result ≡ bytes Input.One }
+    {
+        *self.one.made()
+    }
+
+    /// The bytes of the report of ID 2, as they were made last.
+    pub fn made_consumer(&self) -> [u8; 9]
+        ensures { (bytes : Input → List ℕ) → IsMadeFor Protocol.Report bytes self.now → result ≡ bytes Input.Two }
+    {
+        *self.two.made()
+    }
+
     /// Makes the bytes of the protocol's reports for these usages.
     pub fn make(&mut self, usages: &Usages, protocol: Protocol)
         ensures stands { (past : List PollerCall) → StandsFor past self.old → StandsFor past self.new }

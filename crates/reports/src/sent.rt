@@ -84,7 +84,8 @@ impl<const N: usize> Sent<N> {
         ensures { (scans : ℕ) → self.now.age ≡ min 65535 scans
             → result ≡ (not (idle == 0) && nat_le (4 * idle) scans) }
     {
-        idle != 0 && self.age >= 4 * u16::from(idle)
+        // 0 - 1 wraps to 65,535, which no age is above
+        self.age > (4 * u16::from(idle)).wrapping_sub(1)
     }
 
     /// Counts these bytes as sent now.

@@ -58,5 +58,5 @@ pub mod debounce {
 
 /// Control transfers by themselves: endpoint 0 of a device that has the keyboard's requests.
 pub mod control_ep {
-    pub use crate::parts::control_ep::{ControlEp, DeviceView, Effect, EpAnswer, OutStep, Verdict, Why, asks_for_input};
+    pub use crate::parts::control_ep::{ControlEp, DeviceReports, DeviceView, Effect, EpAnswer, OutStep, Verdict, Why};
 }

@@ -547,29 +547,3 @@ fn names_what_is_bad_in_a_feature_report(rt: HostRuntime) {
         [Why::BadOperation, Why::BadLayer, Why::BadKey, Why::BadCode]
     );
 }
-
-/// SETUP packets, and whether they ask for an input report.
-const ASKS: &str = "a101010100001700 yes
-    a101000100000800 yes
-    a101010200000200 no
-    a101030300000600 no
-    a102010100000100 no
-    2109010100001700 no";
-
-#[test]
-fn tells_who_asks_for_an_input_report(rt: HostRuntime) {
-    for row in ASKS.lines() {
-        let (setup, answer) = row.trim().split_once(' ').unwrap_or((row, ""));
-        let asks = eight(setup).map(|setup| asks_for_input(setup));
-        assert_eq!(rt; asks, yes_or_no(answer), "{row}");
-        assert!(rt; asks.is_some(), "{row}");
-    }
-}
-
-fn yes_or_no(text: &str) -> Option<bool> {
-    match text {
-        "yes" => Some(true),
-        "no" => Some(false),
-        _ => None,
-    }
-}

@@ -7,8 +7,8 @@
 //! status packet brings, and the command of a feature report, for which its caller gives a verdict.
 //!
 //! The promise is that each packet is answered as the stage of its transfer says, which is looked
-//! up in the calls since the SETUP packet. `keyboard` calls it, and tells it what the device is at
-//! that moment.
+//! up in the calls since the SETUP packet. `keyboard` calls it, and is asked what the device is at
+//! that moment (`DeviceReports`).
 //!
 //! **In a controller's firmware.** `setup` is called at each SETUP packet, `out` and `in_packet` at the
 //! OUT and IN tokens of endpoint 0; the answer goes onto the bus at once, and an effect is given with
@@ -21,6 +21,7 @@
 
 mod answer;
 mod data;
+mod device;
 mod endpoint;
 mod packets;
 mod report;
@@ -28,6 +29,6 @@ mod request;
 mod why;
 
 pub use answer::{DeviceView, Effect, EpAnswer, OutStep, Verdict};
+pub use device::DeviceReports;
 pub use endpoint::ControlEp;
-pub use request::asks_for_input;
 pub use why::Why;

@@ -18,6 +18,7 @@
 mod feature;
 mod keyboard;
 mod room;
+mod shown;
 
 pub use crate::parts::control_ep::{EpAnswer, Why};
 pub use wuzhikar_log::parts::flash_model::NorFlash;

@@ -5,7 +5,7 @@ use crate::parts::control_ep::data::ReadData;
 use crate::parts::control_ep::packets::packet_at;
 use crate::parts::control_ep::report::received_report;
 use crate::parts::control_ep::request::{HostReport, Request, Transfer};
-use crate::parts::control_ep::{DeviceView, Effect, EpAnswer, OutStep, Verdict, Why};
+use crate::parts::control_ep::{DeviceReports, DeviceView, Effect, EpAnswer, OutStep, Verdict, Why};
 use arrayvec::ArrayVec;
 
 /// A read: its bytes, how many were asked for, and how many packets were sent.
@@ -73,14 +73,18 @@ impl ControlEp {
 
     /// Takes a SETUP packet of 8 bytes (USB 2.0 sections 8.5.3 and 9.3), which is always acknowledged and
     /// ends the transfer under way, also one that waits for a command. What is read is what `view` has
-    /// now; its input reports are looked at only where `asks_for_input` holds. A request that is refused
-    /// leaves the new transfer stalled, by the first of these that holds: `UnknownRequest` where
-    /// bmRequestType and bRequest are not served; `WrongInterface` where wIndex is not 0, but for requests
-    /// to the device; `UnknownDescriptor`, `UnknownReport` or `BadProtocol` where wValue names none;
-    /// `WrongLength` where wLength is not the report's length in SET_REPORT, or not 0 in SET_IDLE and
-    /// SET_PROTOCOL.
+    /// now. A request that is refused leaves the new transfer stalled, by the first of these that holds:
+    /// `UnknownRequest` where bmRequestType and bRequest are not served; `WrongInterface` where wIndex is
+    /// not 0, but for requests to the device; `UnknownDescriptor`, `UnknownReport` or `BadProtocol` where
+    /// wValue names none; `WrongLength` where wLength is not the report's length in SET_REPORT, or not 0
+    /// in SET_IDLE and SET_PROTOCOL.
     pub fn setup(&mut self, setup: [u8; 8], view: &DeviceView) {
-        self.begin(setup, view);
+        self.setup_from(setup, view);
+    }
+
+    /// `setup` for a device that is asked for what is read, and for nothing else.
+    pub fn setup_from<D: DeviceReports>(&mut self, setup: [u8; 8], device: &D) {
+        self.begin(setup, device);
     }
 
     /// Takes an IN packet (USB 2.0 section 8.5.3): the next data packet of at most 8 bytes, the empty
@@ -130,9 +134,9 @@ impl ControlEp {
     }
 
     /// Begins the transfer that a SETUP packet asks for, or stalls it.
-    fn begin(&mut self, setup: [u8; 8], view: &DeviceView) {
+    fn begin<D: DeviceReports>(&mut self, setup: [u8; 8], device: &D) {
         let request = Request::read(setup);
-        self.stage = match request.transfer(view) {
+        self.stage = match request.transfer(device) {
             Ok(transfer) => first_stage(transfer, request.length),
             Err(why) => Stage::Stalled(why),
         };

@@ -66,17 +66,29 @@ impl KeyReports {
 
     /// The bytes that the boot report has now. To ask for them sends nothing.
     pub fn boot(&self) -> [u8; 8] {
-        crate::parts::reports::boot(&self.usages())
+        if self.poller.is_made_for(Protocol::Boot) {
+            self.poller.made_boot()
+        } else {
+            self.boot_anew()
+        }
     }
 
     /// The bytes that the report of ID 1 has now. To ask for them sends nothing.
     pub fn bitmap(&self) -> [u8; 23] {
-        crate::parts::reports::bitmap(&self.usages())
+        if self.poller.is_made_for(Protocol::Report) {
+            self.poller.made_bitmap()
+        } else {
+            self.bitmap_anew()
+        }
     }
 
     /// The bytes that the report of ID 2 has now. To ask for them sends nothing.
     pub fn consumer(&self) -> [u8; 9] {
-        crate::parts::reports::consumer(&self.usages())
+        if self.poller.is_made_for(Protocol::Report) {
+            self.poller.made_consumer()
+        } else {
+            self.consumer_anew()
+        }
     }
 
     /// Sets the idle value of a report, or of all, in units of 4 ms; 0 stands for no repeats (HID 1.11
@@ -100,5 +112,23 @@ impl KeyReports {
     /// stay.
     pub fn bus_reset(&mut self) {
         self.poller.reset()
+    }
+
+    /// The bytes of the boot report, made of the held keys. Rare, and with the usages on its own stack.
+    #[inline(never)]
+    fn boot_anew(&self) -> [u8; 8] {
+        crate::parts::reports::boot(&self.usages())
+    }
+
+    /// The bytes of the report of ID 1, made of the held keys. Rare, and with the usages on its own stack.
+    #[inline(never)]
+    fn bitmap_anew(&self) -> [u8; 23] {
+        crate::parts::reports::bitmap(&self.usages())
+    }
+
+    /// The bytes of the report of ID 2, made of the held keys. Rare, and with the usages on its own stack.
+    #[inline(never)]
+    fn consumer_anew(&self) -> [u8; 9] {
+        crate::parts::reports::consumer(&self.usages())
     }
 }

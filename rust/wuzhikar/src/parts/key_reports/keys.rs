@@ -29,6 +29,12 @@ fn press_all(held: &mut Held, keymap: &Keymap, pressed: &Scan) {
 /// Makes the bytes of the protocol's reports where those of the other protocol were made last.
 pub(crate) fn make_for(poller: &mut Poller, held: &Held, protocol: Protocol) {
     if !poller.is_made_for(protocol) {
-        poller.make(&held.usages(), protocol);
+        make_anew(poller, held, protocol);
     }
+}
+
+/// Makes the bytes of the protocol's reports. Rare, and with the usages on its own stack.
+#[inline(never)]
+fn make_anew(poller: &mut Poller, held: &Held, protocol: Protocol) {
+    poller.make(&held.usages(), protocol);
 }

@@ -3,9 +3,10 @@
 
 use crate::parts::keyboard::feature::{command_in, verdict_of};
 use crate::parts::keyboard::room::Room;
-use crate::parts::control_ep::{ControlEp, DeviceView, Effect, EpAnswer, OutStep, Verdict, Why, asks_for_input};
+use crate::parts::keyboard::shown::Shown;
+use crate::parts::control_ep::{ControlEp, Effect, EpAnswer, OutStep, Verdict, Why};
 use wuzhikar_log::parts::flash_model::NorFlash;
-use crate::parts::key_reports::{IdleId, KeyReports, Protocol, Report, Scan};
+use crate::parts::key_reports::{KeyReports, Protocol, Report, Scan};
 use crate::parts::keymap_store::{Store, Work};
 use crate::parts::layers::{Command, KeyNo, Keymap, LayerNo, Usages};
 use crate::rattle::alloc::{AllocError, Global};
@@ -68,12 +69,15 @@ impl Keyboard {
     /// way (USB 2.0 sections 8.5.3 and 9.3, HID 1.11 section 7). What is read is what the keyboard has
     /// now; the flash work goes on.
     pub fn setup(&mut self, packet: [u8; 8]) {
-        let view = if asks_for_input(packet) {
-            self.view()
-        } else {
-            self.view_beside_inputs()
+        let shown = Shown {
+            keys: &self.keys,
+            store: &self.store,
+            protocol: self.protocol,
+            leds: self.leds,
+            layer: self.layer,
+            key: self.key,
         };
-        self.ep.setup(packet, &view);
+        self.ep.setup_from(packet, &shown);
     }
 
     /// Takes an OUT packet of endpoint 0 (USB 2.0 section 8.5.3): the closing packet of a read, an
@@ -153,37 +157,6 @@ impl Keyboard {
     /// The LEDs: usages 01h to 05h of page 08h in bits 0 to 4.
     pub fn leds(&self) -> u8 {
         self.leds
-    }
-
-    /// What a SETUP packet is answered from.
-    fn view(&self) -> DeviceView {
-        DeviceView {
-            bitmap: self.keys.bitmap(),
-            consumer: self.keys.consumer(),
-            boot: self.keys.boot(),
-            ..self.view_beside_inputs()
-        }
-    }
-
-    /// What a SETUP packet is answered from that asks for no input report.
-    fn view_beside_inputs(&self) -> DeviceView {
-        DeviceView {
-            protocol: self.protocol,
-            idle_one: self.keys.idle(IdleId::One),
-            idle_two: self.keys.idle(IdleId::Two),
-            leds: self.leds,
-            feature: self.feature(),
-            bitmap: [0; 23],
-            consumer: [0; 9],
-            boot: [0; 8],
-        }
-    }
-
-    /// The feature report with the selected entry.
-    fn feature(&self) -> [u8; 6] {
-        let code = self.store.keymap().get(self.layer, self.key);
-        let [low, high] = code.bits().to_le_bytes();
-        [3, 0, self.layer.number(), self.key.number(), low, high]
     }
 
     /// Takes an OUT packet and answers it.

@@ -106,6 +106,21 @@ impl Poller {
         self.made_for == protocol
     }
 
+    /// The bytes of the boot report, as they were made last.
+    pub fn made_boot(&self) -> [u8; 8] {
+        *self.boot.made()
+    }
+
+    /// The bytes of the report of ID 1, as they were made last.
+    pub fn made_bitmap(&self) -> [u8; 23] {
+        *self.one.made()
+    }
+
+    /// The bytes of the report of ID 2, as they were made last.
+    pub fn made_consumer(&self) -> [u8; 9] {
+        *self.two.made()
+    }
+
     /// Makes the bytes of the protocol's reports for these usages.
     pub fn make(&mut self, usages: &Usages, protocol: Protocol) {
         match protocol {

@@ -48,7 +48,8 @@ impl<const N: usize> Sent<N> {
     /// Whether the report is to be sent again at this idle value, in units of 4 ms: it is not 0, and as
     /// long has passed.
     pub(crate) fn is_elapsed(&self, idle: u8) -> bool {
-        idle != 0 && self.age >= 4 * u16::from(idle)
+        // 0 - 1 wraps to 65,535, which no age is above
+        self.age > (4 * u16::from(idle)).wrapping_sub(1)
     }
 
     /// Counts these bytes as sent now.

@@ -1,14 +1,12 @@
-use Rattle.std.proofs.Common.{sym, ◌∙◌}
-use Rattle.keyboard.specs.Endpoint.{ep_calls}
-use Rattle.keyboard.proofs.Standing.{stands_setup, stands_setup_beside}
+use Rattle.std.proofs.Common.{refl}
+use Rattle.keyboard.specs.Endpoint.{ep_calls, view_after}
+use Rattle.keyboard.proofs.Standing.{stands_setup}
 use Rattle.keyboard.proofs.keyboard.Keyboard.setup.Goals as goal
-use Rattle.keyboard.proofs.keyboard.Keyboard.setup.Goals.{then-asks_for_input, else-asks_for_input}
 
 pub returns-clause-stands : goal.returns-clause-stands
 returns-clause-stands c start past s =
-    let t = rw (← c.self-2.view_is) at s in
-    let told = c.setup.ensures.stands (ep_calls start past) t.now.ep in
-    elim c.if-asks_for_input.branch [
-      | then-asks_for_input w ↦ stands_setup start past c.args.packet c.if-asks_for_input.view c.setup.new.self _ t (w.view-is ∙ w.view-view.ensures start past s) told
-      | else-asks_for_input w ↦ stands_setup_beside start past c.args.packet c.if-asks_for_input.view c.setup.new.self _ t (sym c.asks_for_input.ensures ∙ w.if-asks_for_input.false) (rw w.view-is (w.view_beside_inputs-view.ensures start past s)) told
-    ]
+    let t = rw (← c.self.view_is) at s in
+    stands_setup start past c.args.packet (view_after start past) c.setup_from.new.self _ t refl
+    (c.setup_from.ensures.stands (view_after start past) (ep_calls start past)
+    (record { start = start; past = past; keys = t.now.keys; store = t.now.store; protocol = t.now.protocol; leds = t.now.leds; layer = t.now.layer; key = t.now.key; view_is = refl })
+    t.now.ep)

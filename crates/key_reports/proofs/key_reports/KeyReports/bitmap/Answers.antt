@@ -1,0 +1,7 @@
+use Rattle.key_reports.specs.Past.{wanted_after}
+use Rattle.key_reports.proofs.key_reports.KeyReports.bitmap.Goals as goal
+
+pub returns-then-is_made_for : goal.returns-then-is_made_for
+returns-then-is_made_for c past s =
+    let h = rw (← c.self.view_is) at s in
+    c.made_bitmap.ensures (wanted_after past) (c.is_made_for.ensures.made (wanted_after past) c.if-is_made_for.true h.made)
