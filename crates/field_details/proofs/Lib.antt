@@ -2,3 +2,4 @@ pub mod GlobalLemmas
 pub mod ReportLemmas
 pub mod WalkLemmas
 pub mod FieldLemmas
+pub mod AroundLemmas

@@ -88,11 +88,11 @@ not_main (Global g) n = record { main = refl; items = refl; opens = refl; ends =
 not_main (Local l) n = record { main = refl; items = refl; opens = refl; ends = refl }
 not_main Skipped n = record { main = refl; items = refl; opens = refl; ends = refl }
 
-open_same : (before : List ItemValue) (item : ItemValue) → is_collection (tag item) ≡ false → is_end_collection (tag item) ≡ false → open_now (item ∷ before) ≡ open_now before
+pub open_same : (before : List ItemValue) (item : ItemValue) → is_collection (tag item) ≡ false → is_end_collection (tag item) ≡ false → open_now (item ∷ before) ≡ open_now before
 unfolding open_now
 open_same before item o e = rw (o, e) refl
 
-collections_same : (before : List ItemValue) (item : ItemValue) → is_collection (tag item) ≡ false → collections (item ∷ before) ≡ collections before
+pub collections_same : (before : List ItemValue) (item : ItemValue) → is_collection (tag item) ≡ false → collections (item ∷ before) ≡ collections before
 unfolding collections
 collections_same before item o = rw o refl
 
@@ -178,7 +178,7 @@ stand_empty before item k old new e t globals usage opened told s = record {
 }
 
 -- the number of the next collection
-count_is : (before : List ItemValue) → length (collections before) ≡ collection_count before
+pub count_is : (before : List ItemValue) → length (collections before) ≡ collection_count before
 unfolding collections
 count_is [] = refl
 count_is (item ∷ before) =
@@ -188,11 +188,11 @@ count_is (item ∷ before) =
       | false ↦ count_is before
     ]
 
-open_more : (before : List ItemValue) (item : ItemValue) → tag item ≡ Main Collection → open_now (item ∷ before) ≡ open_now before ++ collection_count before ∷ []
+pub open_more : (before : List ItemValue) (item : ItemValue) → tag item ≡ Main Collection → open_now (item ∷ before) ≡ open_now before ++ collection_count before ∷ []
 unfolding open_now
 open_more before item e = rw e refl
 
-collections_more : (before : List ItemValue) (item : ItemValue) → tag item ≡ Main Collection → collections (item ∷ before) ≡ collections before ++ declared_collection before item ∷ []
+pub collections_more : (before : List ItemValue) (item : ItemValue) → tag item ≡ Main Collection → collections (item ∷ before) ≡ collections before ++ declared_collection before item ∷ []
 unfolding collections
 collections_more before item e = rw e refl
 
@@ -210,7 +210,7 @@ stand_opened before item old new e globals usage opened fields groups s =
       groups = groups ∙ ap (λ xs. xs ++ declared_collection before item ∷ []) s.groups ∙ sym (collections_more before item e);
     }
 
-open_fewer : (before : List ItemValue) (item : ItemValue) → tag item ≡ Main EndCollection → open_now (item ∷ before) ≡ without_last (open_now before)
+pub open_fewer : (before : List ItemValue) (item : ItemValue) → tag item ≡ Main EndCollection → open_now (item ∷ before) ≡ without_last (open_now before)
 unfolding open_now
 open_fewer before item e = rw e refl
 

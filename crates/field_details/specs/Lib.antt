@@ -5,3 +5,4 @@ pub mod Collections
 pub mod Details
 pub mod Stands
 pub mod AsFields
+pub mod Around

@@ -64,6 +64,32 @@ fn as_many_collections_as_there_can_be(rt: HostRuntime) {
     );
 }
 
+/// A data item within 2,045 collections.
+#[test]
+fn as_many_collections_around_as_there_can_be(rt: HostRuntime) {
+    let mut text = filled(&rt, rt.alloc(), &[0x75, 1, 0x95, 1], &[0xA1, 1]);
+    text.truncate(4094);
+    push_byte(&rt, &mut text, 0x81);
+    push_byte(&rt, &mut text, 2);
+    let told = details_of(rt.alloc(), &text).ok().expect(&rt, "memory");
+    let numbers = told.around(rt.alloc(), 0).ok().expect(&rt, "memory");
+    let ends = (
+        numbers.len(),
+        numbers.first().copied(),
+        numbers.last().copied(),
+    );
+    check_ends(&rt, ends, told.application(0));
+}
+
+fn check_ends(
+    rt: &impl Abort,
+    ends: (usize, Option<usize>, Option<usize>),
+    application: Option<usize>,
+) {
+    assert_eq!(rt; ends, (2045, Some(0), Some(2044)));
+    assert_eq!(rt; application, Some(2044));
+}
+
 /// 4,090 Pushes, and what is in force after them.
 #[test]
 fn as_many_pushes_as_there_can_be(rt: HostRuntime) {

@@ -1,6 +1,6 @@
 //! The walk beside the plain program, over texts that are made up.
 
-use super::plain::{collection, detail, items_of};
+use super::plain::{application, around, collection, detail, items_of};
 use super::{byte_of, push_byte};
 use descriptor_parse::Item;
 use field_details::{Collection, Detail, Details, details_of};
@@ -20,10 +20,30 @@ fn check_fields(rt: &impl Abort, alloc: Global, told: &Details, items: &[Item<'_
     for place in 0..items.len() {
         if let Some(wanted) = detail(rt, alloc, items, place) {
             same_detail(rt, told.fields.get(number).copied(), wanted, text);
+            check_around(rt, alloc, told, number, &around(rt, alloc, items, place));
             number = number.wrapping_add(1);
         }
     }
     same_number(rt, told.fields.len(), number, text);
+}
+
+/// Compares the collections around a data item, and its application.
+fn check_around(rt: &impl Abort, alloc: Global, told: &Details, number: usize, wanted: &[usize]) {
+    let numbers = told.around(alloc, number).ok().expect(rt, "memory");
+    same_numbers(rt, &numbers, wanted);
+    same_application(
+        rt,
+        told.application(number),
+        application(&told.collections, wanted),
+    );
+}
+
+fn same_numbers(rt: &impl Abort, told: &[usize], wanted: &[usize]) {
+    assert_eq!(rt; told, wanted);
+}
+
+fn same_application(rt: &impl Abort, told: Option<usize>, wanted: Option<usize>) {
+    assert_eq!(rt; told, wanted);
 }
 
 fn same_detail(rt: &impl Abort, told: Option<Detail>, wanted: Detail, text: &[u8]) {

@@ -262,3 +262,27 @@ fn usage_before(before: &[Item<'_>], page: u32) -> Option<u32> {
     }
     Some(page.wrapping_mul(0x1_0000).wrapping_add(unsigned(bytes)))
 }
+
+/// The numbers of the collections around the item at a place, outermost first.
+pub(crate) fn around(
+    rt: &impl Abort,
+    alloc: Global,
+    items: &[Item<'_>],
+    place: usize,
+) -> Vec<usize> {
+    opened(rt, alloc, front(items, place))
+}
+
+/// The last of these numbers that is that of an Application collection.
+pub(crate) fn application(told: &[Collection], numbers: &[usize]) -> Option<usize> {
+    let mut last = None;
+    for number in numbers {
+        if told
+            .get(*number)
+            .is_some_and(|collection| collection.kind == 1)
+        {
+            last = Some(*number);
+        }
+    }
+    last
+}

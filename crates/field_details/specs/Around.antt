@@ -1,0 +1,47 @@
+-- Believed: the collections around a data item, and the application that it belongs to. From outer_in on only ties code.
+use Rattle.std.specs.Prelude.{◌≡◌, ℕ, ◌+◌, ◌<◌, ◌==◌, if◌then◌else◌, nat_lt, Bool, false, List, [], ◌∷◌, ◌++◌, length, reverse, find, slice_get, Option, Some, None, option_map, option_and_then, unwrap_or}
+use Rattle.descriptor_parse.specs.Items.{ItemValue}
+use Rattle.field_details.specs.declared.collection.Collection.{Collection}
+use Rattle.field_details.specs.declared.detail.Detail.{Detail}
+use Rattle.field_details.specs.declared.told.Details.{Details}
+use Rattle.field_details.specs.Collections.{open_now, collections}
+use Rattle.field_details.specs.Details.{has_place, details}
+
+-- what is told of these items, newest first, is all that they declare
+pub record Tells (items : List ItemValue) (told : Details) : Type 0 where
+  pub fields : told.fields.items ≡ details items
+  pub groups : told.collections.items ≡ collections items
+
+-- the collections around each data item that takes a bit, outermost first: those that are open at it (HID 1.11, 6.2.2.6)
+unfoldable pub all_around : List ItemValue → List (List ℕ)
+all_around [] = []
+all_around (item ∷ before) = if has_place before item then all_around before ++ open_now before ∷ [] else all_around before
+
+-- those around one of them; none where there is no such item
+abbrev pub around : List ItemValue → ℕ → List ℕ
+around items place = unwrap_or (slice_get (all_around items) place) []
+
+-- the collection with a number is an Application collection
+abbrev pub is_application : List Collection → ℕ → Bool
+is_application groups number = unwrap_or (option_map (λ c. c.kind == 1) (slice_get groups number)) false
+
+-- the innermost of those around a data item that is one
+abbrev pub application : List ItemValue → ℕ → Option ℕ
+application items place = find (is_application (collections items)) (reverse (around items place))
+
+-- ---- by the numbers that are told
+
+abbrev pub inside_in : List Detail → ℕ → Option ℕ
+inside_in told place = option_and_then (λ d. d.inside) (slice_get told place)
+
+-- the number right around one, where that is less
+abbrev pub less_than : ℕ → ℕ → Option ℕ
+less_than number outer = if nat_lt outer number then Some outer else None
+
+abbrev pub outer_in : List Collection → ℕ → Option ℕ
+outer_in groups number = option_and_then (less_than number) (option_and_then (λ c. c.outer) (slice_get groups number))
+
+-- a number and one more, 0 for none: it falls from one to the next
+abbrev pub height : Option ℕ → ℕ
+height None = 0
+height (Some number) = number + 1
