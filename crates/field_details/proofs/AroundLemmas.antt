@@ -1,20 +1,19 @@
 -- The collections around a data item, by the numbers that are told.
-use Rattle.std.proofs.Common.{◌≡◌, ℕ, zero, suc, ◌+◌, ◌-◌, ◌<◌, ◌≤◌, List, [], ◌∷◌, ◌++◌, length, take, refl, arith, sym, ◌∙◌, ap, subst, Bool, true, false, cond, Some, None, inl, inr, length-append, reverse, map}
+use Rattle.std.proofs.Common.{◌≡◌, ℕ, zero, suc, ◌+◌, ◌-◌, ◌<◌, List, [], ◌∷◌, ◌++◌, length, take, refl, arith, sym, ◌∙◌, ap, subst, Bool, true, false, cond, Some, None, inl, inr, length-append, reverse}
 use Rattle.std.proofs.lemmas.Bool.{cases_Bool, cases_lt, lt-ltb, ltb-true}
 use Rattle.std.proofs.lemmas.List.{reverse-append, reverse-reverse, take-append-le, append-nil}
 use Rattle.std.proofs.lemmas.Option.{slice_get_past}
-use Rattle.std.specs.Prelude.{find, nat_lt, slice_get, Option, option_and_then, option_map, unwrap_or}
+use Rattle.std.specs.Prelude.{find, nat_lt, slice_get, Option, option_and_then, unwrap_or}
 use Rattle.descriptor_parse.specs.Items.{ItemValue}
 use Rattle.descriptor_parse.specs.declared.tag.Tag.{Tag}
 use Rattle.descriptor_parse.specs.declared.tag.Tag.TheVariants.{Main, Global, Local, Skipped}
 use Rattle.descriptor_parse.specs.declared.tag.MainTag.TheVariants.{Data, Collection, EndCollection}
-use Rattle.descriptor_parse.specs.Tags.{tag, is_data, is_collection, is_end_collection}
-use Rattle.descriptor_parse.specs.Fields.{takes_bit}
+use Rattle.descriptor_parse.specs.Tags.{tag, is_collection, is_end_collection}
 use Rattle.field_details.specs.declared.collection.Collection.{Collection as Group}
 use Rattle.field_details.specs.declared.detail.Detail.{Detail}
 use Rattle.field_details.specs.Collections.{open_now, collections, collection_count, without_last, innermost, declared_collection}
 use Rattle.field_details.specs.Details.{has_place, details, declared_detail}
-use Rattle.field_details.specs.Around.{Tells, all_around, around, is_application, application, inside_in, less_than, outer_in, height}
+use Rattle.field_details.specs.Around.{all_around, around, inside_in, less_than, outer_in, height}
 use Rattle.field_details.proofs.WalkLemmas.{count_is, open_more, open_fewer, open_same, collections_more, collections_same}
 
 -- ---- lists

@@ -1,7 +1,7 @@
-use Rattle.std.proofs.Common.{◌≡◌, true, sym, ◌∙◌, ap, reverse, Some}
+use Rattle.std.proofs.Common.{◌≡◌, true, sym, ◌∙◌, ap, reverse}
 use Rattle.std.specs.Prelude.{find}
 use Rattle.field_details.specs.Around.{is_application, around, inside_in}
-use Rattle.field_details.proofs.AroundLemmas.{IsChain, IsFirstLeft, chain_around, first_fewer, first_here, first_none}
+use Rattle.field_details.proofs.AroundLemmas.{IsChain, chain_around, first_fewer, first_here, first_none}
 use Rattle.field_details.proofs.told.Details.application.Goals as goal
 
 pub returns-then-is_application : goal.returns-then-is_application

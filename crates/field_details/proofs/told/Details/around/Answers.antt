@@ -1,7 +1,7 @@
-use Rattle.std.proofs.Common.{◌≡◌, sym, ◌∙◌, ap, reverse, Some}
+use Rattle.std.proofs.Common.{◌≡◌, sym, ◌∙◌, ap, reverse}
 use Rattle.std.proofs.lemmas.List.{reverse-reverse}
 use Rattle.field_details.specs.Around.{around, inside_in}
-use Rattle.field_details.proofs.AroundLemmas.{IsChain, IsLeft, chain_around, left_fewer, left_none}
+use Rattle.field_details.proofs.AroundLemmas.{IsChain, chain_around, left_fewer, left_none}
 use Rattle.field_details.proofs.told.Details.around.Goals as goal
 
 pub loop-next-preserved : goal.loop-next-preserved
