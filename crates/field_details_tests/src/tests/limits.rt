@@ -90,7 +90,7 @@ fn check_ends(
     assert_eq!(rt; application, Some(2044));
 }
 
-/// 4,090 Pushes, and what is in force after them.
+/// 4,089 Pushes, and what is in force after them.
 #[test]
 fn as_many_pushes_as_there_can_be(rt: HostRuntime) {
     let mut text = filled(&rt, rt.alloc(), &[0x75, 1, 0x95, 1], &[0xA4]);
