@@ -1,5 +1,5 @@
 -- Units that read as they are told to.
-use Rattle.std.proofs.Common.{◌≡◌, ◌≢◌, ℕ, ◌+◌, ◌*◌, ◌%◌, ◌^◌, ◌<◌, ◌≤◌, Option, Some, List, get_or, set, length, bit_or, arith, ◌∙◌, subst, refl, inl, inr, w8, get_or-set_same, get_or-set_other}
+use Rattle.std.proofs.Common.{◌≡◌, ◌≢◌, ℕ, ◌+◌, ◌*◌, ◌%◌, ◌^◌, ◌<◌, ◌≤◌, Bool, true, Option, Some, List, [], ◌∷◌, get_or, set, length, bit_or, arith, ◌∙◌, subst, refl, inl, inr, w8, get_or-set_same, get_or-set_other}
 use Rattle.std.specs.Int.{bit_not}
 use Rattle.std.proofs.lemmas.Bool.{cases_lt}
 use Rattle.std.proofs.lemmas.Bool.Decides.{eqb_tells}
@@ -9,7 +9,8 @@ use Rattle.std.proofs.lemmas.Nat.Bits.{bit_at_and, bit_at_or, bit_at_not, bit_at
 use Rattle.ecc_flash.specs.Units.{IsEight, Lacks}
 use Rattle.ecc_flash.specs.Reading.{blank}
 use Rattle.ecc_flash.specs.Model.{MayRead, MayBeErased}
-use Rattle.ecc_sim.specs.Chosen.{told_unit, never_programmed, bits_of}
+use Rattle.ecc_sim.specs.Chosen.{told_unit, never_programmed, bits_of, ErasedBy}
+use Rattle.ecc_sim.specs.declared.chosen.Choice.{Choice}
 use Rattle.ecc_sim.specs.declared.chosen.ChosenUnit.{ChosenUnit}
 use Rattle.ecc_sim.proofs.Decoding.{pow_byte}
 
@@ -71,20 +72,27 @@ is_erased unit reads may not_blank not_meant = record {
   still_blank = λ e. absurd (not_blank e);
 }
 
+-- what an erase with these choices makes of a unit
+abbrev pub IsErasedAs : List Choice → Bool → ChosenUnit → ChosenUnit → Type 0
+IsErasedAs choices on old new = MayBeErased (told_unit old) (told_unit new) × ((choice : Choice) → choices ≡ choice ∷ [] → on ≡ true → ErasedBy choice.outcome old new)
+
+pub stays : (unit : ChosenUnit) (reads : Option (List ℕ)) → unit.reads ≡ reads → told_unit unit ≡ record { meant = unit.meant; reads = reads }
+stays unit reads e = rw (← e) refl
+
 -- an erase of the units of a page, as far as it has come
-pub record ChosenSoFar (old : List ChosenUnit) (page i : ℕ) (now : List ChosenUnit) : Type 0 where
-  pub done : (k : ℕ) → k < i → MayBeErased (told_unit (get_or old (1024 * page + k) never_programmed)) (told_unit (get_or now (1024 * page + k) never_programmed))
+pub record ChosenSoFar (R : ChosenUnit → ChosenUnit → Type 0) (old : List ChosenUnit) (page i : ℕ) (now : List ChosenUnit) : Type 0 where
+  pub done : (k : ℕ) → k < i → R (get_or old (1024 * page + k) never_programmed) (get_or now (1024 * page + k) never_programmed)
   pub kept : (j : ℕ) → (1024 * page ≤ j → j < 1024 * page + i → ⊥) → get_or now j never_programmed ≡ get_or old j never_programmed
 
-pub one_more : (old now : List ChosenUnit) (page i : ℕ) (unit was : ChosenUnit) → ChosenSoFar old page i now → 1024 * page + i < length now → was ≡ get_or now (1024 * page + i) never_programmed → MayBeErased (told_unit was) (told_unit unit) → ChosenSoFar old page (i + 1) (set now (1024 * page + i) unit)
-one_more old now page i unit was s l is e =
+pub one_more : (R : ChosenUnit → ChosenUnit → Type 0) (old now : List ChosenUnit) (page i : ℕ) (unit was : ChosenUnit) → ChosenSoFar R old page i now → 1024 * page + i < length now → was ≡ get_or now (1024 * page + i) never_programmed → R was unit → ChosenSoFar R old page (i + 1) (set now (1024 * page + i) unit)
+one_more R old now page i unit was s l is e =
     let at : ℕ = 1024 * page + i in record {
       done = λ k m. elim (eqb_tells k i) [
-        | inl same ↦ rw (same.1, get_or-set_same now at unit never_programmed l) (subst (λ w. MayBeErased (told_unit w) (told_unit unit)) (is ∙ s.kept at (λ a b. omega arith)) e)
+        | inl same ↦ rw (same.1, get_or-set_same now at unit never_programmed l) (subst (λ w. R w unit) (is ∙ s.kept at (λ a b. omega arith)) e)
         | inr other ↦ rw (get_or-set_other now at (1024 * page + k) unit never_programmed (λ f. other.1 (omega arith))) (s.done k (omega (arith, other.1)))
       ];
       kept = λ j out. rw (get_or-set_other now at j unit never_programmed (λ f. out (omega arith) (omega arith))) (s.kept j (λ a b. out a (omega arith)));
     }
 
-pub none_yet : (units : List ChosenUnit) (page : ℕ) → ChosenSoFar units page 0 units
-none_yet units page = record { done = λ k l. absurd (omega arith); kept = λ j out. refl }
+pub none_yet : (R : ChosenUnit → ChosenUnit → Type 0) (units : List ChosenUnit) (page : ℕ) → ChosenSoFar R units page 0 units
+none_yet R units page = record { done = λ k l. absurd (omega arith); kept = λ j out. refl }

@@ -6,3 +6,4 @@ pub mod Told
 pub mod Cells
 pub mod Flash
 pub mod Choosing
+pub mod Reached

@@ -4,11 +4,11 @@
 //! error, or with each bit that was meant to be set but for one. What runs on it runs on a flash with
 //! any error correction that keeps the clauses.
 
-ghost use Rattle.std.specs.Prelude.{◌≡◌, ◌↔◌, IsTrue, Some, ◌+◌, ◌*◌, ◌/◌, ◌<◌, ◌≤◌, ℕ, length, replicate, IfOk, false, slice_index, slice_index_or};
+ghost use Rattle.std.specs.Prelude.{◌≡◌, ◌≢◌, ◌↔◌, IsTrue, Option, Some, ◌+◌, ◌*◌, ◌/◌, ◌<◌, ◌≤◌, ℕ, List, [], ◌∷◌, length, replicate, IfOk, true, false, slice_index, slice_index_or};
 ghost use Rattle.ecc_flash.specs.Units.{Lacks};
 ghost use Rattle.ecc_flash.specs.Reading.{blank};
 ghost use Rattle.ecc_flash.specs.Model.{MayRead, IsProgrammed, MayHold, MayBeErased, OneUnit, OnePageOfUnits};
-ghost use Rattle.ecc_sim.specs.Chosen.{ChosenValue, told_unit, never_programmed, chosen_at, bits_of};
+ghost use Rattle.ecc_sim.specs.Chosen.{ChosenValue, told_unit, never_programmed, chosen_at, bits_of, Gives, ErasedBy};
 
 use crate::sim::EccFlashError;
 use arrayvec::ArrayVec;
@@ -115,6 +115,15 @@ impl ChosenEccFlash {
         self.left = operations;
     }
 
+    /// Unit `unit`, 0 to 1,023, of page `page`.
+    pub fn unit(&self, page: usize, unit: usize) -> ChosenUnit
+        requires in_pages { page < length self.now.units / 1024 }
+        requires in_page { unit < PAGE_UNITS }
+        ensures { result ≡ chosen_at self.now.units page unit }
+    {
+        self.units[PAGE_UNITS * page + unit]
+    }
+
     /// Whether the power is off.
     pub fn is_off(&self) -> bool {
         self.left == Some(0)
@@ -152,7 +161,21 @@ impl EccFlash for ChosenEccFlash {
         page: usize,
         unit: usize,
         bytes: [u8; UNIT_BYTES],
-    ) -> Result<(), FlashFault> {
+    ) -> Result<(), FlashFault>
+        requires in_pages { page < length self.old.units / 1024 }
+        requires in_page { unit < PAGE_UNITS }
+        requires free { (told_unit (chosen_at self.old.units page unit)).reads ≡ Some blank }
+        ensures same_pages { length self.new.units / 1024 ≡ length self.old.units / 1024 }
+        ensures outcome { MayHold (told_unit (chosen_at self.old.units page unit)) bytes (told_unit (chosen_at self.new.units page unit)) }
+        ensures others { OneUnit (λ p u. told_unit (chosen_at self.old.units p u)) page unit (λ p u. told_unit (chosen_at self.new.units p u)) }
+        ensures taken { ⊥ → (told_unit (chosen_at self.new.units page unit)).reads ≡ Some blank → bytes ≡ blank }
+        ensures still_takes { (p u : ℕ) → ⊥ → ⊥ }
+        // with one choice, and power, the unit is as that choice says
+        ensures given { (choice : Choice) (reads : Option (List ℕ)) → self.old.choices ≡ choice ∷ [] → self.old.left ≢ Some 0 → Gives choice.outcome bytes reads
+            → told_unit (chosen_at self.new.units page unit) ≡ record { meant = bytes; reads = reads } }
+        ensures refused { (choice : Choice) → self.old.choices ≡ choice ∷ [] → choice.outcome ≡ Outcome.Nothing
+            → told_unit (chosen_at self.new.units page unit) ≡ told_unit (chosen_at self.old.units page unit) }
+    {
         let on = self.left != Some(0);
         let choice = choice_at(self.choices.as_slice(), self.next, on);
         let at = PAGE_UNITS * page + unit;
@@ -162,7 +185,15 @@ impl EccFlash for ChosenEccFlash {
         answer(choice)
     }
 
-    fn erase_units(&mut self, page: usize) -> Result<(), FlashFault> {
+    fn erase_units(&mut self, page: usize) -> Result<(), FlashFault>
+        requires { page < length self.old.units / 1024 }
+        ensures same_pages { length self.new.units / 1024 ≡ length self.old.units / 1024 }
+        ensures outcome { (u : ℕ) → u < PAGE_UNITS → MayBeErased (told_unit (chosen_at self.old.units page u)) (told_unit (chosen_at self.new.units page u)) }
+        ensures others { OnePageOfUnits (λ p u. told_unit (chosen_at self.old.units p u)) page (λ p u. told_unit (chosen_at self.new.units p u)) }
+        // with one choice, and power, each unit is as that choice says
+        ensures given { (choice : Choice) (u : ℕ) → self.old.choices ≡ choice ∷ [] → self.old.left ≢ Some 0 → u < PAGE_UNITS
+            → ErasedBy choice.outcome (chosen_at self.old.units page u) (chosen_at self.new.units page u) }
+    {
         let on = self.left != Some(0);
         let choice = choice_at(self.choices.as_slice(), self.next, on);
         erase_units(
@@ -198,7 +229,10 @@ fn answer(choice: Choice) -> Result<(), FlashFault> {
 }
 
 /// The choice in turn: `Whole` where there is none, and without power nothing and a fault.
-fn choice_at(choices: &[Choice], next: usize, on: bool) -> Choice {
+fn choice_at(choices: &[Choice], next: usize, on: bool) -> Choice
+    ensures one { (choice : Choice) → choices.now ≡ choice ∷ [] → on ≡ true → result ≡ choice }
+    ensures refused { (choice : Choice) → choices.now ≡ choice ∷ [] → choice.outcome ≡ Outcome.Nothing → result.outcome ≡ Outcome.Nothing }
+{
     if !on {
         Choice {
             outcome: Outcome::Nothing,
@@ -216,7 +250,9 @@ fn choice_at(choices: &[Choice], next: usize, on: bool) -> Choice {
 
 /// A program of a unit.
 fn programmed(unit: ChosenUnit, bytes: [u8; UNIT_BYTES], outcome: Outcome) -> ChosenUnit
-    ensures { MayHold (told_unit unit) bytes (told_unit result) }
+    ensures held { MayHold (told_unit unit) bytes (told_unit result) }
+    ensures given { (reads : Option (List ℕ)) → Gives outcome bytes reads → told_unit result ≡ record { meant = bytes; reads = reads } }
+    ensures refused { outcome ≡ Outcome.Nothing → result ≡ unit }
 {
     match outcome {
         Outcome::Whole => holding(bytes, bytes),
@@ -236,7 +272,7 @@ fn programmed(unit: ChosenUnit, bytes: [u8; UNIT_BYTES], outcome: Outcome) -> Ch
 fn holding(bytes: [u8; UNIT_BYTES], read: [u8; UNIT_BYTES]) -> ChosenUnit
     requires { Lacks bytes read }
     ensures programmed { IsProgrammed bytes (told_unit result) }
-    ensures reads { result.reads ≡ Some read }
+    ensures is { result ≡ record { meant = bytes; reads = Some read } }
 {
     ChosenUnit {
         meant: bytes,
@@ -246,7 +282,8 @@ fn holding(bytes: [u8; UNIT_BYTES], read: [u8; UNIT_BYTES]) -> ChosenUnit
 
 /// An erase of a unit. One that is blank stays so, and none comes to read as it was meant to.
 fn erased(unit: ChosenUnit, outcome: Outcome) -> ChosenUnit
-    ensures { MayBeErased (told_unit unit) (told_unit result) }
+    ensures erased { MayBeErased (told_unit unit) (told_unit result) }
+    ensures given { ErasedBy outcome unit result }
 {
     let meant = unit.meant;
     let reads = wanted(unit, outcome);
@@ -271,7 +308,8 @@ fn is_read(reads: Option<[u8; UNIT_BYTES]>, bytes: [u8; UNIT_BYTES]) -> bool
 
 /// What a unit is to read as after an erase.
 fn wanted(unit: ChosenUnit, outcome: Outcome) -> Option<[u8; UNIT_BYTES]>
-    ensures { MayRead unit.meant unit.reads → MayRead unit.meant result }
+    ensures may { MayRead unit.meant unit.reads → MayRead unit.meant result }
+    ensures given { (reads : Option (List ℕ)) → Gives outcome unit.meant reads → result ≡ reads }
 {
     match outcome {
         Outcome::Whole => Some(blank_over(unit.meant)),
@@ -318,6 +356,7 @@ fn bits_at(meant: u8, more: u8, k: usize, byte: u8, bit: u8) -> u8
 fn erase_units(units: &mut [ChosenUnit], page: usize, choices: &[Choice], next: usize, on: bool)
     requires { 1024 * page + 1024 ≤ length units.old }
     ensures outcome { (u : ℕ) → u < PAGE_UNITS → MayBeErased (told_unit (chosen_at units.old page u)) (told_unit (chosen_at units.new page u)) }
+    ensures given { (choice : Choice) (u : ℕ) → choices.now ≡ choice ∷ [] → on ≡ true → u < PAGE_UNITS → ErasedBy choice.outcome (chosen_at units.old page u) (chosen_at units.new page u) }
     ensures others { (p u : ℕ) → (p ≡ page → ⊥) → chosen_at units.new p u ≡ chosen_at units.old p u }
 {
     for u in 0..PAGE_UNITS {

@@ -13,6 +13,7 @@
 pub mod chosen;
 pub mod code;
 pub mod laws;
+pub mod reaching;
 pub mod sim;
 pub mod unit;
 

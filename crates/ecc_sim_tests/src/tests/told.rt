@@ -1,0 +1,74 @@
+//! A flash that is told what a unit is to be: lines of what it was programmed with, is to read as after the program, and after
+//! an erase; `error` is an error.
+
+use ecc_flash::EccFlash;
+use ecc_flash::reading::{BLANK, is_blank};
+use ecc_sim::ChosenEccFlash;
+use ecc_sim::chosen::ChosenUnit;
+use row_text::eight;
+use std::process::Abort;
+
+/// What the last unit of page 1 reads as after a program and after an erase, by a line.
+fn read(flash: &mut ChosenEccFlash, line: &str) -> Option<(Option<[u8; 8]>, Option<[u8; 8]>)> {
+    let (word, rest) = line.split_once(' ')?;
+    let (first, second) = rest.split_once(' ')?;
+    let bytes = eight(word)?;
+    if flash.pages() < 2 || !is_blank(flash.read_unit(1, 1023)) {
+        return None;
+    }
+    let then = ChosenUnit {
+        meant: bytes,
+        reads: reading(first)?,
+    };
+    flash.program_to(1, 1023, bytes, then);
+    let programmed = flash.read_unit(1, 1023);
+    flash.erase_to(1, 1023, reading(second)?);
+    let erased = flash.read_unit(1, 1023);
+    // For the next line.
+    flash.erase_to(1, 1023, Some(BLANK));
+    Some((programmed, erased))
+}
+
+/// What a word of a line says.
+fn reading(text: &str) -> Option<Option<[u8; 8]>> {
+    if text == "error" {
+        Some(None)
+    } else {
+        Some(Some(eight(text)?))
+    }
+}
+
+/// What a line wants.
+fn wanted(line: &str) -> Option<(Option<[u8; 8]>, Option<[u8; 8]>)> {
+    let (_, rest) = line.split_once(' ')?;
+    let (first, second) = rest.split_once(' ')?;
+    Some((reading(first)?, reading(second)?))
+}
+
+fn expect_reached(rt: &impl Abort, flash: &mut ChosenEccFlash, line: &str) {
+    assert_eq!(rt; read(flash, line), wanted(line), "{line}");
+}
+
+fn expect_lines(rt: &impl Abort, flash: &mut ChosenEccFlash, lines: &str) {
+    for line in lines.lines() {
+        expect_reached(rt, flash, line.trim());
+    }
+}
+
+#[test]
+fn each_reading_that_is_allowed_is_reached(rt: HostRuntime) {
+    let mut flash = ChosenEccFlash::new(rt.alloc(), 2).expect(&rt, "a flash");
+    expect_lines(
+        &rt,
+        &mut flash,
+        "05000010faffffef 05000010faffffef 05000010faffffef
+         05000010faffffef error error
+         05000010faffffef error 05000000faffffef
+         05000010faffffef ffffffffffffffff ffffffffffffffff
+         05000010faffffef 04000010faffffef 05ff0010faffff6f
+         05000010faffffef 05000010faffff6f error
+         05000010faffffef f5ff0f10faffffef ffffffffffffffff
+         0000000000000000 0000000000000000 8000000000000001
+         ffffffffffffffff 7fffffffffffffff error",
+    );
+}
