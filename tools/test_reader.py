@@ -27,7 +27,7 @@ PHYSICAL = {"equal": "EqualLimits", "inverted": "InvertedLimits"}
 def real():
     """The repository's descriptors: those of the rows and of the examples, and one of fields of more than 256 places, each once."""
     found = {(ROOT / "examples/media_keys.hex").read_text(): None}
-    files = [*ROOT.glob("examples/hid_driver/*.hex"), *ROOT.glob("tests/reader/devices/*.hex"), ROOT / "tests/reader/many_places.hex"]
+    files = [*ROOT.glob("examples/hid_driver/**/*.hex"), *ROOT.glob("tests/reader/devices/*.hex"), ROOT / "tests/reader/many_places.hex"]
     for file in sorted(files):
         found[file.read_text()] = None
     for name in ("real", "fields", "faults", "items", "item_faults"):

@@ -12,14 +12,16 @@
 /* Usages, with their page in the high half. */
 #define USAGE_X 0x00010030
 #define USAGE_Y 0x00010031
+#define USAGE_RZ 0x00010035
 #define USAGE_WHEEL 0x00010038
 #define USAGE_HAT_SWITCH 0x00010039
 #define USAGE_NUM_LOCK 0x00080001
+#define USAGE_CAPS_LOCK 0x00080002
+#define USAGE_FINGER 0x000d0022
 #define USAGE_TIP_SWITCH 0x000d0042
 #define USAGE_CONTACT_IDENTIFIER 0x000d0051
+#define USAGE_CONTACT_COUNT 0x000d0054
 #define PAGE_BUTTON 0x0009
-
-#define MOST_VALUES 64
 
 /* Ends the program where a call is refused. */
 static inline void needs(hidr_status status, const char *what) {
@@ -29,13 +31,20 @@ static inline void needs(hidr_status status, const char *what) {
     }
 }
 
+/* Ends the program where there is no memory. */
+static inline void *got(void *memory) {
+    needs(memory != NULL ? HIDR_OK : HIDR_NO_MEMORY, "the memory");
+    return memory;
+}
+
 /* The reader of a descriptor in a file of hex digits, as `xxd -p` writes it. */
 static inline hidr_reader reader_of(const char *path) {
-    static uint8_t text[4096];
+    static uint8_t text[4097]; /* a byte more than a reader takes */
     size_t length = 0;
     unsigned byte;
     hidr_reader reader;
     hidr_error error = {0};
+    hidr_status status;
     FILE *file = path ? fopen(path, "r") : NULL;
     if (file == NULL) {
         fprintf(stderr, "a file with a report descriptor in hex is missing\n");
@@ -44,18 +53,34 @@ static inline hidr_reader reader_of(const char *path) {
     while (length < sizeof text && fscanf(file, "%2x", &byte) == 1)
         text[length++] = (uint8_t)byte;
     fclose(file);
-    if (hidr_reader_open(text, length, &reader, &error) == HIDR_FAULT)
+    status = hidr_reader_open(text, length, &reader, &error);
+    if (status == HIDR_FAULT)
         fprintf(stderr, "%s at byte %" PRIu64 "\n", hidr_fault_name(error.fault), error.offset);
-    else
-        return reader;
-    exit(1);
+    needs(status, "the descriptor");
+    return reader;
 }
 
-/* The values of an input report: how many. */
-static inline size_t values_of(hidr_reader reader, const uint8_t *report, size_t length, hidr_value values[MOST_VALUES]) {
-    size_t count;
-    needs(hidr_read(reader, HIDR_INPUT, report, length, values, MOST_VALUES, &count, NULL), "the report");
-    return count < MOST_VALUES ? count : MOST_VALUES;
+/* The values of a report, in memory that grows with what a report has; `all` is to be freed in the end. */
+struct values {
+    hidr_value *all;
+    size_t count, room;
+};
+
+/* Reads an input report: 1. One that is refused is dropped, and the driver keeps its state and reads the next one: 0. */
+static inline int read_or_drop(hidr_reader reader, const uint8_t *report, size_t length, struct values *values) {
+    /* With room for none the call says how many there are. */
+    hidr_status status = hidr_read(reader, HIDR_INPUT, report, length, NULL, 0, &values->count, NULL);
+    if (status != HIDR_OK) {
+        fprintf(stderr, "a report of %zu bytes: %s\n", length, hidr_status_name(status));
+        printf("a report is dropped\n");
+        return 0;
+    }
+    if (values->count > values->room) {
+        values->all = got(realloc(values->all, values->count * sizeof *values->all));
+        values->room = values->count;
+    }
+    needs(hidr_read(reader, HIDR_INPUT, report, length, values->all, values->room, &values->count, NULL), "the report");
+    return 1;
 }
 
 /* What the item of a value's field declares. */
@@ -75,6 +100,18 @@ static inline void print_physical(hidr_reader reader, const hidr_value *value, u
     needs(hidr_detail_of(reader, value->field, &item), "the field");
     needs(hidr_unit_name(reader, item, unit, sizeof unit, &length), "the unit");
     printf("%s %ss", decimal, length > 0 ? unit : "unit");
+}
+
+/* The buttons that are down. */
+static inline void print_buttons(const struct values *values) {
+    const char *between = "";
+    printf(", buttons [");
+    for (size_t at = 0; at < values->count; at++)
+        if (values->all[at].usage >> 16 == PAGE_BUTTON && values->all[at].raw != 0) {
+            printf("%s%" PRIu32, between, values->all[at].usage & 0xffff);
+            between = ", ";
+        }
+    printf("]");
 }
 
 #endif

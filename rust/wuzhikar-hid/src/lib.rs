@@ -73,53 +73,72 @@
 //!
 //! A hat switch is at rest where its value is [`Within::Null`], or [`Within::Out`], since there are devices that don't declare
 //! Null State. An axis goes from [`Detail::min`] to [`Detail::max`]; [`Detail::physical_value`] is what a value is in its unit.
+//! No descriptor says where an axis rests: a driver takes the middle for a stick, and the Logical Minimum for a pedal.
 //!
 //! ```
 //! use wuzhikar_hid::{Kind, Reader, Within};
 //!
+//! // The hat is 0 to 7 without Null State, and the stick 0 to 255.
 //! # let text = [
-//! #     0x05, 0x01, 0x09, 0x05, 0xa1, 0x01, 0x09, 0x39, 0x15, 0x01, 0x25, 0x08, 0x35, 0x00, 0x46, 0x3b, 0x01, 0x65, 0x14, 0x75,
-//! #     0x08, 0x95, 0x01, 0x81, 0x02, 0x65, 0x00, 0x45, 0x00, 0x09, 0x30, 0x15, 0x81, 0x25, 0x7f, 0x81, 0x02, 0xc0,
+//! #     0x05, 0x01, 0x09, 0x05, 0xa1, 0x01, 0x09, 0x39, 0x25, 0x07, 0x46, 0x3b, 0x01, 0x65, 0x14, 0x75, 0x08, 0x95, 0x01, 0x81,
+//! #     0x02, 0x65, 0x00, 0x45, 0x00, 0x09, 0x30, 0x26, 0xff, 0x00, 0x81, 0x02, 0xc0,
 //! # ];
 //! let reader = Reader::new(&text)?;
-//! let (mut hat, mut stick) = (None, 0.0);
-//! for value in reader.read(Kind::Input, &[3, 0x81])? {
-//!     let Some(detail) = reader.detail(value.field) else { continue };
-//!     match (value.usage, value.within) {
-//!         (Some(0x0001_0039), Within::Range) => hat = Some(detail.physical_value(value.raw)?.decimal(0)),
-//!         (Some(0x0001_0039), _) => hat = None,
-//!         (Some(0x0001_0030), Within::Range) => stick = value.raw as f64 / detail.max as f64,
-//!         _ => {}
+//! let mut told = Vec::new();
+//! for report in [[2, 0], [8, 128]] {
+//!     let (mut hat, mut stick) = (None, 0.0);
+//!     for value in reader.read(Kind::Input, &report)? {
+//!         let Some(detail) = reader.detail(value.field) else { continue };
+//!         match (value.usage, value.within) {
+//!             (Some(0x0001_0039), Within::Range) => hat = Some(detail.physical_value(value.raw)?.decimal(0)),
+//!             (Some(0x0001_0039), _) => hat = None,
+//!             (Some(0x0001_0030), Within::Range) if detail.min < detail.max => {
+//!                 let half = (detail.max - detail.min + 1) / 2;
+//!                 stick = (value.raw - detail.min - half) as f64 / half as f64;
+//!             }
+//!             _ => {}
+//!         }
 //!     }
+//!     told.push((hat, stick));
 //! }
-//! assert_eq!((hat.as_deref(), stick), (Some("90"), -1.0));
+//! assert_eq!(told, [(Some("90".to_string()), -1.0), (None, 0.0)]);
 //! # Ok::<(), Box<dyn std::error::Error>>(())
 //! ```
 //!
 //! # A touch screen
 //!
-//! The values of one finger are those whose innermost collection, [`Detail::inside`], is the same. Tip Switch says whether it
-//! touches, and Contact Identifier which finger it is from report to report. A device may have other applications, so
-//! [`Reader::placed`] says which one a value belongs to.
+//! The values of one finger are those in the same Finger collection. [`Detail::inside`], the innermost collection, may be one
+//! of X and Y alone, so the Finger is looked for in [`Details::around`]. Tip Switch says whether it touches, and Contact
+//! Identifier which finger it is from report to report. Only so many fingers of a report are contacts as Contact Count says.
+//! A device may have other applications, so [`Reader::placed`] says which one a value belongs to.
 //!
 //! ```
 //! use std::collections::BTreeMap;
 //! use wuzhikar_hid::{Kind, Reader};
 //!
-//! # let text = [
-//! #     0x05, 0x0d, 0x09, 0x04, 0xa1, 0x01, 0x09, 0x22, 0xa1, 0x02, 0x09, 0x42, 0x25, 0x01, 0x75, 0x01, 0x95, 0x01, 0x81, 0x02,
-//! #     0x95, 0x07, 0x81, 0x03, 0x09, 0x51, 0x25, 0x7f, 0x75, 0x08, 0x95, 0x01, 0x81, 0x02, 0x05, 0x01, 0x09, 0x30, 0x81, 0x02,
+//! // Two fingers, whose X stands in a collection of its own.
+//! # let finger = [
+//! #     0x05, 0x0d, 0x09, 0x22, 0xa1, 0x02, 0x09, 0x42, 0x25, 0x01, 0x75, 0x01, 0x95, 0x01, 0x81, 0x02, 0x95, 0x07, 0x81, 0x03,
+//! #     0x09, 0x51, 0x25, 0x7f, 0x75, 0x08, 0x95, 0x01, 0x81, 0x02, 0x05, 0x01, 0x09, 0x01, 0xa1, 0x00, 0x09, 0x30, 0x81, 0x02,
 //! #     0xc0, 0xc0,
 //! # ];
+//! # let count = [0x05, 0x0d, 0x09, 0x54, 0x81, 0x02, 0xc0];
+//! # let text = [&[0x05, 0x0d, 0x09, 0x04, 0xa1, 0x01][..], &finger, &finger, &count].concat();
 //! let reader = Reader::new(&text)?;
-//! let screen = reader.details().applications().find(|(_, application)| application.usage == Some(0x000d_0004));
+//! let details = reader.details();
+//! let screen = details.applications().find(|(_, application)| application.usage == Some(0x000d_0004));
 //! let mut fingers: BTreeMap<usize, (bool, i64, i64)> = BTreeMap::new();
-//! for value in reader.read(Kind::Input, &[0x01, 5, 40])? {
+//! let mut count = usize::MAX;
+//! for value in reader.read(Kind::Input, &[0x01, 0, 40, 0x00, 0, 0, 1])? {
 //!     let Some(placed) = reader.placed(value.field) else { continue };
-//!     if reader.details().application(placed.place) != screen.map(|(place, _)| place) {
+//!     if details.application(placed.place) != screen.map(|(place, _)| place) {
 //!         continue;
 //!     }
-//!     let Some(finger) = placed.detail.inside else { continue };
+//!     if value.usage == Some(0x000d_0054) {
+//!         count = usize::try_from(value.raw)?;
+//!     }
+//!     let mut around = details.around(placed.place);
+//!     let Some(finger) = around.find(|place| details.collections[*place].usage == Some(0x000d_0022)) else { continue };
 //!     let (touches, number, x) = fingers.entry(finger).or_default();
 //!     match value.usage {
 //!         Some(0x000d_0042) => *touches = value.raw != 0,
@@ -128,9 +147,14 @@
 //!         _ => {}
 //!     }
 //! }
-//! assert_eq!(fingers.into_values().collect::<Vec<_>>(), [(true, 5, 40)]);
+//! assert_eq!(fingers.into_values().take(count).collect::<Vec<_>>(), [(true, 0, 40)]);
 //! # Ok::<(), Box<dyn std::error::Error>>(())
 //! ```
+//!
+//! # A report that is refused
+//!
+//! [`ReadingError`] says why. A driver drops the report, keeps its last state and reads the next one. Without Report IDs a
+//! report of another kind can't be told by its first byte.
 //!
 //! **Written by hand: tested, not proved.** What it takes from `wuzhikar-reader`, the fields and their usages, is exported
 //! from a proved source; this crate is compared with a program in another language over some ten thousand descriptors.
