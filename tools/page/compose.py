@@ -15,6 +15,8 @@ FIRST = "app.js"
 BUILT = "built.js"
 IMPORT = re.compile(r'^import \{([^}]*)\} from "\./([a-z_]+\.js)";\n', re.M)
 EXPORT = re.compile(r"^export (?:async )?(?:const|function|class) ([A-Za-z_$][\w$]*)", re.M)
+# Comments that take whole lines: who reads the modules reads them in web/page.
+COMMENT = re.compile(r"^[ \t]*(?:/\*\*(?:(?!\*/).)*\*/[ \t]*|//[^\n]*)\n", re.M | re.S)
 MODULE = re.compile(r'const wasm = "([A-Za-z0-9+/=]*)";')
 
 
@@ -53,7 +55,7 @@ class Bundle:
             raise Wrong(f"web/page/{name}: imports itself by {' '.join(path)}")
         if name in self.exported:
             return
-        text = built(self.wasm) if name == BUILT else (FOLDER / name).read_text()
+        text = built(self.wasm) if name == BUILT else COMMENT.sub("", (FOLDER / name).read_text())
         for wanted, needed in IMPORT.findall(text):
             self.add(needed, (*path, name))
             unknown = {word.strip() for word in wanted.split(",") if word.strip()} - self.exported[needed]

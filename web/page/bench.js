@@ -22,9 +22,10 @@ export class Bench {
     /**
      * @param {number | Uint8Array} flash pages, or an image
      * @param {(what: Event, bytes: any, said: any) => void} [seen] is told each event: its bytes or mask, and the answer
+     * @param {boolean} [paired] whether the flash has error correction
      */
-    constructor(flash, seen = () => {}) {
-        this.device = new Device(flash);
+    constructor(flash, seen = () => {}, paired = false) {
+        this.device = new Device(flash, paired);
         this.host = new Host();
         this.seen = seen;
     }
@@ -63,9 +64,9 @@ export class Bench {
         if (said !== "idle") this.seen("work", mask, said);
         return said;
     }
-    /** A power cut, inside the next flash operation where there is a mask. */
-    cut(mask) {
-        const torn = mask ? this.device.workTorn(mask) : null;
+    /** A power cut, inside the next flash operation where there is a mask; with error correction in this write of the two. */
+    cut(mask, unit = 0) {
+        const torn = mask ? this.device.workTorn(mask, unit) : null;
         this.device.cut();
         this.host.lose();
         this.seen("cut", mask, torn);

@@ -2,7 +2,7 @@
 
 import { SET_FEATURE, setReport } from "./bench.js";
 import { after } from "./codes.js";
-import { Device, KEYS, LAYERS, same } from "./device.js";
+import { CELLS, Device, KEYS, LAYERS, SLOT, same } from "./device.js";
 import { headerWord, imageOf, recordWord } from "./slots.js";
 
 const CONSUMER_PLAY = 0x40b0;
@@ -30,16 +30,21 @@ export const CHANGES = {
 };
 
 /**
- * So many masks: none, all, either half, and random ones.
+ * So many ways to tear a write: nothing of it, all, either half, and random ones; with error correction in each of the two.
  * @param {number} ways
+ * @param {boolean} [paired]
+ * @returns {Way[]}
  */
-export function masks(ways) {
-    const halves = [0, 255].map((byte) => new Uint8Array(8).fill(byte, 0, 4).fill(255 - byte, 4));
-    const random = Array.from({ length: Math.max(0, ways - 4) }, () => crypto.getRandomValues(new Uint8Array(8)));
-    return [new Uint8Array(), Uint8Array.of(255), ...halves, ...random].slice(0, ways);
+export function masks(ways, paired = false) {
+    const bytes = paired ? CELLS : SLOT, units = paired ? [0, 1] : [0];
+    const halves = [0, 255].map((byte) => new Uint8Array(bytes).fill(byte, 0, 4).fill(255 - byte, 4));
+    const random = Array.from({ length: ways }, () => crypto.getRandomValues(new Uint8Array(bytes)));
+    const all = [new Uint8Array(), Uint8Array.of(255), ...halves, ...random].slice(0, ways / units.length);
+    return all.flatMap((mask) => units.map((unit) => /** @type {Way} */ ([mask, unit])));
 }
 
 /**
+ * @typedef {[Uint8Array, number]} Way a mask, and with error correction which of a slot's two writes it tears
  * @typedef {"before" | "after" | "lost"} Came
  * @typedef {{columns: Came[][], counts: Record<Came, number>}} Outcome `columns`: for each write, what came of each way
  */
@@ -48,7 +53,7 @@ export function masks(ways) {
  * Cuts a change everywhere. After each cut the keymap has to be the one before the change or the one after it, as a whole.
  * @param {Device} device on which no command works; it is used up
  * @param {[number, number, number]} entry layer, key and code
- * @param {Uint8Array[]} ways the masks
+ * @param {Way[]} ways
  * @param {(writes: number) => Promise<void> | void} [progress] called between writes
  * @returns {Promise<Outcome | null>} null where the keyboard does not take the change
  */
@@ -60,8 +65,8 @@ export async function everyCut(device, [layer, key, code], ways, progress = () =
     const outcome = { columns: [], counts: { before: 0, after: 0, lost: 0 } };
     for (let going = true; going; ) {
         const memory = device.snapshot();
-        outcome.columns.push(ways.map((mask) => {
-            device.workTorn(mask);
+        outcome.columns.push(ways.map(([mask, unit]) => {
+            device.workTorn(mask, unit);
             device.cut();
             const now = device.keymap();
             device.restore(memory);
@@ -76,7 +81,7 @@ export async function everyCut(device, [layer, key, code], ways, progress = () =
 }
 
 /** The device and the change of a kind. @returns {[Device, [number, number, number]]} */
-export const prepared = (kind) => [new Device(CHANGES[kind].image()), [0, 1, CONSUMER_PLAY]];
+export const prepared = (kind, paired = false) => [new Device(CHANGES[kind].image(), paired), [0, 1, CONSUMER_PLAY]];
 
 /**
  * A copy of a device, and a change of an entry that it does not have.
@@ -84,7 +89,7 @@ export const prepared = (kind) => [new Device(CHANGES[kind].image()), [0, 1, CON
  * @returns {[Device, [number, number, number]]}
  */
 export function copied(device, layer, key) {
-    const copy = new Device(device.pages());
+    const copy = new Device(device.pages(), device.paired);
     copy.restore(device.snapshot());
     while (copy.work() === "working"); // what is under way ends first
     return [copy, [layer, key, copy.keymap()[layer * KEYS + key] === 5 ? 6 : 5]];

@@ -28,9 +28,10 @@ export function cutsView(model) {
     $("try").addEventListener("click", async () => {
         set($("try"), { disabled: true });
         const kind = $("change").value;
-        const [device, entry] = kind === "chosen" ? copied(model.session.bench.device, model.layer, model.key) : prepared(kind);
+        const { paired } = model.session;
+        const [device, entry] = kind === "chosen" ? copied(model.session.bench.device, model.layer, model.key) : prepared(kind, paired);
         let until = performance.now() + SLICE_MS;
-        const outcome = await everyCut(device, entry, masks(WAYS), async (writes) => {
+        const outcome = await everyCut(device, entry, masks(WAYS, paired), async (writes) => {
             if (performance.now() < until) return;
             say(`${number(writes * WAYS)} cuts …`);
             await new Promise((done) => setTimeout(done));

@@ -24,6 +24,13 @@ export const NAKED = { kind: "nak" };
 /** @type {Work[]} */
 const WORK = ["idle", "working", "settled", "failed"];
 
+/** Bytes of cells of a unit: eight of data, and the check. */
+export const CELLS = 9;
+/** @typedef {"blank" | "word" | "corrected" | "error"} Reads */
+/** @type {Reads[]} */
+const UNIT = ["blank", "word", "corrected", "error"];
+/** @typedef {{reads: Reads, cells: Uint8Array, right: Uint8Array}} Unit */
+
 /**
  * The place of an entry in a keymap.
  * @param {number} layer
@@ -42,13 +49,16 @@ export class Device {
     /**
      * A keyboard on so many blank pages, or on the bytes of an image of 2 to 8 pages.
      * @param {number | Uint8Array} flash
+     * @param {boolean} [paired] whether the flash has error correction: then the image is one of words, two units for each
      */
-    constructor(flash = 2) {
+    constructor(flash = 2, paired = false) {
+        this.paired = paired;
         /** @type {any} */
         this.calls = new WebAssembly.Instance(core, {}).exports;
         const size = typeof flash === "number" ? flash * PAGE : flash.length;
         const fits = Number.isInteger(size / PAGE) && size >= 2 * PAGE && size <= 8 * PAGE;
-        const started = fits && (typeof flash === "number" ? this.calls.start_blank(flash) : this.calls.start_image(this.put(flash)));
+        const image = () => this.put(typeof flash === "number" ? new Uint8Array(size).fill(255) : flash);
+        const started = fits && (paired ? this.calls.start_paired(image()) : typeof flash === "number" ? this.calls.start_blank(flash) : this.calls.start_image(image()));
         if (started !== 0) throw new RangeError("a flash has 2 to 8 whole pages of 4,096 bytes");
     }
     /** The buffer. */
@@ -98,9 +108,13 @@ export class Device {
     work() {
         return WORK[this.calls.work()];
     }
-    /** A step whose operation is torn by a mask of at most 4,096 bytes. */
-    workTorn(mask) {
-        return WORK[this.calls.work_torn(this.put(mask))];
+    /**
+     * A step whose operation is torn by a mask of at most 4,096 bytes.
+     * @param {ArrayLike<number>} mask
+     * @param {number} [unit] with error correction which of a slot's two writes: 0 or 1
+     */
+    workTorn(mask, unit = 0) {
+        return WORK[this.calls.work_torn_after(this.paired ? unit : 0, this.put(mask))];
     }
     cut() {
         this.calls.cut();
@@ -119,12 +133,24 @@ export class Device {
     keymap() {
         return new Uint16Array(this.bytes().slice(0, this.calls.keymap()).buffer);
     }
-    /** The flash's bytes as they are now; a later call may change them. */
-    image() {
+    /** The flash's bytes as they are now; a later call may change them. With error correction nine for each unit. */
+    raw() {
         return new Uint8Array(this.calls.memory.buffer, this.calls.flash(), this.calls.flash_length());
     }
+    /** What the slots read as; a later call may change it. */
+    image() {
+        return this.paired ? this.bytes().slice(0, this.calls.slots()) : this.raw();
+    }
     pages() {
-        return this.calls.flash_length() / PAGE;
+        return this.calls.pages();
+    }
+    /**
+     * A unit of a flash with error correction: its cells with the check last, what they are corrected to, and how it reads.
+     * @returns {Unit}
+     */
+    unit(page, unit) {
+        const reads = UNIT[this.calls.unit(page, unit)];
+        return { reads, cells: this.bytes().slice(0, CELLS), right: this.bytes().slice(CELLS, 2 * CELLS) };
     }
     slot(page, slot) {
         return this.image().slice(page * PAGE + slot * SLOT, page * PAGE + slot * SLOT + SLOT);

@@ -4,6 +4,7 @@ import { bytesHex } from "./bytes.js";
 import { PAGE, SLOT, SLOTS } from "./device.js";
 import { $, h, set } from "./dom.js";
 import { headerOf, kindsOf, saysOf, slotAt } from "./slots.js";
+import { SLOT_CELLS, paintUnits, showUnit, unitCells, unitsOf, unitsSay } from "./units.js";
 
 const COLUMNS = 64, ROWS = SLOTS / COLUMNS, W = 6, H = 9;
 
@@ -18,8 +19,9 @@ class FlashView {
     constructor(model) {
         this.model = model;
         this.root = $("pages");
-        /** The image as it was drawn last. @type {Uint8Array | null} */
+        /** The flash's bytes and its slots as they were drawn last. @type {Uint8Array | null} */
         this.before = null;
+        this.image = new Uint8Array();
         /** The slot that changed last, and the one that is pointed at. @type {number[]} */
         this.shown = [0, 0];
         this.pointed = null;
@@ -31,6 +33,11 @@ class FlashView {
         this.before = this.pointed = this.other = null;
         this.shown = [0, 0];
         this.drawn = "";
+        const { paired } = this.model.session;
+        for (const [id, name] of [["bits-word", "word"], ["bits-complement", "complement"]]) {
+            $(id).replaceChildren(...(paired ? unitCells() : Array.from({ length: 32 }, () => h("i"))));
+            set($(id), { className: "bits-row", title: "", "aria-label": `The bits of the ${name}; a filled one is 0` });
+        }
     }
     frame(page) {
         const canvas = h("canvas", { role: "img", tabIndex: 0, "data-page": page });
@@ -57,17 +64,19 @@ class FlashView {
     }
     /** Draws what the flash is now; the slot that changed last is marked. */
     draw() {
-        const { device } = this.model.session.bench, image = device.image().slice(), pages = device.pages();
-        if (this.before?.length !== image.length) this.root.replaceChildren(...Array.from({ length: pages }, (_, page) => this.frame(page)));
+        const { device } = this.model.session.bench, raw = device.raw().slice(), pages = device.pages();
+        if (this.before?.length !== raw.length) this.root.replaceChildren(...Array.from({ length: pages }, (_, page) => this.frame(page)));
         const state = `${matchMedia("(prefers-color-scheme: dark)").matches} ${devicePixelRatio} ${this.other !== null}`;
-        const before = this.before?.length === image.length ? this.before : null;
-        const changed = before ? image.findLastIndex((byte, at) => byte !== before[at]) : -1;
+        const before = this.before?.length === raw.length ? this.before : null;
+        const changed = before ? raw.findLastIndex((byte, at) => byte !== before[at]) : -1;
         if (before && changed < 0 && state === this.drawn) return;
-        if (changed >= 0) this.shown = [Math.floor(changed / PAGE), Math.floor((changed % PAGE) / SLOT)];
+        const slot = Math.floor(changed / (device.paired ? SLOT_CELLS : SLOT));
+        if (changed >= 0) this.shown = [Math.floor(slot / SLOTS), slot % SLOTS];
         this.drawn = state;
-        this.before = image;
+        this.before = raw;
+        this.image = device.paired ? device.image() : raw;
         const active = device.active();
-        for (let page = 0; page < pages; page++) this.page(image, page, page === active);
+        for (let page = 0; page < pages; page++) this.page(this.image, page, page === active);
         this.look();
     }
     page(image, page, active) {
@@ -89,8 +98,10 @@ class FlashView {
         canvas.height = ROWS * H * scale;
         const g = canvas.getContext("2d");
         g.scale(scale, scale);
+        const { device } = this.model.session.bench;
         kinds.forEach((kind, slot) => {
             const x = (slot % COLUMNS) * W, y = Math.floor(slot / COLUMNS) * H;
+            if (device.paired) return paintUnits(g, [x, y, W - 1, H - 1], unitsOf(device, page, slot), kind, colour);
             g.fillStyle = colour(kind);
             g.fillRect(x, y, W - 1, H - 1);
             if (this.other && differs(image, this.other, page, slot)) {
@@ -103,14 +114,16 @@ class FlashView {
         g.lineWidth = 1.5;
         g.strokeRect((this.shown[1] % COLUMNS) * W - 0.5, Math.floor(this.shown[1] / COLUMNS) * H - 0.5, W, H);
     }
-    /** Shows the 64 bits of a slot, the word above its complement. */
+    /** Shows the 64 bits of a slot, the word above its complement; or the cells of its two units. */
     look() {
         if (!this.before) return;
         const [page, number] = this.pointed ?? this.shown;
-        const slot = slotAt(this.before, page, number), at = page * PAGE + number * SLOT;
+        const { device } = this.model.session.bench;
+        const slot = slotAt(this.image, page, number), at = page * PAGE + number * SLOT, units = device.paired ? unitsOf(device, page, number) : null;
         set($("bits-title"), { textContent: `Page ${page}, slot ${number}` });
-        set($("bits-says"), { textContent: saysOf(slot, number) });
-        set($("bits-hex"), { textContent: bytesHex(this.before.subarray(at, at + SLOT)).replace(/(.{8})/, "$1 ") });
+        set($("bits-says"), { textContent: saysOf(slot, number) + (units ? `; ${unitsSay(units)}` : "") });
+        set($("bits-hex"), { textContent: bytesHex(this.image.subarray(at, at + SLOT)).replace(/(.{8})/, "$1 ") });
+        if (units) return units.forEach((unit, n) => showUnit($(["bits-word", "bits-complement"][n]), unit, ["first", "second"][n]));
         [["bits-word", slot.word, slot.complement], ["bits-complement", slot.complement, slot.word]].forEach(([id, word, other]) => {
             [...$(id).children].forEach((cell, n) => {
                 const bit = (of) => (of >>> (31 - n)) & 1, odd = slot.kind === "spoiled" && bit(word) === bit(other);
@@ -122,8 +135,8 @@ class FlashView {
 
 /** @param {import("./model.js").Model} model */
 export function flashView(model) {
-    for (const id of ["bits-word", "bits-complement"]) $(id).replaceChildren(...Array.from({ length: 32 }, () => h("i")));
     const view = new FlashView(model);
+    view.forget();
     model.session.starters.push(() => view.forget());
     model.on(() => view.draw());
     matchMedia("(prefers-color-scheme: dark)").addEventListener("change", () => model.changed());

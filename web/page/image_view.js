@@ -13,20 +13,14 @@ const wrongSize = (bytes) => (bytes.length % PAGE || bytes.length < LEAST || byt
 /**
  * @param {import("./model.js").Model} model
  * @param {{compare: (image: Uint8Array | null) => void}} flash
+ * @param {(on: number | Uint8Array, paired?: boolean) => void} start
  */
-export function imageView(model, flash) {
+export function imageView(model, flash, start) {
     const { session } = model;
     const say = (text, kind = "") => set($("image-said"), { textContent: text, className: `said ${kind}` });
     fill($("blank-pages"), [2, 3, 4, 5, 6, 7, 8].map((pages) => /** @type {[string, string]} */ ([String(pages), `${pages} blank pages`])));
-    const start = (on) => {
-        model.release();
-        session.start(on);
-        session.bench.enumerate();
-        model.undos = [];
-        model.changed();
-    };
     $("start-blank").addEventListener("click", () => {
-        start(Number($("blank-pages").value));
+        start(Number($("blank-pages").value), session.paired);
         say("It started on a blank flash.");
     });
     $("image-save").addEventListener("click", () => {

@@ -25,7 +25,7 @@ export class Session {
         /** @type {Speed} */
         this.speed = "fast";
         this.paused = false;
-        /** The mask of the cut that waits for the next write. @type {Uint8Array | null} */
+        /** The mask of the cut that waits for the next write, and in which of its units. @type {[Uint8Array, number] | null} */
         this.armed = null;
         this.ticks = 0;
         this.start(2);
@@ -33,20 +33,25 @@ export class Session {
     /**
      * Starts anew on a flash: so many blank pages, or an image.
      * @param {number | Uint8Array} flash
+     * @param {boolean} [paired] whether it has error correction
      */
-    start(flash) {
+    start(flash, paired = false) {
         this.bench = new Bench(flash, (what, bytes, said) => {
             this.ledger.event(this.bench, what, bytes, said);
             for (const see of this.seers) see(what, bytes, said);
-        });
+        }, paired);
         this.ledger = new Ledger(this.bench.device.keymap());
         this.armed = null;
         for (const started of this.starters) started();
     }
+    /** Whether the flash has error correction. */
+    get paired() {
+        return this.bench.device.paired;
+    }
     /** Cuts the power inside the write that is next. */
-    cutInside(mask) {
+    cutInside(mask, unit = 0) {
         this.armed = null;
-        this.bench.cut(mask);
+        this.bench.cut(mask, unit);
     }
     /** Waits for the clock. @returns {Promise<void>} */
     tick() {
@@ -58,7 +63,7 @@ export class Session {
             this.bench.scan(this.keys(), SCANS);
             this.bench.poll();
             this.ticks++;
-            if (this.armed && this.ledger.pending) this.cutInside(this.armed);
+            if (this.armed && this.ledger.pending) this.cutInside(...this.armed);
             else if (this.speed === "fast") for (let n = 0; n < STEPS && this.bench.work() === "working"; n++);
             else if (this.speed === "slow" && this.ticks % SLOW === 0) this.bench.work();
         }

@@ -18,7 +18,7 @@ JUDGED = """((all) => all.map(([pages, text]) => {
 # Cuts an append in each of the 256 ways of a mask of one byte.
 APPENDED = """(async () => {
     const [device, entry] = page.prepared("append");
-    return (await page.everyCut(device, entry, Array.from({ length: 256 }, (_, mask) => Uint8Array.of(mask)))).counts;
+    return (await page.everyCut(device, entry, Array.from({ length: 256 }, (_, mask) => [Uint8Array.of(mask), 0]))).counts;
 })()"""
 
 

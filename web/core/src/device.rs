@@ -3,17 +3,19 @@
 //! A packet's answer is a number: 0 and more are the bytes of a packet in the buffer (an OUT packet that is taken answers 0),
 //! -1 is NAK, -100 less the number of the reason a stall, [`REFUSED`] a call that the device has not seen.
 
+use crate::cells::{self, Read};
+use crate::flash::Flash;
 use crate::memory::Kept;
 use crate::{BUFFER, Buffer, REFUSED, written};
 use wuzhikar::wuzhikar_log::Log;
-use wuzhikar::{EpAnswer, KeyNo, Keyboard, LayerNo, Mask, Protocol, Scan, SimFlash, Work};
+use wuzhikar::{EpAnswer, KeyNo, Keyboard, LayerNo, NorFlash, Protocol, Scan, SimFlash, Work};
 
 const NAK: i32 = -1;
 const STALL: i32 = -100;
 
 struct Device {
     keyboard: Keyboard,
-    flash: SimFlash,
+    flash: Flash,
 }
 
 static DEVICE: Kept<Option<Device>> = Kept::new(None);
@@ -28,7 +30,7 @@ fn with(act: impl FnOnce(&mut Device, &mut Buffer) -> i32) -> i32 {
 /// A keyboard on so many erased pages, 2 to 8: 0.
 #[unsafe(no_mangle)]
 pub extern "C" fn start_blank(pages: usize) -> i32 {
-    started(SimFlash::blank(pages).ok())
+    started(SimFlash::blank(pages).ok().map(Flash::Plain))
 }
 
 /// A keyboard on the first `length` bytes of the buffer, which are the image of 2 to 8 pages: 0.
@@ -36,11 +38,18 @@ pub extern "C" fn start_blank(pages: usize) -> i32 {
 pub extern "C" fn start_image(length: usize) -> i32 {
     started(BUFFER.with(|buffer| {
         let image = buffer.get(..length)?;
-        SimFlash::from_image(image.to_vec()).ok()
+        SimFlash::from_image(image.to_vec()).ok().map(Flash::Plain)
     }))
 }
 
-fn started(flash: Option<SimFlash>) -> i32 {
+/// A keyboard on a flash with error correction, whose slots hold the words of the image that is the first `length` bytes of
+/// the buffer; a slot that is no word and not free is refused: 0.
+#[unsafe(no_mangle)]
+pub extern "C" fn start_paired(length: usize) -> i32 {
+    started(BUFFER.with(|buffer| Flash::paired(buffer.get(..length)?)))
+}
+
+fn started(flash: Option<Flash>) -> i32 {
     let Some(flash) = flash else { return REFUSED };
     let keyboard = Keyboard::on(&flash);
     DEVICE.with(|device| *device = Some(Device { keyboard, flash }));
@@ -114,9 +123,16 @@ pub extern "C" fn work() -> i32 {
 /// A step whose flash operation is torn by a mask and answers a fault: the first `length` bytes of the buffer, at most 4,096.
 #[unsafe(no_mangle)]
 pub extern "C" fn work_torn(length: usize) -> i32 {
+    work_torn_after(0, length)
+}
+
+/// The same, where with error correction `whole` writes of units are made before the torn operation, and none after it.
+#[unsafe(no_mangle)]
+pub extern "C" fn work_torn_after(whole: u32, length: usize) -> i32 {
     with(|device, buffer| {
-        let Some(Ok(mask)) = buffer.get(..length).map(Mask::try_from) else { return REFUSED };
-        device.flash.fault_next(mask);
+        if !buffer.get(..length).is_some_and(|mask| device.flash.tear(whole, mask)) {
+            return REFUSED;
+        }
         let work = device.keyboard.work(&mut device.flash);
         device.flash.disarm();
         worked(work)
@@ -179,16 +195,46 @@ pub extern "C" fn keymap() -> i32 {
     })
 }
 
-/// Where the flash's bytes stand in memory.
+/// Where the flash's bytes stand in memory; with error correction nine for each unit, its check last.
 #[unsafe(no_mangle)]
 pub extern "C" fn flash() -> *const u8 {
-    DEVICE.with(|device| device.as_ref().map_or(core::ptr::null(), |device| device.flash.image().as_ptr()))
+    DEVICE.with(|device| device.as_ref().map_or(core::ptr::null(), |device| device.flash.place().0))
 }
 
 /// How many bytes the flash has.
 #[unsafe(no_mangle)]
 pub extern "C" fn flash_length() -> i32 {
-    with(|device, _| device.flash.image().len() as i32)
+    with(|device, _| device.flash.place().1 as i32)
+}
+
+/// How many pages the flash has.
+#[unsafe(no_mangle)]
+pub extern "C" fn pages() -> i32 {
+    with(|device, _| device.flash.pages() as i32)
+}
+
+/// Writes what the slots read as, page by page. Their length.
+#[unsafe(no_mangle)]
+pub extern "C" fn slots() -> i32 {
+    with(|device, buffer| written(&device.flash.slots(), buffer))
+}
+
+/// Writes a unit of a flash with error correction: its eight bytes and its check, and then the nine as they are corrected.
+/// How it reads: 0 blank, 1 a word, 2 corrected, 3 an error.
+#[unsafe(no_mangle)]
+pub extern "C" fn unit(page: usize, unit: usize) -> i32 {
+    with(|device, buffer| {
+        let (Flash::Paired(_), Some((cells, read))) = (&device.flash, cells::unit(page, unit)) else { return REFUSED };
+        let (number, corrected) = match read {
+            Read::Blank => (0, cells),
+            Read::Word => (1, cells),
+            Read::Corrected(corrected) => (2, corrected),
+            Read::Error => (3, cells),
+        };
+        buffer[..9].copy_from_slice(&cells);
+        buffer[9..18].copy_from_slice(&corrected);
+        number
+    })
 }
 
 /// The active page of the log, as the keyboard's own reader finds it, or -1.

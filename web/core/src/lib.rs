@@ -10,7 +10,9 @@
 
 extern crate alloc;
 
+pub mod cells;
 pub mod device;
+pub mod flash;
 pub mod memory;
 pub mod reader;
 
