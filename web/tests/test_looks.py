@@ -67,6 +67,20 @@ class Looks(PageTest):
         self.writing()
         self.ledger(re.compile("Writing.*"))
 
+    def correct(self):
+        """Brings flash with error correction onto the page, with a unit that reads as an error, and one that is corrected."""
+        self.go("Play", "Set keys")
+        self.b.choose("#speed", "fast")
+        self.b.click("#flash-kind button:nth-child(2)")
+        self.assigned(0, 5)
+        for unit, mask in (("0", "ffffff7fffffffffff"), ("1", "55")):
+            self.b.choose("#unit", unit)
+            self.b.choose("#mask", mask)
+            self.b.click("#cut-inside")
+            self.bad(f"{self.assign(1, 29)}: the power or the bus went before it was confirmed.")
+            self.forget()
+        self.shows("#bits-says", "spoiled: cut off; units: a word; an error")
+
     def test_contrast_in_every_view_and_theme(self):
         for view, _, place in self.places(filled=True):
             self.assertEqual(self.b.js("looks.faint()"), [], place)
@@ -74,6 +88,10 @@ class Looks(PageTest):
                 self.b.choose("#descriptor", "05 01 c0")
                 self.assertEqual(self.b.js("looks.faint()"), [], place)
                 self.b.click("#own-descriptor")
+        for theme, dark in THEMES.items():
+            self.b.dark(dark)
+            self.correct()
+            self.assertEqual(self.b.js("looks.faint()"), [], f"flash with error correction, {theme}")
 
     def test_names_and_roles(self):
         for view, tab, place in self.places():
@@ -85,6 +103,15 @@ class Looks(PageTest):
             self.assertTrue({"generic button", "clickable"}.isdisjoint(roles), place)
             selected = [node["name"]["value"] for node in nodes if node["role"]["value"] == "tab" for one in node["properties"] if one["name"] == "selected" and one["value"]["value"]]
             self.assertEqual(selected, [view] + ([tab] if tab else []), place)
+
+    def test_names_of_the_units(self):
+        self.correct()
+        nodes = [node for node in self.b.call("Accessibility.getFullAXTree")["nodes"] if not node["ignored"]]
+        self.assertEqual([node["role"]["value"] for node in nodes if node["role"]["value"] in NAMED and not node.get("name", {}).get("value", "").strip()], [])
+        named = {node["name"]["value"] for node in nodes if node["role"]["value"] in {"image", "img", "group", "combobox", "button"}}
+        self.assertLessEqual({"Which flash", "Plain", "With error correction", "Unit"}, named)
+        for unit, reads in (("first", "a word"), ("second", "an error")):
+            self.assertTrue(any(re.fullmatch(f"The cells of the {unit} unit, its check last, [0-9a-f]{{18}}: it reads as {reads}\\. A filled one is 0", name) for name in named), named)
 
     def test_what_tab_reaches_and_that_it_is_seen(self):
         for *_, place in self.places():
@@ -147,6 +174,12 @@ class Looks(PageTest):
                     self.assertEqual({at: self.b.js(f"looks.{at}()") for at in ("wide", "cut", "narrow", "broken", "small")}, dict.fromkeys(("wide", "cut", "narrow", "broken", "small"), []))
                     self.b.js("scrollTo(0, 0)")
                     self.b.screenshot(SHOTS / f"{name}.png", whole=True)
+            self.correct()
+            with self.subTest(f"{width}, {theme}, flash with error correction"):
+                self.assertEqual({at: self.b.js(f"looks.{at}()") for at in ("wide", "cut", "narrow", "broken", "small")}, dict.fromkeys(("wide", "cut", "narrow", "broken", "small"), []))
+                self.b.js("scrollTo(0, 0)")
+                self.b.screenshot(SHOTS / f"{width}-{theme}-play-corrected.png", whole=True)
+            self.b.click("#flash-kind button:nth-child(1)")
 
     def test_pictures_narrow(self):
         self.pictures(360)
@@ -211,6 +244,7 @@ class Shifts(PageTest):
                 await new Promise((done) => setTimeout(done, 35));
             };
             for (const selector of ['#keyboard button[data-key="3"]', '#palette button[data-code="7"]', '#groups button:nth-child(2)', '#palette button[data-code="33"]', '#groups button:nth-child(8)',
-                '#cut', '#cut-inside', '#bus-reset', '#layers button:nth-child(2)', '#undo', '#reset-layer', '#reset-all', '#try']) await click(selector);
+                '#cut', '#cut-inside', '#bus-reset', '#layers button:nth-child(2)', '#undo', '#reset-layer', '#reset-all', '#try', '#flash-kind button:nth-child(2)', '#palette button:nth-child(3)', '#cut-inside', '#palette button:nth-child(4)',
+                '#flash-kind button:nth-child(1)', '#flash-kind button:nth-child(2)', '#try']) await click(selector);
         })()""")
         self.shows("#tried", re.compile(".* 0 lost\\."))

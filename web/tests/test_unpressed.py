@@ -31,6 +31,9 @@ class Unpressed(PageTest):
             self.b.choose("#picture", str(number))
             self.frame()
             found.update(self.b.js("controls.there()"))
+        self.b.click("#flash-kind button:nth-child(2)")
+        self.has("page.session.paired", True)
+        found.update(self.b.js("controls.there()"))
         return found
 
     def test_no_control_was_left_out(self):
@@ -38,7 +41,7 @@ class Unpressed(PageTest):
             raise unittest.SkipTest("not every test is run")
         pressed, there = set(PRESSED), self.there()
         self.assertEqual(sorted(there - pressed), [])
-        for control in ("button#cut", "#views Describe", "#tabs Script", "#groups Media", "#palette code 4", "#keyboard key 95", "select#mask own", "input#load-file", "textarea#descriptor"):
+        for control in ("button#cut", "#views Describe", "#tabs Script", "#groups Media", "#palette code 4", "#keyboard key 95", "select#mask own", "select#mask ffffff7fffffffffff", "select#unit 1", "#flash-kind Plain", "input#load-file", "textarea#descriptor"):
             self.assertIn(control, there)
         support.NOTES.append(f"{len(there)} buttons, choices and fields, each used by a test")
 

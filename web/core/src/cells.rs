@@ -185,7 +185,8 @@ fn read(cells: [u8; UNIT_CELLS]) -> Read {
     if wrong == 0 {
         return Read::Word;
     }
-    let turned = if wrong.is_power_of_two() { Some(0) } else { TURNS.iter().position(|turns| *turns == wrong).map(|bit| 1 << bit) };
+    let turned =
+        if wrong.is_power_of_two() { Some(0) } else { TURNS.iter().position(|turns| *turns == wrong).map(|bit| 1 << bit) };
     match turned.map(|turned: u64| with_check((u64::from_le_bytes(data) ^ turned).to_le_bytes())) {
         Some(corrected) if corrected != [0xFF; UNIT_CELLS] => Read::Corrected(corrected),
         _ => Read::Error,
