@@ -26,7 +26,7 @@ const WORK = ["idle", "working", "settled", "failed"];
 
 /** Bytes of cells of a unit: eight of data, and the check. */
 export const CELLS = 9;
-/** @typedef {"blank" | "word" | "corrected" | "error"} Reads */
+/** How a unit reads: each cell set, as it stands, with one cell turned, or not at all. @typedef {"blank" | "word" | "corrected" | "error"} Reads */
 /** @type {Reads[]} */
 const UNIT = ["blank", "word", "corrected", "error"];
 /** @typedef {{reads: Reads, cells: Uint8Array, right: Uint8Array}} Unit */

@@ -3,7 +3,7 @@
 import { $, choices, set } from "./dom.js";
 
 const NOTES = [
-    "Each slot takes one write. A torn one is passed over, and never reads as another word.",
+    "Each slot takes one write, of a word beside its complement. A torn one is passed over, and never reads as another word.",
     "Each slot takes two write units. A torn unit reads as an error or as less, never as another word. Scripts and images are of plain flash.",
 ];
 const OF_PLAIN = "Images are of plain flash alone.";

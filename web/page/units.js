@@ -10,7 +10,6 @@ import { h, set } from "./dom.js";
 export const SLOT_CELLS = 2 * CELLS;
 /** The bytes of a unit as they are shown: the word, the complement, the check, each with its highest bit first. */
 const ORDER = [3, 2, 1, 0, 7, 6, 5, 4, 8];
-const READS = { blank: "blank", word: "a word", corrected: "a word, one cell corrected", error: "an error" };
 
 /**
  * The units of a slot: that of its word, and that of its check.
@@ -19,8 +18,15 @@ const READS = { blank: "blank", word: "a word", corrected: "a word, one cell cor
  */
 export const unitsOf = (device, page, slot) => [0, 1].map((n) => device.unit(page, 2 * slot + n));
 
-/** What the units of a slot read as, in a few words. */
-export const unitsSay = (units) => `units: ${units.map(({ reads }) => READS[reads]).join("; ")}`;
+/** What a unit reads as, in a few words: a word stands beside its complement. @param {Unit} unit */
+function readsAs({ reads, right }) {
+    if (reads === "blank") return "blank";
+    if (reads === "error") return "an error";
+    const word = [0, 1, 2, 3].every((n) => (right[n] ^ right[n + 4]) === 255);
+    return `${word ? "a word" : "no word"}${reads === "corrected" ? ", one cell corrected" : ""}`;
+}
+/** What the units of a slot read as. */
+export const unitsSay = (units) => `units: ${units.map(readsAs).join("; ")}`;
 
 /**
  * Which colour a unit has: its slot's, where it reads as a word of a slot that is whole.
@@ -58,7 +64,7 @@ export const unitCells = () => Array.from({ length: 8 * CELLS }, () => h("i"));
 /** Shows the cells of a unit in a row; the one that is corrected is marked. */
 export function showUnit(row, unit, name) {
     set(row, { className: `bits-row units ${unit.reads}`, title: bytesHex(unit.cells) });
-    set(row, { "aria-label": `The cells of the ${name} unit, its check last, ${bytesHex(unit.cells)}: it reads as ${READS[unit.reads]}. A filled one is 0` });
+    set(row, { "aria-label": `The cells of the ${name} unit, its check last, ${bytesHex(unit.cells)}: it reads as ${readsAs(unit)}. A filled one is 0` });
     [...row.children].forEach((cell, n) => {
         const at = ORDER[n >> 3], bit = 7 - (n & 7);
         set(cell, { className: `${(unit.cells[at] >> bit) & 1 ? "one" : "zero"}${((unit.cells[at] ^ unit.right[at]) >> bit) & 1 ? " odd" : ""}` });

@@ -11,7 +11,6 @@ COLUMNS = [number for number in range(1, 256) if number.bit_count() in (3, 5, 7)
 BLANK = b"\xff" * 9
 PLAIN, CORRECTED = (f"#flash-kind button:nth-child({number})" for number in (1, 2))
 ROWS = ("#bits-word", "#bits-complement")
-SAYS = {"blank": "blank", "word": "a word", "corrected": "a word, one cell corrected", "error": "an error"}
 # Sets random entries of a keyboard, each cut with some luck inside a random write by a random mask.
 CUTS = """((rounds) => {
     let ledger;
@@ -81,6 +80,24 @@ def read(cells):
     return "error", cells
 
 
+def is_word(cells):
+    """Whether the data is a word beside its complement."""
+    return all(one ^ other == 0xFF for one, other in zip(cells[:4], cells[4:8], strict=True))
+
+
+def said(how, right):
+    """What the page says of a unit that reads so."""
+    if how in ("blank", "error"):
+        return {"blank": "blank", "error": "an error"}[how]
+    return ("a word" if is_word(right) else "no word") + (", one cell corrected" if how == "corrected" else "")
+
+
+def mistaken(cells):
+    """Whether one cell of a unit is corrected, and what comes of it is no word."""
+    how, right = read(cells)
+    return how == "corrected" and not is_word(right)
+
+
 def torn(whole, mask):
     """What a torn write leaves of a blank unit."""
     mask = (mask * 9)[:9] if mask else bytes(9)
@@ -127,7 +144,7 @@ class Corrected(PageTest):
 
     def test_a_choice_of_the_flash(self):
         self.assertEqual([len(self.b.js(f"[...document.querySelector('{row}').children].map(() => 0)")) for row in ROWS], [32, 32])
-        self.shows("#flash-note", re.compile("Each slot takes one write\\..*"))
+        self.shows("#flash-note", re.compile("Each slot takes one write, .*"))
         self.corrected()
         self.shows("#flash-note", re.compile("Each slot takes two write units\\. A torn unit reads as an error or as less, never as another word\\. .*"))
         self.has("[...document.querySelectorAll('#flash-kind button')].map((one) => one.getAttribute('aria-pressed'))", ["false", "true"])
@@ -169,7 +186,7 @@ class Corrected(PageTest):
         second = unit(bytes.fromhex("0d1d0111f2e2feee"))  # each byte of the word XOR the one before it
         masks = self.b.js("[...document.querySelectorAll('#mask option')].map((one) => one.value)")
         self.assertEqual(len(masks), 7)
-        seen = set()
+        drawn, seen = random.Random(11), set()
         for number, mask in itertools.product((0, 1), masks):
             self.b.click("#start-blank")
             self.b.choose("#speed", "fast")
@@ -177,32 +194,34 @@ class Corrected(PageTest):
             self.b.choose("#speed", "hand")
             self.b.choose("#unit", str(number))
             self.b.choose("#mask", mask)
+            if mask == "own":
+                self.b.choose("#mask-hex", next(one for one in iter(lambda: drawn.randbytes(9), b"") if mistaken(torn((first, second)[number], one))).hex())
             chosen = self.b.js("document.querySelector('#mask-hex').value")
-            said = self.assign(1, 29)
+            asked = self.assign(1, 29)
             self.writing()
             self.b.click("#cut-inside")
-            self.bad(f"{said}: the power or the bus went before it was confirmed.")
+            self.bad(f"{asked}: the power or the bus went before it was confirmed.")
             left = torn((first, second)[number], bytes.fromhex(chosen) if chosen != "-" else b"")
             wanted = (left, BLANK) if number == 0 else (first, left)
             self.assertEqual((self.cells(4), self.cells(5)), wanted, (number, mask))
             reads = [read(cells) for cells in wanted]
-            seen.update(reads[number][:1])
+            seen.add(said(*reads[number]))
             kept = number == 1 and reads[1][1] == second
             self.entry(0, 1, 29 if kept else 5)
             self.ledger("1 change confirmed, all of it is there")
             self.shows("#ledger-more", re.compile("1 power cut; compared [0-9]+ times\\." if kept else ".*is not there, and nothing else changed\\."))
             if wanted != (BLANK, BLANK):
                 self.shows("#bits-title", "Page 0, slot 2")
-                self.shows("#bits-says", re.compile(f".+; units: {'; '.join(SAYS[how] for how, _ in reads)}"))
+                self.shows("#bits-says", re.compile(f".+; units: {'; '.join(said(*one) for one in reads)}"))
                 for row, (how, right), cells in zip(ROWS, reads, wanted, strict=True):
                     self.assertEqual(self.shown(row), (cells, (int.from_bytes(right) ^ int.from_bytes(cells)).bit_count()))
                     self.assertIn(how, self.b.js(f"document.querySelector('{row}').className").split())
-                    self.assertIn(f"it reads as {SAYS[how]}.", self.b.js(f"document.querySelector('{row}').getAttribute('aria-label')"))
+                    self.assertIn(f"it reads as {said(how, right)}.", self.b.js(f"document.querySelector('{row}').getAttribute('aria-label')"))
             self.b.choose("#speed", "fast")
             self.assigned(1, 29)
             self.entry(0, 1, 29)
             self.forget()
-        self.assertLessEqual({"blank", "word", "corrected", "error"}, seen)
+        self.assertLessEqual({"blank", "a word", "a word, one cell corrected", "no word, one cell corrected", "an error"}, seen)
 
     def test_a_torn_unit_that_is_an_error_is_seen(self):
         self.corrected()
@@ -230,6 +249,8 @@ class Corrected(PageTest):
         found = self.b.js(f"{TORN}({[list(mask) for mask in masks]})")
         self.assertEqual(found, [[how, torn(whole, mask).hex(), right.hex()] for mask, (how, right) in zip(masks, seen, strict=True)])
         self.assertEqual({how for how, _ in seen}, {"blank", "word", "corrected", "error"})
+        words = {right for how, _, right in found if how in ("word", "corrected") and is_word(bytes.fromhex(right))}
+        self.assertEqual(words, {whole.hex()}, "never another word")
 
     def test_the_ledger_over_random_cuts(self):
         told = self.b.js(f"{CUTS}(1500)")
