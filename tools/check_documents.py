@@ -1,4 +1,4 @@
-"""Checks that the documents say what is there. bin/check-docs calls it; it takes seconds.
+"""Checks that the documents say what is there. tools/check-docs calls it; it takes seconds.
 
 - Each name and path between backticks of README.md and docs/ is a word of the sources, or a file.
 - Each link leads to a file that is there, and to a heading of it.

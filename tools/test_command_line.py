@@ -333,7 +333,7 @@ class Examples(Calls):
         for name in ("migration", "turnover"):
             with self.subTest(name):
                 with open(f"{ROOT}/examples/{name}.slots", "rb") as slots, open(f"{self.folder}/{name}", "wb") as image:
-                    subprocess.run([f"{ROOT}/bin/make-image", "2"], stdin=slots, stdout=image, check=True)
+                    subprocess.run([f"{ROOT}/tools/make-image", "2"], stdin=slots, stdout=image, check=True)
                 self.example(["run", "--image", name], f"{name}.kbs", f"{name}.expected")
 
 

@@ -18,7 +18,7 @@ KBSIM = [os.environ["KBSIM"]] if "KBSIM" in os.environ else [f"{ROOT}/bin/kbsim"
 
 def make_image(pages, slots, file):
     """Writes the image of a flash of so many pages, with these lines of slots, to a file."""
-    subprocess.run([f"{ROOT}/bin/make-image", str(pages)], input="\n".join(slots).encode(), stdout=file, check=True)
+    subprocess.run([f"{ROOT}/tools/make-image", str(pages)], input="\n".join(slots).encode(), stdout=file, check=True)
 
 
 def full_of_format_1():
@@ -56,7 +56,7 @@ class Case(NamedTuple):
     """What is given to the program, and what it is to print."""
 
     place: str  # the file and the line
-    slots: list[str]  # those of the image, as bin/make-image reads them
+    slots: list[str]  # those of the image, as tools/make-image reads them
     given: bytes
     printed: str
     said: str | None = None  # on standard error, where a case tells it

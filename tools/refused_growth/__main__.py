@@ -2,7 +2,7 @@
 
 `rt try` runs a program of this folder over the sources of crates, unproved, twice: interpreted, and compiled with checks. In each
 run allocation 64 is refused, and the program makes as many before that this is growth N of its call: N is the first byte of its
-input. bin/refused-growth calls it; it takes minutes.
+input. tools/refused-growth calls it; it takes minutes.
 """
 
 import argparse

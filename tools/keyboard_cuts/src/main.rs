@@ -5,7 +5,7 @@
 //! `keyboard_cuts EVENTS` makes so many calls of keyboards. After each start the whole keymap has to be the one that the settled
 //! commands gave, but for the command that the cut caught, which may have changed it or not; a command that the host was told is
 //! stored has to be settled; and no command takes more than 387 steps. `keyboard_cuts wrong` does the same with adapters that are
-//! wrong in one point each, and says what is found. `bin/keyboard-cuts` builds and runs it.
+//! wrong in one point each, and says what is found. `tools/keyboard-cuts` builds and runs it.
 
 #[allow(dead_code)]
 #[path = "../../../examples/settings/src/code.rs"]

@@ -2,7 +2,7 @@
 //! What a slot in two write units costs beside one in a unit of its own, over the same cells in memory.
 //!
 //! On a computer, `paired_cost sim N`, `cells N` and `paired N` read all slots of a page N times, for callgrind. Without an
-//! operating system it is a keyboard's firmware that measures its stack, for `qemu-arm`. `bin/paired-cost` builds and runs both.
+//! operating system it is a keyboard's firmware that measures its stack, for `qemu-arm`. `tools/paired-cost` builds and runs both.
 #![cfg_attr(target_os = "none", no_std, no_main)]
 
 #[cfg(target_os = "none")]
