@@ -1,5 +1,5 @@
-"""Runs the tests of the crate wuzhikar-hid, and compares it with tests/reader/plain.py over real and mutated descriptors: what
-they declare, what reports of them say, and what is written. Ends with the number of differences.
+"""Runs the tests of the crate wuzhikar-hid, and compares it with tests/reader/plain.py and plain_write.py over real and
+mutated descriptors: what they declare, what reports of them say, and what is written. Ends with the number of differences.
 """
 
 import argparse
@@ -18,6 +18,7 @@ from test_kbsim import read_cases
 ROOT = pathlib.Path(__file__).resolve().parent.parent
 sys.path.insert(0, str(ROOT / "tests/reader"))
 import plain  # noqa: E402
+import plain_write  # noqa: E402
 
 KINDS = (plain.INPUT, plain.OUTPUT, plain.FEATURE)
 READ = {"empty": "Empty", "unknown": "UnknownReport", "short": "Short"}
@@ -176,8 +177,8 @@ def told_values(descriptor, kind, report):
 def told_written(descriptor, kind, number, settings, onto):
     """What is told of a report that is written."""
     try:
-        return plain.write(descriptor, kind, number, settings, onto).hex()
-    except plain.NotWritten as why:
+        return plain_write.write(descriptor, kind, number, settings, onto).hex()
+    except plain_write.NotWritten as why:
         return " ".join(map(str, why.args))
 
 
