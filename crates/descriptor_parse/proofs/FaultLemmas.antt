@@ -14,7 +14,6 @@ use Rattle.descriptor_parse.specs.declared.state.State.{State}
 use Rattle.descriptor_parse.specs.StateStands.{StateStands, IsRefused}
 use Rattle.descriptor_parse.specs.Parse.{HasReached, Refuses}
 use Rattle.descriptor_parse.specs.declared.field.Kind.{Kind}
-use Rattle.descriptor_parse.specs.declared.field.Kind.TheVariants.{Input, Output, Feature}
 use Rattle.descriptor_parse.specs.declared.reports.Reports.{Reports}
 use Rattle.descriptor_parse.specs.Totals.{bits_in, no_reports}
 use Rattle.std.proofs.Math.ListN.{get_or-map}

@@ -14,6 +14,7 @@ pub mod FewLemmas
 pub mod ReadingLemmas
 pub mod OneFault
 pub mod CutLemmas
+mod SoundLemmas
 pub mod WellLemmas
 pub mod WalkLemmas
 pub mod LinkLemmas
