@@ -7,6 +7,8 @@
 - Each wrong body stands where docs/WRONG_BODIES.md says, each edit of the gate stands there, and the text that an edit replaces
   stands once in its file.
 - Each definition is in the file that a document names beside it, and each file of definitions says first who has to believe it.
+- Before each table of docs/MEASUREMENTS.md stands a program of the repository that gives its numbers, and what documents show of
+  bench/results.tsv is what it has.
 - Each fenced program and command of a page is run by tools/test_documents.py, or says why not.
 """
 
@@ -20,6 +22,11 @@ import subprocess
 import sys
 
 ROOT = os.path.dirname(os.path.dirname(os.path.abspath(__file__)))
+sys.path.insert(0, f"{ROOT}/tools/bench")
+
+import document as bench_document
+import results
+
 SOURCES = ("crates", "tools", "examples", "rust", "web")
 ENDINGS = (".rt", ".antt", ".edit", ".py", ".rs", ".h", ".js")
 # What a document may name that is no word of the sources: the toolchain's, the system's, the languages', another crate's.
@@ -224,6 +231,27 @@ def believed(tree):
                 yield f"{path}: its first line does not say who has to believe its definitions"
 
 
+def measured(tree):
+    """Tables of numbers before which no program of the repository is named."""
+    document, before = "docs/MEASUREMENTS.md", ""
+    for block in re.split(r"\n\s*\n", tree.read(document)):
+        if not block.startswith("|"):
+            before = before if block.startswith("<!--") else block
+        elif not any(map(tree.exists, re.findall(r"`((?:bin|tools)/[\w-]+)", before))):
+            yield f"{document}: no program of the repository is named before the table {block.splitlines()[0]}"
+
+
+def benched(tree):
+    """Documents that show other numbers than bench/results.tsv has."""
+    if not tree.exists("bench/results.tsv"):
+        return
+    rows = list(results.read(f"{tree.root}/bench/results.tsv").values())
+    for name, how in bench_document.SHOWN.items():
+        text = tree.read(name) if tree.exists(name) else ""
+        if bench_document.MARKS[how][0] in text and bench_document.rewritten(text, how, rows) != text:
+            yield f"{name}: it shows other numbers than bench/results.tsv has: bin/bench --tables"
+
+
 def shown(tree):
     """What tools/test_documents.py says of fences that are neither run nor marked, and of what is counted."""
     command = ["python3", "-B", "tools/test_documents.py", "--quiet", "-k", "marked", "-k", "counted"]
@@ -240,7 +268,7 @@ def note(tree):
             print(f"check-docs: note: README.md names another toolchain than this one: {version}")
 
 
-CHECKS = [names, links, paragraphs, crates, wrong_bodies, definitions, edits, promise, believed, shown]
+CHECKS = [names, links, paragraphs, crates, wrong_bodies, definitions, edits, promise, believed, measured, benched, shown]
 
 
 def main():

@@ -65,6 +65,7 @@ STEPS = [
     Step("right bodies can be applied", [*PYTHON, "tools/right_bodies.py", "--apply"]),
     Step("how documents are checked", [*PYTHON, "tools/test_check_documents.py", "--quiet"]),
     Step("what tools/check runs", [*PYTHON, "tools/test_check_crate.py", "--quiet"]),
+    Step("what proofs take", [*PYTHON, "tools/test_proof_times.py", "--quiet"]),
     Step("how bin/kbsim chooses", [*PYTHON, "tools/test_door.py", "--quiet"]),
     Step("the pictures", [*PYTHON, "tools/pictures", "--check"]),
     Step("the exporter's own tests", [*PYTHON, "tools/export_rust/test_export.py", "--quiet"]),

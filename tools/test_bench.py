@@ -11,6 +11,8 @@ sys.path.insert(0, f"{ROOT}/tools/bench")
 
 import counting
 import document
+import lines
+import rattle
 import results
 from results import Row
 
@@ -101,6 +103,17 @@ class Results(unittest.TestCase):
         self.assertEqual((len(said), faults), (2, []))
         self.assertEqual(results.remarks([], {old.key: old}, ["other"]), ([], []))
 
+    def test_what_is_not_measured_yet(self):
+        row = Row("chip", "scan", None, 100, "1.7")
+        self.assertEqual((row.ratio, row.missed(), row.words()[2:5]), (None, False, ["-", "100", "-"]))
+        self.assertEqual(self.remarks(row._replace(ours=171), row)[1], ["chip, scan: 1.71 misses the bound 1.7, which the file does not list"])
+
+    def test_the_peers_number_of_another_section(self):
+        known = {row.key: row for row in [Row("x86", "poll", 9, 5), Row("x86", "work", 9, 6)]}
+        rows = [Row("x86", "poll", 9, 4), *(Row(target, "poll", 8, None) for target in ("rattle", "other")), Row("rattle", "work", 8, None)]
+        found = results.with_peers(rows + [Row("rattle", "leds", 8, None)], known, "rattle", lambda what: ("x86", what))
+        self.assertEqual([row.peer for row in found], [4, 4, None, 6, None])
+
     def test_a_reason_goes_with_its_miss(self):
         old = Row("chip", "scan", 200, 100, "1.7", "two copies")
         for ours, reason in [(160, ""), (190, "two copies")]:
@@ -110,6 +123,7 @@ class Results(unittest.TestCase):
     def test_the_file(self):
         rows = [Row("chip", "scan", 200, 100, "1.7", "two copies"), Row("host", "line", 9, None, "10 instructions")]
         with tempfile.TemporaryDirectory() as folder:
+            rows += [Row("rattle", "poll", None, 9, "1.2")]
             path = f"{folder}/results.tsv"
             results.write(path, rows, ["gcc 12", "qemu 7"])
             self.assertEqual(list(results.read(path).values()), rows)
@@ -124,6 +138,14 @@ class Results(unittest.TestCase):
     def test_the_file_of_the_repository(self):
         for row in results.read(f"{ROOT}/bench/results.tsv").values():
             self.assertEqual(row.missed(), bool(row.reason), row)
+
+    def test_the_sections_that_the_toolchain_fills(self):
+        known = results.read(f"{ROOT}/bench/results.tsv")
+        self.assertEqual([what for target, what in known if target == "rattle"], rattle.CALLS)
+        for section in ("scripts", "plain"):
+            self.assertEqual([what for target, what in known if target == section], [what for what, _, _ in lines.LINES])
+        for what in rattle.CALLS:
+            self.assertEqual(known["rattle", what].peer, known[rattle.peers_row(what)].peer)
 
     def test_the_documents_of_the_repository(self):
         rows = list(results.read(f"{ROOT}/bench/results.tsv").values())

@@ -11,6 +11,8 @@ RIGHT = {
     "README.md": "# A\n\n## The crates\n\n| `one` | does |\n\n## Next\n\n`read_it` and [more](docs/B.md#a-part), `Size` (`one/specs/Sizes`)\n",
     "docs/B.md": "# B\n\n## A part\n\nText.\n",
     "docs/WRONG_BODIES.md": "`wrong` (`one`)\n",
+    "docs/MEASUREMENTS.md": "# M\n\nBy `bin/count all`:\n\n<!-- m -->\n\n| a |\n|---|\n| 1 |\n\n| b |\n|---|\n",
+    "bin/count": "",
     "docs/THEOREM.md": "# T\n\n```\npub record Promise\n  a : b\n```\n",
     "crates.txt": "one: .\n",
     "crates/one/src/lib.rt": "fn read_it() { 1 }\n",
@@ -19,6 +21,15 @@ RIGHT = {
     "crates/world/specs/Promise.antt": "-- Believed: the promise\npub record Promise\n  a : b\n",
 }
 LONG = "A sentence that is long enough to be said once, in one place, and linked to from all of the others that want to say it, too.\n"
+
+
+# A number, and a document that shows it.
+RESULTS = "target\twhat\tours\tpeer\tratio\tbound\tmissed because\nparse\tone\t9\t-\t-\t-\t\n"
+
+
+def shown(number):
+    rows = [checks.results.Row("parse", "one", number, None)]
+    return checks.bench_document.rewritten("By `bin/count`:\n\n<!-- bench: tables -->\n<!-- end -->\n", "tables", rows)
 
 
 class Checks(unittest.TestCase):
@@ -56,11 +67,17 @@ class Checks(unittest.TestCase):
             (checks.definitions, {"crates/one/specs/Sizes.antt": "-- Believed: x\n"}, "README.md: Size is not in one/specs/Sizes"),
             (checks.edits, {"crates/one/src/lib.rt": "{ 1 } { 1 }\n"}, "src/lib.rt has 2 times, not once: { 1 }"),
             (checks.promise, {"docs/THEOREM.md": "pub record Promise\n"}, "it does not show the record Promise"),
+            (checks.measured, {"docs/MEASUREMENTS.md": "`bin/count`\n\n## N\n\n| a |\n|---|\n| 1 |\n"}, "no program of the repository is named before the table | a |"),
+            (checks.measured, {"bin/count": None, "docs/MEASUREMENTS.md": "`bin/count`\n\n| a |\n"}, "before the table | a |"),
+            (checks.benched, {"bench/results.tsv": RESULTS, "docs/MEASUREMENTS.md": shown(8)}, "docs/MEASUREMENTS.md: it shows other numbers"),
             (checks.believed, {"crates/one/specs/Sizes.antt": "pub def Size\n"}, "its first line does not say"),
         ]
         for check, files, told in table:
             wrong = self.found(check, files=files)
             self.assertTrue(len(wrong) == 1 and told in wrong[0], f"{check.__name__}: {wrong}")
+
+    def test_numbers_that_are_those_of_the_file(self):
+        self.assertEqual(self.found(checks.benched, files={"bench/results.tsv": RESULTS, "docs/MEASUREMENTS.md": shown(9)}), [])
 
     def test_what_a_document_may_name(self):
         words = ["`rt`", "`a b`", "`--help`", "`x = 1`", "`21h`", "`crate::read_it`", "`read_it()`", "`one/specs/Sizes`", "`/dev/x`"]

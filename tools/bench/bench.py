@@ -14,6 +14,7 @@ import builds
 import chips
 import comparing
 import document
+import lines
 import rattle
 import reading
 import results
@@ -30,7 +31,7 @@ def measured_chips(target):
     return chips.Keyboards(builds.room(), target).rows()
 
 
-OTHERS = {**rattle.SECTIONS, **reading.SECTIONS}
+OTHERS = {**rattle.SECTIONS, **lines.SECTIONS, **reading.SECTIONS}
 
 
 def measured_elsewhere(name):
@@ -82,7 +83,7 @@ def write_documents(rows):
 def report(rows, done, write):
     """Prints the table, and what it differs in from the file; the exit status."""
     known = results.read(FILE)
-    rows = results.with_bounds(rows, known)
+    rows = results.with_bounds(results.with_peers(rows, known, "rattle", rattle.peers_row), known)
     print("\n".join(results.table(rows)))
     if write:
         results.write(FILE, results.merged(known, rows, done), builds.versions())

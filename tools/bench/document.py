@@ -9,6 +9,9 @@ MARKS = {"tables": ("<!-- bench: tables -->\n", "<!-- end -->\n"), "sentence": (
 # Which documents show what.
 SHOWN = {"docs/MEASUREMENTS.md": "tables", "docs/USING_FIRMWARE.md": "sentence", "README.md": "sentence"}
 
+# The row of code and constants.
+TEXT = "text of the smallest firmware, bytes"
+
 # Cycles of a millisecond.
 MILLISECOND = 48_000
 
@@ -39,7 +42,7 @@ def others(rows):
     """A table of the other sections."""
     text = line(["Section", "What", "ours", "in C", "ratio", "bound"]) + line(["---"] * 6)
     for row in rows:
-        if row.target not in CHIPS:
+        if row.target not in CHIPS and row.ours is not None:
             text += line([f"`{row.target}`", row.what, *cells(row), row.bound])
     return text
 
@@ -55,12 +58,14 @@ def sentence(rows):
     starts = [ours[name] for name in ("start, blank flash", "start, 2 pages, 385 records", "start, 8 full pages")]
     least, most = (count / MILLISECOND for count in (min(starts), max(starts)))
     scan = ours["scan without an edge, the worst of 10,000"]
+    text, small = (next(row.ours for row in rows if row.key == (target, TEXT)) for target in CHIPS[:2])
     return (f'On a Cortex-M4, built at opt-level "s", the keyboard takes {ours["RAM of the keyboard, bytes"]:,} bytes of RAM, and of the '
             f'stack {ours["stack of start, restart and work, bytes"]:,} bytes to start and to work on the flash, '
             f'{ours["stack of any other call, bytes"]:,} for any other call. A scan, one each millisecond, takes {scan:,} instructions '
             f"where no debounced key changes, of the {MILLISECOND:,} cycles that a millisecond has at 48 MHz. A start takes "
             f"{min(starts):,} to {max(starts):,} instructions, as the flash is blank or full: {least:.1f} to {most:.1f} ms at 48 MHz "
-            "where an instruction takes a cycle.")
+            f"where an instruction takes a cycle. The smallest firmware around it has {text:,} bytes of code and constants there, and "
+            f"{small:,} on a Cortex-M0+, without what drives the USB, the matrix and the flash.")
 
 
 def rewritten(text, shown, rows):

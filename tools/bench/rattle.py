@@ -1,4 +1,4 @@
-"""The sections that need Rattle: the proved keyboard on x86-64, lines of scripts, and the proved parser beside the peer's.
+"""The sections that need Rattle: the proved keyboard on x86-64, its sizes, and the proved parser beside the peer's.
 
 Instructions are those of callgrind, as the difference of two runs with more calls and fewer, divided by the calls.
 """
@@ -12,12 +12,18 @@ import cases
 from builds import BENCH, ROOT, Skipped
 from results import Row
 
-# What bench/rattle/calls.rattle calls by its first byte; the peer's number is that of the row of the section x86.
+# What bench/rattle/calls.rattle calls by its first byte.
 CALLS = ["scan without an edge", "poll, nothing due", "SETUP, unknown request",
          "GET_DESCRIPTOR of the report descriptor and its first packet", "GET_REPORT of ID 1 and its first packet, six keys"]
 
-# Lines of scripts, and how many events each is.
-LINES = {"poll": 1, "scan": 1, "setup 8006000100001200": 1, "work": 1, "set 0 4 0005": 1, "fetch": 1, "scans 100 0 1 2 3 4 5": 100}
+
+def peers_row(what):
+    """The row of the section x86 that has the peer's number of a call."""
+    return "x86", f"{what}, the worst of 10,000" if what == "scan without an edge" else what
+
+
+# The crates whose values bench/rattle/sizes.rattle asks the sizes of.
+PARTS = ["control_ep", "debounce", "keyboard", "keymap_store", "layers", "page_turnover", "reports"]
 
 # The report descriptor that the keyboard serves, and the one that it served at first.
 KEYS = "05010906A1018501050719E029E715002501750195088102190429A495A18102950781030508190129059505910295039103C0"
@@ -31,7 +37,8 @@ TEXTS = {
 
 def needs(*tools):
     """Skips a section where a tool is missing."""
-    packages = {"valgrind": "Debian: valgrind", "gcc": "Debian: gcc, libc6-dev", "rt": "the Rattle toolchain"}
+    packages = {"valgrind": "Debian: valgrind", "gcc": "Debian: gcc, libc6-dev", "rt": "the Rattle toolchain",
+                "cargo": "Debian: cargo, rustc"}
     for tool in tools:
         if not shutil.which(tool):
             raise Skipped(f"there is no {tool} ({packages[tool]})")
@@ -63,23 +70,29 @@ def crates_below(crates):
     return [name for name in lines if name in found]
 
 
-def built(room, source, *crates):
-    """A program that Rattle proves and builds over some proved crates, in a folder of its own."""
+def laid_out(room, source, crates, *without):
+    """A folder for a program over some crates, with copies of them and of all below, without some of their folders."""
     name = source.removesuffix(".rattle")
     folder = room.path(f"rattle-{name}")
     shutil.rmtree(folder, ignore_errors=True)
     os.makedirs(f"{folder}/crates/{name}/src")
     shutil.copy(f"{BENCH}/rattle/{source}", f"{folder}/crates/{name}/src/main.rt")
-    for crate in crates:
-        room.run(["rt", "lib"], f"{ROOT}/crates/{crate}")
     lines, below = lines_of_crates(), crates_below(crates)
     for crate in below:
-        shutil.copytree(f"{ROOT}/crates/{crate}", f"{folder}/crates/{crate}")
+        shutil.copytree(f"{ROOT}/crates/{crate}", f"{folder}/crates/{crate}", ignore=shutil.ignore_patterns(*without))
     with open(f"{folder}/crates.txt", "w", encoding="utf-8") as file:
         file.writelines(f"{crate}: {' '.join(lines[crate])}\n" for crate in below)
         file.write(f"{name}: {' '.join(crates)}\n")
-    room.run(["rt", "run"], f"{folder}/crates/{name}", given=bytes(4))
-    return f"{folder}/crates/{name}/out/{name}"
+    return f"{folder}/crates/{name}"
+
+
+def built(room, source, *crates):
+    """A program that Rattle proves and builds over some proved crates, in a folder of its own."""
+    for crate in crates:
+        room.run(["rt", "lib"], f"{ROOT}/crates/{crate}")
+    folder = laid_out(room, source, crates)
+    room.run(["rt", "run"], folder, given=bytes(4))
+    return f"{folder}/out/{source.removesuffix('.rattle')}"
 
 
 def keyboard(room):
@@ -93,18 +106,12 @@ def keyboard(room):
     return rows
 
 
-def scripts(room):
-    """A line of a script, through the proved program."""
-    needs("rt", "valgrind")
-    told = subprocess.run([f"{ROOT}/bin/kbsim", "--way", "proved", "--path"], capture_output=True, text=True)
-    if told.returncode:
-        raise Skipped("the program was not proved here (bin/prove)")
-    rows = []
-    for line, events in LINES.items():
-        many, few = (instructions(room, [told.stdout.strip(), "run"], f"{line}\n".encode() * lines) for lines in (2000, 1000))
-        named = f"a line `{line}`" + (f", a {events}th of it" if events > 1 else "")
-        rows.append(Row("scripts", named, round((many - few) / 1000 / events), None))
-    return rows
+def sizes(room):
+    """Bytes of the device's values on a 64-bit machine, as the toolchain's unproved run of a program prints them."""
+    needs("rt")
+    folder = laid_out(room, "sizes.rattle", PARTS, "out", "proofs", "must-fail", "more-edits")
+    told = room.run(["rt", "try", "--steps", "1"], folder).decode()
+    return [Row("sizes", f"{name}, bytes", int(number), None) for name, number in re.findall(r"^([A-Z]\w+) (\d+)$", told, re.M)]
 
 
 def peer_parser(room):
@@ -135,4 +142,4 @@ def parses(room):
     return rows
 
 
-SECTIONS = {"rattle": keyboard, "scripts": scripts, "parse": parses}
+SECTIONS = {"rattle": keyboard, "sizes": sizes, "parse": parses}

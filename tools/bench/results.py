@@ -14,11 +14,12 @@ NEAR = 0.01
 
 
 class Row(NamedTuple):
-    """A number of ours, the peer's (none where the bound is of ours alone), the bound, and why it is missed, where it is."""
+    """A number of ours (none where it was not measured yet), the peer's (none where the bound is of ours alone), the bound, and why it
+    is missed, where it is."""
 
     target: str
     what: str
-    ours: float
+    ours: float | None
     peer: float | None
     bound: str = "-"
     reason: str = ""
@@ -30,12 +31,12 @@ class Row(NamedTuple):
     @property
     def ratio(self):
         """Ours over the peer's."""
-        return self.ours / self.peer if self.peer else None
+        return self.ours / self.peer if self.ours is not None and self.peer else None
 
     def missed(self):
         """Whether the bound is missed."""
         limit = re.fullmatch(r"([\d.]+)( \w+)?", self.bound)
-        if not limit:
+        if not limit or self.ours is None:
             return False
         value = self.ours if limit[2] else self.ratio
         return value is None or value > float(limit[1])
@@ -46,7 +47,7 @@ class Row(NamedTuple):
 
     def words(self):
         """The row as the file has it."""
-        numbers = [str(self.ours), "-" if self.peer is None else str(self.peer)]
+        numbers = ["-" if number is None else str(number) for number in (self.ours, self.peer)]
         ratio = "-" if self.ratio is None else f"{self.ratio:.2f}"
         return [self.target, self.what, *numbers, ratio, self.bound, self.reason]
 
@@ -58,7 +59,7 @@ def read(path):
         lines = [line.rstrip("\n") for line in file if not line.startswith("#")]
     for line in lines[1:]:
         target, what, ours, peer, _, bound, reason = line.split("\t")
-        row = Row(target, what, int(ours), None if peer == "-" else int(peer), bound, reason)
+        row = Row(target, what, *(None if number == "-" else int(number) for number in (ours, peer)), bound, reason)
         rows[row.key] = row
     return rows
 
@@ -92,6 +93,13 @@ def merged(known, rows, targets):
     new = {target: [row for row in rows if row.target == target] for target in targets}
     order = list(dict.fromkeys([*(row.target for row in known.values()), *targets]))
     return [row for target in order for row in new.get(target, [row for row in known.values() if row.target == target])]
+
+
+def with_peers(rows, known, of, by):
+    """The rows, where those of the section `of` have the peer's numbers of another section, measured with them or those of the file:
+    by says which target and row that is."""
+    measured = {**known, **{row.key: row for row in rows}}
+    return [row._replace(peer=measured[by(row.what)].peer) if row.target == of and by(row.what) in measured else row for row in rows]
 
 
 def is_near(one, other):
