@@ -1,5 +1,5 @@
-"""Runs the tests of the crate wuzhikar-hid, and compares it with tests/reader/plain.py and plain_write.py over real and
-mutated descriptors: what they declare, what reports of them say, and what is written. Ends with the number of differences.
+"""Compares the crate wuzhikar-hid with tests/reader/plain.py and plain_write.py over real and mutated descriptors: what they
+declare, what reports of them say, and what is written. Ends with the number of differences.
 """
 
 import argparse
@@ -28,7 +28,7 @@ PHYSICAL = {"equal": "EqualLimits", "inverted": "InvertedLimits"}
 def real():
     """The repository's descriptors: those of the rows and of the examples, and one of fields of more than 256 places, each once."""
     found = {(ROOT / "examples/media_keys.hex").read_text(): None}
-    files = [*ROOT.glob("examples/hid_driver/**/*.hex"), *ROOT.glob("tests/reader/devices/*.hex"), ROOT / "tests/reader/many_places.hex"]
+    files = [*ROOT.glob("examples/hid_driver/**/*.hex"), *ROOT.glob("tests/reader/devices/*.hex"), ROOT / "rust/wuzhikar-hid/src/values/many_places.hex"]
     for file in sorted(files):
         found[file.read_text()] = None
     for name in ("real", "fields", "faults", "items", "item_faults"):
@@ -212,11 +212,9 @@ class Case:
 
 
 def program(work):
-    """Runs the tests of the crate, and builds the program that asks it."""
+    """Builds the program that asks the crate."""
     folder = ROOT / "tests/reader/tell"
     made = {**environment(work, "arrayvec"), "CARGO_TARGET_DIR": f"{work}/target"}
-    subprocess.run(["cargo", "test", "--quiet"], cwd=ROOT / "rust/wuzhikar-hid", env=made, check=True, stdout=subprocess.DEVNULL)
-    looked_at(ROOT / "rust/wuzhikar-hid", made)
     looked_at(ROOT / "examples/hid_driver", made)
     looked_at(folder, made)
     subprocess.run(["cargo", "build", "--release", "--quiet"], cwd=folder, env=made, check=True)

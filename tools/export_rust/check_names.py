@@ -20,7 +20,7 @@ from by_hand import RUST
 
 # Names of Rust and of the crates that are depended on.
 KNOWN = {"None", "Some", "Ok", "Err", "Display", "Debug", "Clone", "no_std", "unsafe", "std::simd", "cargo test", "clap",
-         "embedded_storage", "embedded_storage::nor_flash", "embedded_storage::nor_flash::NorFlash", "AlreadyExists"}
+         "embedded_storage", "embedded_storage::nor_flash", "embedded_storage::nor_flash::NorFlash", "AlreadyExists", "u64::MAX"}
 
 # What stands in backticks and names nothing of Rust, by crate: parts of lines that are printed or read, and words of them.
 WORDS = {

@@ -10,9 +10,10 @@ from room import HERE, ROOT, Failed, Skipped, say
 
 def crates(room, _):
     """Builds, tests and documents the crates as they are committed. A warning is a fault."""
+    example(room, "hid_driver")  # (the tests of wuzhikar-hid take its descriptors)
     room.cargo("build", "--release", "--workspace")
     room.tests("--features", "sim", "-p", "wuzhikar", "-p", "wuzhikar-log", name="wuzhikar and wuzhikar-log with their docs")
-    room.tests("-p", "wuzhikar-reader", "-p", "wuzhikar-device", "-p", "kbsim", name="the other crates with their docs")
+    room.tests("-p", "wuzhikar-reader", "-p", "wuzhikar-hid", "-p", "wuzhikar-device", "-p", "kbsim", name="the other crates with their docs")
 
 
 def documents(room, _):
@@ -52,6 +53,7 @@ def exported_tests(room, _):
 def with_tests(room):
     """The crates, with the tests of the source."""
     if "tests" not in room.made:
+        example(room, "hid_driver")
         shutil.rmtree(room.path("tests"), ignore_errors=True)
         room.run([sys.executable, "-B", f"{HERE}/export_rust.py", "--tests", room.path("tests")])
         room.made.add("tests")

@@ -22,6 +22,8 @@ class Rules:
     owed: dict = field(default_factory=dict)
     # Methods that take or give a type which has no name outside, by (crate, Type::name).
     hidden: frozenset = frozenset()
+    # What a method is called here where a call by hand has its name, by (crate, Type::name).
+    renamed: dict = field(default_factory=dict)
     # The trait of `calls`, which is written by hand, by which the crates above reach such methods, by (crate, Type::name).
     calls: dict = field(default_factory=dict)
     # Types of which `Clone` can be refused in the source, by (crate, name).
@@ -96,6 +98,18 @@ READER = Rules(
                                  ("The crate `host` calls it", "The crate `kbsim` calls it")]},
 )
 
+DETAILS = Rules(
+    name="wuzhikar-hid",
+    crates=("field_details",),
+    below=(READER,),
+    allocs=True,
+    hidden=frozenset({("field_details", "Details::around")}),
+    renamed={("field_details", "Details::around"): "numbers_around"},
+    derives={("field_details", "Details"): ("Clone", "Default", "PartialEq", "Eq")},
+    docs={("field_details", "text"): [("`descriptor_parse::parse`", "`wuzhikar_reader::parse`")],
+          ("field_details", "told"): [("`descriptor_parse::Descriptor`", "`wuzhikar_reader::Descriptor`")]},
+)
+
 SIMULATOR = Rules(
     name="kbsim",
     crates=("host", "world", "text_io", "script", "kbsim", "c_array", "parse_lines", "sentences", "explanations"),
@@ -113,7 +127,7 @@ SIMULATOR = Rules(
 )
 
 # All crates of plain Rust that are made, lowest first.
-WORKSPACE = (LOG, KEYBOARD, READER, SIMULATOR)
+WORKSPACE = (LOG, KEYBOARD, READER, DETAILS, SIMULATOR)
 
 # Crates that are laws alone, of which nothing is left.
 PROOF_CRATES = {"session_law", "reading_law"}

@@ -153,6 +153,11 @@ class Forms(unittest.TestCase):
         made = [line.strip() for line in rust(source, crate="keyboard").split("\n")]
         self.assertEqual(made[1:4], [f"/// {rules.KEYBOARD.owed['keyboard', 'Keyboard::work']}", "///", "/// Works."])
 
+    def test_a_method_may_have_another_name(self):
+        source = "impl Details { pub fn around(&self, place: u8) -> u8 { place } }\n"
+        self.assertEqual(rust(source, crate="field_details", of=rules.DETAILS),
+                         "impl Details { pub(crate) fn numbers_around(&self, place: u8) -> u8 { place } }\n")
+
     def test_a_call_with_a_type_that_has_no_name_is_for_the_crate(self):
         source = "impl Keyboard { pub fn start_in(room: Room) -> u8\n    ensures { a }\n{ 1 } }\n"
         self.assertEqual(rust(source, crate="keyboard"), "impl Keyboard { pub(crate) fn start_in(room: Room) -> u8 { 1 } }\n")

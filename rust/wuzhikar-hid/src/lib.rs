@@ -156,8 +156,10 @@
 //! [`ReadingError`] says why. A driver drops the report, keeps its last state and reads the next one. Without Report IDs a
 //! report of another kind can't be told by its first byte.
 //!
-//! **Written by hand: tested, not proved.** What it takes from `wuzhikar-reader`, the fields and their usages, is exported
-//! from a proved source; this crate is compared with a program in another language over some ten thousand descriptors.
+//! **Exported from a proved source: what a descriptor declares.** The fields of [`Details`], its collections, the bits, extents
+//! and units of a [`Detail`], and [`Details::application`] are in the hidden module `parts`, the text of a crate that is proved
+//! in Rattle (Rust with contracts), as are the fields and their usages of `wuzhikar-reader`. **All else is written by hand:
+//! tested, not proved**; it is compared with a program in another language over some ten thousand descriptors.
 //! Any bytes may come: nothing panics on them. Where a call says nothing of memory, it takes memory as std does.
 #![no_std]
 #![forbid(unsafe_code)]
@@ -167,6 +169,10 @@ extern crate alloc;
 
 mod details;
 mod names;
+#[doc(hidden)]
+pub mod parts;
+#[doc(hidden)]
+pub mod rattle;
 mod values;
 
 pub use crate::details::{Collection, Detail, Details, Dimension, Naming, NoUnit, Placed, ReportFacts, details, namings};

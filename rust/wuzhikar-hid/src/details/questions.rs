@@ -1,8 +1,8 @@
 //! Reports, applications, and strings. Written by hand: tested, not proved.
 
-use super::walk::unsigned;
-use super::{Collection, Detail, Details};
+use crate::parts::field_details::{Collection, Detail, Details};
 use core::ops::RangeInclusive;
+use wuzhikar_reader::parts::descriptor_parse::number::unsigned;
 use wuzhikar_reader::{Item, Items, Kind, Tag};
 
 /// A data item with its place among all of a descriptor.
@@ -64,15 +64,15 @@ impl Details {
     /// All reports, in order of their first data items.
     pub fn reports(&self) -> impl Iterator<Item = ReportFacts> {
         self.fields.iter().enumerate().filter(|(place, _)| self.is_first(*place, |_| true)).map(|(_, first)| {
-            let last = self.fields.iter().rev().find(|detail| detail.report() == first.report());
+            let last = self.fields.iter().rev().find(|detail| report_of(detail) == report_of(first));
             ReportFacts { kind: first.kind, id: first.id, bits: last.map_or(0, Detail::end) }
         })
     }
 
     /// Whether a data item is the first of its report among those of which this holds.
     fn is_first(&self, place: usize, holds: impl Fn(usize) -> bool) -> bool {
-        let report = self.fields[place].report();
-        !self.fields[..place].iter().enumerate().any(|(before, detail)| detail.report() == report && holds(before))
+        let report = report_of(&self.fields[place]);
+        !self.fields[..place].iter().enumerate().any(|(before, detail)| report_of(detail) == report && holds(before))
     }
 
     /// The Application collections with their places in `collections`, in order.
@@ -93,18 +93,18 @@ impl Details {
         (0..depth).rev().filter_map(move |depth| self.outwards(place).nth(depth))
     }
 
-    /// The innermost Application collection around a data item, by its place in `collections`, if it is in one.
-    pub fn application(&self, place: usize) -> Option<usize> {
-        self.outwards(place).find(|outer| self.collections.get(*outer).is_some_and(Collection::is_application))
-    }
-
     /// The reports that have a data item in an application, innermost, in order of their first data items in it. One report
     /// may be of several. The application is given by its place in `collections`.
     pub fn reports_of(&self, application: usize) -> impl Iterator<Item = (Kind, u32)> {
         let is_inside = move |place: usize| self.application(place) == Some(application);
         let first = move |place: &usize| is_inside(*place) && self.is_first(*place, is_inside);
-        (0..self.fields.len()).filter(first).map(|place| self.fields[place].report())
+        (0..self.fields.len()).filter(first).map(|place| report_of(&self.fields[place]))
     }
+}
+
+/// The report of a data item: the kind, and the Report ID.
+fn report_of(detail: &Detail) -> (Kind, u32) {
+    (detail.kind, detail.id)
 }
 
 /// The strings or designators that the Local items before the Main item at `offset` give it, in order: an Index alone, and

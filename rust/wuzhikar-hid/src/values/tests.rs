@@ -102,7 +102,7 @@ fn physical_values_are_exact() {
 
 #[test]
 fn a_field_has_more_than_256_places() {
-    let reader = reader_of(include_str!("../../../../tests/reader/many_places.hex"));
+    let reader = reader_of(include_str!("many_places.hex"));
     let set_place = |field, place, value| set(Target::Field { field, place }, Asked::Value(value));
     let settings = [set_place(0, 256, 5), set_place(0, 299, 3), set_place(1, 256, 0x29), set_place(2, 1_023, -2)];
     let report = reader.write(Kind::Input, 0, &settings, None).expect("a report");

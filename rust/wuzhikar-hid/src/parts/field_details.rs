@@ -1,0 +1,23 @@
+// Exported from crates/field_details/src/lib.rt by bin/export-rust. Edit that file instead.
+//! What a report descriptor declares beside the bits of its fields (HID 1.11, sections 6.2.2.4 to 6.2.2.8).
+//!
+//! [`details_of`] reads a text that `descriptor_parse` takes: of each data item, padding among them, all bits of the item, the
+//! logical and the physical extents, the unit and its power of ten, and the collections around it. Who asks for the fields
+//! alone pays nothing for it.
+//!
+//! The promise is that each of these is exactly what the items before the data item say, by a look back over them.
+
+pub mod collection;
+pub mod detail;
+mod globals;
+mod text;
+mod told;
+pub mod unit;
+mod usage;
+mod walk;
+
+pub use collection::Collection;
+pub use detail::Detail;
+pub use text::details_of;
+pub use told::Details;
+pub use unit::Dimension;

@@ -1,0 +1,3 @@
+//! What stands for parts of Rattle's library. Written by hand. **No part of the promise.**
+
+pub use wuzhikar_reader::rattle::{Vec, alloc, memory, vec};
