@@ -14,4 +14,5 @@ pub mod FromLast
 pub mod LatestPoll
 pub mod Ring
 pub mod Changes
+pub mod SameBytes
 pub mod Made

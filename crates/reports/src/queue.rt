@@ -6,6 +6,7 @@ ghost use Rattle.std.specs.Option.{option_map};
 ghost use Rattle.circular_buffer.specs.Buffer.{keep_last};
 
 use crate::Report;
+use crate::sent::are_same;
 use circular_buffer::HeapCircularBuffer;
 use std::alloc::{AllocError, Global};
 use std::marker::Model;
@@ -39,11 +40,11 @@ impl Queue {
     }
 
     /// Appends the new bytes of a report where they are not the old ones.
-    pub(crate) fn push_change(&mut self, before: &[u8], now: &[u8])
-        requires { length now.now ≤ 32 }
+    pub(crate) fn push_change<const N: usize>(&mut self, before: &[u8; N], now: &[u8; N])
+        requires { N ≤ 32 }
         ensures { self.new ≡ (if bytes_eq before.now now.now then self.old else keep_last 8 (self.old ++ now.now ∷ [])) }
     {
-        if before != now {
+        if !are_same(before, now) {
             self.push(report_of(now));
         }
     }

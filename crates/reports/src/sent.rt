@@ -60,7 +60,7 @@ impl<const N: usize> Sent<N> {
         ensures made { self.new.made ≡ made.entry }
         ensures age { self.new.age ≡ self.old.age }
     {
-        self.changed = made != self.bytes;
+        self.changed = !are_same(&made, &self.bytes);
         self.made = made;
     }
 
@@ -96,7 +96,21 @@ impl<const N: usize> Sent<N> {
         ensures age { self.new.age ≡ 0 }
     {
         self.bytes.copy_from_slice(bytes);
-        self.changed = self.made != self.bytes;
+        self.changed = !are_same(&self.made, &self.bytes);
         self.age = 0;
     }
+}
+
+/// Whether the bytes of two reports are the same. Four at a time, which a chip compares as one word.
+pub(crate) fn are_same<const N: usize>(a: &[u8; N], b: &[u8; N]) -> bool
+    ensures { result ≡ bytes_eq a.now b.now }
+{
+    let (first, second) = (&a[..], &b[..]);
+    for place in 0..N / 4 {
+        if first[4 * place..4 * place + 4] != second[4 * place..4 * place + 4] {
+            return false;
+        }
+    }
+    let last = N.saturating_sub(4);
+    first[last..] == second[last..]
 }

@@ -2,6 +2,7 @@
 //! The reports that wait to be sent.
 
 use crate::parts::reports::Report;
+use crate::parts::reports::sent::are_same;
 use crate::rattle::circular_buffer::HeapCircularBuffer;
 use crate::rattle::alloc::{AllocError, Global};
 
@@ -22,8 +23,8 @@ impl Queue {
     }
 
     /// Appends the new bytes of a report where they are not the old ones.
-    pub(crate) fn push_change(&mut self, before: &[u8], now: &[u8]) {
-        if before != now {
+    pub(crate) fn push_change<const N: usize>(&mut self, before: &[u8; N], now: &[u8; N]) {
+        if !are_same(before, now) {
             self.push(report_of(now));
         }
     }

@@ -31,7 +31,7 @@ impl<const N: usize> Sent<N> {
 
     /// Takes the bytes that the report has from now on.
     pub(crate) fn make(&mut self, made: [u8; N]) {
-        self.changed = made != self.bytes;
+        self.changed = !are_same(&made, &self.bytes);
         self.made = made;
     }
 
@@ -55,7 +55,19 @@ impl<const N: usize> Sent<N> {
     /// Counts these bytes as sent now.
     pub(crate) fn send(&mut self, bytes: &[u8]) {
         self.bytes.copy_from_slice(bytes);
-        self.changed = self.made != self.bytes;
+        self.changed = !are_same(&self.made, &self.bytes);
         self.age = 0;
     }
+}
+
+/// Whether the bytes of two reports are the same. Four at a time, which a chip compares as one word.
+pub(crate) fn are_same<const N: usize>(a: &[u8; N], b: &[u8; N]) -> bool {
+    let (first, second) = (&a[..], &b[..]);
+    for place in 0..N / 4 {
+        if first[4 * place..4 * place + 4] != second[4 * place..4 * place + 4] {
+            return false;
+        }
+    }
+    let last = N.saturating_sub(4);
+    first[last..] == second[last..]
 }
