@@ -226,6 +226,30 @@ static enum parse_fault pop(struct parser *p)
     return NO_FAULT;
 }
 
+/* Takes a short item that sets a number which stays in force; an item of any other tag changes nothing. */
+static enum parse_fault take_number(struct parser *p, uint8_t prefix, uint32_t data, int32_t as_signed)
+{
+    switch (prefix >> 2) {
+    case TAG_USAGE_PAGE:
+        p->now.page = data & 0xffff;
+        break;
+    case TAG_LOGICAL_MINIMUM:
+        p->now.min = as_signed;
+        break;
+    case TAG_LOGICAL_MAXIMUM:
+        p->now.signed_max = as_signed;
+        p->now.unsigned_max = data;
+        break;
+    case TAG_REPORT_SIZE:
+        p->now.size = data;
+        break;
+    case TAG_REPORT_COUNT:
+        p->now.count = data;
+        break;
+    }
+    return NO_FAULT;
+}
+
 /* Takes a short item of so many bytes, whose data is this number, read as unsigned and as signed. */
 static enum parse_fault take(struct parser *p, uint8_t prefix, uint32_t data, int32_t as_signed, unsigned size)
 {
@@ -240,24 +264,8 @@ static enum parse_fault take(struct parser *p, uint8_t prefix, uint32_t data, in
         return take_collection(p);
     case TAG_END_COLLECTION:
         return take_end(p);
-    case TAG_USAGE_PAGE:
-        p->now.page = data & 0xffff;
-        return NO_FAULT;
-    case TAG_LOGICAL_MINIMUM:
-        p->now.min = as_signed;
-        return NO_FAULT;
-    case TAG_LOGICAL_MAXIMUM:
-        p->now.signed_max = as_signed;
-        p->now.unsigned_max = data;
-        return NO_FAULT;
-    case TAG_REPORT_SIZE:
-        p->now.size = data;
-        return NO_FAULT;
     case TAG_REPORT_ID:
         return take_id(p, data);
-    case TAG_REPORT_COUNT:
-        p->now.count = data;
-        return NO_FAULT;
     case TAG_PUSH:
         return push(p);
     case TAG_POP:
@@ -271,7 +279,7 @@ static enum parse_fault take(struct parser *p, uint8_t prefix, uint32_t data, in
     case TAG_DELIMITER:
         return DELIMITER;
     default:
-        return NO_FAULT;
+        return take_number(p, prefix, data, as_signed);
     }
 }
 

@@ -179,6 +179,15 @@ class Corrected(PageTest):
         self.tab("Set keys")
         self.has(f"document.querySelector('{CORRECTED}').disabled", False)
 
+    def bits_are_shown(self, units, reads):
+        """The two units of page 0, slot 2, and how they read, stand in the picture of its bits."""
+        self.shows("#bits-title", "Page 0, slot 2")
+        self.shows("#bits-says", re.compile(f".+; units: {'; '.join(said(*one) for one in reads)}"))
+        for row, (how, right), cells in zip(ROWS, reads, units, strict=True):
+            self.assertEqual(self.shown(row), (cells, (int.from_bytes(right) ^ int.from_bytes(cells)).bit_count()))
+            self.assertIn(how, self.b.js(f"document.querySelector('{row}').className").split())
+            self.assertIn(f"it reads as {said(how, right)}.", self.b.js(f"document.querySelector('{row}').getAttribute('aria-label')"))
+
     def test_a_cut_inside_each_unit_write(self):
         """Each mask, in each of the two writes: the cells that it leaves, how they read, and what the keyboard makes of it."""
         self.corrected()
@@ -211,12 +220,7 @@ class Corrected(PageTest):
             self.ledger("1 change confirmed, all of it is there")
             self.shows("#ledger-more", re.compile("1 power cut; compared [0-9]+ times\\." if kept else ".*is not there, and nothing else changed\\."))
             if wanted != (BLANK, BLANK):
-                self.shows("#bits-title", "Page 0, slot 2")
-                self.shows("#bits-says", re.compile(f".+; units: {'; '.join(said(*one) for one in reads)}"))
-                for row, (how, right), cells in zip(ROWS, reads, wanted, strict=True):
-                    self.assertEqual(self.shown(row), (cells, (int.from_bytes(right) ^ int.from_bytes(cells)).bit_count()))
-                    self.assertIn(how, self.b.js(f"document.querySelector('{row}').className").split())
-                    self.assertIn(f"it reads as {said(how, right)}.", self.b.js(f"document.querySelector('{row}').getAttribute('aria-label')"))
+                self.bits_are_shown(wanted, reads)
             self.b.choose("#speed", "fast")
             self.assigned(1, 29)
             self.entry(0, 1, 29)

@@ -1,23 +1,10 @@
 // SPDX-License-Identifier: MIT OR Apache-2.0
 /* The calls of a reader: each refusal by its own status, after which nothing was written; what is given where there is less
- * room; and each request for memory refused in turn. The linker puts these in place of the C library's (--wrap). */
+ * room; and each request for memory refused in turn. */
 #include "check.h"
+#include "refusing.h"
 
 #include <stddef.h>
-
-void *__real_malloc(size_t size);
-void *__real_calloc(size_t count, size_t size);
-void *__real_realloc(void *old, size_t size);
-int __real_posix_memalign(void **into, size_t alignment, size_t size);
-
-static size_t granted = SIZE_MAX, requests;
-static int refuses(void) { return requests++ >= granted; }
-void *__wrap_malloc(size_t size) { return refuses() ? NULL : __real_malloc(size); }
-void *__wrap_calloc(size_t count, size_t size) { return refuses() ? NULL : __real_calloc(count, size); }
-void *__wrap_realloc(void *old, size_t size) { return refuses() ? NULL : __real_realloc(old, size); }
-int __wrap_posix_memalign(void **into, size_t alignment, size_t size) {
-    return refuses() ? 12 : __real_posix_memalign(into, alignment, size);
-}
 
 /* A hat of four bits with Null State in degrees and a string, four bits of padding, an array of two keys, and Buffered Bytes of
  * twelve bits; four fields whose extents, units and values are none. */
@@ -143,8 +130,7 @@ static void texts(void) {
         ANSWERS(HIDR_OK, hidr_close(parsers[number]));
 }
 
-static void pointers_and_lengths(hidr_reader r) {
-    static unsigned char over[4096];
+static void null_pointers(hidr_reader r) {
     struct outputs to;
     FILL(to);
     ANSWERS(HIDR_NULL, hidr_detail_count(r, NULL));
@@ -173,6 +159,13 @@ static void pointers_and_lengths(hidr_reader r) {
     ANSWERS(HIDR_NULL, hidr_write(r, 0, 0, &EAST, SIZE_MAX, NULL, 1, to.bytes, 8, &to.count, &to.rest));
     ANSWERS(HIDR_NULL, hidr_write(r, 0, 0, &EAST, 1, NULL, 0, NULL, 8, &to.count, &to.rest));
     ANSWERS(HIDR_NULL, hidr_write(r, 0, 0, &EAST, 1, NULL, 0, to.bytes, 8, NULL, &to.rest));
+    UNTOUCHED(to);
+}
+
+static void lengths_and_overlaps(hidr_reader r) {
+    static unsigned char over[4096];
+    struct outputs to;
+    FILL(to);
     ANSWERS(HIDR_LENGTH, hidr_reports(0, to.reports, SIZE_MAX / 8, &to.count));
     ANSWERS(HIDR_LENGTH, hidr_usage_name(0, to.text, SIZE_MAX, &to.count));
     ANSWERS(HIDR_LENGTH, hidr_read(0, 0, REPORT, 7, to.values, SIZE_MAX / 16, &to.count, &to.rest));
@@ -253,7 +246,11 @@ static void what_is_told(hidr_reader r) {
     CHECK(to.count == 2 && to.bytes[1] == 3);
     ANSWERS(HIDR_OK, hidr_physical(r, 0, 3, &to.fraction));
     CHECK(to.fraction.numerator == 90 && to.fraction.denominator == 1 && to.fraction.exponent == 0);
-    /* A name is as much as fits, with a NUL behind it. */
+}
+
+/* A name is as much as fits, with a NUL behind it. */
+static void names(hidr_reader r) {
+    struct outputs to;
     FILL(to.text);
     ANSWERS(HIDR_OK, hidr_unit_name(r, 0, to.text, 4, &to.count));
     CHECK(to.count == 6 && strcmp(to.text, "deg") == 0 && to.text[4] == (char)BLANK);
@@ -271,7 +268,8 @@ static void what_is_told(hidr_reader r) {
     CHECK(strcmp(to.text, "45") == 0);
 }
 
-static void what_is_written(hidr_reader r) {
+/* What can't be written, and the place of the setting that is at fault. */
+static void refused_settings(hidr_reader r) {
     static const struct {
         hidr_status status;
         hidr_setting setting;
@@ -284,7 +282,6 @@ static void what_is_written(hidr_reader r) {
                    {HIDR_TOO_LARGE, {.control = 2, .by = HIDR_BY_FIELD, .value = 16}},
                    {HIDR_OUT_OF_RANGE, {.control = 5, .by = HIDR_BY_FIELD, .value = 2}},
                    {HIDR_OUT_OF_RANGE, {.control = 0x00070004, .value = 2}}};
-    uint8_t report[7];
     struct outputs to;
     FILL(to);
     for (size_t number = 0; number < sizeof refused / sizeof refused[0]; number++) {
@@ -300,6 +297,13 @@ static void what_is_written(hidr_reader r) {
     ANSWERS(HIDR_NO_ROOM, hidr_write(r, 0, 0, three, 3, NULL, 0, to.bytes, 8, &to.count, &to.rest));
     CHECK(to.rest == 2);
     FILL(to.rest);
+    UNTOUCHED(to);
+}
+
+static void what_is_written(hidr_reader r) {
+    uint8_t report[7];
+    struct outputs to;
+    FILL(to);
     ANSWERS(HIDR_UNKNOWN_REPORT, hidr_write(r, HIDR_FEATURE, 0, &EAST, 1, NULL, 0, to.bytes, 8, &to.count, &to.rest));
     ANSWERS(HIDR_UNKNOWN_REPORT, hidr_write(r, 3, 0, &EAST, 1, NULL, 0, to.bytes, 8, &to.count, &to.rest));
     ANSWERS(HIDR_SHORT_REPORT, hidr_write(r, 0, 0, &EAST, 1, REPORT, 5, to.bytes, 8, &to.count, &to.rest));
@@ -331,12 +335,10 @@ static void memory(hidr_reader r) {
             struct outputs to;
             hidr_status status;
             FILL(to);
-            granted = refused[call], requests = 0;
             if (call == 0)
-                status = hidr_reader_open(TEXT, sizeof TEXT, &to.handle, &to.error);
+                GRANTED(refused[call], status, hidr_reader_open(TEXT, sizeof TEXT, &to.handle, &to.error));
             else
-                status = call == 1 ? g4(r, &to) : g7(r, &to);
-            granted = SIZE_MAX;
+                GRANTED(refused[call], status, call == 1 ? g4(r, &to) : g7(r, &to));
             if (status == HIDR_OK) {
                 if (call == 0)
                     ANSWERS(HIDR_OK, hidr_close(to.handle));
@@ -350,9 +352,8 @@ static void memory(hidr_reader r) {
         struct outputs to;
         if (CALLS[number] == g4 || CALLS[number] == g7)
             continue;
-        granted = requests = 0;
-        hidr_status status = CALLS[number](r, &to);
-        granted = SIZE_MAX;
+        hidr_status status;
+        GRANTED(0, status, CALLS[number](r, &to));
         ANSWERS(HIDR_OK, status);
         CHECK(requests == 0);
     }
@@ -368,9 +369,12 @@ int main(void) {
     handles();
     texts();
     hidr_reader reader = opened(TEXT, sizeof TEXT);
-    pointers_and_lengths(reader);
+    null_pointers(reader);
+    lengths_and_overlaps(reader);
     what_is_absent(reader);
     what_is_told(reader);
+    names(reader);
+    refused_settings(reader);
     what_is_written(reader);
     memory(reader);
     ANSWERS(HIDR_OK, hidr_close(reader));

@@ -1,32 +1,7 @@
 // SPDX-License-Identifier: MIT OR Apache-2.0
-/* Want of memory: each request of each call is refused in turn. The linker puts these in place of the C library's (--wrap). */
+/* Want of memory: each request of each call is refused in turn. */
 #include "check.h"
-
-void *__real_malloc(size_t size);
-void *__real_calloc(size_t count, size_t size);
-void *__real_realloc(void *old, size_t size);
-int __real_posix_memalign(void **into, size_t alignment, size_t size);
-
-/* How many requests are granted before all are refused, and how many there were. */
-static size_t granted = SIZE_MAX, requests;
-
-static int refuses(void) { return requests++ >= granted; }
-
-void *__wrap_malloc(size_t size) { return refuses() ? NULL : __real_malloc(size); }
-void *__wrap_calloc(size_t count, size_t size) { return refuses() ? NULL : __real_calloc(count, size); }
-void *__wrap_realloc(void *old, size_t size) { return refuses() ? NULL : __real_realloc(old, size); }
-int __wrap_posix_memalign(void **into, size_t alignment, size_t size) {
-    return refuses() ? 12 : __real_posix_memalign(into, alignment, size);
-}
-
-/* What a call comes to when so many requests are granted. */
-#define GRANTED(count, status, call)    \
-    do {                                \
-        granted = (count);              \
-        requests = 0;                   \
-        (status) = (call);              \
-        granted = SIZE_MAX;             \
-    } while (0)
+#include "refusing.h"
 
 static const uint8_t REPORT[8] = {2, 0, 4, 5};
 
@@ -86,16 +61,37 @@ static size_t in_pieces(void) {
     return count;
 }
 
-/* The same of a reading. Questions about a descriptor take no memory. */
+/* Questions about a descriptor take no memory. */
+static void questions(hidr_descriptor descriptor) {
+    hidr_field field;
+    hidr_range range;
+    hidr_status status;
+    size_t count;
+    uint32_t usage;
+    uint8_t uses;
+    GRANTED(0, status, hidr_field_count(descriptor, &count));
+    ANSWERS(HIDR_OK, status);
+    GRANTED(0, status, hidr_field_at(descriptor, 0, &field));
+    ANSWERS(HIDR_OK, status);
+    GRANTED(0, status, hidr_ranges(descriptor, 0, &range, 1, &count));
+    ANSWERS(HIDR_OK, status);
+    GRANTED(0, status, hidr_usage_at(descriptor, 0, 0, &usage));
+    ANSWERS(HIDR_OK, status);
+    GRANTED(0, status, hidr_uses_ids(descriptor, &uses));
+    ANSWERS(HIDR_OK, status);
+    GRANTED(0, status, hidr_report_length(descriptor, HIDR_INPUT, 0, &count));
+    ANSWERS(HIDR_OK, status);
+    GRANTED(0, status, hidr_close(descriptor));
+    ANSWERS(HIDR_OK, status);
+}
+
+/* How many requests of the two calls that read a report are refused in turn until they serve. */
 static size_t readings(void) {
     hidr_descriptor descriptor;
     hidr_found found[16];
-    hidr_field field;
-    hidr_range range;
-    uint32_t on[16], usage;
+    uint32_t on[16];
     hidr_status status;
     size_t count, refused = 0;
-    uint8_t uses;
     ANSWERS(HIDR_OK, hidr_parse(KEYBOARD, sizeof KEYBOARD, &descriptor, NULL));
     for (int call = 0; call < 2; call++)
         for (size_t number = 0;; number++, refused++) {
@@ -114,20 +110,7 @@ static size_t readings(void) {
             UNTOUCHED(count);
         }
     CHECK(count == 3 && on[0] == 0x00070004 && on[1] == 0x00070005 && on[2] == 0x000700e1);
-    GRANTED(0, status, hidr_field_count(descriptor, &count));
-    ANSWERS(HIDR_OK, status);
-    GRANTED(0, status, hidr_field_at(descriptor, 0, &field));
-    ANSWERS(HIDR_OK, status);
-    GRANTED(0, status, hidr_ranges(descriptor, 0, &range, 1, &count));
-    ANSWERS(HIDR_OK, status);
-    GRANTED(0, status, hidr_usage_at(descriptor, 0, 0, &usage));
-    ANSWERS(HIDR_OK, status);
-    GRANTED(0, status, hidr_uses_ids(descriptor, &uses));
-    ANSWERS(HIDR_OK, status);
-    GRANTED(0, status, hidr_report_length(descriptor, HIDR_INPUT, 0, &count));
-    ANSWERS(HIDR_OK, status);
-    GRANTED(0, status, hidr_close(descriptor));
-    ANSWERS(HIDR_OK, status);
+    questions(descriptor);
     return refused;
 }
 

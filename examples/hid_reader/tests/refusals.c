@@ -116,7 +116,15 @@ static void null_pointers(void) {
     ANSWERS(HIDR_NULL, hidr_pressed(descriptor, REPORT, 8, NULL, 2, &to.count));
     ANSWERS(HIDR_NULL, hidr_pressed(descriptor, REPORT, 8, to.usages, 2, NULL));
     UNTOUCHED(to);
-    /* Null is told before a length, whichever pointer it is, and before a handle that is none. */
+    ANSWERS(HIDR_OK, hidr_close(parser));
+    ANSWERS(HIDR_OK, hidr_close(descriptor));
+}
+
+/* Null is told before a length, whichever pointer it is, and before a handle that is none. */
+static void null_before_a_length(void) {
+    hidr_descriptor descriptor = parsed(KEYBOARD, sizeof KEYBOARD);
+    struct outputs to;
+    FILL(to);
     ANSWERS(HIDR_NULL, hidr_extract(descriptor, NULL, 8, to.found, SIZE_MAX, &to.count));
     ANSWERS(HIDR_NULL, hidr_extract(descriptor, REPORT, SIZE_MAX, NULL, 2, &to.count));
     ANSWERS(HIDR_NULL, hidr_pressed(descriptor, NULL, 8, to.usages, SIZE_MAX, &to.count));
@@ -125,7 +133,17 @@ static void null_pointers(void) {
     UNTOUCHED(to);
     ANSWERS(HIDR_NULL, hidr_field_count(0, NULL));
     ANSWERS(HIDR_NULL, hidr_parser_feed(0, NULL, 1, NULL));
-    /* The parser has seen nothing of it, and what has no length may be null. */
+    ANSWERS(HIDR_OK, hidr_close(descriptor));
+}
+
+/* A parser sees nothing of what was refused, and what has no length may be null. */
+static void nothing_may_be_null(void) {
+    hidr_descriptor descriptor = parsed(KEYBOARD, sizeof KEYBOARD);
+    hidr_parser parser;
+    struct outputs to;
+    FILL(to);
+    ANSWERS(HIDR_OK, hidr_parser_open(&parser));
+    ANSWERS(HIDR_NULL, hidr_parser_feed(parser, NULL, 1, &to.error));
     ANSWERS(HIDR_OK, hidr_parser_feed(parser, NULL, 0, NULL));
     ANSWERS(HIDR_OK, hidr_parser_finish(parser, &to.handle, NULL));
     ANSWERS(HIDR_OK, hidr_field_count(to.handle, &to.count));
@@ -167,7 +185,6 @@ static void lengths(void) {
 static void texts(void) {
     static const uint8_t end[] = {0x05, 0x01, 0xc0}, cut[] = {0x05, 0x01, 0x26};
     static uint8_t too_long[4097];
-    hidr_parser parser;
     struct outputs to, blank;
     FILL(to);
     FILL(blank);
@@ -179,7 +196,14 @@ static void texts(void) {
     CHECK(to.error.fault == 16 && to.error.offset == 4096 && strcmp(hidr_fault_name(16), "TooLong") == 0);
     to.error = blank.error;
     UNTOUCHED(to.handle);
-    /* In pieces: the fault at the piece that shows it, and then for ever. */
+}
+
+/* In pieces: the fault at the piece that shows it, and then for ever. */
+static void pieces(void) {
+    static const uint8_t end[] = {0x05, 0x01, 0xc0};
+    hidr_parser parser;
+    struct outputs to;
+    FILL(to);
     ANSWERS(HIDR_OK, hidr_parser_open(&parser));
     ANSWERS(HIDR_OK, hidr_parser_feed(parser, end, 2, &to.error));
     UNTOUCHED(to.error);
@@ -194,7 +218,14 @@ static void texts(void) {
         ANSWERS(HIDR_FAULT, hidr_parser_finish(parser, &to.handle, NULL));
     }
     ANSWERS(HIDR_OK, hidr_close(parser));
-    /* A text that ends too early is told at its end, and the parser is still open. */
+}
+
+/* A text that ends too early is told at its end, and the parser is still open. */
+static void cut_texts(void) {
+    static const uint8_t cut[] = {0x05, 0x01, 0x26};
+    hidr_parser parser;
+    struct outputs to;
+    FILL(to);
     ANSWERS(HIDR_OK, hidr_parser_open(&parser));
     ANSWERS(HIDR_OK, hidr_parser_feed(parser, cut, sizeof cut, &to.error));
     for (int number = 0; number < 2; number++) {
@@ -208,9 +239,10 @@ static void texts(void) {
     ANSWERS(HIDR_CLOSED, hidr_close(parser));
 }
 
-static void places_and_reports(void) {
+/* Places and reports that are not there. */
+static void what_is_absent(void) {
     hidr_descriptor keyboard = parsed(KEYBOARD, sizeof KEYBOARD), ids = parsed(WITH_IDS, sizeof WITH_IDS);
-    static const uint8_t unknown[] = {3, 0, 0}, too_short[] = {2, 1}, whole[] = {2, 1, 0xff, 9};
+    static const uint8_t unknown[] = {3, 0, 0}, too_short[] = {2, 1};
     struct outputs to;
     FILL(to);
     ANSWERS(HIDR_ABSENT, hidr_field_at(keyboard, 3, &to.field));
@@ -233,7 +265,14 @@ static void places_and_reports(void) {
     ANSWERS(HIDR_UNKNOWN_ID, hidr_pressed(ids, unknown, sizeof unknown, to.usages, 2, &to.count));
     ANSWERS(HIDR_SHORT_REPORT, hidr_extract(ids, too_short, sizeof too_short, to.found, 2, &to.count));
     UNTOUCHED(to);
-    /* What is there. */
+    ANSWERS(HIDR_OK, hidr_close(keyboard));
+    ANSWERS(HIDR_OK, hidr_close(ids));
+}
+
+static void what_is_there(void) {
+    hidr_descriptor keyboard = parsed(KEYBOARD, sizeof KEYBOARD), ids = parsed(WITH_IDS, sizeof WITH_IDS);
+    struct outputs to;
+    FILL(to);
     ANSWERS(HIDR_OK, hidr_usage_at(keyboard, 0, 7, to.usages));
     CHECK(to.usages[0] == 0x000700e7);
     ANSWERS(HIDR_OK, hidr_usage_at(keyboard, 2, 255, to.usages));
@@ -249,7 +288,15 @@ static void places_and_reports(void) {
     ANSWERS(HIDR_OK, hidr_field_at(ids, 1, &to.field));
     CHECK(to.field.kind == HIDR_INPUT && to.field.id == 2 && to.field.bit == 0 && to.field.size == 8 && to.field.count == 2 &&
           to.field.min == -127 && to.field.max == 127 && to.field.array == 0);
-    /* Bytes behind a report are ignored, and what there is no room for is counted and not written. */
+    ANSWERS(HIDR_OK, hidr_close(keyboard));
+    ANSWERS(HIDR_OK, hidr_close(ids));
+}
+
+/* Bytes behind a report are ignored, and what there is no room for is counted and not written. */
+static void less_room(void) {
+    static const uint8_t whole[] = {2, 1, 0xff, 9};
+    hidr_descriptor ids = parsed(WITH_IDS, sizeof WITH_IDS);
+    struct outputs to;
     FILL(to);
     ANSWERS(HIDR_OK, hidr_extract(ids, whole, sizeof whole, to.found, 1, &to.count));
     CHECK(to.count == 2 && to.found[0].usage == 0x00010030 && to.found[0].value == 1);
@@ -264,7 +311,6 @@ static void places_and_reports(void) {
     ANSWERS(HIDR_OK, hidr_ranges(ids, 0, to.ranges, 1, &to.count));
     CHECK(to.count == 4 && to.ranges[0].first == 0x000c00b5 && to.ranges[0].last == 0x000c00b5);
     UNTOUCHED(to.ranges[1]);
-    ANSWERS(HIDR_OK, hidr_close(keyboard));
     ANSWERS(HIDR_OK, hidr_close(ids));
 }
 
@@ -334,9 +380,15 @@ int main(void) {
     CHECK(free_handles() == HIDR_HANDLES);
     handles();
     null_pointers();
+    null_before_a_length();
+    nothing_may_be_null();
     lengths();
     texts();
-    places_and_reports();
+    pieces();
+    cut_texts();
+    what_is_absent();
+    what_is_there();
+    less_room();
     full_table();
     anywhere();
     names();

@@ -230,23 +230,32 @@ static void ask(char **words)
         print_hex(bytes, got);
 }
 
-int main(int argc, char **argv)
+/* Does what a word without numbers asks; 0 where it is none. */
+static int whole(const char *word)
 {
-    const char *word = argc > 2 ? argv[2] : "";
-    char path[64], name[128] = "", **words = argv + 3;
-    unsigned char bytes[MOST_BYTES];
-    int given = argc - 3, number[3] = { 0 };
-    for (int i = 0; i < given && i < 3; i++)
-        number[i] = strtol(words[i], NULL, i == 2 ? 16 : 10);
-    serial = argc > 1 ? argv[1] : "";
-    setvbuf(stdout, NULL, _IOLBF, 0);
-    if (!strcmp(word, "name") && given == 0) {
+    char path[64], name[128] = "";
+    if (!strcmp(word, "name")) {
         ioctl(find_keys(), EVIOCGNAME(sizeof name), name);
         printf("%s\n", name);
-    } else if (!strcmp(word, "file") && given == 0) {
+    } else if (!strcmp(word, "file")) {
         find("hidraw", HIDIOCGRAWUNIQ(128), path, sizeof path);
         printf("%s\n", path);
-    } else if (!strcmp(word, "keys") && given == 1) {
+    } else if (!strcmp(word, "reset")) {
+        tell(ioctl(find_device(), USBDEVFS_RESET));
+    } else {
+        return 0;
+    }
+    return 1;
+}
+
+/* Does what a word asks with so many words behind it; 0 where it is none. */
+static int with_words(const char *word, char **words, int given)
+{
+    unsigned char bytes[MOST_BYTES];
+    int number[3] = { 0 };
+    for (int i = 0; i < given && i < 3; i++)
+        number[i] = strtol(words[i], NULL, i == 2 ? 16 : 10);
+    if (!strcmp(word, "keys") && given == 1) {
         keys(number[0]);
     } else if (!strcmp(word, "reports") && given == 1) {
         reports(number[0]);
@@ -268,11 +277,20 @@ int main(int argc, char **argv)
         led(number[0], number[1]);
     } else if (!strcmp(word, "ask") && given == 5) {
         ask(words);
-    } else if (!strcmp(word, "reset") && given == 0) {
-        tell(ioctl(find_device(), USBDEVFS_RESET));
     } else {
-        fprintf(stderr, "host SERIAL name|file|keys|reports|packets|held|feature|set|get|output|led|ask|reset ..\n");
-        return 2;
+        return 0;
     }
-    return 0;
+    return 1;
+}
+
+int main(int argc, char **argv)
+{
+    const char *word = argc > 2 ? argv[2] : "";
+    int given = argc - 3;
+    serial = argc > 1 ? argv[1] : "";
+    setvbuf(stdout, NULL, _IOLBF, 0);
+    if (given == 0 ? whole(word) : with_words(word, argv + 3, given))
+        return 0;
+    fprintf(stderr, "host SERIAL name|file|keys|reports|packets|held|feature|set|get|output|led|ask|reset ..\n");
+    return 2;
 }

@@ -354,43 +354,57 @@ impl Run {
         Ok(true)
     }
 
+    /// Takes what a host sent or did.
+    fn take(&mut self, event: Event) -> Result<()> {
+        match event {
+            Event::Urb(plug, urb) => {
+                let taken = match &mut self.wire {
+                    Some((at, _, Wire::Usbip(wire))) if *at == plug => wire.take(urb, &mut self.device),
+                    _ => Ok(()),
+                };
+                self.met(taken)
+            }
+            Event::Message(plug, message) => {
+                let taken = match &mut self.wire {
+                    Some((at, _, Wire::Usbredir(wire))) if *at == plug => wire.take(message, &mut self.device),
+                    _ => Ok(()),
+                };
+                self.met(taken)
+            }
+            Event::Gone(plug) => {
+                if self.wire.as_ref().is_some_and(|wire| wire.0 == plug) {
+                    self.wire = None;
+                    println!("the host has gone");
+                }
+                Ok(())
+            }
+            Event::Line(line) => {
+                match hands::read(&line) {
+                    Some(acts) => self.hands.extend(acts),
+                    None => eprintln!("real_host: no such line: {line}"),
+                }
+                Ok(())
+            }
+            Event::Plugged(_) | Event::Guest(_) if self.wire.is_some() => {
+                eprintln!("real_host: a second host was turned away: the keyboard is plugged in already");
+                Ok(())
+            }
+            Event::Plugged(socket) => self.plug(Socket::Tcp(socket)),
+            Event::Guest(socket) => self.guest(Socket::Pair(socket)),
+        }
+    }
+
     /// Runs until a line `end`.
     pub fn run(&mut self, events: Receiver<Event>) -> Result<()> {
         let mut next = Instant::now();
         loop {
             match events.recv_timeout(next.saturating_duration_since(Instant::now())) {
-                Ok(Event::Urb(plug, urb)) => {
-                    let taken = match &mut self.wire {
-                        Some((at, _, Wire::Usbip(wire))) if *at == plug => wire.take(urb, &mut self.device),
-                        _ => Ok(()),
-                    };
-                    self.met(taken)?;
-                }
-                Ok(Event::Message(plug, message)) => {
-                    let taken = match &mut self.wire {
-                        Some((at, _, Wire::Usbredir(wire))) if *at == plug => wire.take(message, &mut self.device),
-                        _ => Ok(()),
-                    };
-                    self.met(taken)?;
-                }
-                Ok(Event::Gone(plug)) => {
-                    if self.wire.as_ref().is_some_and(|wire| wire.0 == plug) {
-                        self.wire = None;
-                        println!("the host has gone");
-                    }
-                }
-                Ok(Event::Line(line)) => match hands::read(&line) {
-                    Some(acts) => {
-                        self.hands.extend(acts);
+                Ok(event) => {
+                    if matches!(event, Event::Line(_)) {
                         next = Instant::now();
                     }
-                    None => eprintln!("real_host: no such line: {line}"),
-                },
-                Ok(Event::Plugged(_) | Event::Guest(_)) if self.wire.is_some() => {
-                    eprintln!("real_host: a second host was turned away: the keyboard is plugged in already");
+                    self.take(event)?;
                 }
-                Ok(Event::Plugged(socket)) => self.plug(Socket::Tcp(socket))?,
-                Ok(Event::Guest(socket)) => self.guest(Socket::Pair(socket))?,
                 Err(RecvTimeoutError::Timeout) => {
                     let count = self.milliseconds();
                     // What is late is not made up for, so that the host has its turn between two scans.

@@ -136,23 +136,7 @@ impl<S: Write> Wire<S> {
                 eprintln!("real_host: an URB of {length} bytes for the request {setup:02x?}");
                 self.submitted(seq, EINVAL, 0, &[])
             }
-            Urb::Submit { seq, endpoint: 0, setup, data, .. } => {
-                // Linux asks for 64 bytes of the device descriptor behind a reset, and at no other time.
-                if setup == [0x80, 6, 0, 1, 0, 0, 64, 0] {
-                    plug(device);
-                }
-                match device.control(setup, &data) {
-                    Ended::Data(read) => {
-                        let length = if setup[0] & 0x80 != 0 { read.len() } else { data.len() };
-                        self.submitted(seq, 0, length, &read)
-                    }
-                    Ended::Stall => self.submitted(seq, EPIPE, 0, &[]),
-                    Ended::Gone => {
-                        self.submitted(seq, EPROTO, 0, &[])?;
-                        Err(ErrorKind::ConnectionReset.into())
-                    }
-                }
-            }
+            Urb::Submit { seq, endpoint: 0, setup, data, .. } => self.control(seq, setup, &data, device),
             Urb::Submit { seq, to_host: true, endpoint: 1, length, .. } => {
                 self.polls.push_back((seq, length));
                 self.poll(device).map(drop)
@@ -168,6 +152,25 @@ impl<S: Write> Wire<S> {
                 let mut answer = head(RET_UNLINK, seq);
                 answer[20..24].copy_from_slice(&status.to_be_bytes());
                 self.to.write_all(&answer)
+            }
+        }
+    }
+
+    /// A control transfer.
+    fn control(&mut self, seq: u32, setup: [u8; 8], data: &[u8], device: &mut Device) -> Result<()> {
+        // Linux asks for 64 bytes of the device descriptor behind a reset, and at no other time.
+        if setup == [0x80, 6, 0, 1, 0, 0, 64, 0] {
+            plug(device);
+        }
+        match device.control(setup, data) {
+            Ended::Data(read) => {
+                let length = if setup[0] & 0x80 != 0 { read.len() } else { data.len() };
+                self.submitted(seq, 0, length, &read)
+            }
+            Ended::Stall => self.submitted(seq, EPIPE, 0, &[]),
+            Ended::Gone => {
+                self.submitted(seq, EPROTO, 0, &[])?;
+                Err(ErrorKind::ConnectionReset.into())
             }
         }
     }

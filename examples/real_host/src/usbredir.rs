@@ -100,9 +100,9 @@ impl<S: Write> Wire<S> {
         self.say(DEVICE_CONNECT, 0, &about)
     }
 
+    /// A message of the host.
     pub fn take(&mut self, message: Message, device: &mut Device) -> Result<()> {
         let Message { kind, id, data } = message;
-        let at = |place: usize| data.get(place).copied().unwrap_or(0);
         match kind {
             HELLO => self.connect(),
             RESET => {
@@ -110,6 +110,26 @@ impl<S: Write> Wire<S> {
                 plug(device);
                 Ok(())
             }
+            START_INTERRUPT | STOP_INTERRUPT => {
+                self.receives = kind == START_INTERRUPT;
+                self.say(INTERRUPT_STATUS, id, &[SUCCESS, first(&data)])?;
+                self.poll(device).map(drop)
+            }
+            CONTROL if data.len() >= 10 => self.control(id, &data, device),
+            CONTROL => {
+                eprintln!("real_host: a control message of {} bytes", data.len());
+                Ok(())
+            }
+            INTERRUPT => self.say(INTERRUPT, id, &[first(&data), STALL, 0, 0]),
+            CANCEL => Ok(()), // each transfer is over before the next message is read
+            _ => self.configure(kind, id, &data, device),
+        }
+    }
+
+    /// A message that sets or asks the configuration or an alternate setting; any other changes nothing.
+    fn configure(&mut self, kind: u32, id: u64, data: &[u8], device: &mut Device) -> Result<()> {
+        let at = |place: usize| data.get(place).copied().unwrap_or(0);
+        match kind {
             SET_CONFIGURATION => {
                 self.receives = false;
                 let ended = device.control([0, 9, at(0), 0, 0, 0, 0, 0], &[]);
@@ -128,18 +148,6 @@ impl<S: Write> Wire<S> {
                 let ended = device.control([0x81, 10, 0, 0, at(0), 0, 1, 0], &[]);
                 self.say(ALT_SETTING_STATUS, id, &[status(&ended), at(0), value(&ended)])
             }
-            START_INTERRUPT | STOP_INTERRUPT => {
-                self.receives = kind == START_INTERRUPT;
-                self.say(INTERRUPT_STATUS, id, &[SUCCESS, at(0)])?;
-                self.poll(device).map(drop)
-            }
-            CONTROL if data.len() >= 10 => self.control(id, &data, device),
-            CONTROL => {
-                eprintln!("real_host: a control message of {} bytes", data.len());
-                Ok(())
-            }
-            INTERRUPT => self.say(INTERRUPT, id, &[at(0), STALL, 0, 0]),
-            CANCEL => Ok(()), // each transfer is over before the next message is read
             _ => Ok(()),
         }
     }
@@ -213,6 +221,11 @@ impl<S: Write> Wire<S> {
         let length = (data.len() as u32).to_le_bytes();
         self.to.write_all(&[&kind.to_le_bytes()[..], &length, &id.to_le_bytes(), data].concat())
     }
+}
+
+/// The first byte of a message, which names an endpoint.
+fn first(data: &[u8]) -> u8 {
+    data.first().copied().unwrap_or(0)
 }
 
 fn status(ended: &Ended) -> u8 {

@@ -129,8 +129,8 @@ fn is_closed(socket: &mut TcpStream) -> bool {
 }
 
 #[test]
-fn hosts_come_and_go_and_the_keyboard_lives_on() {
-    let mut program = Program::start(&[]);
+fn a_second_host_is_turned_away() {
+    let program = Program::start(&[]);
     let (mut host, given) = program.import("1-1");
     assert!(given && control(&mut host, [0x80, 6, 0, 1, 0, 0, 18, 0], 18, &[]).1.len() == 18);
     assert_eq!((set(&mut host, 5), get(&mut host)), (0, 5));
@@ -138,6 +138,14 @@ fn hosts_come_and_go_and_the_keyboard_lives_on() {
     let (mut second, _) = program.import("1-1");
     assert!(is_closed(&mut second));
     Program::says(&program.err, "a second host was turned away");
+    program.end();
+}
+
+#[test]
+fn hosts_come_and_go_and_the_keyboard_lives_on() {
+    let program = Program::start(&[]);
+    let (mut host, _) = program.import("1-1");
+    assert_eq!(set(&mut host, 5), 0);
     // A wrong length.
     assert_eq!(control(&mut host, SET, 2, &[3, 1]).0, EINVAL);
     Program::says(&program.err, "an URB of 2 bytes for the request");
@@ -159,8 +167,14 @@ fn hosts_come_and_go_and_the_keyboard_lives_on() {
     other.write_all(b"GET / HTTP/1.1\r\n\r\n").unwrap();
     assert!(is_closed(&mut other));
     Program::says(&program.err, "no request of usbip");
-    // The power goes inside a command: the keyboard is unplugged, and has the old entry.
+    program.end();
+}
+
+#[test]
+fn power_that_goes_inside_a_command_leaves_the_old_entry() {
+    let mut program = Program::start(&[]);
     let (mut host, _) = program.import("1-1");
+    assert_eq!(set(&mut host, 5), 0);
     configure(&mut host);
     poll(&mut host, 64);
     program.hands("tear 0f");

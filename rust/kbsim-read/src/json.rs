@@ -60,11 +60,10 @@ fn field(text: &[u8], reader: &Reader, place: usize, number: Option<usize>) -> J
     })
 }
 
-/// Prints a descriptor as one object.
-pub fn parse(path: &str, from: Option<given::From>, out: &mut impl Write) -> Result<(), Ended> {
-    let (text, reader) = given::reader_of((path, from))?;
-    let told = reader.details();
-    let collections: Json = told
+/// The collections of a descriptor.
+fn collections(reader: &Reader) -> Json {
+    reader
+        .details()
         .collections
         .iter()
         .map(|collection| {
@@ -77,29 +76,38 @@ pub fn parse(path: &str, from: Option<given::From>, out: &mut impl Write) -> Res
                 "outer": collection.outer,
             })
         })
-        .collect();
-    let mut fields = Vec::new();
-    let mut number = 0;
-    for (place, detail) in told.fields.iter().enumerate() {
-        let is_field = !detail.is_constant();
-        fields.push(field(&text, &reader, place, is_field.then_some(number)));
-        number += usize::from(is_field);
-    }
-    let reports: Json = told
-        .reports()
+        .collect()
+}
+
+/// The reports of a descriptor.
+fn reports(reader: &Reader) -> Json {
+    let told = reader.details();
+    told.reports()
         .map(|report| {
             let places: Vec<usize> = told.report(report.kind, report.id).map(|placed| placed.place).collect();
             let bytes = report.bytes() + u64::from(reader.descriptor().uses_ids());
             let kind = format!("{:?}", report.kind).to_lowercase();
             json!({"kind": kind, "id": report.id, "bits": report.bits, "bytes": bytes, "fields": places})
         })
-        .collect();
+        .collect()
+}
+
+/// Prints a descriptor as one object.
+pub fn parse(path: &str, from: Option<given::From>, out: &mut impl Write) -> Result<(), Ended> {
+    let (text, reader) = given::reader_of((path, from))?;
+    let mut fields = Vec::new();
+    let mut number = 0;
+    for (place, detail) in reader.details().fields.iter().enumerate() {
+        let is_field = !detail.is_constant();
+        fields.push(field(&text, &reader, place, is_field.then_some(number)));
+        number += usize::from(is_field);
+    }
     let all = json!({
         "version": VERSION,
         "uses_ids": reader.descriptor().uses_ids(),
-        "collections": collections,
+        "collections": collections(&reader),
         "fields": fields,
-        "reports": reports,
+        "reports": reports(&reader),
     });
     writeln!(out, "{all:#}")?;
     Ok(())

@@ -117,42 +117,48 @@ pub fn run(words: &[String], out: &mut impl Write) -> Result<ExitCode, Ended> {
         return Ok(ExitCode::SUCCESS);
     }
     match command.as_str() {
-        "parse" => {
-            let found = split(rest, &["--details", "--json", "--from"])?;
-            let [path] = &at_most_one(&found.rest)?;
-            match (found.has("--details"), found.has("--json")) {
-                (true, true) => return Err(Ended::words("--details and --json can't both be")),
-                (false, false) => return Err(Ended::words("parse wants --details or --json here")),
-                (_, true) => json::parse(path, found.from, out)?,
-                (true, _) => details::parse(path, found.from, out)?,
-            }
-            Ok(ExitCode::SUCCESS)
-        }
-        "read" => {
-            let found = split(rest, &["--names", "--json", "--raw", "--kind", "--from"])?;
-            let (descriptor, reports) = match found.rest.as_slice() {
-                [descriptor] => (descriptor, "-"),
-                [descriptor, reports] => (descriptor, reports.as_str()),
-                _ => return Err(Ended::words("read wants DESCRIPTOR and REPORTS")),
-            };
-            if descriptor == "-" && reports == "-" {
-                return Err(Ended::words("standard input can't be both, the descriptor and the reports"));
-            }
-            let form = read::Form { names: found.has("--names"), json: found.has("--json"), raw: found.has("--raw") };
-            read::read((descriptor, found.from), reports, found.kind.unwrap_or(Kind::Input), form, out)
-        }
-        "write" => {
-            let found = split(rest, &["--kind", "--onto", "--from"])?;
-            let [descriptor, id, settings @ ..] = found.rest.as_slice() else {
-                return Err(Ended::words("write wants DESCRIPTOR, ID and CONTROL=VALUE"));
-            };
-            let id = id.parse().map_err(|_| Ended::words(format!("{id} is no Report ID: 0 to 255")))?;
-            let kind = found.kind.unwrap_or(Kind::Output);
-            write::write((descriptor, found.from), kind, id, settings, found.onto.as_deref(), out)?;
-            Ok(ExitCode::SUCCESS)
-        }
+        "parse" => parse(rest, out),
+        "read" => read(rest, out),
+        "write" => write(rest, out),
         other => Err(Ended::words(format!("{other} is no command here; --help names them"))),
     }
+}
+
+fn parse(words: &[String], out: &mut impl Write) -> Result<ExitCode, Ended> {
+    let found = split(words, &["--details", "--json", "--from"])?;
+    let [path] = &at_most_one(&found.rest)?;
+    match (found.has("--details"), found.has("--json")) {
+        (true, true) => return Err(Ended::words("--details and --json can't both be")),
+        (false, false) => return Err(Ended::words("parse wants --details or --json here")),
+        (_, true) => json::parse(path, found.from, out)?,
+        (true, _) => details::parse(path, found.from, out)?,
+    }
+    Ok(ExitCode::SUCCESS)
+}
+
+fn read(words: &[String], out: &mut impl Write) -> Result<ExitCode, Ended> {
+    let found = split(words, &["--names", "--json", "--raw", "--kind", "--from"])?;
+    let (descriptor, reports) = match found.rest.as_slice() {
+        [descriptor] => (descriptor, "-"),
+        [descriptor, reports] => (descriptor, reports.as_str()),
+        _ => return Err(Ended::words("read wants DESCRIPTOR and REPORTS")),
+    };
+    if descriptor == "-" && reports == "-" {
+        return Err(Ended::words("standard input can't be both, the descriptor and the reports"));
+    }
+    let form = read::Form { names: found.has("--names"), json: found.has("--json"), raw: found.has("--raw") };
+    read::read((descriptor, found.from), reports, found.kind.unwrap_or(Kind::Input), form, out)
+}
+
+fn write(words: &[String], out: &mut impl Write) -> Result<ExitCode, Ended> {
+    let found = split(words, &["--kind", "--onto", "--from"])?;
+    let [descriptor, id, settings @ ..] = found.rest.as_slice() else {
+        return Err(Ended::words("write wants DESCRIPTOR, ID and CONTROL=VALUE"));
+    };
+    let id = id.parse().map_err(|_| Ended::words(format!("{id} is no Report ID: 0 to 255")))?;
+    let kind = found.kind.unwrap_or(Kind::Output);
+    write::write((descriptor, found.from), kind, id, settings, found.onto.as_deref(), out)?;
+    Ok(ExitCode::SUCCESS)
 }
 
 /// The one word that is left, or standard input.

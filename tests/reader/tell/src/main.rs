@@ -7,7 +7,9 @@
 
 use std::fmt::Write as _;
 use std::io::{BufRead, Write};
-use wuzhikar_hid::{Asked, Kind, Naming, Reader, ReaderError, Setting, Target, Value, Within, WriteError, details, namings};
+use wuzhikar_hid::{
+    Asked, Details, Kind, Naming, Reader, ReaderError, Setting, Target, Value, Within, WriteError, details, namings,
+};
 use wuzhikar_reader::extract;
 
 fn bytes_of(hex: &str) -> Vec<u8> {
@@ -41,6 +43,41 @@ fn option(number: Option<impl ToString>) -> String {
     number.map_or("-".into(), |number| number.to_string())
 }
 
+/// A data item by all that is told of it.
+fn tell_item(line: &mut String, text: &[u8], told: &Details, place: usize) {
+    let detail = &told.fields[place];
+    let named = |naming| {
+        let ranges = namings(text, detail.offset, naming).map(|range| format!("{}:{}", range.start(), range.end()));
+        ranges.collect::<Vec<_>>().join(",")
+    };
+    let dimensions = match detail.unit_exponents() {
+        Ok(exponents) => exponents.map(|exponent| exponent.to_string()).join(","),
+        Err(why) => format!("{why:?}"),
+    };
+    let (least, greatest) = detail.physical();
+    let around: Vec<String> = told.around(place).map(|outer| outer.to_string()).collect();
+    let kind = kind_word(detail.kind);
+    let _ = write!(
+        line,
+        "{} {} {} {} {} {} {} {} {} {least} {greatest} {} {} {} {} {} {} {dimensions};",
+        detail.offset,
+        kind,
+        detail.flags,
+        detail.id,
+        detail.bit,
+        detail.size,
+        detail.count,
+        detail.min,
+        detail.max,
+        detail.unit,
+        detail.exponent,
+        around.join(","),
+        option(told.application(place)),
+        named(Naming::String),
+        named(Naming::Designator),
+    );
+}
+
 fn descriptor(text: &[u8]) -> (String, Option<Reader>) {
     let reader = match Reader::new(text) {
         Ok(reader) => reader,
@@ -61,37 +98,8 @@ fn descriptor(text: &[u8]) -> (String, Option<Reader>) {
     for report in told.reports() {
         let _ = write!(line, "report {} {} {};", kind_word(report.kind), report.id, report.bits);
     }
-    for (place, detail) in told.fields.iter().enumerate() {
-        let named = |naming| {
-            let ranges = namings(text, detail.offset, naming).map(|range| format!("{}:{}", range.start(), range.end()));
-            ranges.collect::<Vec<_>>().join(",")
-        };
-        let dimensions = match detail.unit_exponents() {
-            Ok(exponents) => exponents.map(|exponent| exponent.to_string()).join(","),
-            Err(why) => format!("{why:?}"),
-        };
-        let (least, greatest) = detail.physical();
-        let around: Vec<String> = told.around(place).map(|outer| outer.to_string()).collect();
-        let kind = kind_word(detail.kind);
-        let _ = write!(
-            line,
-            "{} {} {} {} {} {} {} {} {} {least} {greatest} {} {} {} {} {} {} {dimensions};",
-            detail.offset,
-            kind,
-            detail.flags,
-            detail.id,
-            detail.bit,
-            detail.size,
-            detail.count,
-            detail.min,
-            detail.max,
-            detail.unit,
-            detail.exponent,
-            around.join(","),
-            option(told.application(place)),
-            named(Naming::String),
-            named(Naming::Designator),
-        );
+    for place in 0..told.fields.len() {
+        tell_item(&mut line, text, told, place);
     }
     (line, Some(reader))
 }
