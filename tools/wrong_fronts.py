@@ -109,7 +109,11 @@ def main():
     given = words.parse_args()
     paths = sorted(glob.glob(f"{EDITS}/*.edit") + glob.glob(f"{EDITS}/right/*.edit"))
     if given.names:
-        paths = [path for path in paths if os.path.basename(path)[:-5] in given.names]
+        known = {os.path.basename(path)[:-5]: path for path in paths}
+        for name in given.names:
+            if name not in known:
+                words.error(f"tests/wrong_fronts has no edit {name!r}")
+        paths = [known[name] for name in given.names]
     tries, told = queue.Queue(), queue.Queue()
     for path in paths:
         tries.put(path)

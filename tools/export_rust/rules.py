@@ -77,7 +77,8 @@ KEYBOARD = Rules(
     owed={("keyboard", "Keyboard::work"): "**Needs** the flash that the keyboard last started or restarted on, as the keyboard left it. "
                                 "Nothing checks it: [`FlashKeyboard`](crate::FlashKeyboard) holds both."},
     hidden=frozenset({("keyboard", "Keyboard::start"), ("keyboard", "Keyboard::start_in")}),
-    calls={("keyboard", "Keyboard::start"): "KeyboardCalls", ("keyboard", "Keyboard::start_in"): "KeyboardCalls", ("layers", "LayerNo::known"): "Known", ("layers", "KeyNo::known"): "Known",
+    calls={("keyboard", "Keyboard::start"): "KeyboardCalls", ("keyboard", "Keyboard::start_in"): "KeyboardCalls",
+           ("layers", "LayerNo::known"): "Known", ("layers", "KeyNo::known"): "Known",
            ("debounce", "Scan::has"): "ScanCalls", ("debounce", "Scan::with"): "ScanCalls", ("debounce", "Debouncer::is_down"): "DebouncerCalls"},
     docs={("descriptor_build", ""): [("`parse_lines` prints them", "the crate `kbsim` prints them")],
           ("keyboard", ""): [("A firmware calls it, as `firmware_example` does; `world`", "A firmware calls it, and the crate `kbsim`")]},
