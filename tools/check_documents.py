@@ -4,6 +4,7 @@
 - Each link leads to a file that is there, and to a heading of it.
 - No paragraph stands in two documents.
 - README.md has a row for each crate of crates.txt, in its groups and its order, and docs/THEOREM.md shows the record Promise as its source has it.
+- docs/CONTRACTS.md has a row for each crate whose contracts promise something, in the order of crates.txt.
 - Each wrong body stands where docs/WRONG_BODIES.md says, each edit of the gate stands there, and the text that an edit replaces
   stands once in its file.
 - Each definition is in the file that a document names beside it, and each file of definitions says first who has to believe it.
@@ -37,6 +38,8 @@ ALLOWED = re.compile(
 OURS = re.compile(r"(examples|docs|bin|crates)/.*|.*/(specs|proofs)/.*")
 BELIEVED = ("-- Believed: ", "-- Believed where this crate is called: ", "-- Only ties code to its definitions: ")
 BY_HAND = "By hand"  # the group of README's table that crates.txt has not
+# Crates whose contracts promise nothing to a caller: tests, what they read, a closed example, the words of the command line.
+WITHOUT_CONTRACTS = re.compile(r"\w+_tests|row_text|session_example|command_line")
 LONG = 120  # a paragraph of so many characters is one that could be said once
 
 
@@ -171,6 +174,20 @@ def crates(tree):
         yield f"README.md: its table of crates has {found[at]} where crates.txt has {wanted[at]}"
 
 
+def contracts(tree):
+    """Crates that docs/CONTRACTS.md does not name, and rows that stand elsewhere than in the order of crates.txt."""
+    listed = re.findall(r"^([a-z][a-z0-9_]*):", tree.read("crates.txt"), re.MULTILINE)
+    first = [re.findall(r"`(\w+)`", cell) for cell in re.findall(r"^\| ([^|]*`[^|]*) \|", tree.read("docs/CONTRACTS.md"), re.MULTILINE)]
+    named = {name for names in first for name in names}
+    for name in listed:
+        if name not in named and not WITHOUT_CONTRACTS.fullmatch(name):
+            yield f"docs/CONTRACTS.md: no row is of {name}"
+    places = [listed.index(names[0]) for names in first if names and names[0] in listed]
+    for before, after in zip(places, places[1:]):
+        if after < before:
+            yield f"docs/CONTRACTS.md: {listed[after]} stands behind {listed[before]}, and not so in crates.txt"
+
+
 def wrong_bodies(tree):
     """Wrong bodies that stand elsewhere than their row says, and edits of the gate without a row."""
     page = tree.read("docs/WRONG_BODIES.md")
@@ -268,7 +285,7 @@ def note(tree):
             print(f"check-docs: note: README.md names another toolchain than this one: {version}")
 
 
-CHECKS = [names, links, paragraphs, crates, wrong_bodies, definitions, edits, promise, believed, measured, benched, shown]
+CHECKS = [names, links, paragraphs, crates, contracts, wrong_bodies, definitions, edits, promise, believed, measured, benched, shown]
 
 
 def main():
