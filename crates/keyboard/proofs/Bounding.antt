@@ -49,3 +49,6 @@ nothing_left w count n s = cc
 
 pub nothing_needed : (w : Option Command) (A : Type 0) → w ≡ None → IsSome w → A
 nothing_needed w A n s = cc
+
+pub none_works : (w : Option Command) (command : Command) (A : Type 0) → w ≡ None → w ≡ Some command → A
+none_works w command A n s = cc

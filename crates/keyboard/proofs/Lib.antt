@@ -18,4 +18,5 @@ pub mod Operation
 pub mod Working
 pub mod Steps
 pub mod Starting
+pub mod Heading
 pub mod Apart

@@ -1,5 +1,5 @@
 -- A feature report that was offered: its verdict, and the keyboard after it.
-use Rattle.std.proofs.Common.{◌≡◌, ℕ, ◌+◌, ◌<◌, ◌≤◌, ◌==◌, ◌^◌, IsSome, is_some, slice_index, drop, if◌then◌else◌, true, false, Option, Some, None, Result, Ok, Err, List, [], ◌∷◌, refl, ap, sym, ◌∙◌, subst, arith, inl, inr}
+use Rattle.std.proofs.Common.{◌≡◌, ℕ, ◌+◌, ◌<◌, ◌≤◌, ◌==◌, ◌^◌, IsSome, is_some, slice_index, drop, if◌then◌else◌, Bool, true, false, Option, Some, None, Result, Ok, Err, List, [], ◌∷◌, refl, ap, sym, ◌∙◌, subst, arith, inl, inr}
 use Rattle.std.specs.Option.{option_map}
 use Rattle.std.specs.Result.{result_ok}
 use Rattle.std.proofs.lemmas.List.{get_or-drop}
@@ -16,6 +16,8 @@ use Rattle.keymap_store.specs.declared.store.SubmitRefusal.TheVariants as Refusa
 use Rattle.keymap_store.specs.Submits.{IsWorn, HasPlace, Submits}
 use Rattle.keymap_store.specs.Store.{working as working_in}
 use Rattle.keymap_store.specs.Left.{left, Needs}
+use Rattle.keymap_store.specs.Operations.{operations_of}
+use Rattle.keymap_store.specs.Rest.{rest_of}
 use Rattle.keymap_store.specs.Value.{StoreValue}
 use Rattle.key_reports.specs.Value.{KeysValue}
 use Rattle.key_reports.specs.Stands as key_reports
@@ -44,7 +46,7 @@ use Rattle.keyboard.specs.Value.{KeyboardValue, RunsOn, at_work}
 use Rattle.keyboard.specs.Stands.{StandsFor}
 use Rattle.keyboard.specs.Private.{VerdictLeaves, refused, selects, commands, Judges, verdict_of}
 use Rattle.keyboard.proofs.Changing.{changes-some, changes-nothing}
-use Rattle.keyboard.proofs.Bounding.{steps_since-none, accepted_image-now, nothing_needed}
+use Rattle.keyboard.proofs.Bounding.{steps_since-none, accepted_image-now, nothing_needed, none_works}
 use Rattle.keyboard.proofs.Served.{Serves, serves}
 use Rattle.keyboard.proofs.Effects.{ends_none_out}
 use Rattle.keyboard.proofs.Sessions.{orderly, AfterTaken, now_works, changed_nothing, after_takes, working_after}
@@ -89,15 +91,15 @@ pub judged_settled : (image bytes : List ℕ) (command : Command) (old new : Key
 judged_settled image bytes command old new n c u s r o w m =
     let nothing : changes (keymap image) command ≡ false = changes-nothing (keymap image) command s in
     judged_with image bytes command Done old new n c (no (λ v. v u) (yes s refl)) (rw nothing refl) r
-    (commands command c refl n o (rw nothing w) m (λ x. nothing_needed (at_work new) (Needs image (left image new.store)) w x))
+    (commands command c refl n o (rw nothing w) m (λ x. nothing_needed (at_work new) (Needs image (left image new.store)) w x) (λ x. none_works (at_work new) command (rest_of image new.store ≡ operations_of image command) w x))
 
 pub judged_working : (image bytes : List ℕ) (command : Command) (old new : KeyboardValue) → at_work old ≡ None → command_in bytes ≡ Ok command
     → IsUsable image → ChangesSome (keymap image) command → HasPlace image → RunsOn image new → new ≡ record old { store = new.store } → at_work new ≡ Some command → left image new.store ≤ most_steps
-    → Needs image (left image new.store) → Judges image bytes Working old new
-judged_working image bytes command old new n c u s p r o w m k =
+    → Needs image (left image new.store) → rest_of image new.store ≡ operations_of image command → Judges image bytes Working old new
+judged_working image bytes command old new n c u s p r o w m k i =
     let something : changes (keymap image) command ≡ true = changes-some (keymap image) command s in
     judged_with image bytes command Working old new n c (no (λ v. v u) (no (some_and_nothing (keymap image) command s) (no (not_worn image p) refl))) (rw something refl) r
-    (commands command c refl n o (rw something w) m (λ x. k))
+    (commands command c refl n o (rw something w) m (λ x. k) (λ x. i))
 
 pub judged_unsound : (image bytes : List ℕ) (command : Command) (old new : KeyboardValue) → at_work old ≡ None → command_in bytes ≡ Ok command
     → (IsUsable image → ⊥) → RunsOn image new → new ≡ old → Judges image bytes (Refused Unsound) old new
@@ -117,6 +119,7 @@ pub record Submitted (image : List ℕ) (command : Command) (taken : Result Take
   pub unchanged : (taken ≡ Ok Takens.Working → ⊥) → new.store ≡ old.store
   pub needs : taken ≡ Ok Takens.Working → Needs image (left image new.store)
   pub few : left image new.store ≤ most_steps
+  pub operations : taken ≡ Ok Takens.Working → rest_of image new.store ≡ operations_of image command
 
 kept_by : (old new : KeyboardValue) → new ≡ record old { store = new.store } → new.store ≡ old.store → new ≡ old
 kept_by old new o s = o ∙ ap (λ (x : StoreValue). record old { store = x }) s
@@ -129,7 +132,7 @@ pub judged_submitted : (image bytes : List ℕ) (command : Command) (taken : Res
 judged_submitted image bytes command (Ok Takens.Settled) old new n c s =
     judged_settled image bytes command old new n c s.submits.0.usable s.submits.1 s.runs_on s.only (ap (λ (x : StoreValue). working_in x.job) (s.unchanged (λ e. cc)) ∙ n) s.few
 judged_submitted image bytes command (Ok Takens.Working) old new n c s =
-    judged_working image bytes command old new n c s.submits.0.usable s.submits.1 s.submits.2 s.runs_on s.only (s.taken_is refl) s.few (s.needs refl)
+    judged_working image bytes command old new n c s.submits.0.usable s.submits.1 s.submits.2 s.runs_on s.only (s.taken_is refl) s.few (s.needs refl) (s.operations refl)
 judged_submitted image bytes command (Err Refusals.Busy) old new n c s = absurd (not_busy (at_work old) n s.submits)
 judged_submitted image bytes command (Err Refusals.Unsound) old new n c s =
     judged_unsound image bytes command old new n c s.submits.1 s.runs_on (kept_by old new s.only (s.unchanged (λ e. cc)))
@@ -167,7 +170,7 @@ offered past packet bytes (Stalled why) s a = cc
 pub same_ep : (image bytes : List ℕ) (verdict : Verdict) (old new : KeyboardValue) → VerdictLeaves image bytes verdict old new → new.ep ≡ old.ep
 same_ep image bytes verdict old new (refused n o) = ap (λ (k : KeyboardValue). k.ep) o
 same_ep image bytes verdict old new (selects z a o) = ap (λ (k : KeyboardValue). k.ep) o
-same_ep image bytes verdict old new (commands command c a n o w m k) = ap (λ (k : KeyboardValue). k.ep) o
+same_ep image bytes verdict old new (commands command c a n o w m k i) = ap (λ (k : KeyboardValue). k.ep) o
 
 unacked : (past : List Call) (packet : List ℕ) (answer : EpAnswer) → (answer ≡ Ack → ⊥) → report_taken past (Out packet answer) ≡ None
 unacked past packet Ack n = absurd (n refl)
@@ -256,6 +259,10 @@ offer_selects start past packet bytes verdict old mid new ep j z a o =
     })
     (subst (λ (x : EpAnswer). IsAnswered start past (Out packet x)) a (judged_is start past packet bytes verdict old mid new ep j)))
 
+only_command : (works : Bool) (w : Option Command) (command other : Command) → w ≡ (if works then Some command else None) → w ≡ Some other → other ≡ command
+only_command true w command other e f = cc
+only_command false w command other e f = cc
+
 plus_none : (n : ℕ) → n ≡ n + 0
 plus_none n = omega arith
 
@@ -263,8 +270,9 @@ plus_none n = omega arith
 offer_commands : (start : List ℕ) (past : List Call) (packet bytes : List ℕ) (verdict : Verdict) (command : Command) (old mid new : KeyboardValue) (ep : Stage) → OfferJudged start past packet bytes verdict old mid new ep
     → command_in bytes ≡ Ok command → judged_answer verdict ≡ Ack → at_work mid ≡ None → new ≡ record mid { store = new.store }
     → at_work new ≡ (if changes (keymap (image_after start past)) command then Some command else None) → left (image_after start past) new.store ≤ most_steps
-    → (IsSome (at_work new) → Needs (image_after start past) (left (image_after start past) new.store)) → StandsFor start (Out packet Ack ∷ past) (record new { ep = ep })
-offer_commands start past packet bytes verdict command old mid new ep j c a n o w m k =
+    → (IsSome (at_work new) → Needs (image_after start past) (left (image_after start past) new.store)) → (at_work new ≡ Some command → rest_of (image_after start past) new.store ≡ operations_of (image_after start past) command)
+    → StandsFor start (Out packet Ack ∷ past) (record new { ep = ep })
+offer_commands start past packet bytes verdict command old mid new ep j c a n o w m k i =
     let call : Call = Out packet Ack in
     let of : Offered past packet bytes = offer_of start past packet bytes verdict old mid new ep j in
     let is : new ≡ record old { ep = mid.ep; store = new.store } = o ∙ ap (λ (k : KeyboardValue). record k { store = new.store }) j.between in
@@ -292,6 +300,9 @@ offer_commands start past packet bytes verdict command old mid new ep j c a n o 
             λ x. subst (λ (image : List ℕ). Needs image (left (image_after start past) new.store + steps_since (call ∷ past))) (sym (accepted_image-now start call past command accepted))
             (subst (λ (n : ℕ). Needs (image_after start past) (left (image_after start past) new.store + n)) (sym (steps_since-none call past command accepted))
             (subst (λ (n : ℕ). Needs (image_after start past) n) (plus_none (left (image_after start past) new.store)) (k x)));
+        order =
+            λ other x. (let same : other ≡ command = only_command (changes (keymap (image_after start past)) command) (at_work new) command other w x in
+            rw (same, steps_since-none call past command accepted, accepted_image-now start call past command accepted) (sym (i (rw same at x))));
       };
       answered = (lawful, j.stands.answered);
     }
@@ -306,8 +317,8 @@ stands_by : (start : List ℕ) (past : List Call) (packet bytes : List ℕ) (ver
 stands_by start past packet bytes verdict old mid new ep j (refused n o) = offer_refused start past packet bytes verdict old mid new ep j n o
 stands_by start past packet bytes verdict old mid new ep j (selects z a o) =
     subst (λ (x : EpAnswer). StandsFor start (Out packet x ∷ past) (record new { ep = ep })) (sym a) (offer_selects start past packet bytes verdict old mid new ep j z a o)
-stands_by start past packet bytes verdict old mid new ep j (commands command c a n o w m k) =
-    subst (λ (x : EpAnswer). StandsFor start (Out packet x ∷ past) (record new { ep = ep })) (sym a) (offer_commands start past packet bytes verdict command old mid new ep j c a n o w m k)
+stands_by start past packet bytes verdict old mid new ep j (commands command c a n o w m k i) =
+    subst (λ (x : EpAnswer). StandsFor start (Out packet x ∷ past) (record new { ep = ep })) (sym a) (offer_commands start past packet bytes verdict command old mid new ep j c a n o w m k i)
 
 -- a feature report that was offered
 pub stands_offered : (start : List ℕ) (past : List Call) (packet bytes : List ℕ) (verdict : Verdict) (answer : EpAnswer) (old mid new : KeyboardValue) (ep : Stage) → OfferJudged start past packet bytes verdict old mid new ep

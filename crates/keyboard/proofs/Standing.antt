@@ -79,6 +79,7 @@ stands_with start past call old new h l s p a =
         key = p.key;
         few = λ w. rw (l.same_image, s, count) (h.now.few (rw s at w));
         needs = λ w. rw (accepted_at, l.same_image, s, count) (h.now.needs (rw s at w));
+        order = λ command w. rw (accepted_at, l.same_image, s, count) (h.now.order command (rw s at w));
       };
       answered = (a, h.answered);
     }

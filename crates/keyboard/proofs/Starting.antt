@@ -1,5 +1,5 @@
 -- A keyboard that starts.
-use Rattle.std.proofs.Common.{◌≡◌, ℕ, ◌+◌, None, List, [], refl}
+use Rattle.std.proofs.Common.{◌≡◌, ℕ, ◌+◌, Some, None, List, [], drop, refl}
 use Rattle.reports.specs.declared.Protocol.TheVariants.{Report}
 use Rattle.key_reports.specs.Value.{KeysValue}
 use Rattle.key_reports.specs.Stands as key_reports
@@ -8,13 +8,15 @@ use Rattle.control_ep.specs.Stands as control_ep
 use Rattle.keymap_store.specs.Value.{StoreValue}
 use Rattle.keymap_store.specs.Store.{Mirrors, working as working_in}
 use Rattle.keymap_store.specs.Left.{left, Needs}
+use Rattle.keymap_store.specs.Operations.{operations_of}
+use Rattle.keymap_store.specs.Rest.{rest_of}
 use Rattle.keyboard.specs.Effects.{leds_after, selected, protocol_after}
 use Rattle.keyboard.specs.Keys.{key_calls}
 use Rattle.keyboard.specs.Commands.{accepted, working}
 use Rattle.keyboard.specs.Endpoint.{ep_calls}
 use Rattle.keyboard.specs.Bounded.{steps_since, accepted_image}
 use Rattle.keyboard.specs.Stands.{StandsFor}
-use Rattle.keyboard.proofs.Bounding.{nothing_left, nothing_needed}
+use Rattle.keyboard.proofs.Bounding.{nothing_left, nothing_needed, none_works}
 
 pub stands_first : (image : List ℕ) (ep : Stage) (keys : KeysValue) (store : StoreValue) (layer key : ℕ) → control_ep.StandsFor [] ep → key_reports.StandsFor [] keys → Mirrors image store → working_in store.job ≡ None → layer ≡ 0 → key ≡ 0
     → StandsFor image [] (record { ep = ep; keys = keys; store = store; protocol = Report; leds = 0; layer = layer; key = key })
@@ -31,6 +33,7 @@ stands_first image ep keys store layer key e k m r l i = record {
     key = i;
     few = λ w. nothing_left (working_in store.job) (left image store + steps_since []) r w;
     needs = λ w. nothing_needed (working_in store.job) (Needs (accepted_image image []) (left image store + steps_since [])) r w;
+    order = λ command w. none_works (working_in store.job) command (drop (steps_since []) (operations_of (accepted_image image []) command) ≡ rest_of image store) r w;
   };
   answered = tt;
 }

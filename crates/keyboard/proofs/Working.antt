@@ -1,5 +1,6 @@
 -- A step of the flash work, whole or torn.
-use Rattle.std.proofs.Common.{◌≡◌, ◌≢◌, ◌⊎◌, inl, inr, ℕ, suc, ◌+◌, ◌≤◌, arith, Option, Some, None, IsSome, List, [], ◌∷◌, refl, ap, sym, ◌∙◌, subst}
+use Rattle.std.proofs.Common.{◌≡◌, ◌≢◌, ◌⊎◌, inl, inr, ℕ, suc, ◌+◌, ◌≤◌, arith, Option, Some, None, IsSome, zero, List, [], ◌∷◌, drop, refl, ap, sym, ◌∙◌, subst}
+use Rattle.std.specs.Prelude.{slice_get}
 use Rattle.flash_model.specs.Image.{IsImage}
 use Rattle.flash_model.proofs.ByMask.{whole_program, whole_erase}
 use Rattle.layers.specs.Entries.{changed}
@@ -19,10 +20,13 @@ use Rattle.keymap_store.specs.Cut.{KeymapAfter, recorded, as_before, CutLeaves}
 use Rattle.keymap_store.specs.Keymap.{SameEntries}
 use Rattle.keymap_store.specs.Left.{left, Needs}
 use Rattle.keymap_store.specs.Next.{next_operation_of}
+use Rattle.keymap_store.specs.Operations.{operations_of}
+use Rattle.keymap_store.specs.Rest.{rest_of}
 use Rattle.keymap_store.specs.Store.{Mirrors, working as working_in}
 use Rattle.keymap_store.specs.Value.{StoreValue}
 use Rattle.keymap_store.specs.Works.{WorksAs, IsAppendedFor}
 use Rattle.keymap_store.proofs.Cutting.{cut_leaves}
+use Rattle.keymap_store.proofs.Ordering.{needs_all, needed_once, next_is_first}
 use Rattle.control_ep.specs.Calls.{Settle, Fail}
 use Rattle.control_ep.specs.Transfers.{Stage}
 use Rattle.control_ep.specs.Stands as control_ep
@@ -40,7 +44,7 @@ use Rattle.keyboard.proofs.Restarting.{restarts_with, restarts_without}
 use Rattle.keyboard.specs.Value.{KeyboardValue, at_work}
 use Rattle.keyboard.specs.Stands.{StandsFor}
 use Rattle.keyboard.proofs.Accepting.{ended_by-idle, ended_by-working}
-use Rattle.keyboard.proofs.Bounding.{needs_more, steps_since-more, nothing_left, accepted_image-same, nothing_needed}
+use Rattle.keyboard.proofs.Bounding.{needs_more, steps_since-more, nothing_left, accepted_image-same, nothing_needed, none_works}
 use Rattle.keyboard.proofs.Effects.{accepts-work}
 use Rattle.keyboard.proofs.Operation.{due_last, due_before, due_no_room, loses_by}
 use Rattle.keyboard.proofs.Sessions.{After, orderly, working_after, after_stays, after_settles, after_fails}
@@ -84,6 +88,19 @@ not_idle command image store Working after new w a e = cc
 not_idle command image store Settled after new w a e = cc
 not_idle command image store Failed after new w a e = cc
 
+-- the first of what is left after n is the n-th
+first_left : (operations : List Operation) (n : ℕ) → slice_get operations n ≡ slice_get (drop n operations) 0
+first_left [] zero = refl
+first_left [] (suc n) = refl
+first_left (operation ∷ more) zero = refl
+first_left (operation ∷ more) (suc n) = first_left more n
+
+one_less : (operations : List Operation) (n : ℕ) → drop (suc n) operations ≡ drop 1 (drop n operations)
+one_less [] zero = refl
+one_less [] (suc n) = refl
+one_less (operation ∷ more) zero = refl
+one_less (operation ∷ more) (suc n) = one_less more n
+
 -- which step of its command it is
 advances : (start : List ℕ) (before : List Call) (command : Command) (old : KeyboardValue) (operation : Operation) (work : WorkAnswer) (after : List ℕ) (new : StoreValue) → StandsFor start before old
     → Operating (image_after start before) old.store work after new → at_work old ≡ Some command → next_operation_of (image_after start before) old.store ≡ Some operation → (work ≡ Working → IsSome (working_in new.job))
@@ -93,8 +110,11 @@ advances start before command old operation work after new s o v n on =
     let more : 1 ≤ left (image_after start before) old.store = needs_more (image_after start before) old.store there in
     record {
       needed = left (image_after start before) old.store + steps_since before;
-      needs = s.now.needs there;
+      needed_is = needed_once (accepted_image start before) _ _ (s.now.needs there) (needs_all (accepted_image start before) command);
       within = omega (arith, more);
+      in_order =
+          first_left (operations_of (accepted_image start before) command) (steps_since before)
+          ∙ ap (λ (left : List Operation). slice_get left 0) (s.now.order command v) ∙ sym (next_is_first (image_after start before) old.store s.now.store) ∙ n;
       record_last = λ e. due_last old.store.job (image_after start before) old.store command operation refl s.now.store n v (omega (arith, e));
       turn_before = λ e. due_before old.store.job (image_after start before) old.store command operation refl s.now.store n v (omega (arith, e));
       no_room = λ e. due_no_room old.store.job (image_after start before) old.store command operation refl s.now.store n v (omega (arith, e));
@@ -118,7 +138,7 @@ may_make : (old : List ℕ) (operation : Operation) (new : List ℕ) → IsImage
 may_make old (Program page slot word) new i m = whole_program old page slot _ new m
 may_make old (Erase page) new i m = whole_erase old page new i m
 
-made : (old : List ℕ) (operation : Operation) (work : WorkAnswer) (new : List ℕ) → IsImage old → Attempts old operation (work ≡ Idle) (work ≡ Failed) new → MayMake old operation new
+pub made : (old : List ℕ) (operation : Operation) (work : WorkAnswer) (new : List ℕ) → IsImage old → Attempts old operation (work ≡ Idle) (work ≡ Failed) new → MayMake old operation new
 made old operation Idle new i a = absurd (a.not_idle refl)
 made old operation Working new i a = may_make old operation new i (a.done (λ e. cc)).0
 made old operation Settled new i a = may_make old operation new i (a.done (λ e. cc)).0
@@ -236,9 +256,10 @@ stands_after : (start : List ℕ) (before : List Call) (work : WorkAnswer) (afte
     → working_in new.job ≡ working start (Worked work after ∷ before)
     → (IsSome (working_in new.job) → left after new + steps_since (Worked work after ∷ before) ≤ most_steps)
     → (IsSome (working_in new.job) → Needs (accepted_image start (Worked work after ∷ before)) (left after new + steps_since (Worked work after ∷ before)))
+    → ((command : Command) → working_in new.job ≡ Some command → drop (steps_since (Worked work after ∷ before)) (operations_of (accepted_image start (Worked work after ∷ before)) command) ≡ rest_of after new)
     → StandsFor start (Worked work after ∷ before) (record old { ep = ep; store = new })
 unfolding key_calls leds_after selected protocol_after accepts
-stands_after start before work after ep new old s o e works few needs = record {
+stands_after start before work after ep new old s o e works few needs order = record {
   now = record {
     ep = e;
     keys = s.now.keys;
@@ -250,6 +271,7 @@ stands_after start before work after ep new old s o e works few needs = record {
     key = s.now.key;
     few = few;
     needs = needs;
+    order = order;
   };
   answered = (worked_on start before old work after new s o, s.answered);
 }
@@ -262,6 +284,7 @@ rests_after start before work after ep new old s o e rests later =
     stands_after start before work after ep new old s o e (rests ∙ sym (working_after start before (Worked work after) None later))
     (λ x. nothing_left (working_in new.job) (left after new + steps_since (Worked work after ∷ before)) rests x)
     (λ x. nothing_needed (working_in new.job) (Needs (accepted_image start (Worked work after ∷ before)) (left after new + steps_since (Worked work after ∷ before))) rests x)
+    (λ command x. none_works (working_in new.job) command (drop (steps_since (Worked work after ∷ before)) (operations_of (accepted_image start (Worked work after ∷ before)) command) ≡ rest_of after new) rests x)
 
 -- where the command works on
 works_on : (start : List ℕ) (before : List Call) (command : Command) (after : List ℕ) (ep : Stage) (new : StoreValue) (old : KeyboardValue) → StandsFor start before old
@@ -278,6 +301,10 @@ works_on start before command after ep new old s o e v w later =
     (λ x. subst (λ (n : ℕ). n ≤ most_steps) sums (s.now.few there))
     (λ x. subst (λ (image : List ℕ). Needs image (left after new + steps_since (call ∷ before))) (sym (accepted_image-same start call before none))
     (subst (λ (n : ℕ). Needs (accepted_image start before) n) sums (s.now.needs there)))
+    (λ other x. (let same : other ≡ command = same_command (working_in new.job) other command x w in
+    let list : List Operation = operations_of (accepted_image start before) other in
+    let was : drop (steps_since before) list ≡ rest_of (image_after start before) old.store = s.now.order other (rw same v) in
+    rw (count, accepted_image-same start call before none) (one_less list (steps_since before) ∙ ap (λ (left : List Operation). drop 1 left) was ∙ sym (o.order.goes_on refl))))
 
 ended : (start : List ℕ) (before : List Call) (command : Command) (work : WorkAnswer) (after : List ℕ) (ep : Stage) (new : StoreValue) (old : KeyboardValue) → StandsFor start before old
     → Operating (image_after start before) old.store work after new → control_ep.StandsFor (ep_calls start (Worked work after ∷ before)) ep

@@ -7,6 +7,7 @@ pub mod Commands
 pub mod Endpoint
 pub mod Bounded
 pub mod Operated
+pub mod Headers
 pub mod Restart
 pub mod Lawful
 pub mod Acknowledged

@@ -1,5 +1,5 @@
 -- Believed: what a step of the flash work makes of the flash while a command works: one operation, whole or torn.
-use Rattle.std.specs.Prelude.{◌≡◌, ◌⊎◌, ℕ, suc, ◌+◌, ◌^◌, ◌<◌, ◌≤◌, List, [], ◌∷◌, ◌++◌, length, slice_index, Some}
+use Rattle.std.specs.Prelude.{◌≡◌, ◌⊎◌, ℕ, suc, ◌+◌, ◌^◌, ◌<◌, ◌≤◌, List, [], ◌∷◌, ◌++◌, length, slice_get, slice_index, Some}
 use Rattle.records.specs.declared.Slot.TheVariants.{Free, Good}
 use Rattle.records.specs.Slots.{slot_of}
 use Rattle.flash_model.specs.Image.{IsImage, slot_at, page_count}
@@ -18,8 +18,8 @@ use Rattle.page_turnover.specs.Words.{words, FreeFrom, IsBlank, IsActiveTail, Ha
 use Rattle.keymap_store.specs.declared.store.Work.{Work as WorkAnswer}
 use Rattle.keymap_store.specs.declared.store.Work.TheVariants.{Idle, Working, Settled, Failed}
 use Rattle.keymap_store.specs.Keymap.{SameEntries}
-use Rattle.keymap_store.specs.Left.{Needs}
 use Rattle.keymap_store.specs.Next.{all_copies}
+use Rattle.keymap_store.specs.Operations.{operations_of}
 use Rattle.keymap_store.specs.Turnovers.{Turns, Wears}
 use Rattle.keyboard.specs.Calls.{Call, keymap}
 use Rattle.keyboard.specs.Bounded.{steps_since, accepted_image}
@@ -66,13 +66,14 @@ ComesTo command old Settled new = AddsRecord command old new
 ComesTo command old Idle new = ⊥
 ComesTo command old _ new = SameEntries (keymap new) (keymap old)
 
--- the command needs as many steps as the flash said when it was accepted. The operation of the last one is its record, and
--- each before is one of a turn, which is made where there is no room; a step that fails leaves words and active page as
--- they were
+-- the operations of a command's steps are, in order, those of the list that the flash and the command gave when it was accepted,
+-- and it needs as many steps as the list is long. The operation of the last one is its record, and each before is one of a
+-- turn, which is made where there is no room; a step that fails leaves words and active page as they were
 pub record Advances (accepted_at : List ℕ) (made : ℕ) (command : Command) (old : List ℕ) (operation : Operation) (work : WorkAnswer) (new : List ℕ) : Type 0 where
   pub needed : ℕ
-  pub needs : Needs accepted_at needed
+  pub needed_is : needed ≡ length (operations_of accepted_at command)
   pub within : suc made ≤ needed
+  pub in_order : slice_get (operations_of accepted_at command) made ≡ Some operation
   pub record_last : suc made ≡ needed → IsRecord command old operation
   pub turn_before : suc made < needed → IsOfTurn old operation
   pub no_room : suc made < needed → HasRoom old → ⊥

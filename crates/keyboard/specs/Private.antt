@@ -12,6 +12,8 @@ use Rattle.keymap_store.specs.declared.store.SubmitRefusal.{SubmitRefusal}
 use Rattle.keymap_store.specs.declared.store.SubmitRefusal.TheVariants as Refusals
 use Rattle.control_ep.specs.declared.why.Why.TheVariants.{Unsound, Worn}
 use Rattle.keymap_store.specs.Left.{left, Needs}
+use Rattle.keymap_store.specs.Operations.{operations_of}
+use Rattle.keymap_store.specs.Rest.{rest_of, TakesFirst}
 use Rattle.keymap_store.specs.Works.{WorkLeaves, CountsDown}
 use Rattle.keymap_store.specs.Value.{StoreValue}
 use Rattle.keyboard.specs.Calls.{keymap}
@@ -37,7 +39,8 @@ pub data VerdictLeaves (image bytes : List ℕ) (verdict : Verdict) (old new : K
       → new ≡ record old { layer = slice_index bytes 1; key = slice_index bytes 2 } → VerdictLeaves image bytes verdict old new
   commands : (command : Command) → command_in bytes ≡ Ok command → judged_answer verdict ≡ Ack → at_work old ≡ None → new ≡ record old { store = new.store }
       → at_work new ≡ (if changes (keymap image) command then Some command else None) → left image new.store ≤ most_steps
-      → (IsSome (at_work new) → Needs image (left image new.store)) → VerdictLeaves image bytes verdict old new
+      → (IsSome (at_work new) → Needs image (left image new.store)) → (at_work new ≡ Some command → rest_of image new.store ≡ operations_of image command)
+      → VerdictLeaves image bytes verdict old new
 
 -- a verdict on a feature report's bytes
 pub record Judges (image bytes : List ℕ) (verdict : Verdict) (old new : KeyboardValue) : Type 0 where
@@ -50,3 +53,4 @@ pub record Judges (image bytes : List ℕ) (verdict : Verdict) (old new : Keyboa
 pub record Operating (image : List ℕ) (old : StoreValue) (work : WorkAnswer) (after : List ℕ) (new : StoreValue) : Type 0 where
   pub leaves : WorkLeaves image old work after new
   pub down : CountsDown work (left image old) (left after new)
+  pub order : TakesFirst work (rest_of image old) (rest_of after new)

@@ -1,8 +1,11 @@
 -- Only ties code to its definitions: a keyboard stands for the calls of its session, newest first, on its first image.
-use Rattle.std.specs.Prelude.{◌≡◌, ◌+◌, ◌≤◌, ℕ, IsSome, List}
+use Rattle.std.specs.Prelude.{◌≡◌, ◌+◌, ◌≤◌, ℕ, IsSome, Some, List, drop}
+use Rattle.layers.specs.declared.command.Command.{Command}
 use Rattle.control_ep.specs.Stands as control_ep
 use Rattle.key_reports.specs.Stands as key_reports
 use Rattle.keymap_store.specs.Left.{left, Needs}
+use Rattle.keymap_store.specs.Operations.{operations_of}
+use Rattle.keymap_store.specs.Rest.{rest_of}
 use Rattle.keyboard.specs.Calls.{Call, image_after}
 use Rattle.keyboard.specs.Effects.{leds_after, selected, protocol_after}
 use Rattle.keyboard.specs.Keys.{key_calls}
@@ -24,6 +27,7 @@ pub record PartsStandFor (start : List ℕ) (past : List Call) (keyboard : Keybo
   pub key : keyboard.key ≡ (selected past).key
   pub few : IsSome (at_work keyboard) → left (image_after start past) keyboard.store + steps_since past ≤ most_steps
   pub needs : IsSome (at_work keyboard) → Needs (accepted_image start past) (left (image_after start past) keyboard.store + steps_since past)
+  pub order : (command : Command) → at_work keyboard ≡ Some command → drop (steps_since past) (operations_of (accepted_image start past) command) ≡ rest_of (image_after start past) keyboard.store
 
 -- and each call so far was answered as it had to be
 pub record StandsFor (start : List ℕ) (past : List Call) (keyboard : KeyboardValue) : Type 0 where

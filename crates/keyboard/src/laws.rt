@@ -19,7 +19,8 @@ ghost use Rattle.keyboard.specs.Acknowledged.{KeepsAcknowledged, IsConfirmed, Is
 ghost use Rattle.keyboard.specs.Bounded.{IsInTime, steps_since};
 ghost use Rattle.keyboard.specs.Calls.{Call, Worked, image_after, keymap};
 ghost use Rattle.keyboard.specs.Commands.{accepted, accepted_before, settled_of, standing_of, working};
-ghost use Rattle.keyboard.specs.Lawful.{IsLawful};
+ghost use Rattle.keyboard.specs.Headers.{OwnHeaders};
+ghost use Rattle.keyboard.specs.Lawful.{IsAnswered, IsLawful};
 ghost use Rattle.keyboard.specs.Operated.{Works, HoldsFirst};
 ghost use Rattle.keyboard.specs.Restart.{RestartsLegally};
 ghost use Rattle.keyboard.specs.Sound.{KeepsSound};
@@ -82,6 +83,15 @@ pub fn a_step_is_one_operation()
 /// Slots 0 that are sound stay so, whatever is torn; where one is not, no operation is ever made.
 pub fn headers_stay_sound()
     ensures { (start : List ℕ) (past : List Call) → IsLawful start past → KeepsSound start past }
+{}
+
+/// No step but a header's makes a header, and it no other than its own: a header that a page has after a step
+/// of the flash work, whatever it left whole or torn, stood there before, or the step had to write it. So too
+/// where the power is cut inside the operation.
+pub fn headers_are_own()
+    ensures after { (start : List ℕ) (past : List Call) (work : Work) (new : List ℕ) → IsAnswered start past (Worked work new) → OwnHeaders start past new }
+    ensures cut { (start : List ℕ) (past : List Call) (command : Command) (work : Work) (new image : List ℕ) (works : Works start past command (image_after start past) work new)
+        → working start past ≡ Some command → MayMake (image_after start past) works.operation image → OwnHeaders start past image }
 {}
 
 /// What the host was told is stored is stored: after the empty packet of a command's status stage the

@@ -34,7 +34,7 @@ unfolding differing_below
 differing_below-other entries place e = rw (ne_eqb (entry_at entries place) (default_at place) e) refl
 
 -- a copy for each entry that differs
-copies_below-count : (entries : ℕ → ℕ → ℕ) (place : ℕ) → length (copies_below entries place) ≡ differing_below entries place
+pub copies_below-count : (entries : ℕ → ℕ → ℕ) (place : ℕ) → length (copies_below entries place) ≡ differing_below entries place
 copies_below-count entries zero = rw (copies_below-zero entries, differing_below-zero entries) refl
 copies_below-count entries (suc place) =
     let h : length (copies_below entries place) ≡ differing_below entries place = copies_below-count entries place in
@@ -72,7 +72,7 @@ differing_below-later entries from to l =
     rw e at (differing_below-more entries from (to - from))
 
 -- the entries that differ, by the words
-differing-is : (image : List ℕ) → differing image ≡ differing_below (entries_of image) places
+pub differing-is : (image : List ℕ) → differing image ≡ differing_below (entries_of image) places
 unfolding differing
 differing-is image = refl
 

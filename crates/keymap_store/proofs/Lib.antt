@@ -2,6 +2,7 @@ pub mod Keymaps
 pub mod NextTasks
 pub mod Offering
 pub mod Counting
+pub mod Ordering
 pub mod Elsewhere
 pub mod Working
 pub mod Stepped

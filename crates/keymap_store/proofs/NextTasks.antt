@@ -14,9 +14,9 @@ use Rattle.page_turnover.specs.Turn.{copied}
 use Rattle.keymap_store.specs.Next.{all_copies, next_task}
 
 -- the copies below a place come first among those below a later one
-record ComesFirst (xs ys : List ℕ) : Type 0 where
-  rest : List ℕ
-  is : ys ≡ xs ++ rest
+pub record ComesFirst (xs ys : List ℕ) : Type 0 where
+  pub rest : List ℕ
+  pub is : ys ≡ xs ++ rest
 
 comes_first : (entries : ℕ → ℕ → ℕ) (from n : ℕ) → ComesFirst (copies_below entries from) (copies_below entries (from + n))
 comes_first entries from zero = let e : from + 0 ≡ from = omega arith in record { rest = []; is = rw e (sym (append-nil (copies_below entries from))) }
@@ -31,7 +31,7 @@ comes_first entries from (suc n) =
       }
     ]
 
-first_of_all : (entries : ℕ → ℕ → ℕ) (from : ℕ) → from ≤ places → ComesFirst (copies_below entries from) (all_copies entries)
+pub first_of_all : (entries : ℕ → ℕ → ℕ) (from : ℕ) → from ≤ places → ComesFirst (copies_below entries from) (all_copies entries)
 first_of_all entries from l =
     let e : from + (places - from) ≡ places = omega arith in
     rw e at (comes_first entries from (places - from))
@@ -41,7 +41,7 @@ pub record IsAfter (xs ys : List ℕ) (word : ℕ) : Type 0 where
   pub more : length xs < length ys
   pub is : get_or ys (length xs) 0 ≡ word
 
-after_first : (xs ys : List ℕ) (word : ℕ) → ComesFirst (xs ++ word ∷ []) ys → IsAfter xs ys word
+pub after_first : (xs ys : List ℕ) (word : ℕ) → ComesFirst (xs ++ word ∷ []) ys → IsAfter xs ys word
 after_first xs ys word f =
     let s : ys ≡ xs ++ word ∷ f.rest = f.is ∙ append_assoc xs (word ∷ []) f.rest in
     record {

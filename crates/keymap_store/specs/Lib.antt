@@ -7,4 +7,6 @@ pub mod Offers
 pub mod Turnovers
 pub mod Works
 pub mod Left
+pub mod Operations
+pub mod Rest
 pub mod Cut

@@ -91,6 +91,8 @@ impl Store {
     ghost use Rattle.keymap_store.specs.Next.{next_operation_of};
     ghost use Rattle.keymap_store.specs.Works.{WorkLeaves, CountsDown};
     ghost use Rattle.keymap_store.specs.Left.{left, Needs};
+    ghost use Rattle.keymap_store.specs.Operations.{operations_of};
+    ghost use Rattle.keymap_store.specs.Rest.{rest_of, TakesFirst};
     ghost use Rattle.page_turnover.specs.declared.operation.Operation.{Operation};
     ghost use Rattle.page_turnover.specs.Next.{on_flash};
     ghost use Rattle.page_turnover.specs.Steps.{CountsAs};
@@ -145,6 +147,8 @@ impl Store {
         // how many flash operations it needs
         ensures needs { (image : List ℕ) → Mirrors image self.old → result ≡ Ok Taken.Working → Needs image (left image self.new) }
         ensures few { (image : List ℕ) → left image self.new ≤ 387 }
+        // which ones, in their order
+        ensures operations { (image : List ℕ) → Mirrors image self.old → result ≡ Ok Taken.Working → rest_of image self.new ≡ operations_of image command }
     {
         if self.log.busy() {
             return Err(SubmitRefusal::Busy);
@@ -182,7 +186,7 @@ impl Store {
     /// where the flash answers a fault and the operation's slot or page does not read as intended, and
     /// only there. Each call that answers Working leaves one operation less to do, and Settled is the
     /// answer to the last one: a command is settled or fails by the 387th call.
-    #[tactic(auto, using(crate::proofs::Counting::few_left, crate::proofs::Working::rests_if_unusable))]
+    #[tactic(auto, using(crate::proofs::Counting::few_left, crate::proofs::Working::rests_if_unusable, crate::proofs::Ordering::idle_order))]
     pub fn work<F: NorFlash>(&mut self, flash: &mut F) -> Work
         requires { Mirrors (F.image flash.old) self.old }
         // what the answer means for the command, the keymap and the flash
@@ -195,6 +199,8 @@ impl Store {
         // how many operations are made, and are left to make
         ensures counts { CountsAs (result ≡ Work.Idle) (result ≡ Work.Failed) (F.operations flash.old) (F.operations flash.new) (F.faults flash.old) (F.faults flash.new) }
         ensures down { CountsDown result (left (F.image flash.old) self.old) (left (F.image flash.new) self.new) }
+        // and which are left
+        ensures order { TakesFirst result (rest_of (F.image flash.old) self.old) (rest_of (F.image flash.new) self.new) }
         ensures faultless { F.is_faultless flash.old → F.is_faultless flash.new × (result ≢ Work.Failed) }
     {
         match self.job {
@@ -213,6 +219,7 @@ impl Store {
         ensures counts { CountsAs (result ≡ Work.Idle) (result ≡ Work.Failed) (F.operations flash.old) (F.operations flash.new) (F.faults flash.old) (F.faults flash.new) }
         ensures faultless { F.is_faultless flash.old → F.is_faultless flash.new × (result ≢ Work.Failed) }
         ensures some { (result ≢ Work.Idle) × (result ≢ Work.Working) }
+        ensures order { TakesFirst result (rest_of (F.image flash.old) self.old) (rest_of (F.image flash.new) self.new) }
     {
         match self.log.step(flash) {
             Step::Committed => {
@@ -238,6 +245,7 @@ impl Store {
         ensures faultless { F.is_faultless flash.old → F.is_faultless flash.new × (result ≢ Work.Failed) }
         ensures some { (result ≢ Work.Idle) × (result ≢ Work.Settled) }
         ensures fewer { result ≡ Work.Working → left (F.image flash.new) self.new + 1 ≡ left (F.image flash.old) self.old }
+        ensures order { TakesFirst result (rest_of (F.image flash.old) self.old) (rest_of (F.image flash.new) self.new) }
     {
         // By reference, since more than one way takes it.
         let command = &command;

@@ -64,7 +64,7 @@ still_works : (n : ℕ) → accepted [] (worked n) ≡ at_work ∷ []
 unfolding accepted
 still_works n = goes_on n []
 
-is_working : (n : ℕ) → working [] (worked n) ≡ Some set_key
+pub is_working : (n : ℕ) → working [] (worked n) ≡ Some set_key
 unfolding working
 is_working n = ap working_of (still_works n)
 

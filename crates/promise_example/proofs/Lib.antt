@@ -5,3 +5,4 @@ pub mod Endless
 pub mod Fetched
 pub mod Unasked
 pub mod Pages
+pub mod Ordered

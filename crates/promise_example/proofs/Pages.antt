@@ -17,7 +17,7 @@ use Rattle.world.specs.Sound.{KeepsSound}
 use Rattle.world.specs.Wear.{TailWrites, at_first, one_more, passes, WearsSlowly}
 use Rattle.promise_example.specs.Histories.{blank, page, leaves, two_headers, damaged, damaged_is_erased}
 
-length_1 : length (page 1) ≡ 4096
+pub length_1 : length (page 1) ≡ 4096
 unfolding encoded header_word
 length_1 = ap (λ n. 8 + n) (length-replicate {A = ℕ} 4088 255)
 
@@ -65,7 +65,7 @@ not_usable u =
     let covered = (u.sound 0 in_pages).covers 0 (omega arith) 0 (omega arith) in
     omega (arith, covered)
 
-abbrev with_first : List ℕ → ℕ
+abbrev pub with_first : List ℕ → ℕ
 with_first [] = 1
 with_first (byte ∷ bytes) = byte
 

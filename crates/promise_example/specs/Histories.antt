@@ -1,4 +1,4 @@
--- Believed: histories that break the promise, newest step first, on a flash without a page, or on one of one page.
+-- Believed: histories that break the promise, newest step first, on a flash without a page, or on one of one or two pages.
 use Rattle.std.specs.Prelude.{ℕ, zero, suc, None, false, List, [], ◌∷◌, ◌++◌, replicate}
 use Rattle.flash_model.specs.Sim.{SimValue}
 use Rattle.records.specs.Slots.{encoded}
@@ -54,6 +54,10 @@ repeated (suc n) one before = one ∷ repeated n one before
 abbrev pub never_done : List Step
 never_done = repeated 387 (step Work (Worked Working)) one_accepted
 
+-- a step of the flash work makes no operation for it
+abbrev pub nothing_made : List Step
+nothing_made = step Work (Worked Working) ∷ one_accepted
+
 -- a look at entry 0 0 shows 0009h
 abbrev pub entry_is_another : List Step
 entry_is_another = step (Entry 0 0) (EntryIs 9) ∷ []
@@ -100,3 +104,11 @@ damaged = with_image (replicate 4096 0)
 -- it is erased
 abbrev pub damaged_is_erased : List Step
 damaged_is_erased = leaves (replicate 4096 255) ∷ []
+
+-- two pages of which each bit is set
+abbrev pub two_pages : SimValue
+two_pages = with_image (replicate 8192 255)
+
+-- the first one gets a header while no command works
+abbrev pub header_alone : List Step
+header_alone = leaves (page 1 ++ replicate 4096 255) ∷ []

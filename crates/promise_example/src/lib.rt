@@ -5,12 +5,13 @@
 #![tactic(auto)]
 
 ghost use Rattle.std.specs.Prelude.{List};
-ghost use Rattle.promise_example.specs.Histories.{blank, scan_is_refused, told_but_not_stored, settled_and_lost, never_done, entry_is_another, read_without_descriptor, sent_unasked, gathered_zeros, fetched_nothing, two_headers, damaged, damaged_is_erased};
+ghost use Rattle.promise_example.specs.Histories.{blank, scan_is_refused, told_but_not_stored, settled_and_lost, never_done, nothing_made, entry_is_another, read_without_descriptor, sent_unasked, gathered_zeros, fetched_nothing, two_headers, damaged, damaged_is_erased, two_pages, header_alone};
 ghost use Rattle.world.specs.Acknowledged.{KeepsAcknowledged};
 ghost use Rattle.world.specs.Bounded.{StaysInTime};
 ghost use Rattle.world.specs.History.{EachStep, EachPoint};
 ghost use Rattle.world.specs.Lawful.{IsAnswered};
 ghost use Rattle.world.specs.Moments.{MovesOn};
+ghost use Rattle.world.specs.Order.{WorksInOrder, WritesOwnHeader};
 ghost use Rattle.world.specs.Promise.{Promise};
 ghost use Rattle.world.specs.Readings.{ReadsWanted, KeepsServed, GathersServed};
 ghost use Rattle.world.specs.Restart.{StartsLegally, ConfirmsSettled, ShowsSettled};
@@ -91,6 +92,18 @@ pub fn a_command_is_never_done()
     ensures looks { EachStep ShowsSettled blank never_done }
     ensures reads { EachStep ReadsWanted blank never_done }
     ensures moments { EachStep MovesOn blank never_done }
+{}
+
+/// While a command works, a step of the flash work makes no operation.
+pub fn a_step_makes_nothing()
+    ensures in_order { EachStep WorksInOrder blank nothing_made → ⊥ }
+    ensures broken { Promise blank nothing_made → ⊥ }
+{}
+
+/// A page gets a header while no command works.
+pub fn a_header_comes_alone()
+    ensures headers { EachStep WritesOwnHeader two_pages header_alone → ⊥ }
+    ensures broken { Promise two_pages header_alone → ⊥ }
 {}
 
 /// Two steps, one after the other, commit a header each.

@@ -11,4 +11,5 @@ pub mod Timing
 pub mod Moving
 pub mod Prefixes
 pub mod Wearing
+pub mod Ordering
 pub mod Promising

@@ -12,6 +12,7 @@ use Rattle.world.specs.Promise.{Promise}
 use Rattle.world.proofs.Allowing.{holds_allowed}
 use Rattle.world.proofs.Hearing.{reads_wanted, keeps_served, gathers_served}
 use Rattle.world.proofs.Moving.{moves_on}
+use Rattle.world.proofs.Ordering.{works_in_order, writes_own_header}
 use Rattle.world.proofs.Prefixes.{confirms_settled, starts_with_confirmed, starts_changed}
 use Rattle.world.proofs.Restarting.{starts_legally, shows_settled}
 use Rattle.world.proofs.Sounding.{keeps_sound}
@@ -44,6 +45,8 @@ promise start history h = record {
   gathered = each_point GathersServed gathers_served start history h;
   moments = moves_on start history h;
   in_time = stays_in_time start history h;
+  in_order = works_in_order start history h;
+  headers = writes_own_header start history h;
   wears = wears_slowly start history h;
   sound = each_point KeepsSound keeps_sound start history h;
 }

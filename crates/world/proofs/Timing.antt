@@ -11,7 +11,8 @@ use Rattle.keymap_store.specs.declared.store.Work.{Work as WorkAnswer}
 use Rattle.keymap_store.specs.declared.store.Work.TheVariants.{Idle, Working, Settled, Failed}
 use Rattle.keymap_store.specs.Left.{turn_left, Needs}
 use Rattle.keymap_store.proofs.Counting.{needs_turn, few_left}
-use Rattle.keyboard.specs.Bounded.{steps_since, IsInTime}
+use Rattle.keymap_store.proofs.Ordering.{needs_all}
+use Rattle.keyboard.specs.Bounded.{steps_since, accepted_image, IsInTime}
 use Rattle.keyboard.specs.Calls.{Call, Scanned, SetUp, Out, In, Polled, Worked, BusReset, image_after, EachCall}
 use Rattle.keyboard.specs.Commands.{accepts, working}
 use Rattle.keyboard.specs.Fate.{works, settled, failed}
@@ -52,7 +53,8 @@ worked_on start before (Some command) Settled image h s k = (let ends : settled 
 worked_on start before (Some command) Failed image h s k = (let ends : failed ≡ works = k.keeps works in cc)
 worked_on start before (Some command) Working image h s k =
     let left = (h.advances.before_last refl).0 in
-    let few : h.advances.needed ≤ 387 = needs_few _ h.advances.needed command h.advances.needs in
+    let needs : Needs (accepted_image start before) h.advances.needed = rw h.advances.needed_is (needs_all (accepted_image start before) command) in
+    let few : h.advances.needed ≤ 387 = needs_few (accepted_image start before) h.advances.needed command needs in
     omega (arith, left, few)
 
 -- a call that ends and accepts none

@@ -5,6 +5,7 @@ pub mod History
 pub mod Kinds
 pub mod Lawful
 pub mod Moments
+pub mod Order
 pub mod Promise
 pub mod Readings
 pub mod Restart

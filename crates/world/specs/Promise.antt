@@ -8,6 +8,7 @@ use Rattle.world.specs.Restart.{StartsLegally, KeepsConfirmed, ShowsSettled}
 use Rattle.world.specs.Acknowledged.{KeepsStored}
 use Rattle.world.specs.Readings.{ReadsWanted, KeepsServed, GathersServed}
 use Rattle.world.specs.Moments.{MovesOn}
+use Rattle.world.specs.Order.{WorksInOrder, WritesOwnHeader}
 use Rattle.world.specs.Bounded.{StaysInTime}
 use Rattle.world.specs.Wear.{WearsSlowly}
 use Rattle.world.specs.Sound.{KeepsSound}
@@ -38,6 +39,12 @@ pub record Promise (start : SimValue) (history : List Step) : Type 0 where
   pub moments : EachStep MovesOn start history
   -- A command is settled or fails by the 387th step of the flash work after it was accepted.
   pub in_time : EachStep StaysInTime start history
+  -- The n-th step of the flash work for a command makes the n-th of its operations: a list that the flash gives when the command
+  -- is accepted. It is the record where there is room; else an erase, if the next page is not blank, the copies of the entries
+  -- that differ from the default, by rising place, the header, and the record.
+  pub in_order : EachStep WorksInOrder start history
+  -- No step but a header's makes a header, and it no other than its own, on the page after the active one; whatever is torn.
+  pub headers : EachStep WritesOwnHeader start history
   -- Between two steps that commit a header at least 127 steps write to the tail of the log.
   pub wears : WearsSlowly start history
   -- While each slot 0 is sound, each stays so, whatever is torn. With one that is not, no flash operation is ever made.

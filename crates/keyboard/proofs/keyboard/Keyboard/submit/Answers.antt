@@ -17,4 +17,5 @@ returns c image bytes h n r =
       unchanged = λ k. c.submit.ensures.unchanged k ∙ ap (λ (x : KeyboardValue). x.store) c.self.view_is;
       needs = λ e. c.submit.ensures.needs image held e;
       few = c.submit.ensures.few image;
+      operations = λ e. c.submit.ensures.operations image held e;
     }))

@@ -10,7 +10,7 @@ returns-in-Settled-clause-stands g c start past s e =
     let t = rw (← c.self.view_is) at s in
     let of = c.work-work.ensures in
     let o = operating_on (image_after start past) _ _ c.work-work.result _ c.work-work.new.self e
-    (record { leaves = of.leaves; down = of.down }) in
+    (record { leaves = of.leaves; down = of.down; order = of.order }) in
     rw c.in-Settled.is (stands_settled start past _ c.settle.new.self c.work-work.new.self _ t (rw c.in-Settled.is at o) (c.settle.ensures.stands (ep_calls start past) t.now.ep))
 
 pub returns-in-Settled-clause-answer : goal.returns-in-Settled-clause-answer
@@ -21,7 +21,7 @@ returns-in-Failed-clause-stands g c start past s e =
     let t = rw (← c.self.view_is) at s in
     let of = c.work-work.ensures in
     let o = operating_on (image_after start past) _ _ c.work-work.result _ c.work-work.new.self e
-    (record { leaves = of.leaves; down = of.down }) in
+    (record { leaves = of.leaves; down = of.down; order = of.order }) in
     rw c.in-Failed.is (stands_failed start past _ c.fail.new.self c.work-work.new.self _ t (rw c.in-Failed.is at o) (c.fail.ensures.stands (ep_calls start past) t.now.ep))
 
 pub returns-in-Failed-clause-answer : goal.returns-in-Failed-clause-answer
@@ -32,7 +32,7 @@ returns-in-Idle-clause-stands g c start past s e =
     let t = rw (← c.self.view_is) at s in
     let of = c.work-work.ensures in
     let o = operating_on (image_after start past) _ _ c.work-work.result _ c.work-work.new.self e
-    (record { leaves = of.leaves; down = of.down }) in
+    (record { leaves = of.leaves; down = of.down; order = of.order }) in
     stands_other start past c.work-work.result _ c.work-work.new.self _ t o c.in-Idle.is
 
 pub returns-in-Idle-clause-answer : goal.returns-in-Idle-clause-answer
@@ -58,7 +58,7 @@ returns-in-Settled-clause-operated g c start past s e n =
     let t = rw (← c.self.view_is) at s in
     let of = c.work-work.ensures in
     let o = operating_on (image_after start past) _ _ c.work-work.result _ c.work-work.new.self e
-    (record { leaves = of.leaves; down = of.down }) in
+    (record { leaves = of.leaves; down = of.down; order = of.order }) in
     makes_such start past _ c.work-work.result _ c.work-work.new.self (λ (operation : Operation). g.F.NorFlash.operates c.args.flash.now (on_flash operation) c.work-work.new.flash) t o n
     (λ operation next. of.operated operation (rw e at next))
 
@@ -67,7 +67,7 @@ returns-in-Failed-clause-operated g c start past s e n =
     let t = rw (← c.self.view_is) at s in
     let of = c.work-work.ensures in
     let o = operating_on (image_after start past) _ _ c.work-work.result _ c.work-work.new.self e
-    (record { leaves = of.leaves; down = of.down }) in
+    (record { leaves = of.leaves; down = of.down; order = of.order }) in
     makes_such start past _ c.work-work.result _ c.work-work.new.self (λ (operation : Operation). g.F.NorFlash.operates c.args.flash.now (on_flash operation) c.work-work.new.flash) t o n
     (λ operation next. of.operated operation (rw e at next))
 
@@ -76,6 +76,6 @@ returns-in-Idle-clause-operated g c start past s e n =
     let t = rw (← c.self.view_is) at s in
     let of = c.work-work.ensures in
     let o = operating_on (image_after start past) _ _ c.work-work.result _ c.work-work.new.self e
-    (record { leaves = of.leaves; down = of.down }) in
+    (record { leaves = of.leaves; down = of.down; order = of.order }) in
     makes_such start past _ c.work-work.result _ c.work-work.new.self (λ (operation : Operation). g.F.NorFlash.operates c.args.flash.now (on_flash operation) c.work-work.new.flash) t o n
     (λ operation next. of.operated operation (rw e at next))

@@ -1,5 +1,6 @@
 use Rattle.std.proofs.Common.{refl, sym, ◌∙◌}
 use Rattle.keymap_store.proofs.Working.{appended, failed}
+use Rattle.keymap_store.proofs.Ordering.{settled_order, failed_order}
 use Rattle.keymap_store.proofs.Stepped.{append_next, append_settled, append_failed, append_writes, append_fails}
 use Rattle.keymap_store.proofs.store.Store.append.Goals as goal
 
@@ -49,3 +50,10 @@ returns-in-Failed-clause-operated g c operation e =
     let old = g.F.NorFlash.image c.args.flash.now in
     let next = append_next old _ c.args.command (rw (← c.self.view_is) at c.requires.mirrors) (rw (← c.self.view_is) at c.requires.job) in
     c.step.ensures.operated operation (sym next ∙ rw (← c.self.view_is) at e)
+
+pub returns-in-Committed-clause-order : goal.returns-in-Committed-clause-order
+returns-in-Committed-clause-order g c =
+    rw (← c.self.view_is) (settled_order (g.F.NorFlash.image c.args.flash.now) _ c.args.command (rw (← c.self.view_is) at c.requires.mirrors) (rw (← c.self.view_is) at c.requires.job))
+
+pub returns-in-Failed-clause-order : goal.returns-in-Failed-clause-order
+returns-in-Failed-clause-order g c = failed_order _

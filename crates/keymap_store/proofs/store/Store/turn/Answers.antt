@@ -3,6 +3,7 @@ use Rattle.page_turnover.proofs.Effects.{not_idle}
 use Rattle.keymap_store.specs.Keymap.{entries_of}
 use Rattle.keymap_store.specs.Left.{turn_left}
 use Rattle.keymap_store.proofs.Counting.{moved_left, committed_left, turning_left}
+use Rattle.keymap_store.proofs.Ordering.{moved_order, committed_order, failed_order}
 use Rattle.keymap_store.proofs.Working.{turning, turn_few, turn_moves, turn_room, turn_commits, failed}
 use Rattle.keymap_store.proofs.Stepped.{turn_asks, turn_working, turn_failed, in_target, turn_prepares, turn_over, turn_fails}
 use Rattle.keymap_store.proofs.store.Store.turn.Goals as goal
@@ -153,3 +154,31 @@ returns-in-Failed-clause-operated g c operation e =
     let j = turning old _ c.args.command c.args.from m (rw (← c.self.view_is) at c.requires.job) in
     let s = c.offer_next-from.ensures.stands old (entries_of old) m.keymap_is m.log_is j.offers in
     c.step.ensures.operated operation (turn_asks old _ c.offer_next-from.new.log c.offer_next-from.result operation m s (rw (← c.self.view_is) at e))
+
+pub returns-in-Moved-clause-order : goal.returns-in-Moved-clause-order
+returns-in-Moved-clause-order g c =
+    let old = g.F.NorFlash.image c.args.flash.now in
+    let new = g.F.NorFlash.image c.step.new.flash in
+    let m = rw (← c.self.view_is) at c.requires.mirrors in
+    let e = rw (← c.self.view_is) at c.requires.job in
+    let j = turning old _ c.args.command c.args.from m e in
+    let s = c.offer_next-from.ensures.stands old (entries_of old) m.keymap_is m.log_is j.offers in
+    let moves = c.step.ensures.moved c.in-Moved.is in
+    let log = c.offer_next-from.new.log in
+    let from = c.offer_next-from.result in
+    rw (← c.self.view_is) (moved_order from c.args.from old _ c.args.command log c.step.result new c.step.new.self m e c.offer_next-from.ensures.target c.offer_next-from.ensures.within s.describes.task_is s.offers c.in-Moved.is
+    c.step.ensures.ends moves.keeps (in_target old _ log from c.step.result new s c.step.ensures.attempts))
+
+pub returns-in-Committed-clause-order : goal.returns-in-Committed-clause-order
+returns-in-Committed-clause-order g c =
+    let old = g.F.NorFlash.image c.args.flash.now in
+    let new = g.F.NorFlash.image c.step.new.flash in
+    let m = rw (← c.self.view_is) at c.requires.mirrors in
+    let e = rw (← c.self.view_is) at c.requires.job in
+    let j = turning old _ c.args.command c.args.from m e in
+    let s = c.offer_next-from.ensures.stands old (entries_of old) m.keymap_is m.log_is j.offers in
+    rw (← c.self.view_is) (committed_order c.offer_next-from.result c.args.from old _ c.args.command c.offer_next-from.new.log c.step.result new c.step.new.self c.begin_append.new.self _ m e c.offer_next-from.ensures.target
+    s.describes.task_is s.offers c.in-Committed.is c.step.ensures.ends c.begin_append.ensures.pending)
+
+pub returns-in-Failed-clause-order : goal.returns-in-Failed-clause-order
+returns-in-Failed-clause-order g c = failed_order _
