@@ -12,4 +12,5 @@ pub mod Moving
 pub mod Prefixes
 pub mod Wearing
 pub mod Ordering
+pub mod Single
 pub mod Promising

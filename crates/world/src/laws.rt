@@ -1,6 +1,6 @@
 //! What follows for every history in which each event is answered as it has to be.
 
-ghost use Rattle.std.specs.Prelude.{List};
+ghost use Rattle.std.specs.Prelude.{◌≡◌, List, map};
 ghost use Rattle.flash_model.specs.Sim.{SimValue};
 ghost use Rattle.world.specs.Kinds.{Step};
 ghost use Rattle.world.specs.Lawful.{IsLawful};
@@ -11,4 +11,12 @@ ghost use Rattle.world.specs.Promise.{Promise};
 /// gathered, the moments of reports, the time that a command takes, wear, and sound headers.
 pub fn answered_is_promised()
     ensures { (start : SimValue) (history : List Step) → IsLawful start history → Promise start history }
+{}
+
+/// No freedom is left: two histories of the same start and the same events, in which each event is
+/// answered by what came before it and the host was refused memory in the same steps, are equal, to
+/// each answer and each byte of the flash.
+pub fn one_history()
+    ensures { (start : SimValue) (a b : List Step) → IsLawful start a → IsLawful start b → map (λ (s : Step). s.event) a ≡ map (λ (s : Step). s.event) b
+        → map (λ (s : Step). s.refused) a ≡ map (λ (s : Step). s.refused) b → a ≡ b }
 {}

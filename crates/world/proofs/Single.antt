@@ -1,0 +1,290 @@
+-- A lawful history is given by its start, its events and where memory was refused.
+use Rattle.std.proofs.Common.{◌≡◌, ◌≢◌, ◌∙◌, ℕ, suc, ◌+◌, ◌<◌, ◌==◌, if◌then◌else◌, Bool, true, false, Option, None, Some, IsSome, List, [], ◌∷◌, get_or, length, map, refl, sym, ap, subst, arith, ◌⊎◌, inl, inr, Result, Ok, Err}
+use Rattle.std.proofs.lemmas.Bool.{cases_eq, cases_Bool}
+use Rattle.flash_model.specs.FlashOperation.{FlashOperation, programs, erases}
+use Rattle.flash_model.specs.Image.{slot_at}
+use Rattle.flash_model.specs.Operated.{Outcome, IsOperated}
+use Rattle.flash_model.specs.Operations.{Programs, Erases}
+use Rattle.flash_model.specs.Sim.{SimValue}
+use Rattle.flash_model.proofs.ByMask.{one_program, one_erase}
+use Rattle.flash_model.proofs.Places.{same_images, same_slot, slot_byte}
+use Rattle.descriptor_parse.specs.Descriptor.{DescriptorValue, Describes, bits_of}
+use Rattle.descriptor_parse.specs.declared.field.Kind.{Kind}
+use Rattle.descriptor_parse.specs.declared.field.Kind.TheVariants.{Input}
+use Rattle.descriptor_parse.specs.Faults.{all_items}
+use Rattle.host_extract.specs.Found.{found, id_of}
+use Rattle.host_extract.specs.Pressed.{ArePressed}
+use Rattle.host_extract.specs.declared.reading.Found.{Found}
+use Rattle.host_extract.specs.Refusals.{refusal}
+use Rattle.host_extract.specs.declared.error.ExtractError.{ExtractError}
+use Rattle.host_extract.proofs.OneList.{one-list}
+use Rattle.host.specs.Calls.{HostCall}
+use Rattle.host.specs.Reads.{text_by, ReadsWith, Reads}
+use Rattle.host.specs.declared.reading.Reading.{Reading}
+use Rattle.host.specs.declared.reading.Reading.TheVariants.{Unread, NoMemory, Usages}
+use Rattle.layers.specs.declared.command.Command.{Command}
+use Rattle.layers.specs.declared.code.KeymapError.{KeymapError}
+use Rattle.page_turnover.specs.declared.operation.Operation.{Operation}
+use Rattle.page_turnover.specs.Next.{on_flash, ReadsBack}
+use Rattle.reports.specs.declared.Protocol.{Protocol}
+use Rattle.control_ep.specs.declared.answer.EpAnswer.{EpAnswer}
+use Rattle.control_ep.specs.declared.answer.OutStep.{OutStep}
+use Rattle.control_ep.specs.declared.answer.OutStep.TheVariants as outs
+use Rattle.control_ep.specs.Answers.{out_step}
+use Rattle.keymap_store.specs.declared.store.Work.{Work as WorkAnswer}
+use Rattle.keymap_store.specs.declared.store.Work.TheVariants.{Idle, Working, Settled, Failed}
+use Rattle.keyboard.specs.Calls.{Call, image_after as call_image}
+use Rattle.keyboard.specs.Commands.{working}
+use Rattle.keyboard.specs.Endpoint.{stage_after}
+use Rattle.keyboard.specs.Feature.{Where, yes, no, ReadAnswer, FeatureAnswer, command_in}
+use Rattle.keyboard.specs.Lawful.{OutAnswer, WorkedOn}
+use Rattle.keyboard.specs.Operated.{Works}
+use Rattle.world.specs.declared.event.Event.{Event}
+use Rattle.world.specs.declared.event.Event.TheVariants.{Scan, Setup, OutPacket, InPacket, Poll, Work, WorkFault, Cut, CutInWork, BusReset, Entry, SlotAt, Leds}
+use Rattle.world.specs.declared.event.Answer.{Answer}
+use Rattle.world.specs.declared.event.Answer.TheVariants.{Sent, Worked}
+use Rattle.world.specs.Kinds.{Step, as_answer}
+use Rattle.world.specs.History.{Session, session, host_calls, flash_after, EachStep}
+use Rattle.world.specs.Lawful.{Answered, IsAnswered, IsLawful, IsSent, OperatedAs, SlotAnswer, WorksIn, is_no_memory}
+use Rattle.world.specs.Order.{IsNextOperation}
+use Rattle.world.proofs.Ordering.{worked}
+
+-- both equal to one
+to_one : {A : Type 0} {a b x : A} → a ≡ x → b ≡ x → a ≡ b
+to_one e f = e ∙ sym f
+
+by_where : {p qa ra qb rb : Type 0} (S : Type 0) → (qa → qb → S) → (ra → rb → S) → Where p qa ra → Where p qb rb → S
+by_where S f g (yes a q) (yes b r) = f q r
+by_where S f g (yes a q) (no n r) = absurd (n a)
+by_where S f g (no n q) (yes b r) = absurd (n b)
+by_where S f g (no n q) (no m r) = g q r
+
+-- ---- an OUT packet
+
+read_once : (image : List ℕ) (read : Result Command KeymapError) (a b : EpAnswer) → ReadAnswer image read a → ReadAnswer image read b → a ≡ b
+read_once image (Err error) a b x y = to_one x y
+read_once image (Ok command) a b x y = by_where (a ≡ b) to_one (by_where (a ≡ b) to_one (by_where (a ≡ b) to_one to_one)) x y
+
+feature_once : (image : List ℕ) (busy : Bool) (bytes : List ℕ) (a b : EpAnswer) → FeatureAnswer image busy bytes a → FeatureAnswer image busy bytes b → a ≡ b
+feature_once image busy bytes a b x y = by_where (a ≡ b) to_one (by_where (a ≡ b) to_one (read_once image (command_in bytes) a b)) x y
+
+out_once : (step : OutStep) (image : List ℕ) (busy : Bool) (a b : EpAnswer) → OutAnswer step image busy a → OutAnswer step image busy b → a ≡ b
+out_once (outs.Answered answered) image busy a b x y = to_one x y
+out_once (outs.Leds leds) image busy a b x y = to_one x y
+out_once (outs.Offer bytes) image busy a b x y = feature_once image busy bytes a b x y
+
+-- ---- a poll
+
+same_refusal : (d e : DescriptorValue) (report : List ℕ) → d.uses_ids ≡ e.uses_ids → ((kind : Kind) (id : ℕ) → bits_of d kind id ≡ bits_of e kind id) → refusal d report ≡ refusal e report
+unfolding refusal
+same_refusal d e [] u b = refl
+same_refusal d e (byte ∷ bytes) u b = rw (u, b Input (id_of e (byte ∷ bytes))) refl
+
+same_found : (d e : DescriptorValue) (report : List ℕ) → d.fields ≡ e.fields → d.ranges ≡ e.ranges → d.uses_ids ≡ e.uses_ids → found d report ≡ found e report
+unfolding found
+same_found d e report f r u = rw (f, r, u) refl
+
+no_refusal : (r : Option ExtractError) → IsSome r → r ≡ None → ⊥
+no_refusal r s n = cc
+
+same_reading : (d e : DescriptorValue) (report : List ℕ) (a b : Reading) → refusal d report ≡ refusal e report → found d report ≡ found e report → ReadsWith d report a → ReadsWith e report b → is_no_memory a ≡ is_no_memory b → a ≡ b
+same_reading d e report Unread Unread r f x y n = refl
+same_reading d e report NoMemory NoMemory r f x y n = refl
+same_reading d e report (Usages one) (Usages other) r f x y n = ap Usages (one-list (found e report) one other (subst (λ (readings : List Found). ArePressed readings one) f x.1) y.1)
+same_reading d e report Unread (Usages other) r f x y n = absurd (no_refusal (refusal d report) x (r ∙ y.0))
+same_reading d e report (Usages one) Unread r f x y n = absurd (no_refusal (refusal e report) y (sym r ∙ x.0))
+same_reading d e report Unread NoMemory r f x y n = cc
+same_reading d e report NoMemory Unread r f x y n = cc
+same_reading d e report (Usages one) NoMemory r f x y n = cc
+same_reading d e report NoMemory (Usages other) r f x y n = cc
+
+read_by : (text : Option (List ℕ)) (report : List ℕ) (a b : Reading) → Reads text report a → Reads text report b → is_no_memory a ≡ is_no_memory b → a ≡ b
+read_by None report a b x y n = to_one x y
+read_by (Some text) report a b (d, is, with) (e, other, and) n =
+    let u = to_one is.uses_ids other.uses_ids in
+    same_reading d e report a b
+    (same_refusal d e report u (λ kind id. to_one (is.bits kind id) (other.bits kind id)))
+    (same_found d e report (to_one is.fields other.fields) (to_one is.ranges other.ranges) u) with and n
+
+sent_once : (protocol : Protocol) (heard : List HostCall) (report other : Option (List ℕ)) (a b : Answer) (refused : Bool) → report ≡ other → IsSent protocol heard report a refused → IsSent protocol heard other b refused → a ≡ b
+sent_once protocol heard None None a b refused e x y = to_one x.0 y.0
+sent_once protocol heard None (Some bytes) a b refused e x y = cc
+sent_once protocol heard (Some bytes) None a b refused e x y = cc
+sent_once protocol heard (Some bytes) (Some more) a b refused e (one, x, reads, r) (another, y, read, s) =
+    let same : bytes ≡ more = some_bytes bytes more e in
+    let read_so : Reads (text_by protocol heard) bytes another = rw same read in
+    let reading : one ≡ another = read_by (text_by protocol heard) bytes one another reads read_so (sym r ∙ s) in
+    x ∙ rw (same, reading) refl ∙ sym y
+  where
+    some_bytes : (xs ys : List ℕ) → Some xs ≡ Some ys → xs ≡ ys
+    some_bytes xs ys e = cc
+
+-- ---- a look at a slot
+
+slot_once : (image : List ℕ) (page slot : ℕ) (a b : Answer) → SlotAnswer image page slot a → SlotAnswer image page slot b → a ≡ b
+slot_once image page slot a b x y = by_where (a ≡ b) to_one to_one x y
+
+-- ---- a step of the flash work
+
+same_eight : (new other : List ℕ) (p s : ℕ) → length other ≡ length new → ((k : ℕ) → k < 8 → get_or (slot_at other p s) k 0 ≡ get_or (slot_at new p s) k 0) → slot_at other p s ≡ slot_at new p s
+same_eight new other p s e h = same_slot new other p s e (λ k b. sym (slot_byte other p s k b) ∙ h k b ∙ slot_byte new p s k b)
+
+whole_program : (old new other : List ℕ) (p s : ℕ) (with : List ℕ) → Programs old p s with new → Programs old p s with other → other ≡ new
+whole_program old new other p s with m n =
+    let e : length other ≡ length new = to_one n.rest.same_length m.rest.same_length in
+    same_images new other e (λ q t l.
+    elim (cases_eq q p) [
+      | inl page ↦ elim (cases_eq t s) [
+        | inl slot ↦ rw (page, slot) (same_eight new other p s e (λ k b. to_one (n.bytes k b) (m.bytes k b)))
+        | inr apart ↦ to_one (n.rest.others q t l (λ _ f. apart f)) (m.rest.others q t l (λ _ f. apart f))
+      ]
+      | inr apart ↦ to_one (n.rest.others q t l (λ f _. apart f)) (m.rest.others q t l (λ f _. apart f))
+    ])
+
+whole_erase : (old new other : List ℕ) (p : ℕ) → Erases old p new → Erases old p other → other ≡ new
+whole_erase old new other p m n =
+    let e : length other ≡ length new = to_one n.rest.same_length m.rest.same_length in
+    same_images new other e (λ q t l.
+    elim (cases_eq q p) [
+      | inl page ↦ rw page (to_one (n.blank t l) (m.blank t l))
+      | inr apart ↦ to_one (n.rest.others q t l apart) (m.rest.others q t l apart)
+    ])
+
+one_outcome : (old : List ℕ) (operation : FlashOperation) (armed : Option (List ℕ)) (a b : List ℕ) → Outcome old operation armed a → Outcome old operation armed b → a ≡ b
+one_outcome old (programs page slot bytes) None a b x y = whole_program old b a page slot bytes y x
+one_outcome old (programs page slot bytes) (Some mask) a b x y = one_program old b a page slot bytes mask y x
+one_outcome old (erases page) None a b x y = whole_erase old b a page y x
+one_outcome old (erases page) (Some mask) a b x y = one_erase old b a page mask y x
+
+same_flash : (a b : SimValue) → a.image ≡ b.image → a.armed ≡ b.armed → a.operations ≡ b.operations → a.faults ≡ b.faults → a ≡ b
+same_flash a b i r o f =
+    ap (λ (x : List ℕ). record a { image = x }) i ∙ ap (λ (x : Option (List ℕ)). record { image = b.image; armed = x; operations = a.operations; faults = a.faults }) r
+    ∙ ap (λ (x : ℕ). record { image = b.image; armed = b.armed; operations = x; faults = a.faults }) o ∙ ap (λ (x : ℕ). record b { faults = x }) f
+
+operated_once : (old : SimValue) (operation : FlashOperation) (a b : SimValue) → IsOperated old operation a → IsOperated old operation b → a ≡ b
+operated_once old operation a b x y =
+    same_flash a b (one_outcome old.image operation old.armed a.image b.image x.outcome y.outcome) (to_one x.armed y.armed) (to_one x.operations y.operations) (to_one x.faults y.faults)
+
+same_operation : (o : Option Operation) (a b : Operation) → o ≡ Some a → o ≡ Some b → a ≡ b
+same_operation o a b e f = cc
+
+next_once : (now : Session) (command : Command) (old : SimValue) (one other : Answer) (a b : SimValue) → IsNextOperation now command old Work one a → IsNextOperation now command old Work other b → a ≡ b
+next_once now command old one other a b x y =
+    let same : x.operation ≡ y.operation = same_operation _ x.operation y.operation x.is_next y.is_next in
+    operated_once old (on_flash y.operation) a b (subst (λ (o : Operation). IsOperated old (on_flash o) a) same x.makes) y.makes
+
+-- one answer fits what an operation left
+failed_and_done : (start : List ℕ) (past : List Call) (command : Command) (old new : List ℕ) (work : WorkAnswer) → Works start past command old Failed new → Works start past command old work new → work ≢ Failed → ⊥
+failed_and_done start past command old new work f d n =
+    let same : f.operation ≡ d.operation = same_operation _ f.operation d.operation f.advances.in_order d.advances.in_order in
+    (f.attempts.torn refl).1 (subst (λ (o : Operation). ReadsBack o new) (sym same) (d.attempts.done n).1)
+
+working_and_settled : (start : List ℕ) (past : List Call) (command : Command) (old new : List ℕ) → Works start past command old Working new → Works start past command old Settled new → ⊥
+working_and_settled start past command old new w s =
+    let same = to_one w.advances.needed_is s.advances.needed_is in
+    let few = (w.advances.before_last refl).0 in
+    let last = s.advances.last refl in
+    absurd (omega (arith, same, few, last))
+
+works_once : (start : List ℕ) (past : List Call) (command : Command) (old new : List ℕ) (a b : WorkAnswer) → Works start past command old a new → Works start past command old b new → a ≡ b
+works_once start past command old new Idle b x y = absurd x.outcome
+works_once start past command old new Working Idle x y = absurd y.outcome
+works_once start past command old new Settled Idle x y = absurd y.outcome
+works_once start past command old new Failed Idle x y = absurd y.outcome
+works_once start past command old new Working Working x y = refl
+works_once start past command old new Settled Settled x y = refl
+works_once start past command old new Failed Failed x y = refl
+works_once start past command old new Working Settled x y = absurd (working_and_settled start past command old new x y)
+works_once start past command old new Settled Working x y = absurd (working_and_settled start past command old new y x)
+works_once start past command old new Failed Working x y = absurd (failed_and_done start past command old new Working x y (λ e. cc))
+works_once start past command old new Failed Settled x y = absurd (failed_and_done start past command old new Settled x y (λ e. cc))
+works_once start past command old new Working Failed x y = absurd (failed_and_done start past command old new Working y x (λ e. cc))
+works_once start past command old new Settled Failed x y = absurd (failed_and_done start past command old new Settled y x (λ e. cc))
+
+-- what a step came to, and what it left
+record SameEnd (a b : WorkAnswer) (new other : SimValue) : Type 0 where
+  answer : a ≡ b
+  flash : new ≡ other
+
+idle_end : (now : Session) (old armed : SimValue) (work : WorkAnswer) (new : SimValue) → work ≡ Idle → OperatedAs now old armed work new → new ≡ old
+idle_end now old armed Idle new e o = o
+idle_end now old armed Working new e o = cc
+idle_end now old armed Settled new e o = cc
+idle_end now old armed Failed new e o = cc
+
+end_by : (now : Session) (w : Option Command) (old armed : SimValue) (a b : WorkAnswer) (new other : SimValue) → working now.first now.past ≡ w → WorksIn now old armed a new → WorksIn now old armed b other → SameEnd a b new other
+end_by now None old armed a b new other w x y =
+    let one : WorkedOn now.first now.past None a new.image = subst (λ (o : Option Command). WorkedOn now.first now.past o a new.image) w x.lawful in
+    let two : WorkedOn now.first now.past None b other.image = subst (λ (o : Option Command). WorkedOn now.first now.past o b other.image) w y.lawful in
+    record {
+      answer = to_one one.0 two.0;
+      flash = to_one (idle_end now old armed a new one.0 x.operated) (idle_end now old armed b other two.0 y.operated);
+    }
+end_by now (Some command) old armed a b new other w x y =
+    let flash : new ≡ other = next_once now command armed (Worked a) (Worked b) new other (worked now command old armed armed a Work (Worked a) new w (λ told. refl) refl x) (worked now command old armed armed b Work (Worked b) other w (λ told. refl) refl y) in
+    let one : WorkedOn now.first now.past (Some command) a new.image = subst (λ (o : Option Command). WorkedOn now.first now.past o a new.image) w x.lawful in
+    let two : WorkedOn now.first now.past (Some command) b other.image = subst (λ (o : Option Command). WorkedOn now.first now.past o b other.image) w y.lawful in
+    record {
+      answer = works_once now.first now.past command (call_image now.first now.past) other.image a b (subst (λ (f : SimValue). Works now.first now.past command (call_image now.first now.past) a f.image) flash one) two;
+      flash = flash;
+    }
+
+ends_once : (now : Session) (old armed : SimValue) (a b : WorkAnswer) (new other : SimValue) → WorksIn now old armed a new → WorksIn now old armed b other → SameEnd a b new other
+ends_once now old armed a b new other x y = end_by now (working now.first now.past) old armed a b new other refl x y
+
+-- ---- an event
+
+record SameStep (a b : Answer) (new other : SimValue) : Type 0 where
+  answer : a ≡ b
+  flash : new ≡ other
+
+told : (a b : Answer) (x y : WorkAnswer) (new other : SimValue) → a ≡ Worked x → b ≡ Worked y → SameEnd x y new other → SameStep a b new other
+told a b x y new other e f s = record { answer = e ∙ ap Worked s.answer ∙ sym f; flash = s.flash }
+
+answered_once : (now : Session) (heard : List HostCall) (old : SimValue) (event : Event) (a b : Answer) (refused : Bool) (new other : SimValue) → Answered now heard old event a refused new → Answered now heard old event b refused other
+    → SameStep a b new other
+answered_once now heard old (Scan scan) a b refused new other (x, u) (y, v) = record { answer = to_one x y; flash = to_one u.0 v.0 }
+answered_once now heard old (Setup bytes) a b refused new other (x, u) (y, v) = record { answer = to_one x y; flash = to_one u.0 v.0 }
+answered_once now heard old (OutPacket packet) a b refused new other (one, x, l, u) (two, y, m, v) =
+    let same : one ≡ two = out_once (out_step (stage_after now.first now.past) packet.items) _ _ one two l m in
+    record { answer = x ∙ ap as_answer same ∙ sym y; flash = to_one u.0 v.0 }
+answered_once now heard old InPacket a b refused new other (one, x, l, u, r) (two, y, m, v, s) = record { answer = x ∙ ap as_answer (to_one l m) ∙ sym y; flash = to_one u v }
+answered_once now heard old Poll a b refused new other (one, l, u, x) (two, m, v, y) = record { answer = sent_once _ heard one two a b refused (to_one l m) x y; flash = to_one u v }
+answered_once now heard old Work a b refused new other (one, x, w, r) (two, y, v, s) = told a b one two new other x y (ends_once now old _ one two new other w v)
+answered_once now heard old (WorkFault mask) a b refused new other (one, x, w, r) (two, y, v, s) = told a b one two new other x y (ends_once now old _ one two new other w v)
+answered_once now heard old Cut a b refused new other (x, u) (y, v) = record { answer = to_one x y; flash = to_one u.0 v.0 }
+answered_once now heard old (CutInWork mask) a b refused new other (one, x, w, r) (two, y, v, s) = record { answer = to_one x y; flash = (ends_once now old _ one two new other w v).flash }
+answered_once now heard old BusReset a b refused new other (x, u) (y, v) = record { answer = to_one x y; flash = to_one u.0 v.0 }
+answered_once now heard old (Entry layer key) a b refused new other (x, u) (y, v) = record { answer = to_one x y; flash = to_one u.0 v.0 }
+answered_once now heard old (SlotAt page slot) a b refused new other (x, u) (y, v) = record { answer = slot_once old.image page slot a b x y; flash = to_one u.0 v.0 }
+answered_once now heard old Leds a b refused new other (x, u) (y, v) = record { answer = to_one x y; flash = to_one u.0 v.0 }
+
+-- ---- a history
+
+same_step : (a b : Step) → a.event ≡ b.event → a.answer ≡ b.answer → a.flash ≡ b.flash → a.refused ≡ b.refused → a ≡ b
+same_step a b e x f r =
+    ap (λ (v : Event). record a { event = v }) e ∙ ap (λ (v : Answer). record { event = b.event; answer = v; flash = a.flash; refused = a.refused }) x
+    ∙ ap (λ (v : SimValue). record { event = b.event; answer = b.answer; flash = v; refused = a.refused }) f ∙ ap (λ (v : Bool). record b { refused = v }) r
+
+step_once : (start : SimValue) (before : List Step) (a b : Step) → IsAnswered start before a → IsAnswered start before b → a.event ≡ b.event → a.refused ≡ b.refused → a ≡ b
+step_once start before a b x y e r =
+    let now : Session = session start before in
+    let as_b : Answered now (host_calls before) (flash_after start before) b.event a.answer b.refused a.flash = rw (← e, ← r) x in
+    let s : SameStep a.answer b.answer a.flash b.flash = answered_once now (host_calls before) (flash_after start before) b.event a.answer b.answer b.refused a.flash b.flash as_b y in
+    same_step a b e s.answer s.flash r
+
+first_same : {A : Type 0} (x y : A) (xs ys : List A) → x ∷ xs ≡ y ∷ ys → x ≡ y
+first_same x y xs ys e = cc
+
+rest_same : {A : Type 0} (x y : A) (xs ys : List A) → x ∷ xs ≡ y ∷ ys → xs ≡ ys
+rest_same x y xs ys e = cc
+
+pub one_history : (start : SimValue) (a b : List Step) → IsLawful start a → IsLawful start b → map (λ (s : Step). s.event) a ≡ map (λ (s : Step). s.event) b → map (λ (s : Step). s.refused) a ≡ map (λ (s : Step). s.refused) b → a ≡ b
+one_history start [] [] x y e r = refl
+one_history start [] (step ∷ before) x y e r = cc
+one_history start (step ∷ before) [] x y e r = cc
+one_history start (one ∷ before) (two ∷ earlier) x y e r =
+    let same : before ≡ earlier = one_history start before earlier x.1 y.1 (rest_same one.event two.event _ _ e) (rest_same one.refused two.refused _ _ r) in
+    let at_two : IsAnswered start before two = subst (λ (past : List Step). IsAnswered start past two) (sym same) y.0 in
+    let step : one ≡ two = step_once start before one two x.0 at_two (first_same one.event two.event _ _ e) (first_same one.refused two.refused _ _ r) in
+    ap (λ (s : Step). s ∷ before) step ∙ ap (λ (past : List Step). two ∷ past) same
