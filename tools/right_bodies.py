@@ -15,6 +15,8 @@ import subprocess
 import sys
 import tempfile
 
+from changes import replace_once
+
 ROOT = os.path.dirname(os.path.dirname(os.path.abspath(__file__)))
 BODIES = f"{ROOT}/tests/right_bodies"
 
@@ -44,12 +46,10 @@ def read_edit(path):
 def apply(path, crate):
     """Applies an edit to a copy of its crate."""
     for name, old, new in read_edit(path):
-        with open(f"{crate}/{name}", encoding="utf-8") as file:
-            text = file.read()
-        if text.count(old) != 1:
-            raise ValueError(f"{path}: {name} has {text.count(old)} times, not once: {old}")
-        with open(f"{crate}/{name}", "w", encoding="utf-8") as file:
-            file.write(text.replace(old, new))
+        try:
+            replace_once(f"{crate}/{name}", old, new)
+        except ValueError as why:
+            raise ValueError(f"{path}: {why}") from why
 
 
 def edits_of(crate, names):

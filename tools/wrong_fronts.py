@@ -19,6 +19,7 @@ import sys
 import tempfile
 import threading
 
+from changes import replace_once
 from debian_crates import OF_PROGRAM, environment
 
 ROOT = os.path.dirname(os.path.dirname(os.path.abspath(__file__)))
@@ -39,12 +40,7 @@ def apply(edit, crate):
     """Writes an edit into a copy of the crate; gives the file's path and what it held."""
     name, old, new = edit
     path = f"{crate}/{name}"
-    with open(path, encoding="utf-8") as file:
-        text = file.read()
-    if text.count(old) != 1:
-        raise ValueError(f"its text stands {text.count(old)} times in {name}")
-    write(path, text.replace(old, new))
-    return path, text
+    return path, replace_once(path, old, new)
 
 
 def write(path, text):

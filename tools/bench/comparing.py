@@ -15,8 +15,9 @@ from typing import NamedTuple
 
 HERE = os.path.dirname(os.path.abspath(__file__))
 ROOT = os.path.dirname(os.path.dirname(HERE))
-sys.path.insert(0, f"{ROOT}/tools/export_rust")
+sys.path[:0] = [f"{ROOT}/tools/export_rust", f"{ROOT}/tools"]
 
+from changes import replace_once
 from compare import answers, counted, difference
 from texts import text
 
@@ -156,12 +157,10 @@ def changed(folder, name, old, new):
     """A copy of the peer with one change."""
     shutil.rmtree(folder, ignore_errors=True)
     shutil.copytree(f"{BENCH}/peer", folder)
-    with open(f"{folder}/{name}", encoding="utf-8") as file:
-        source = file.read()
-    if source.count(old) != 1:
-        raise Wrong(f"bench/peer/{name} has {source.count(old)} times: {old}")
-    with open(f"{folder}/{name}", "w", encoding="utf-8") as file:
-        file.write(source.replace(old, new))
+    try:
+        replace_once(f"{folder}/{name}", old, new)
+    except ValueError as why:
+        raise Wrong(f"bench/peer: {why}") from why
     return folder
 
 

@@ -8,6 +8,8 @@ import sys
 import target_steps
 from room import HERE, ROOT, Failed, Skipped, say
 
+from changes import replace_once  # (room adds its folder to the path)
+
 # Changes of a copy, of which the comparison has to see each: by which kind of input, and by how many at most.
 PLANTED = [
     ("scripts", 300, "wuzhikar/src/parts/reports/poller.rs", "const IDLE_ONE: u8 = 125;", "const IDLE_ONE: u8 = 124;"),
@@ -68,12 +70,10 @@ def planted(room, _):
     kbsim = shutil.copy(built(room), room.path("kbsim"))
     folder = room.copy("changed", room.rust)
     for _, _, name, old, new in PLANTED:
-        with open(f"{folder}/{name}", encoding="utf-8") as file:
-            text = file.read()
-        if text.count(old) != 1:
-            raise Failed(f"rust/{name} has {text.count(old)} times: {old}")
-        with open(f"{folder}/{name}", "w", encoding="utf-8") as file:
-            file.write(text.replace(old, new))
+        try:
+            replace_once(f"{folder}/{name}", old, new)
+        except ValueError as why:
+            raise Failed(f"rust: {why}") from why
     room.cargo("build", "--release", "-p", "kbsim", cwd=folder, CARGO_TARGET_DIR=room.path("target-changed"))
     changed = room.path("target-changed", "release", "kbsim")
     for kind, count, name, _, new in PLANTED:

@@ -198,12 +198,22 @@ impl Run {
 
     fn plug(&mut self, socket: Socket) -> Result<()> {
         self.plugs += 1;
-        let (plug, mut from, events) = (self.plugs, socket.again()?, self.events.clone());
+        let (plug, mut from) = (self.plugs, socket.again()?);
+        self.listen(plug, move || usbip::read_urb(&mut from).map(|urb| Event::Urb(plug, urb)));
+        let wire = usbip::Wire::plug(socket.again()?, &mut self.device);
+        (self.waiting, self.patience) = (true, PATIENCE);
+        self.wire = Some((plug, socket, Wire::Usbip(wire)));
+        Ok(())
+    }
+
+    /// Hears what this host sends, until it has gone or sends what is nothing of its protocol.
+    fn listen(&self, plug: u32, mut read: impl FnMut() -> Result<Event> + Send + 'static) {
+        let events = self.events.clone();
         std::thread::spawn(move || {
             loop {
-                match usbip::read_urb(&mut from) {
-                    Ok(urb) => {
-                        if events.send(Event::Urb(plug, urb)).is_err() {
+                match read() {
+                    Ok(event) => {
+                        if events.send(event).is_err() {
                             return;
                         }
                     }
@@ -217,34 +227,15 @@ impl Run {
             }
             let _ = events.send(Event::Gone(plug));
         });
-        let wire = usbip::Wire::plug(socket.again()?, &mut self.device);
-        (self.waiting, self.patience) = (true, PATIENCE);
-        self.wire = Some((plug, socket, Wire::Usbip(wire)));
-        Ok(())
     }
 
     fn guest(&mut self, socket: Socket) -> Result<()> {
         self.plugs += 1;
-        let (plug, mut from, events) = (self.plugs, socket.again()?, self.events.clone());
-        std::thread::spawn(move || {
-            let mut first = true;
-            loop {
-                match usbredir::read_message(&mut from, first) {
-                    Ok(message) => {
-                        first = false;
-                        if events.send(Event::Message(plug, message)).is_err() {
-                            return;
-                        }
-                    }
-                    Err(error) => {
-                        if error.kind() == ErrorKind::InvalidData {
-                            eprintln!("real_host: {error}");
-                        }
-                        break;
-                    }
-                }
-            }
-            let _ = events.send(Event::Gone(plug));
+        let (plug, mut from) = (self.plugs, socket.again()?);
+        let mut first = true;
+        self.listen(plug, move || {
+            let message = usbredir::read_message(&mut from, std::mem::take(&mut first))?;
+            Ok(Event::Message(plug, message))
         });
         let wire = usbredir::Wire::plug(socket.again()?, &mut self.device)?;
         (self.waiting, self.patience) = (true, PATIENCE);
