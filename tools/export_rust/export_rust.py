@@ -61,7 +61,8 @@ class Export:
             neighbours = {name for name in stands_on.get(crate, ()) if held.get(name)}
             hosted = self.of.allocs or crate in self.of.tests
             self.guarded(lambda: self.module(crate, "", neighbours, hosted))
-        named = set(self.of.owed) | self.of.hidden | set(self.of.renamed) | self.of.fallible_clones | set(self.of.derives) | self.of.inlined | set(self.of.docs)
+        named = set(self.of.owed) | self.of.hidden | set(self.of.renamed) | self.of.fallible_clones | set(self.of.derives) | self.of.inlined \
+            | set(self.of.docs) | set(self.of.unstarted)
         for crate, name in sorted(named - self.met):
             self.faults.append(f"tools/export_rust/rules.py: {self.of.name} names {crate}::{name}, which is not there, or needs no rule")
         self.files["src/parts.rs"] = PARTS + "".join(declaration(self.of, crate) for crate in sorted(self.crates))

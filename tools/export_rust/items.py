@@ -6,6 +6,7 @@ import rules
 from lexing import TRIVIA, Refused, Token, after, before, find, group_end, lex, text_at, trimmed
 from deriving import clone_impl, error_impls
 from rewriting import MEMORY, Rewriter
+from unstarted import unstarted_impl
 
 
 class Lead:
@@ -196,6 +197,9 @@ class Translator:
             if "Clone" not in derived:
                 self.refuse(tokens[0], f"{key[1]}, which derives no `Clone`")
             text += clone_impl(self, tokens, lead)
+        if key in self.holder.unstarted:
+            self.met.add(key)
+            text += unstarted_impl(self, tokens, self.holder.unstarted[key])
         return text
 
     def in_block(self, tokens, depth, inside):

@@ -32,6 +32,9 @@ class Rules:
     derives: dict = field(default_factory=dict)
     # Functions that get `#[inline(always)]`, which the source need not say, by (crate, name) or (crate, Type::name).
     inlined: frozenset = frozenset()
+    # Types that a keyboard is made of, by (crate, name): each gets a constant of zeros. Of an enum it is this variant, the
+    # one that is zeros as rustc lays the enum out.
+    unstarted: dict = field(default_factory=dict)
     # Docs that name what is not in the crate, by (crate, module): pairs of what stands there once and what stands for it.
     docs: dict = field(default_factory=dict)
 
@@ -62,6 +65,7 @@ LOG = Rules(
            ("page_turnover", "Log::begin_turn"): "LogCalls", ("page_turnover", "Log::offer_copy"): "LogCalls",
            ("page_turnover", "Log::seal"): "LogCalls"},
     derives={("page_turnover", "Words"): ("Debug",), ("ecc_flash", "PairedFlash"): ("Debug",), ("ecc_flash", "CutFlash"): ("Debug",)},
+    unstarted={("page_turnover", "Log"): None, ("page_turnover", "Task"): "Task::Copy(Target::Unread, 0)"},
     docs={("flash_model", ""): [("`world` runs on", "the crate `kbsim` runs on")],
           ("records", ""): [(" (`laws`).", ".")],
           ("ecc_flash", ""): [("meant (`laws`).", "meant."), ("/// - `outcome` of", "/// - the outcome of"), ("///   (`laws`). A", "///   from this. A")],
@@ -80,6 +84,15 @@ KEYBOARD = Rules(
     calls={("keyboard", "Keyboard::start"): "KeyboardCalls", ("keyboard", "Keyboard::start_in"): "KeyboardCalls",
            ("layers", "LayerNo::known"): "Known", ("layers", "KeyNo::known"): "Known",
            ("debounce", "Scan::has"): "ScanCalls", ("debounce", "Scan::with"): "ScanCalls", ("debounce", "Debouncer::is_down"): "DebouncerCalls"},
+    unstarted={("layers", "Code"): None, ("layers", "LayerNo"): None, ("layers", "KeyNo"): None, ("layers", "Keymap"): None,
+               ("layers", "Command"): "Command::SetKey { layer: LayerNo::UNSTARTED, key: KeyNo::UNSTARTED, code: Code::UNSTARTED }",
+               ("layers", "Held"): None, ("layers", "Usages"): None, ("debounce", "Scan"): None, ("debounce", "Debouncer"): None,
+               ("reports", "Protocol"): "Protocol::Boot", ("reports", "Input"): "Input::Boot", ("reports", "Sent"): None,
+               ("reports", "Queue"): None, ("reports", "Poller"): None, ("key_reports", "KeyReports"): None,
+               ("control_ep", "Source"): "Source::Copied(ArrayVec::new_const())", ("control_ep", "ReadData"): None,
+               ("control_ep", "Sending"): None, ("control_ep", "Stage"): "Stage::Sending(Sending::UNSTARTED)",
+               ("control_ep", "ControlEp"): None, ("keymap_store", "Job"): "Job::Turning { command: Command::UNSTARTED, from: 0 }",
+               ("keymap_store", "Store"): None, ("keyboard", "Keyboard"): None},
     docs={("descriptor_build", ""): [("`parse_lines` prints them", "the crate `kbsim` prints them")],
           ("keyboard", ""): [("A firmware calls it, as `firmware_example` does; `world`", "A firmware calls it, and the crate `kbsim`")]},
 )

@@ -1,6 +1,8 @@
 """The exporter's own tests: what it leaves out, what it changes, what it refuses. They need no rustc."""
 
+import dataclasses
 import os
+import re
 import subprocess
 import sys
 import tempfile
@@ -169,6 +171,20 @@ class Forms(unittest.TestCase):
         self.assertEqual(made, "impl Item { /// Tag.\n    #[inline(always)]\n    fn tag() -> u8 { 1 } }\nfn tag() -> u8 { 2 }\n")
         with self.assertRaises(Refused):
             rust("impl Item { #[inline(never)] fn tag() -> u8 { 1 } }\n", crate="descriptor_parse", of=rules.READER)
+
+    def test_memory_that_waits_for_a_keyboard_is_zeros(self):
+        of = dataclasses.replace(rules.KEYBOARD, unstarted={("keymap_store", name): None for name in "SR"} | {("keymap_store", "E"): "E::A(0)"})
+        for source, zeros in [
+                ("pub struct S {\n    pub a: u8,\n    b: [[bool; 2]; N],\n    ghost g: { a },\n}\n", "impl S { S { a: 0, b: [[false; 2]; N] } }"),
+                ("struct S { c: [Option<T>; 3], d: Option<E>, e: T<8> }\n",
+                 "impl S { S { c: [const { None }; 3], d: Some(E::UNSTARTED), e: T::UNSTARTED } }"),
+                ("struct R<const N: usize> { a: [u16; N], }\n", "impl<const N: usize> R<N> { R { a: [0; N] } }"),
+                ("struct S { log: Log }\n", "impl S { S { log: <Log as wuzhikar_log::calls::Unstarted>::UNSTARTED } }"),
+                ("pub enum E { A(u8), B }\n", "impl E { E::A(0) }"),
+                ("struct T { a: u8 }\n", "")]:
+            made = Translator("keymap_store", "", "f.rt", {"page_turnover"}, of).translate(source)
+            found = re.search(r"(impl.*) \{\n.*\n    pub\(crate\) const UNSTARTED: Self = (.*);\n\}", made)
+            self.assertEqual(f"{found[1]} {{ {found[2]} }}" if found else "", zeros)
 
     def test_an_error_gets_its_text(self):
         source = "use thiserror::Error;\n#[derive(Error)]\npub enum E {\n    #[error(\"at {0}\")]\n    A(u8),\n}\n"

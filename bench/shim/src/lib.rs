@@ -5,17 +5,16 @@
 
 mod flash;
 
-use core::mem::MaybeUninit;
 use core::ptr::addr_of_mut;
 use flash::Flash;
-use wuzhikar::{EpAnswer, KeyNo, Keyboard, LayerNo, Scan, Work};
+use wuzhikar::{EpAnswer, KeyNo, Keyboard, LayerNo, Scan, UnstartedKeyboard, Work};
 
 #[unsafe(no_mangle)]
-static mut KEYBOARD: MaybeUninit<Keyboard> = MaybeUninit::uninit();
+static mut KEYBOARD: UnstartedKeyboard = UnstartedKeyboard::NEW;
 
 fn keyboard() -> &'static mut Keyboard {
-    // SAFETY: `kb_start` wrote it, and no other call is running.
-    unsafe { (*addr_of_mut!(KEYBOARD)).assume_init_mut() }
+    // SAFETY: `kb_start` started it, it is transparent, and no other call is running.
+    unsafe { &mut *addr_of_mut!(KEYBOARD).cast() }
 }
 
 /// Copies bytes to where the caller wants them, and gives their number.
@@ -40,7 +39,7 @@ unsafe fn number(answer: &EpAnswer, out: *mut u8) -> i32 {
 #[unsafe(no_mangle)]
 extern "C" fn kb_start() {
     // SAFETY: no other call is running.
-    unsafe { (*addr_of_mut!(KEYBOARD)).write(Keyboard::on(&Flash)) };
+    unsafe { (*addr_of_mut!(KEYBOARD)).start(&Flash) };
 }
 
 #[unsafe(no_mangle)]

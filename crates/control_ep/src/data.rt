@@ -11,10 +11,10 @@ const COPIED: usize = 23;
 /// Where the bytes are.
 #[derive(Debug, Drop)]
 pub(crate) enum Source {
-    /// A descriptor, which is a constant.
-    Lent(&'static [u8]),
     /// A report, as it was at its SETUP packet.
     Copied(ArrayVec<u8, COPIED>),
+    /// A descriptor, which is a constant.
+    Lent(&'static [u8]),
 }
 
 /// The bytes that a read sends.

@@ -99,7 +99,7 @@ impl Keyboard {
     {
         self.ep = ControlEp::new();
         self.keys.restart();
-        self.store = Store::mount(flash);
+        self.store.remount(flash);
         self.protocol = Protocol::Report;
         self.leds = 0;
         self.layer = LayerNo::known(0);

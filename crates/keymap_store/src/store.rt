@@ -1,10 +1,10 @@
 //! The keymap in RAM and in flash.
 
-ghost use Rattle.std.specs.Prelude.{◌≡◌, ◌≢◌, ◌+◌, ◌%◌, ◌^◌, ◌≤◌, ◌↔◌, ℕ, List, Option, None, Some, Ok, false, unwrap_or};
+ghost use Rattle.std.specs.Prelude.{◌≡◌, ◌≢◌, ◌+◌, ◌%◌, ◌^◌, ◌≤◌, ◌↔◌, ℕ, List, [], Option, None, Some, Ok, false, unwrap_or};
 ghost use Rattle.flash_model.specs.Image.{page_count};
 ghost use Rattle.layers.specs.Commands.{IsCommand};
 ghost use Rattle.layers.specs.Formats.{command_in};
-ghost use Rattle.layers.specs.Keymaps.{HasEntries};
+ghost use Rattle.layers.specs.Keymaps.{HasEntries, StandsFor};
 ghost use Rattle.page_turnover.specs.Turn.{IsPending};
 ghost use Rattle.page_turnover.specs.Usable.{IsUsable};
 ghost use Rattle.page_turnover.specs.Log.{Describes};
@@ -103,12 +103,24 @@ impl Store {
         ensures rests { working result.job ≡ None }
     {
         let log = Log::mount(flash);
-        let keymap = read_keymap(&log, flash);
+        let mut keymap = Keymap::standard();
+        take_words(&mut keymap, &log, flash);
         Store {
             log,
             keymap,
             job: Job::Resting,
         }
+    }
+
+    /// Leaves what `mount` gives on this flash, where the store lies: nothing of it is moved.
+    pub fn remount<F: NorFlash>(&mut self, flash: &F)
+        ensures mirrors { Mirrors (F.image flash.now) self.new }
+        ensures rests { working self.new.job ≡ None }
+    {
+        self.log = Log::mount(flash);
+        self.job = Job::Resting;
+        self.keymap.set_standard();
+        take_words(&mut self.keymap, &self.log, flash);
     }
 
     /// The keymap: that of the flash's image.
@@ -298,19 +310,18 @@ fn offer_next(log: &mut Log, keymap: &Keymap, from: u16) -> u16
     }
 }
 
-/// The keymap of the words of a log.
-fn read_keymap<F: NorFlash>(log: &Log, flash: &F) -> Keymap
-    requires { Describes (F.image flash.now) log.now }
-    ensures { HasEntries (entries_of (F.image flash.now)) result }
+/// Takes the words of a log into the default keymap: it is then that of the flash's image.
+fn take_words<F: NorFlash>(keymap: &mut Keymap, log: &Log, flash: &F)
+    requires describes { Describes (F.image flash.now) log.now }
+    requires standard { (format : ℕ) → StandsFor format [] keymap.old }
+    ensures { HasEntries (entries_of (F.image flash.now)) keymap.new }
 {
-    let mut keymap = Keymap::standard();
     let format = log.format();
     for word in log.words(flash) {
         if let Some(command) = command_in(format, word) {
             keymap.apply(command);
         }
     }
-    keymap
 }
 
 /// The command that a word stands for on a page of this format.

@@ -3,7 +3,7 @@ use Rattle.std.proofs.Common.{◌≡◌, ◌≢◌, ℕ, ◌+◌, ◌*◌, ◌/�
 use Rattle.std.proofs.Math.ListN.{set}
 use Rattle.std.proofs.lemmas.Bool.{cases_eq, cases_lt, eq-eqb, ne_eqb}
 use Rattle.std.proofs.lemmas.List.{get_or_default, get_or-set_same, get_or-set_other, length-set}
-use Rattle.layers.specs.Codes.{layers, keys, default_code, default_at}
+use Rattle.layers.specs.Codes.{layers, keys, transparent, default_code, default_at}
 use Rattle.layers.specs.Formats.{command_in}
 use Rattle.layers.specs.Entries.{written, changed, entry_in, ChangesSome, ChangesNothing}
 use Rattle.layers.specs.Keymaps.{place_of, code_at, HasEntries, StandsFor}
@@ -60,6 +60,9 @@ default_at-place_of layer key k =
     let q : place_of layer key / keys ≡ layer = omega arith in
     let r : place_of layer key % keys ≡ key = omega arith in
     rw (q, r) refl
+
+pub default_at-above : (place : ℕ) → keys ≤ place → default_at place ≡ transparent
+default_at-above place k = rw (ne_eqb (place / keys) 0 (λ e. omega arith)) refl
 
 pub writes_layer : (l : ℕ) (old new : List ℕ) → length new ≡ length old
     → ((place : ℕ) → keys * l ≤ place → place < keys * l + keys → get_or new place 0 ≡ default_at place)

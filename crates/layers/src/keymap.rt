@@ -3,7 +3,7 @@
 ghost use Rattle.std.specs.Prelude.{◌≡◌, ◌≢◌, ◌+◌, ◌*◌, ◌/◌, ◌%◌, ◌<◌, ◌≤◌, ℕ, List, [], ◌∷◌, ◌++◌, Some, length, slice_index, MatchBool, MatchOption, IfSome, nat_eq};
 ghost use Rattle.std.specs.Cmp.{partial_equiv_from_equiv};
 ghost use Rattle.std.specs.Cmp.Lexicographic.{pointwise, nat_list_eq_equiv};
-ghost use Rattle.layers.specs.Codes.{layers, keys, default_code, default_at};
+ghost use Rattle.layers.specs.Codes.{layers, keys, transparent, default_code, default_at};
 ghost use Rattle.layers.specs.Commands.{IsCommand};
 ghost use Rattle.layers.specs.Formats.{command_in};
 ghost use Rattle.layers.specs.Entries.{changed, ChangesSome, ChangesNothing};
@@ -39,9 +39,19 @@ impl Keymap {
         ensures entries { HasEntries default_code result }
         ensures stands { (format : ℕ) → StandsFor format [] result }
     {
-        let mut codes = [Code::TRANSPARENT; ENTRIES];
-        reset(&mut codes, 0, ENTRIES);
-        Keymap { codes }
+        let mut keymap = Keymap {
+            codes: [Code::TRANSPARENT; ENTRIES],
+        };
+        keymap.set_standard();
+        keymap
+    }
+
+    /// Makes it the default keymap, where it lies.
+    pub fn set_standard(&mut self)
+        ensures entries { HasEntries default_code self.new }
+        ensures stands { (format : ℕ) → StandsFor format [] self.new }
+    {
+        reset(&mut self.codes, 0, ENTRIES);
     }
 
     /// The code of a key on a layer.
@@ -145,8 +155,53 @@ fn reset(codes: &mut [Code], start: usize, end: usize)
     ensures below { (place : ℕ) → place < start → slice_index codes.new place ≡ slice_index codes.old place }
     ensures above { (place : ℕ) → end ≤ place → slice_index codes.new place ≡ slice_index codes.old place }
 {
+    let middle = end_of_layer_0(start, end);
+    reset_layer_0(codes, start, middle);
+    make_transparent(codes, middle, end);
+}
+
+/// Where the entries of layer 0, the only ones that are not transparent by default, end between two
+/// places.
+fn end_of_layer_0(start: usize, end: usize) -> usize
+    requires { start ≤ end }
+    ensures ordered { start ≤ result }
+    ensures within { result ≤ end }
+    ensures above { result < end → keys ≤ result }
+{
+    if end <= KEYS {
+        end
+    } else if start <= KEYS {
+        KEYS
+    } else {
+        start
+    }
+}
+
+/// `reset` for entries of layer 0.
+fn reset_layer_0(codes: &mut [Code], start: usize, end: usize)
+    requires whole { length codes.old ≡ 384 }
+    requires ordered { start ≤ end }
+    requires within { end ≤ 384 }
+    ensures inside { (place : ℕ) → start ≤ place → place < end → slice_index codes.new place ≡ default_at place }
+    ensures below { (place : ℕ) → place < start → slice_index codes.new place ≡ slice_index codes.old place }
+    ensures above { (place : ℕ) → end ≤ place → slice_index codes.new place ≡ slice_index codes.old place }
+{
     for place in start..end {
         codes[place] = Code::default_at(place);
+    }
+}
+
+/// Makes the entries from `start` up to `end` transparent.
+fn make_transparent(codes: &mut [Code], start: usize, end: usize)
+    requires whole { length codes.old ≡ 384 }
+    requires ordered { start ≤ end }
+    requires within { end ≤ 384 }
+    ensures inside { (place : ℕ) → start ≤ place → place < end → slice_index codes.new place ≡ transparent }
+    ensures below { (place : ℕ) → place < start → slice_index codes.new place ≡ slice_index codes.old place }
+    ensures above { (place : ℕ) → end ≤ place → slice_index codes.new place ≡ slice_index codes.old place }
+{
+    for place in start..end {
+        codes[place] = Code::TRANSPARENT;
     }
 }
 

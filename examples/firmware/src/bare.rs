@@ -2,8 +2,8 @@
 //! The entry on a chip without an operating system. Interrupts leave what they bring in a mailbox, and the main loop
 //! leaves what is to be sent in another. They stand for the registers and the interrupts of your chip.
 
-use crate::chip::{Cells, Chip, Event, IDENTITY};
-use crate::flash::Flash;
+use crate::chip::{Chip, Event};
+use crate::{Board, run};
 use core::sync::atomic::{AtomicU8, AtomicU16, Ordering};
 use wuzhikar::{EpAnswer, Scan};
 use wuzhikar_device::{Change, Endpoint1, PollAnswer};
@@ -60,12 +60,6 @@ pub static LEDS: AtomicU8 = AtomicU8::new(0);
 struct Generic;
 
 impl Chip for Generic {
-    type Controller = Cells;
-
-    fn flash(&mut self) -> Cells {
-        Cells::BLANK
-    }
-
     fn event(&mut self) -> Event {
         match EVENT.take() {
             (1, ..) => Event::Millisecond(Scan { rows: core::array::from_fn(|row| ROWS[row].load(Ordering::Relaxed)) }),
@@ -119,14 +113,18 @@ impl Chip for Generic {
     }
 }
 
-/// What the chip's start-up code calls.
+/// The board, where it stays.
+static mut BOARD: Board = Board::NEW;
+
+/// What the chip's start-up code calls, once.
 #[unsafe(no_mangle)]
 #[allow(unsafe_code)]
 pub extern "C" fn main() -> ! {
-    let mut chip = Generic;
-    let mut flash = Flash::new(chip.flash());
+    // SAFETY: it runs once, and nothing else names the board.
+    let board = unsafe { &mut *(&raw mut BOARD) };
+    board.erase();
     loop {
-        flash = crate::run(&mut chip, flash, &IDENTITY);
+        run(&mut Generic, board);
     }
 }
 

@@ -40,11 +40,6 @@ pub enum Event {
 
 /// What the main loop asks of a chip.
 pub trait Chip {
-    type Controller: FlashController;
-
-    /// The flash controller, once.
-    fn flash(&mut self) -> Self::Controller;
-
     /// The next event.
     fn event(&mut self) -> Event;
 
@@ -72,8 +67,8 @@ pub struct Cells {
 impl Cells {
     const BYTES: usize = 2 * 4096;
 
-    /// Erased cells.
-    pub const BLANK: Cells = Cells { bytes: [0xff; Cells::BYTES] };
+    /// Cells that were never erased.
+    pub const ZEROS: Cells = Cells { bytes: [0; Cells::BYTES] };
 }
 
 impl FlashController for Cells {

@@ -21,6 +21,23 @@ pub trait FlashController {
     fn erase(&mut self, address: usize) -> bool;
 }
 
+/// A controller that lies elsewhere, as in a `static`.
+impl<C: FlashController> FlashController for &mut C {
+    const PAGES: usize = C::PAGES;
+
+    fn read(&self, address: usize) -> u8 {
+        (**self).read(address)
+    }
+
+    fn program(&mut self, address: usize, bytes: [u8; SLOT_BYTES]) -> bool {
+        (**self).program(address, bytes)
+    }
+
+    fn erase(&mut self, address: usize) -> bool {
+        (**self).erase(address)
+    }
+}
+
 /// The keymap's pages.
 pub struct Flash<C> {
     controller: C,

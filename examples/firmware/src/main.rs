@@ -17,15 +17,33 @@ mod bare;
 #[cfg(not(target_os = "none"))]
 mod played;
 
-use chip::{Chip, Event};
-use flash::Flash;
-use wuzhikar::Work;
-use wuzhikar_device::{Device, Identity};
+use chip::{Cells, Chip, Event, IDENTITY};
+use flash::{Flash, FlashController};
+use wuzhikar::{PAGE_BYTES, UnstartedKeyboard, Work};
+use wuzhikar_device::Device;
+
+/// All that is large: the keyboard, and cells that stand for the chip's flash. It is zeros, so that a `static` of it takes
+/// no ROM, and nothing of it is ever moved.
+struct Board {
+    keyboard: UnstartedKeyboard,
+    cells: Cells,
+}
+
+impl Board {
+    const NEW: Board = Board { keyboard: UnstartedKeyboard::NEW, cells: Cells::ZEROS };
+
+    /// Erases the cells, as those of a chip are in the factory.
+    fn erase(&mut self) {
+        for page in 0..Cells::PAGES {
+            self.cells.erase(PAGE_BYTES * page);
+        }
+    }
+}
 
 /// The main loop, until the power goes: an event, or, where none waits, a step of the flash work. The calls take turns,
 /// so the interrupts only leave their events for this loop.
-fn run<C: Chip>(chip: &mut C, flash: Flash<C::Controller>, identity: &Identity) -> Flash<C::Controller> {
-    let mut device = Device::start(flash, identity);
+fn run<C: Chip>(chip: &mut C, board: &mut Board) {
+    let mut device = Device::start_in(&mut board.keyboard, Flash::new(&mut board.cells), &IDENTITY);
     loop {
         match chip.event() {
             Event::Millisecond(scan) => device.scan(scan),
@@ -52,7 +70,7 @@ fn run<C: Chip>(chip: &mut C, flash: Flash<C::Controller>, identity: &Identity) 
                 Work::Idle | Work::Working => {}
                 Work::Settled | Work::Failed => chip.arm(),
             },
-            Event::Cut => return device.into_flash(),
+            Event::Cut => return,
         }
     }
 }
@@ -60,9 +78,10 @@ fn run<C: Chip>(chip: &mut C, flash: Flash<C::Controller>, identity: &Identity) 
 #[cfg(not(target_os = "none"))]
 fn main() {
     let mut chip = played::Played::new();
-    let mut flash = Flash::new(chip.flash());
+    let mut board = Board::NEW;
+    board.erase();
     for _ in 0..2 {
-        flash = run(&mut chip, flash, &chip::IDENTITY);
+        run(&mut chip, &mut board);
         println!("the power was cut");
     }
 }

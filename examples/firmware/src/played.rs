@@ -1,7 +1,7 @@
 // SPDX-License-Identifier: MIT OR Apache-2.0
 //! A chip that is played: its events are a list, and what goes onto the bus is printed.
 
-use crate::chip::{Cells, Chip, Event};
+use crate::chip::{Chip, Event};
 use std::vec::IntoIter;
 use wuzhikar::{EpAnswer, KeyNo, Scan};
 use wuzhikar_device::{Change, PollAnswer};
@@ -114,12 +114,6 @@ impl Plays {
 }
 
 impl Chip for Played {
-    type Controller = Cells;
-
-    fn flash(&mut self) -> Cells {
-        Cells::BLANK
-    }
-
     fn event(&mut self) -> Event {
         loop {
             match self.plays.next() {

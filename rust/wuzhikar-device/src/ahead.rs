@@ -25,16 +25,17 @@ use crate::front::{Change, Endpoint1, PollAnswer};
 use crate::under_way::Reports;
 use arrayvec::ArrayVec;
 pub use controller::{Controller, Input, Output, Waiting};
+use core::borrow::BorrowMut;
 use wuzhikar::usb::ENDPOINT_0_PACKET;
-use wuzhikar::{EpAnswer, NorFlash, Scan, Work};
+use wuzhikar::{EpAnswer, Keyboard, NorFlash, Scan, Work};
 
 /// A device whose packets are handed to a controller beforehand.
 ///
 /// `serve` is called when an interrupt of the controller has come, behind each scan, and behind `work`; it may be called
 /// at any time. The calls take turns: an interrupt only sets what `Controller::waiting` gives.
 #[derive(Debug)]
-pub struct Ahead<'a, F> {
-    device: Device<'a, F>,
+pub struct Ahead<'a, F, K = Keyboard> {
+    device: Device<'a, F, K>,
     transfer: Transfer,
     /// What the controller answers on endpoint 0, as it was told, and where the host has not used it up.
     input: Told,
@@ -68,20 +69,20 @@ enum Told {
     Stall,
 }
 
-impl<'a, F: NorFlash> Ahead<'a, F> {
+impl<'a, F: NorFlash, K: BorrowMut<Keyboard>> Ahead<'a, F, K> {
     /// A device that has just started, behind a controller with empty buffers.
-    pub fn new(device: Device<'a, F>) -> Ahead<'a, F> {
+    pub fn new(device: Device<'a, F, K>) -> Ahead<'a, F, K> {
         let (input, output) = (Told::Nak, Told::Nak);
         Ahead { device, transfer: Transfer::Over, input, output, reports: Reports::default() }
     }
 
     /// The device, to be looked at.
-    pub fn device(&self) -> &Device<'a, F> {
+    pub fn device(&self) -> &Device<'a, F, K> {
         &self.device
     }
 
     /// The power goes: the device, of which the flash is left.
-    pub fn into_device(self) -> Device<'a, F> {
+    pub fn into_device(self) -> Device<'a, F, K> {
         self.device
     }
 

@@ -5,10 +5,11 @@
 
 use crate::device::Device;
 use crate::front::Change;
+use core::borrow::BorrowMut;
 use core::fmt;
 use core::ops::ControlFlow;
 use wuzhikar::usb::ENDPOINT_0_PACKET;
-use wuzhikar::{EpAnswer, NorFlash, Why, Work};
+use wuzhikar::{EpAnswer, Keyboard, NorFlash, Why, Work};
 
 /// What a transfer brought that was not stalled.
 #[derive(Clone, Copy, Debug, PartialEq, Eq)]
@@ -55,7 +56,7 @@ pub(crate) fn length(setup: [u8; 8]) -> usize {
     u16::from_le_bytes([setup[6], setup[7]]).into()
 }
 
-impl<'a, F: NorFlash> Device<'a, F> {
+impl<F: NorFlash, K: BorrowMut<Keyboard>> Device<'_, F, K> {
     /// A whole control transfer. A read puts what it reads into `data`, a write sends its first wLength bytes. Where a
     /// packet is told to wait, steps of the flash work are made until none is left.
     pub fn control(&mut self, setup: [u8; 8], data: &mut [u8]) -> Result<Done, NotDone> {
@@ -93,12 +94,17 @@ impl<'a, F: NorFlash> Device<'a, F> {
 }
 
 /// A device whose packets are offered again where they are told to wait.
-struct Bus<'b, 'a, F, N> {
-    device: &'b mut Device<'a, F>,
+struct Bus<'b, 'a, F, K, N> {
+    device: &'b mut Device<'a, F, K>,
     at_nak: N,
 }
 
-impl<'a, F: NorFlash, N: FnMut(&mut Device<'a, F>) -> ControlFlow<NotDone>> Bus<'_, 'a, F, N> {
+impl<'a, F, K, N> Bus<'_, 'a, F, K, N>
+where
+    F: NorFlash,
+    K: BorrowMut<Keyboard>,
+    N: FnMut(&mut Device<'a, F, K>) -> ControlFlow<NotDone>,
+{
     /// Packets until one is short of 8 bytes, or all is there.
     fn read(&mut self, asked: usize, data: &mut [u8]) -> Result<usize, NotDone> {
         let mut length = 0;

@@ -4,7 +4,7 @@
 
 use crate::{Change, Device, Done, Endpoint1, Identity, Interval, NotDone, PacketSize, Packets, PollAnswer, Power};
 use core::ops::ControlFlow;
-use wuzhikar::{EpAnswer, Report, Scan, SimFlash, Work};
+use wuzhikar::{EpAnswer, Report, Scan, SimFlash, UnstartedKeyboard, Work};
 
 const SET_CONFIGURATION: [u8; 8] = [0x00, 0x09, 1, 0, 0, 0, 0, 0];
 const SET_HALT: [u8; 8] = [0x02, 0x03, 0, 0, 0x81, 0, 0, 0];
@@ -56,6 +56,35 @@ fn packets(device: &mut Device<SimFlash>) -> Vec<Vec<u8>> {
 
 fn lengths(packets: &[Vec<u8>]) -> Vec<usize> {
     packets.iter().map(Vec::len).collect()
+}
+
+/// A device with its keyboard in lent memory, which after a cut is lent again, beside one that owns its keyboard.
+#[test]
+fn a_keyboard_in_lent_memory_is_the_same() {
+    let mut memory = UnstartedKeyboard::NEW;
+    let mut flashes = [SimFlash::blank(2).unwrap(), SimFlash::blank(2).unwrap()];
+    for code in [5, 6] {
+        let [one, other] = flashes;
+        let mut lent = Device::start_in(&mut memory, one, &IDENTITIES[0]);
+        let mut owned = Device::start(other, &IDENTITIES[0]);
+        for (setup, mut data) in
+            [(SET_CONFIGURATION, vec![]), (GET_FEATURE, vec![0; 6]), (SET_FEATURE, vec![3, 1, 0, 0, code, 0])]
+        {
+            let mut same = data.clone();
+            assert_eq!(lent.control(setup, &mut data), owned.control(setup, &mut same));
+            assert_eq!(data, same);
+        }
+        for row in [1, 0] {
+            (0..5).for_each(|_| lent.scan(Scan { rows: [row, 0, 0, 0, 0, 0] }));
+            press(&mut owned, row);
+            while let PollAnswer::Data(packet) = lent.poll() {
+                assert_eq!(owned.poll(), PollAnswer::Data(packet));
+            }
+            assert_eq!(owned.poll(), PollAnswer::Nak);
+        }
+        flashes = [lent.into_flash(), owned.into_flash()];
+        assert_eq!(flashes[0].image(), flashes[1].image());
+    }
 }
 
 #[test]

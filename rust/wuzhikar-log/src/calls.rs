@@ -33,6 +33,16 @@ impl LogCalls for Log {
     }
 }
 
+/// What lies in memory where a value is to be made later: zeros.
+pub trait Unstarted {
+    /// **Needs** that nothing reads it before it is overwritten.
+    const UNSTARTED: Self;
+}
+
+impl Unstarted for Log {
+    const UNSTARTED: Log = Log::UNSTARTED;
+}
+
 /// Calls of a flash in memory that take what stands for the source's allocator.
 #[cfg(feature = "sim")]
 pub trait SimCalls: Sized {

@@ -41,11 +41,13 @@ mod face;
 pub mod parts;
 #[doc(hidden)]
 pub mod rattle;
+mod unstarted;
 pub mod usb;
 
 pub use crate::face::FlashKeyboard;
 pub use crate::parts::keyboard::{EpAnswer, Keyboard, Protocol, Report, Scan, Why, Work};
 pub use crate::parts::layers::{Code, KeyNo, Keymap, KeymapError, LayerNo, Usages};
+pub use crate::unstarted::UnstartedKeyboard;
 pub use wuzhikar_log;
 #[cfg(feature = "sim")]
 pub use wuzhikar_log::{FlashError, Mask, SimFlash};

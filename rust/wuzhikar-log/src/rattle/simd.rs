@@ -1,5 +1,5 @@
 //! The vectors of `std::simd` that the source uses, by words of 32 bits, which a chip has: Rust's own are in no released
-//! version.
+//! version. Lanes are named one by one, since a loop over a few of them is left as a loop where a build is to be small.
 
 use core::ops::{BitAnd, BitAndAssign, BitXor};
 
@@ -7,22 +7,25 @@ pub mod prelude {
     pub use super::{SimdEq, u8x16, u8x64, u32x8, u32x16};
 }
 
-/// Lanes of a byte each, four to a word: the first in its low bits.
+/// 16 lanes of a byte each, four to a word: the first in its low bits.
+#[allow(non_camel_case_types)]
 #[derive(Clone, Copy, Debug, PartialEq, Eq)]
-pub struct Bytes<const WORDS: usize>([u32; WORDS]);
+pub struct u8x16([u32; 4]);
 
-/// Lanes of a word each.
+/// 64 lanes of a byte each.
+#[allow(non_camel_case_types)]
 #[derive(Clone, Copy, Debug, PartialEq, Eq)]
-pub struct Words<const N: usize>([u32; N]);
+pub struct u8x64([u8x16; 4]);
 
+/// 8 lanes of a word each.
 #[allow(non_camel_case_types)]
-pub type u8x16 = Bytes<4>;
+#[derive(Clone, Copy, Debug, PartialEq, Eq)]
+pub struct u32x8([u32; 8]);
+
+/// 16 lanes of a word each, by their bytes.
 #[allow(non_camel_case_types)]
-pub type u8x64 = Bytes<16>;
-#[allow(non_camel_case_types)]
-pub type u32x8 = Words<8>;
-#[allow(non_camel_case_types)]
-pub type u32x16 = Words<16>;
+#[derive(Clone, Copy, Debug, PartialEq, Eq)]
+pub struct u32x16(u8x64);
 
 /// Which lanes are equal: bit `i` is that of lane `i`.
 #[derive(Clone, Copy, Debug, PartialEq, Eq)]
@@ -43,23 +46,20 @@ pub trait SimdEq {
 impl SimdEq for u32x8 {
     #[inline(always)]
     fn simd_eq(self, other: Self) -> Equal {
-        let mut bits = 0u32;
-        for i in 0..8 {
-            bits |= u32::from(self.0[i] == other.0[i]) << i;
-        }
-        Equal(u64::from(bits))
+        let bit = |i: usize| u32::from(self.0[i] == other.0[i]) << i;
+        Equal(u64::from(bit(0) | bit(1) | bit(2) | bit(3) | bit(4) | bit(5) | bit(6) | bit(7)))
     }
 }
 
 impl SimdEq for u8x16 {
     #[inline(always)]
     fn simd_eq(self, other: Self) -> Equal {
-        let differ = self ^ other;
-        if differ.0.iter().all(|&word| word == 0) {
+        let [a, b, c, d] = (self ^ other).0;
+        if a | b | c | d == 0 {
             return Equal(0xffff);
         }
         let mut bits = 0u32;
-        for (place, word) in differ.0.into_iter().enumerate() {
+        for (place, word) in [a, b, c, d].into_iter().enumerate() {
             for (i, byte) in word.to_le_bytes().into_iter().enumerate() {
                 bits |= u32::from(byte == 0) << (4 * place + i);
             }
@@ -68,50 +68,58 @@ impl SimdEq for u8x16 {
     }
 }
 
-impl<const WORDS: usize> Bytes<WORDS> {
+/// The word in four bytes of a slice from a place on, the low byte first.
+#[inline(always)]
+fn word(bytes: &[u8], at: usize) -> u32 {
+    u32::from_le_bytes([bytes[at], bytes[at + 1], bytes[at + 2], bytes[at + 3]])
+}
+
+impl u8x16 {
     /// The same number in each lane.
     #[inline(always)]
-    pub fn splat(value: u8) -> Self {
-        Bytes([u32::from_le_bytes([value; 4]); WORDS])
+    pub fn splat(value: u8) -> u8x16 {
+        u8x16([u32::from_le_bytes([value; 4]); 4])
     }
 
-    /// The first lanes of a slice. Panics where it is too short.
+    /// The lanes in the bytes of a slice from a place on.
     #[inline(always)]
-    pub fn from_slice(slice: &[u8]) -> Self {
-        let mut words = [0; WORDS];
-        for (word, bytes) in words.iter_mut().zip(slice[..4 * WORDS].chunks_exact(4)) {
-            *word = u32::from_le_bytes([bytes[0], bytes[1], bytes[2], bytes[3]]);
-        }
-        Bytes(words)
+    fn at(bytes: &[u8], at: usize) -> u8x16 {
+        u8x16([word(bytes, at), word(bytes, at + 4), word(bytes, at + 8), word(bytes, at + 12)])
     }
 }
 
 impl u8x64 {
+    /// The same number in each lane.
     #[inline(always)]
-    pub fn from_array(lanes: [u8; 64]) -> Self {
-        Bytes::from_slice(&lanes)
+    pub fn splat(value: u8) -> u8x64 {
+        u8x64([u8x16::splat(value); 4])
     }
 
-    /// The 16 lanes from `START` on, which is a multiple of four.
+    /// The first lanes of a slice. Panics where it is too short.
+    #[inline(always)]
+    pub fn from_slice(slice: &[u8]) -> u8x64 {
+        let bytes = &slice[..64];
+        u8x64([u8x16::at(bytes, 0), u8x16::at(bytes, 16), u8x16::at(bytes, 32), u8x16::at(bytes, 48)])
+    }
+
+    #[inline(always)]
+    pub fn from_array(lanes: [u8; 64]) -> u8x64 {
+        u8x64::from_slice(&lanes)
+    }
+
+    /// The 16 lanes from `START` on, a multiple of 16.
     #[inline(always)]
     pub fn extract<const START: usize, const LEN: usize>(self) -> u8x16 {
-        const { assert!(LEN == 16 && START % 4 == 0) };
-        let first = START / 4;
-        Bytes([self.0[first], self.0[first + 1], self.0[first + 2], self.0[first + 3]])
+        const { assert!(LEN == 16 && START % 16 == 0) };
+        self.0[START / 16]
     }
 }
 
-impl<const N: usize> Words<N> {
+impl u32x8 {
     /// The same number in each lane.
     #[inline(always)]
-    pub fn splat(value: u32) -> Self {
-        Words([value; N])
-    }
-
-    /// The lanes with these numbers.
-    #[inline(always)]
-    pub fn swizzle<const LEN: usize>(self, lanes: [usize; LEN]) -> Words<LEN> {
-        Words(lanes.map(|i| self.0[i]))
+    pub fn splat(value: u32) -> u32x8 {
+        u32x8([value; 8])
     }
 }
 
@@ -119,48 +127,50 @@ impl u32x16 {
     /// The numbers of four bytes each, the low byte first.
     #[inline(always)]
     pub fn from_le_bytes(bytes: u8x64) -> u32x16 {
-        Words(bytes.0)
+        u32x16(bytes)
+    }
+
+    /// The lanes with these numbers.
+    #[inline(always)]
+    pub fn swizzle(self, lanes: [usize; 8]) -> u32x8 {
+        let lane = |i: usize| self.0.0[lanes[i] / 4].0[lanes[i] % 4];
+        u32x8([lane(0), lane(1), lane(2), lane(3), lane(4), lane(5), lane(6), lane(7)])
     }
 }
 
-/// The operators, word by word.
+/// The operators, lane by lane.
 macro_rules! operators {
-    ($lanes:ident) => {
-        impl<const N: usize> BitAndAssign for $lanes<N> {
+    ($lanes:ident: $($i:literal)*) => {
+        impl BitAnd for $lanes {
+            type Output = $lanes;
+
             #[inline(always)]
-            fn bitand_assign(&mut self, other: Self) {
-                for (word, with) in self.0.iter_mut().zip(other.0) {
-                    *word &= with;
-                }
+            fn bitand(self, other: $lanes) -> $lanes {
+                $lanes([$(self.0[$i] & other.0[$i]),*])
             }
         }
 
-        impl<const N: usize> BitAnd for $lanes<N> {
-            type Output = Self;
+        impl BitXor for $lanes {
+            type Output = $lanes;
 
             #[inline(always)]
-            fn bitand(mut self, other: Self) -> Self {
-                self &= other;
-                self
-            }
-        }
-
-        impl<const N: usize> BitXor for $lanes<N> {
-            type Output = Self;
-
-            #[inline(always)]
-            fn bitxor(mut self, other: Self) -> Self {
-                for (word, with) in self.0.iter_mut().zip(other.0) {
-                    *word ^= with;
-                }
-                self
+            fn bitxor(self, other: $lanes) -> $lanes {
+                $lanes([$(self.0[$i] ^ other.0[$i]),*])
             }
         }
     };
 }
 
-operators!(Bytes);
-operators!(Words);
+operators!(u8x16: 0 1 2 3);
+operators!(u8x64: 0 1 2 3);
+operators!(u32x8: 0 1 2 3 4 5 6 7);
+
+impl BitAndAssign for u8x64 {
+    #[inline(always)]
+    fn bitand_assign(&mut self, other: u8x64) {
+        *self = *self & other;
+    }
+}
 
 #[cfg(test)]
 mod tests {
@@ -187,7 +197,7 @@ mod tests {
         let all = u8x64::from_slice(&bytes(3));
         let parts = [all.extract::<0, 16>(), all.extract::<16, 16>(), all.extract::<32, 16>(), all.extract::<48, 16>()];
         for (part, chunk) in parts.into_iter().zip(bytes(3).chunks_exact(16)) {
-            assert_eq!(part, u8x16::from_slice(chunk));
+            assert_eq!(part, u8x16::at(chunk, 0));
         }
     }
 
@@ -211,8 +221,11 @@ mod tests {
         let (x, y) = (u8x64::from_array(a), u8x64::from_array(b));
         assert_eq!(x & y, u8x64::from_array(core::array::from_fn(|i| a[i] & b[i])));
         assert_eq!(x ^ y, u8x64::from_array(core::array::from_fn(|i| a[i] ^ b[i])));
-        let (v, w) = (u32x16::from_le_bytes(x), u32x16::from_le_bytes(y));
-        assert_eq!(v & w, u32x16::from_le_bytes(x & y));
-        assert_eq!(v ^ w, u32x16::from_le_bytes(x ^ y));
+        let (part, other) = (x.extract::<16, 16>(), y.extract::<16, 16>());
+        assert_eq!((part & other, part ^ other), ((x & y).extract::<16, 16>(), (x ^ y).extract::<16, 16>()));
+        for lanes in [[0, 2, 4, 6, 8, 10, 12, 14], [1, 3, 5, 7, 9, 11, 13, 15]] {
+            let words = |bytes: u8x64| u32x16::from_le_bytes(bytes).swizzle(lanes);
+            assert_eq!((words(x) & words(y), words(x) ^ words(y)), (words(x & y), words(x ^ y)));
+        }
     }
 }

@@ -22,6 +22,11 @@ pub struct Scan {
 }
 
 impl Scan {
+    /// Zeros, where memory waits for a keyboard to start there.
+    pub(crate) const UNSTARTED: Self = Scan { rows: [0; 6] };
+}
+
+impl Scan {
     /// A scan with no key pressed.
     pub const NONE: Scan = Scan { rows: [0; 6] };
 

@@ -29,6 +29,11 @@ pub enum Protocol {
     Report,
 }
 
+impl Protocol {
+    /// Zeros, where memory waits for a keyboard to start there.
+    pub(crate) const UNSTARTED: Self = Protocol::Boot;
+}
+
 /// The reports that an idle request names by its Report ID (HID 1.11 sections 7.2.3 and 7.2.4).
 #[derive(Clone, Copy, Debug, PartialEq, Eq)]
 pub enum IdleId {
@@ -49,4 +54,9 @@ pub enum Input {
     One,
     /// The consumer usages, 9 bytes with Report ID 2, in report protocol.
     Two,
+}
+
+impl Input {
+    /// Zeros, where memory waits for a keyboard to start there.
+    pub(crate) const UNSTARTED: Self = Input::Boot;
 }

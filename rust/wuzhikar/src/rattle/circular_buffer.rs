@@ -17,10 +17,13 @@ pub struct HeapCircularBuffer<T> {
 }
 
 impl<T> HeapCircularBuffer<T> {
+    /// No value: zeros.
+    pub(crate) const UNSTARTED: Self = HeapCircularBuffer { slots: [const { None }; ROOM], front: 0, len: 0 };
+
     /// No value. Panics for any other room than eight.
     pub fn with_capacity(_alloc: Global, capacity: usize) -> Result<HeapCircularBuffer<T>, AllocError> {
         assert!(capacity == ROOM);
-        Ok(HeapCircularBuffer { slots: [const { None }; ROOM], front: 0, len: 0 })
+        Ok(HeapCircularBuffer::UNSTARTED)
     }
 
     /// Appends a value, in place of the oldest one where all slots are taken.

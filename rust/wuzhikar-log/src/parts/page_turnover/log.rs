@@ -54,6 +54,11 @@ pub enum Task {
     Seal(Target),
 }
 
+impl Task {
+    /// Zeros, where memory waits for a keyboard to start there.
+    pub(crate) const UNSTARTED: Self = Task::Copy(Target::Unread, 0);
+}
+
 /// A log of words over the pages of a flash.
 ///
 /// A word is appended by `begin_append` and a `step`, where there is `room`. Where there is none, a
@@ -70,6 +75,11 @@ pub struct Log {
     active: Option<ActivePage>,
     unsound: Option<usize>,
     task: Task,
+}
+
+impl Log {
+    /// Zeros, where memory waits for a keyboard to start there.
+    pub(crate) const UNSTARTED: Self = Log { active: None, unsound: None, task: Task::UNSTARTED };
 }
 
 impl Log {

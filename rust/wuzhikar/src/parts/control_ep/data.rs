@@ -9,16 +9,26 @@ const COPIED: usize = 23;
 /// Where the bytes are.
 #[derive(Debug)]
 pub(crate) enum Source {
-    /// A descriptor, which is a constant.
-    Lent(&'static [u8]),
     /// A report, as it was at its SETUP packet.
     Copied(ArrayVec<u8, COPIED>),
+    /// A descriptor, which is a constant.
+    Lent(&'static [u8]),
+}
+
+impl Source {
+    /// Zeros, where memory waits for a keyboard to start there.
+    pub(crate) const UNSTARTED: Self = Source::Copied(ArrayVec::new_const());
 }
 
 /// The bytes that a read sends.
 #[derive(Debug)]
 pub(crate) struct ReadData {
     source: Source,
+}
+
+impl ReadData {
+    /// Zeros, where memory waits for a keyboard to start there.
+    pub(crate) const UNSTARTED: Self = ReadData { source: Source::UNSTARTED };
 }
 
 impl ReadData {

@@ -17,6 +17,11 @@ pub(crate) struct Sending {
 }
 
 impl Sending {
+    /// Zeros, where memory waits for a keyboard to start there.
+    pub(crate) const UNSTARTED: Self = Sending { bytes: ReadData::UNSTARTED, asked: 0, sent: 0 };
+}
+
+impl Sending {
     /// The next packet, and none where all were sent.
     fn next_packet(&mut self) -> Option<ArrayVec<u8, 8>> {
         let packet = packet_at(self.bytes.as_slice(), self.asked, self.sent);
@@ -44,10 +49,20 @@ pub(crate) enum Stage {
     Stalled(Why),
 }
 
+impl Stage {
+    /// Zeros, where memory waits for a keyboard to start there.
+    pub(crate) const UNSTARTED: Self = Stage::Sending(Sending::UNSTARTED);
+}
+
 /// The control endpoint: the stage of the transfer on endpoint 0.
 #[derive(Debug)]
 pub struct ControlEp {
     stage: Stage,
+}
+
+impl ControlEp {
+    /// Zeros, where memory waits for a keyboard to start there.
+    pub(crate) const UNSTARTED: Self = ControlEp { stage: Stage::UNSTARTED };
 }
 
 /// The stage that a transfer begins in.

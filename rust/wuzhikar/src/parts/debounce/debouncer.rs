@@ -39,6 +39,11 @@ pub struct Debouncer {
 }
 
 impl Debouncer {
+    /// Zeros, where memory waits for a keyboard to start there.
+    pub(crate) const UNSTARTED: Self = Debouncer { planes: [[0; 6]; 3], last: Scan::UNSTARTED, down: Scan::UNSTARTED };
+}
+
+impl Debouncer {
     /// Every key up, before the first scan.
     pub fn new() -> Debouncer {
         Debouncer {

@@ -16,6 +16,11 @@ pub struct KeyReports {
 }
 
 impl KeyReports {
+    /// Zeros, where memory waits for a keyboard to start there.
+    pub(crate) const UNSTARTED: Self = KeyReports { debouncer: Debouncer::UNSTARTED, held: Held::UNSTARTED, poller: Poller::UNSTARTED };
+}
+
+impl KeyReports {
     /// Every key up, and nothing sent. Takes the memory of the reports that wait, and is refused where
     /// there is none; no other call takes memory.
     pub fn new(alloc: Global) -> Result<KeyReports, AllocError> {

@@ -25,6 +25,11 @@ pub struct Keyboard {
 }
 
 impl Keyboard {
+    /// Zeros, where memory waits for a keyboard to start there.
+    pub(crate) const UNSTARTED: Self = Keyboard { ep: ControlEp::UNSTARTED, keys: KeyReports::UNSTARTED, store: Store::UNSTARTED, protocol: Protocol::UNSTARTED, leds: 0, layer: LayerNo::UNSTARTED, key: KeyNo::UNSTARTED };
+}
+
+impl Keyboard {
     /// A keyboard as it starts on a flash, whose keymap it reads: report protocol, no LED on, every key
     /// up, nothing sent, entry (0, 0) selected, and no transfer. `AllocError` where there was no room for
     /// the reports that wait (`Room::take`); no other call takes memory.
@@ -51,7 +56,7 @@ impl Keyboard {
     pub fn restart<F: NorFlash>(&mut self, flash: &F) {
         self.ep = ControlEp::new();
         self.keys.restart();
-        self.store = Store::mount(flash);
+        self.store.remount(flash);
         self.protocol = Protocol::Report;
         self.leds = 0;
         self.layer = LayerNo::known(0);

@@ -53,6 +53,11 @@ pub enum Job {
     Turning { command: Command, from: u16 },
 }
 
+impl Job {
+    /// Zeros, where memory waits for a keyboard to start there.
+    pub(crate) const UNSTARTED: Self = Job::Turning { command: Command::UNSTARTED, from: 0 };
+}
+
 /// A keymap in RAM, kept equal to that of a flash's image.
 #[derive(Debug)]
 pub struct Store {
@@ -62,15 +67,29 @@ pub struct Store {
 }
 
 impl Store {
+    /// Zeros, where memory waits for a keyboard to start there.
+    pub(crate) const UNSTARTED: Self = Store { log: <Log as wuzhikar_log::calls::Unstarted>::UNSTARTED, keymap: Keymap::UNSTARTED, job: Job::UNSTARTED };
+}
+
+impl Store {
     /// Reads log and keymap of a flash, and changes nothing.
     pub fn mount<F: NorFlash>(flash: &F) -> Store {
         let log = Log::mount(flash);
-        let keymap = read_keymap(&log, flash);
+        let mut keymap = Keymap::standard();
+        take_words(&mut keymap, &log, flash);
         Store {
             log,
             keymap,
             job: Job::Resting,
         }
+    }
+
+    /// Leaves what `mount` gives on this flash, where the store lies: nothing of it is moved.
+    pub fn remount<F: NorFlash>(&mut self, flash: &F) {
+        self.log = Log::mount(flash);
+        self.job = Job::Resting;
+        self.keymap.set_standard();
+        take_words(&mut self.keymap, &self.log, flash);
     }
 
     /// The keymap: that of the flash's image.
@@ -198,16 +217,14 @@ fn offer_next(log: &mut Log, keymap: &Keymap, from: u16) -> u16 {
     }
 }
 
-/// The keymap of the words of a log.
-fn read_keymap<F: NorFlash>(log: &Log, flash: &F) -> Keymap {
-    let mut keymap = Keymap::standard();
+/// Takes the words of a log into the default keymap: it is then that of the flash's image.
+fn take_words<F: NorFlash>(keymap: &mut Keymap, log: &Log, flash: &F) {
     let format = log.format();
     for word in log.words(flash) {
         if let Some(command) = command_in(format, word) {
             keymap.apply(command);
         }
     }
-    keymap
 }
 
 /// The command that a word stands for on a page of this format.

@@ -50,16 +50,31 @@ pub struct Code {
     bits: u16,
 }
 
+impl Code {
+    /// Zeros, where memory waits for a keyboard to start there.
+    pub(crate) const UNSTARTED: Self = Code { bits: 0 };
+}
+
 /// A layer, 0 to 3.
 #[derive(Clone, Copy, Debug, PartialEq, Eq)]
 pub struct LayerNo {
     layer: u8,
 }
 
+impl LayerNo {
+    /// Zeros, where memory waits for a keyboard to start there.
+    pub(crate) const UNSTARTED: Self = LayerNo { layer: 0 };
+}
+
 /// A key, 0 to 95.
 #[derive(Clone, Copy, Debug, PartialEq, Eq)]
 pub struct KeyNo {
     key: u8,
+}
+
+impl KeyNo {
+    /// Zeros, where memory waits for a keyboard to start there.
+    pub(crate) const UNSTARTED: Self = KeyNo { key: 0 };
 }
 
 impl Code {

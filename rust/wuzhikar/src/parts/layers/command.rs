@@ -18,6 +18,11 @@ pub enum Command {
     ResetAll,
 }
 
+impl Command {
+    /// Zeros, where memory waits for a keyboard to start there.
+    pub(crate) const UNSTARTED: Self = Command::SetKey { layer: LayerNo::UNSTARTED, key: KeyNo::UNSTARTED, code: Code::UNSTARTED };
+}
+
 /// The usages of the consumer page that format 1 has codes for, in the order of their codes.
 const CONSUMER_LIST: [u16; 16] = [
     0xB0, 0xB1, 0xB2, 0xB3, 0xB4, 0xB5, 0xB6, 0xB7, 0xB8, 0xCD, 0xE2, 0xE9, 0xEA, 0x192, 0x223,

@@ -15,6 +15,11 @@ pub struct Held {
 }
 
 impl Held {
+    /// Zeros, where memory waits for a keyboard to start there.
+    pub(crate) const UNSTARTED: Self = Held { codes: [const { None }; KEYS], usages: Usages::UNSTARTED, named: false };
+}
+
+impl Held {
     /// No key is held.
     pub fn new() -> Held {
         Held {

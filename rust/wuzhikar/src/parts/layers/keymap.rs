@@ -14,11 +14,23 @@ pub struct Keymap {
 }
 
 impl Keymap {
+    /// Zeros, where memory waits for a keyboard to start there.
+    pub(crate) const UNSTARTED: Self = Keymap { codes: [Code::UNSTARTED; ENTRIES] };
+}
+
+impl Keymap {
     /// The default keymap.
     pub fn standard() -> Keymap {
-        let mut codes = [Code::TRANSPARENT; ENTRIES];
-        reset(&mut codes, 0, ENTRIES);
-        Keymap { codes }
+        let mut keymap = Keymap {
+            codes: [Code::TRANSPARENT; ENTRIES],
+        };
+        keymap.set_standard();
+        keymap
+    }
+
+    /// Makes it the default keymap, where it lies.
+    pub fn set_standard(&mut self) {
+        reset(&mut self.codes, 0, ENTRIES);
     }
 
     /// The code of a key on a layer.
@@ -88,8 +100,34 @@ fn place(layer: LayerNo, key: KeyNo) -> usize {
 
 /// Gives the entries from `start` up to `end` their default codes.
 fn reset(codes: &mut [Code], start: usize, end: usize) {
+    let middle = end_of_layer_0(start, end);
+    reset_layer_0(codes, start, middle);
+    make_transparent(codes, middle, end);
+}
+
+/// Where the entries of layer 0, the only ones that are not transparent by default, end between two
+/// places.
+fn end_of_layer_0(start: usize, end: usize) -> usize {
+    if end <= KEYS {
+        end
+    } else if start <= KEYS {
+        KEYS
+    } else {
+        start
+    }
+}
+
+/// `reset` for entries of layer 0.
+fn reset_layer_0(codes: &mut [Code], start: usize, end: usize) {
     for place in start..end {
         codes[place] = Code::default_at(place);
+    }
+}
+
+/// Makes the entries from `start` up to `end` transparent.
+fn make_transparent(codes: &mut [Code], start: usize, end: usize) {
+    for place in start..end {
+        codes[place] = Code::TRANSPARENT;
     }
 }
 

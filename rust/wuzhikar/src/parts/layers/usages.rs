@@ -15,6 +15,11 @@ pub struct Usages {
 }
 
 impl Usages {
+    /// Zeros, where memory waits for a keyboard to start there.
+    pub(crate) const UNSTARTED: Self = Usages { keys: [0; 32], consumer: [0; CONSUMER_WORDS] };
+}
+
+impl Usages {
     /// No usage.
     pub fn none() -> Usages {
         Usages {

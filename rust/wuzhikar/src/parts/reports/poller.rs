@@ -38,6 +38,11 @@ pub struct Poller {
 }
 
 impl Poller {
+    /// Zeros, where memory waits for a keyboard to start there.
+    pub(crate) const UNSTARTED: Self = Poller { boot: Sent::UNSTARTED, one: Sent::UNSTARTED, two: Sent::UNSTARTED, sent_last: Some(Input::UNSTARTED), queue: Queue::UNSTARTED, idle_one: 0, idle_two: 0, made_for: Protocol::UNSTARTED };
+}
+
+impl Poller {
     /// Nothing sent and nothing waiting, and the idle values 125 (500 ms) for ID 1 and 0 (no repeats)
     /// for ID 2. Takes the memory of the queue, and is refused where there is none.
     pub fn new(alloc: Global) -> Result<Poller, AllocError> {

@@ -16,6 +16,11 @@ pub(crate) struct Queue {
 }
 
 impl Queue {
+    /// Zeros, where memory waits for a keyboard to start there.
+    pub(crate) const UNSTARTED: Self = Queue { ring: HeapCircularBuffer::UNSTARTED };
+}
+
+impl Queue {
     /// No report, and room for eight.
     pub(crate) fn new(alloc: Global) -> Result<Queue, AllocError> {
         let ring = HeapCircularBuffer::with_capacity(alloc, ROOM)?;

@@ -14,6 +14,11 @@ pub(crate) struct Sent<const N: usize> {
 }
 
 impl<const N: usize> Sent<N> {
+    /// Zeros, where memory waits for a keyboard to start there.
+    pub(crate) const UNSTARTED: Self = Sent { bytes: [0; N], made: [0; N], changed: false, age: 0 };
+}
+
+impl<const N: usize> Sent<N> {
     /// These bytes, made and sent now.
     pub(crate) fn now(bytes: [u8; N]) -> Sent<N> {
         Sent {

@@ -1,7 +1,7 @@
 use Rattle.std.proofs.Common.{◌≡◌, ◌++◌, List, ℕ, unwrap_or}
 use Rattle.layers.specs.Keymaps.{StandsFor}
 use Rattle.page_turnover.specs.Words.{words}
-use Rattle.keymap_store.proofs.store.read_keymap.Given as goal
+use Rattle.keymap_store.proofs.store.take_words.Given as goal
 
 -- the keymap is that of the words so far
 pub record SoFar (number : ℕ) (keymap yielded left all : List ℕ) : Type 0 where

@@ -3,7 +3,7 @@ use Rattle.std.proofs.lemmas.List.{append-nil}
 use Rattle.layers.specs.Keymaps.{StandsFor}
 use Rattle.page_turnover.specs.Words.{words}
 use Rattle.keymap_store.proofs.Keymaps.{together_more, stands_other, entries_of-is}
-use Rattle.keymap_store.proofs.store.read_keymap.Goals as goal
+use Rattle.keymap_store.proofs.store.take_words.Goals as goal
 
 pub loop-word-preserved-in-Some-command_in : goal.loop-word-preserved-in-Some-command_in
 loop-word-preserved-in-Some-command_in g c = record {
@@ -18,12 +18,12 @@ loop-word-preserved g c = record {
 }
 
 pub loop-word-init : goal.loop-word-init
-loop-word-init g c = record { stands = c.standard-keymap.ensures.stands _; together = search rules }
+loop-word-init g c = record { stands = c.requires.standard _; together = search rules }
 
 pub returns : goal.returns
 returns g c =
     let image = g.F.NorFlash.image c.args.flash.now in
-    let f = c.format-format.ensures image c.requires in
+    let f = c.format-format.ensures image c.requires.describes in
     let none : c.loop-word.word-iterator ≡ [] = search rules in
     let all : c.loop-word.yielded ≡ words image = sym (append-nil c.loop-word.yielded) ∙ rw none at c.loop-word.invariant.together in
     let P : List ℕ → Type 0 = λ ws. StandsFor (unwrap_or c.format-format.result 2) ws c.loop-word.keymap in

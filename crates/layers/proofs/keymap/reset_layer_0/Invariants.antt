@@ -1,6 +1,6 @@
 use Rattle.std.proofs.Common.{◌≡◌, ◌<◌, ◌≤◌, ℕ, length, slice_index}
 use Rattle.layers.specs.Codes.{default_at}
-use Rattle.layers.proofs.keymap.reset.Given as goal
+use Rattle.layers.proofs.keymap.reset_layer_0.Given as goal
 
 abbrev pub invariant-loop-place : goal.invariant-loop-place
 invariant-loop-place l = record {

@@ -1,0 +1,56 @@
+//! Memory in which a keyboard starts. Written by hand: tested, not proved.
+
+use crate::parts::keyboard::Keyboard;
+use core::fmt;
+use wuzhikar_log::NorFlash;
+
+/// Memory for a keyboard that has not started. Its only call starts one there, so no call reaches a keyboard that was not
+/// started.
+///
+/// A `static` of it takes RAM alone: it is zeros. [`Keyboard::on`] gives the keyboard by value, which costs a stack of twice
+/// its size; here nothing large is moved.
+///
+/// ```
+/// # use wuzhikar::{FlashFault, NorFlash};
+/// use wuzhikar::{Scan, UnstartedKeyboard};
+/// # struct Blank;
+/// # impl NorFlash for Blank {
+/// #     fn pages(&self) -> usize { 2 }
+/// #     fn read_slot(&self, _page: usize, _slot: usize) -> [u8; 8] { [0xff; 8] }
+/// #     fn program_slot(&mut self, _page: usize, _slot: usize, _bytes: [u8; 8]) -> Result<(), FlashFault> { Err(FlashFault) }
+/// #     fn erase_page(&mut self, _page: usize) -> Result<(), FlashFault> { Err(FlashFault) }
+/// # }
+/// use std::sync::Mutex;
+///
+/// static MEMORY: Mutex<UnstartedKeyboard> = Mutex::new(UnstartedKeyboard::NEW);
+///
+/// # let flash = Blank;
+/// let mut memory = MEMORY.lock().unwrap();
+/// let keyboard = memory.start(&flash);
+/// keyboard.scan(Scan::NONE);
+/// ```
+#[repr(transparent)]
+pub struct UnstartedKeyboard {
+    keyboard: Keyboard,
+}
+
+impl UnstartedKeyboard {
+    /// Memory without a keyboard.
+    pub const NEW: UnstartedKeyboard = UnstartedKeyboard { keyboard: Keyboard::UNSTARTED };
+
+    /// A keyboard as it starts on a flash, in this memory: what [`Keyboard::on`] gives. The flash is read and not written.
+    /// A keyboard that was started here before is gone.
+    pub fn start<F: NorFlash>(&mut self, flash: &F) -> &mut Keyboard {
+        self.keyboard.restart(flash);
+        &mut self.keyboard
+    }
+}
+
+impl fmt::Debug for UnstartedKeyboard {
+    fn fmt(&self, f: &mut fmt::Formatter<'_>) -> fmt::Result {
+        f.debug_struct("UnstartedKeyboard").finish_non_exhaustive()
+    }
+}
+
+#[cfg(test)]
+mod tests;
