@@ -118,9 +118,9 @@ class Builds:
         return int(self.room.run([f"{self.target.prefix}size", program]).decode().split("\n")[1].split()[0])
 
     def size_of(self, program, symbol):
-        """Bytes of a variable."""
+        """Bytes of a variable that begins as zeros, and so takes no ROM."""
         told = self.room.run([f"{self.target.prefix}nm", "-S", program]).decode()
-        return int(re.search(rf"^\S+ (\S+) [bBdD] {symbol}$", told, re.M)[1], 16)
+        return int(re.search(rf"^\S+ (\S+) [bB] {symbol}$", told, re.M)[1], 16)
 
 
 def sysroot(room, triple):

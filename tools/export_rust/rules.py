@@ -155,6 +155,9 @@ DERIVING_LIBRARIES = {"thiserror"}
 # Crates that a module of `rattle` stands for.
 STAND_INS = {"circular_buffer", "hex", "strsim"}
 
+# Their types that have the constant of `unstarted`, written by hand.
+STAND_INS_UNSTARTED = {"HeapCircularBuffer"}
+
 # Modules of Rattle's std that a module of `rattle` stands for; the first two are for tests alone.
 STD_TESTS = {"process", "test"}
 STD_STAND_INS = {"alloc", "simd"} | STD_TESTS

@@ -40,15 +40,18 @@ def variables(room, target):
 
 
 def build_bare(room, name, target, more):
-    """Builds a program for a chip, which is not to be empty."""
+    """Builds a program for a chip, which is not to be empty, and takes no ROM for what is in RAM."""
     folder, _, least = PROGRAMS[name]
     copy = crate_steps.example(room, folder)
     inner = "" if name == folder else f"/{name.removeprefix(folder + '_')}"
     room.cargo("build", "--release", "--target", target, cwd=copy + inner, **more)
     told = room.run(["size", room.program(name, target)]).decode().split("\n")[1]
-    text = int(told.split()[0])
+    text, initialized = map(int, told.split()[:2])
     if text < least:
         raise Failed(f"{name} for {target} has {text} bytes of text, which is no firmware")
+    if initialized:
+        raise Failed(f"{name} for {target} has {initialized} bytes of initialized data: what it keeps in RAM is to begin as zeros, "
+                     "by `unstarted` in tools/export_rust/rules.py")
     say(f"examples/{folder}{inner} builds for {target}, {text} bytes of text")
 
 

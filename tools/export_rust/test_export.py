@@ -173,7 +173,7 @@ class Forms(unittest.TestCase):
             rust("impl Item { #[inline(never)] fn tag() -> u8 { 1 } }\n", crate="descriptor_parse", of=rules.READER)
 
     def test_memory_that_waits_for_a_keyboard_is_zeros(self):
-        of = dataclasses.replace(rules.KEYBOARD, unstarted={("keymap_store", name): None for name in "SR"} | {("keymap_store", "E"): "E::A(0)"})
+        of = dataclasses.replace(rules.KEYBOARD, unstarted={("keymap_store", name): None for name in "SRT"} | {("keymap_store", "E"): "E::A(0)"})
         for source, zeros in [
                 ("pub struct S {\n    pub a: u8,\n    b: [[bool; 2]; N],\n    ghost g: { a },\n}\n", "impl S { S { a: 0, b: [[false; 2]; N] } }"),
                 ("struct S { c: [Option<T>; 3], d: Option<E>, e: T<8> }\n",
@@ -181,10 +181,12 @@ class Forms(unittest.TestCase):
                 ("struct R<const N: usize> { a: [u16; N], }\n", "impl<const N: usize> R<N> { R { a: [0; N] } }"),
                 ("struct S { log: Log }\n", "impl S { S { log: <Log as wuzhikar_log::calls::Unstarted>::UNSTARTED } }"),
                 ("pub enum E { A(u8), B }\n", "impl E { E::A(0) }"),
-                ("struct T { a: u8 }\n", "")]:
+                ("struct U { a: u8 }\n", "")]:
             made = Translator("keymap_store", "", "f.rt", {"page_turnover"}, of).translate(source)
             found = re.search(r"(impl.*) \{\n.*\n    pub\(crate\) const UNSTARTED: Self = (.*);\n\}", made)
             self.assertEqual(f"{found[1]} {{ {found[2]} }}" if found else "", zeros)
+        with self.assertRaises(Refused):
+            Translator("keymap_store", "", "f.rt", {"page_turnover"}, of).translate("struct S { a: U }\n")
 
     def test_an_error_gets_its_text(self):
         source = "use thiserror::Error;\n#[derive(Error)]\npub enum E {\n    #[error(\"at {0}\")]\n    A(u8),\n}\n"

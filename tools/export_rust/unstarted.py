@@ -1,5 +1,6 @@
 """What lies in memory before a keyboard starts there: a constant of each type that a keyboard is made of."""
 
+import rules
 from deriving import members
 from lexing import after, find, group_end, text_at, trimmed
 
@@ -43,7 +44,7 @@ def zeros(translator, words):
         return f"Some({words[2].text}::{CONSTANT})"
     if first in ZEROS:
         return ZEROS[first]
-    return f"{subject(translator, first)}::{CONSTANT}"
+    return f"{subject(translator, words[0])}::{CONSTANT}"
 
 
 def variant_of(translator, name):
@@ -51,10 +52,12 @@ def variant_of(translator, name):
     return translator.holder.unstarted.get((translator.crate, name))
 
 
-def subject(translator, name):
+def subject(translator, word):
     """A type, as the constant is reached: of a crate below by the trait of its `calls`, which is written by hand."""
+    if (translator.crate, word.text) in translator.holder.unstarted or word.text in rules.STAND_INS_UNSTARTED:
+        return word.text
     for crate in translator.neighbours:
         holder = translator.holder.holder(crate)
-        if holder is not translator.holder and (crate, name) in holder.unstarted:
-            return f"<{name} as {holder.library}::calls::Unstarted>"
-    return name
+        if (crate, word.text) in holder.unstarted:
+            return word.text if holder is translator.holder else f"<{word.text} as {holder.library}::calls::Unstarted>"
+    return translator.refuse(word, f"a keyboard is made of {word.text}, which `unstarted` in tools/export_rust/rules.py does not name")
