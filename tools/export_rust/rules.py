@@ -114,7 +114,7 @@ READER = Rules(
 
 DETAILS = Rules(
     name="wuzhikar-hid",
-    crates=("field_details",),
+    crates=("field_details", "field_values"),
     below=(READER,),
     allocs=True,
     hidden=frozenset({("field_details", "Details::around")}),

@@ -4,3 +4,4 @@
 #![allow(dead_code, unused_imports, unused_variables, clippy::all)]
 
 pub mod field_details;
+pub mod field_values;

@@ -15,23 +15,3 @@ pub(super) fn window(bytes: &[u8], first: usize) -> u64 {
         None => 0,
     }
 }
-
-/// Writes the low `size` bits of a number from `bit` on, and no other; bits past the end are left out.
-pub(super) fn put_number(bytes: &mut [u8], bit: u64, size: u8, number: u32) {
-    for place in 0..u64::from(size) {
-        let at = bit + place;
-        let Some(byte) = usize::try_from(at / 8).ok().and_then(|at| bytes.get_mut(at)) else { return };
-        let mask = 1u8 << (at % 8);
-        if number >> place & 1 == 1 {
-            *byte |= mask;
-        } else {
-            *byte &= !mask;
-        }
-    }
-}
-
-/// The least and the greatest value that `size` bits can hold under a Logical Minimum.
-pub(super) fn held(min: i64, size: u8) -> (i64, i64) {
-    let range = 1i64 << size;
-    if min < 0 { (-(range / 2), range / 2 - 1) } else { (0, range - 1) }
-}

@@ -1,9 +1,9 @@
 //! Reports from values. Written by hand: tested, not proved.
 
-use super::bits::{held, put_number};
 use super::reader::{Kept, Reader};
 use super::report::ReadingError;
 use super::spots::Spot;
+use crate::parts::field_values::{PlaceError, is_held, put_value, write_place};
 
 use alloc::vec::Vec;
 use core::fmt;
@@ -97,8 +97,8 @@ impl core::error::Error for WriteError {}
 
 /// A value outside the extents that the bits hold: 0, one more than the greatest, or one less than the least.
 fn outside(kept: &Kept) -> Option<i64> {
-    let (least, greatest) = held(kept.field.min, kept.field.size);
-    let is_outside = |value: &i64| (*value < kept.field.min || *value > kept.field.max) && (least..=greatest).contains(value);
+    let is_outside =
+        |value: &i64| (*value < kept.field.min || *value > kept.field.max) && is_held(kept.field.min, kept.field.size, *value);
     [0, kept.field.max + 1, kept.field.min - 1].into_iter().find(is_outside)
 }
 
@@ -106,11 +106,10 @@ fn outside(kept: &Kept) -> Option<i64> {
 /// a usage whose low half is 0.
 fn unused(kept: &Kept, usages: &FieldUsages<'_>) -> Option<i64> {
     let field = &kept.field;
-    let (least, greatest) = held(field.min, field.size);
     let names_none = |value: &i64| {
         let within = *value >= field.min && *value <= field.max;
         let usage = if within { usages.nth(value.abs_diff(field.min) as usize) } else { None };
-        (least..=greatest).contains(value) && usage.is_none_or(|usage| usage & 0xFFFF == 0)
+        is_held(field.min, field.size, *value) && usage.is_none_or(|usage| usage & 0xFFFF == 0)
     };
     let count = usages.counts.last().copied().unwrap_or(0);
     let mut before = 0i64;
@@ -145,9 +144,10 @@ struct Writing<'a> {
 }
 
 impl<'a> Writing<'a> {
+    /// Puts a value that the bits of the place hold.
     fn put(&mut self, kept: &Kept, place: usize, value: i64) {
         let field = &kept.field;
-        put_number(self.bytes, field.bit + u64::from(field.size) * place as u64, field.size, value as u32);
+        put_value(self.bytes, field.bit + u64::from(field.size) * place as u64, field.size, field.min, value);
     }
 
     fn mark(&mut self, kept: &Kept, place: usize, number: usize) -> Result<(), WriteError> {
@@ -221,32 +221,33 @@ impl<'a> Writing<'a> {
 
     fn set_place(&mut self, kept: &Kept, place: usize, asked: Asked, number: usize) -> Result<(), WriteError> {
         self.mark(kept, place, number)?;
-        let (least, greatest) = held(kept.field.min, kept.field.size);
         let value = match asked {
-            Asked::Null if kept.has_null => outside(kept).ok_or(WriteError::NoNull(number))?,
-            Asked::Null => return Err(WriteError::NoNull(number)),
-            Asked::Value(value) if value < least || value > greatest => return Err(WriteError::TooLarge(number)),
-            Asked::Value(value) if value < kept.field.min || value > kept.field.max => {
-                return Err(WriteError::OutOfRange(number));
-            }
             Asked::Value(value) => value,
+            Asked::Null if kept.has_null => {
+                self.put(kept, place, outside(kept).ok_or(WriteError::NoNull(number))?);
+                return Ok(());
+            }
+            Asked::Null => return Err(WriteError::NoNull(number)),
         };
-        self.put(kept, place, value);
-        Ok(())
+        write_place(&kept.field, self.bytes, place as u16, value).map_err(|error| match error {
+            PlaceError::NoPlace => WriteError::Unknown(number),
+            PlaceError::Short => WriteError::Short,
+            PlaceError::TooLarge => WriteError::TooLarge(number),
+            PlaceError::OutOfRange => WriteError::OutOfRange(number),
+        })
     }
 
     /// Puts a usage into an array, or takes it out.
     fn set_in_array(&mut self, kept: &Kept, usage: u32, asked: Asked, number: usize) -> Result<(), WriteError> {
         let usages = self.reader.usages(kept);
         let value = number_in(&usages, usage).map(|place| kept.field.min + place).ok_or(WriteError::Unknown(number))?;
-        let (least, greatest) = held(kept.field.min, kept.field.size);
         let on = match asked {
             Asked::Null => return Err(WriteError::NoNull(number)),
             Asked::Value(0) => false,
             Asked::Value(1) => true,
             Asked::Value(_) => return Err(WriteError::OutOfRange(number)),
         };
-        if on && (value < least || value > greatest) {
+        if on && !is_held(kept.field.min, kept.field.size, value) {
             return Err(WriteError::TooLarge(number));
         }
         if on && value > kept.field.max {

@@ -1,0 +1,165 @@
+//! Values into the places of a field.
+
+ghost use Rattle.std.specs.Prelude.{◌≡◌, ℕ, ◌+◌, ◌*◌, ◌<◌, ◌≤◌, ◌^◌, length, true, not, ◌&&◌, pos, ◌+ℤ◌, ◌-ℤ◌, ◌≤ℤ◌, int_lt, Some, None, IfOk, IfErr};
+ghost use Rattle.host_extract.specs.Fits.{FitsReading};
+ghost use Rattle.host_extract.specs.Found.{value_at};
+ghost use Rattle.host_extract.specs.Numbers.{report_bit, number_at, value_under};
+ghost use Rattle.field_values.specs.Places.{IsOutside};
+ghost use Rattle.field_values.specs.Held.{is_held, place_bit, has_bits, is_within, refusal};
+
+use crate::bits::put_number;
+use descriptor_parse::Field;
+
+/// Why a value is not written into a place. Where several hold, the first in this order is told.
+#[derive(Clone, Copy, Debug, PartialEq, Eq)]
+pub enum PlaceError {
+    /// The field has no such place.
+    NoPlace,
+    /// The bytes end before the place does.
+    Short,
+    /// The bits can't hold the value.
+    TooLarge,
+    /// The value is outside the logical extents.
+    OutOfRange,
+}
+
+/// Writes a value into a place of a field, in the bytes of a report after its ID.
+///
+/// What is read there is then the value, and each other bit is what it was. Where it is refused, nothing changes.
+pub fn write_place(
+    field: &Field,
+    bytes: &mut [u8],
+    place: u16,
+    value: i64,
+) -> Result<(), PlaceError>
+    requires { FitsReading field.now }
+    ensures taken { IfOk result (λ _. refusal field.now bytes.old place value ≡ None) }
+    ensures refused { IfErr result (λ e. refusal field.now bytes.old place value ≡ Some e) }
+    ensures written { IfOk result (λ _. value_at field.now bytes.new place ≡ value) }
+    ensures length { length bytes.new ≡ length bytes.old }
+    ensures others { (bit : ℕ) → IsOutside (place_bit field.now place) field.now.size bit → report_bit bytes.new bit ≡ report_bit bytes.old bit }
+    ensures kept { IfErr result (λ _. bytes.new ≡ bytes.old) }
+{
+    if let Some(error) = refuse(field, bytes, place, value) {
+        return Err(error);
+    }
+    put_place(field, bytes, place, value);
+    Ok(())
+}
+
+/// Writes a value into a place of a field.
+fn put_place(field: &Field, bytes: &mut [u8], place: u16, value: i64)
+    requires fits { FitsReading field.now }
+    requires within { place < field.now.count }
+    requires held { is_held field.now.min field.now.size value ≡ true }
+    ensures length { length bytes.new ≡ length bytes.old }
+    ensures there { has_bits field.now bytes.old place ≡ true → value_at field.now bytes.new place ≡ value }
+    ensures others { (bit : ℕ) → IsOutside (place_bit field.now place) field.now.size bit → report_bit bytes.new bit ≡ report_bit bytes.old bit }
+{
+    let from = field.bit + field.size as u64 * place as u64;
+    put_value(bytes, from, field.size, field.min, value);
+}
+
+/// Why a value is not written into a place, if it is not.
+fn refuse(field: &Field, bytes: &[u8], place: u16, value: i64) -> Option<PlaceError>
+    requires { FitsReading field.now }
+    ensures { result ≡ refusal field.now bytes.now place value }
+{
+    if place >= field.count {
+        Some(PlaceError::NoPlace)
+    } else if !has_bits(field, bytes, place) {
+        Some(PlaceError::Short)
+    } else if !is_held(field.min, field.size, value) {
+        Some(PlaceError::TooLarge)
+    } else if !is_within(field, value) {
+        Some(PlaceError::OutOfRange)
+    } else {
+        None
+    }
+}
+
+/// Whether a value is within the logical extents of a field.
+fn is_within(field: &Field, value: i64) -> bool
+    ensures { result ≡ is_within field.now value }
+{
+    value >= field.min && value <= field.max
+}
+
+/// Whether the bytes have all bits of a place.
+fn has_bits(field: &Field, bytes: &[u8], place: u16) -> bool
+    requires fits { FitsReading field.now }
+    requires within { place < field.now.count }
+    ensures { result ≡ has_bits field.now bytes.now place }
+{
+    let end = field.bit + field.size as u64 * place as u64 + field.size as u64;
+    let bytes = bytes.len() as u64;
+    end / 8 < bytes || (end / 8 == bytes && end % 8 == 0)
+}
+
+/// Whether so many bits hold a value under a Logical Minimum.
+pub fn is_held(minimum: i64, size: u8, value: i64) -> bool
+    requires { size ≤ 32 }
+    ensures { result ≡ is_held minimum size value }
+{
+    if minimum < 0 {
+        is_signed(numbers_of(size), value)
+    } else {
+        is_unsigned(numbers_of(size), value)
+    }
+}
+
+/// How many numbers so many bits make.
+fn numbers_of(size: u8) -> i64
+    requires { size ≤ 32 }
+    ensures { result ≡ pos (2 ^ size) }
+{
+    1 << size
+}
+
+/// Whether a value is one of so many numbers in two's complement.
+fn is_signed(numbers: i64, value: i64) -> bool
+    requires { pos 0 ≤ℤ numbers }
+    ensures { result ≡ (not (int_lt (value +ℤ value) (pos 0 -ℤ numbers)) && int_lt (value +ℤ value) numbers) }
+{
+    !is_twice_below(value, 0 - numbers) && is_twice_below(value, numbers)
+}
+
+/// Whether the double of a value is less than this.
+fn is_twice_below(value: i64, numbers: i64) -> bool
+    ensures { result ≡ int_lt (value +ℤ value) numbers }
+{
+    value as i128 + (value as i128) < numbers as i128
+}
+
+/// Whether a value is one of so many numbers without a sign.
+fn is_unsigned(numbers: i64, value: i64) -> bool
+    ensures { result ≡ (not (int_lt value (pos 0)) && int_lt value numbers) }
+{
+    value >= 0 && value < numbers
+}
+
+/// Writes a value of `size` bits from the bit `from` on.
+pub fn put_value(bytes: &mut [u8], from: u64, size: u8, minimum: i64, value: i64)
+    requires few { size ≤ 32 }
+    requires held { is_held minimum size value ≡ true }
+    requires counted { from + size < 2 ^ 64 }
+    ensures length { length bytes.new ≡ length bytes.old }
+    ensures there { from + size ≤ 8 * length bytes.old → value_under minimum size (number_at bytes.new from size) ≡ value }
+    ensures others { (bit : ℕ) → IsOutside from size bit → report_bit bytes.new bit ≡ report_bit bytes.old bit }
+{
+    put_number(bytes, from, size, number_of(minimum, size, value));
+}
+
+/// The number of `size` bits that a value is.
+fn number_of(minimum: i64, size: u8, value: i64) -> u32
+    requires few { size ≤ 32 }
+    requires held { is_held minimum size value ≡ true }
+    ensures fits { result < 2 ^ size }
+    ensures value { value_under minimum size result ≡ value }
+{
+    if value < 0 {
+        (value + (1 << size)) as u32
+    } else {
+        value as u32
+    }
+}
