@@ -258,6 +258,13 @@ def measured(tree):
             yield f"{document}: no program of the repository is named before the table {block.splitlines()[0]}"
 
 
+def proof_rows(tree):
+    """A table of the times of proofs that has not a row for each crate, in their order."""
+    rows = re.findall(r"^\| `(\w+)` \| \d* ?\| \d* ?\|$", tree.read("docs/MEASUREMENTS.md"), re.MULTILINE)
+    if rows != re.findall(r"^([a-z][a-z0-9_]*)[^#\n]*:", tree.read("crates.txt"), re.MULTILINE):
+        yield "docs/MEASUREMENTS.md: its rows of proofs are not those of crates.txt: tools/proof-times --write true"
+
+
 def benched(tree):
     """Documents that show other numbers than bench/results.tsv has."""
     if not tree.exists("bench/results.tsv"):
@@ -285,7 +292,7 @@ def note(tree):
             print(f"check-docs: note: README.md names another toolchain than this one: {version}")
 
 
-CHECKS = [names, links, paragraphs, crates, contracts, wrong_bodies, definitions, edits, promise, believed, measured, benched, shown]
+CHECKS = [names, links, paragraphs, crates, contracts, wrong_bodies, definitions, edits, promise, believed, measured, proof_rows, benched, shown]
 
 
 def main():

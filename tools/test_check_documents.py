@@ -11,7 +11,7 @@ RIGHT = {
     "README.md": "# A\n\n## The crates\n\n| `one` | does |\n\n## Next\n\n`read_it` and [more](docs/B.md#a-part), `Size` (`one/specs/Sizes`)\n",
     "docs/B.md": "# B\n\n## A part\n\nText.\n",
     "docs/WRONG_BODIES.md": "`wrong` (`one`)\n",
-    "docs/MEASUREMENTS.md": "# M\n\nBy `bin/count all`:\n\n<!-- m -->\n\n| a |\n|---|\n| 1 |\n\n| b |\n|---|\n",
+    "docs/MEASUREMENTS.md": "# M\n\nBy `bin/count all`:\n\n<!-- m -->\n\n| a |\n|---|\n| `one` | 1 |  |\n\n| b |\n|---|\n",
     "bin/count": "",
     "docs/CONTRACTS.md": "| `one` | It is one. |\n",
     "docs/THEOREM.md": "# T\n\n```\npub record Promise\n  a : b\n```\n",
@@ -73,6 +73,7 @@ class Checks(unittest.TestCase):
             (checks.promise, {"docs/THEOREM.md": "pub record Promise\n"}, "it does not show the record Promise"),
             (checks.measured, {"docs/MEASUREMENTS.md": "`bin/count`\n\n## N\n\n| a |\n|---|\n| 1 |\n"}, "no program of the repository is named before the table | a |"),
             (checks.measured, {"bin/count": None, "docs/MEASUREMENTS.md": "`bin/count`\n\n| a |\n"}, "before the table | a |"),
+            (checks.proof_rows, {"crates.txt": "one: .\ntwo: .\n"}, "its rows of proofs are not those of crates.txt"),
             (checks.benched, {"bench/results.tsv": RESULTS, "docs/MEASUREMENTS.md": shown(8)}, "docs/MEASUREMENTS.md: it shows other numbers"),
             (checks.believed, {"crates/one/specs/Sizes.antt": "pub def Size\n"}, "its first line does not say"),
         ]
