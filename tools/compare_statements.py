@@ -77,7 +77,7 @@ def tests(crate, text):
 def stated_by(path, text):
     """What a file states: pairs of a kind and a name."""
     parts = path.split("/")
-    if path.startswith("tests/") and path != "tests/extremes.txt":
+    if path.startswith("tests/") and path != "tests/extremes.txt" and not path.endswith(".edit"):
         yield from (("row", line.strip()) for line in text.split("\n"))
     if parts[0] != "crates" or len(parts) < 3:
         return
