@@ -41,6 +41,7 @@ def lints(room, _):
                 text = file.read()
             if room.run(["rustfmt", "--edition", "2024", "--config-path", f"{room.rust}/rustfmt.toml"], given=text) != text:
                 raise Failed(f"rust/{name} is not as rustfmt writes it")
+    example(room, "hid_driver")  # (the tests of wuzhikar-hid take its descriptors)
     for more in ([], ["--features", "wuzhikar/sim,wuzhikar-log/sim"]):
         room.cargo("clippy", "--workspace", "--all-targets", *more, "--", "-D", "warnings")
 
