@@ -28,14 +28,11 @@ pub struct KeyReports {
 }
 
 impl Model for KeyReports {
-    ghost use Rattle.std.specs.Prelude.{◌≡◌, true};
     ghost use Rattle.key_reports.specs.Value.{KeysValue};
 
     ghost Value = { KeysValue };
 
     ghost view = { λ k. record { debouncer = k.debouncer; held = k.held; poller = k.poller } };
-
-    ghost invariant = { λ k. k.held.named ≡ true };
 }
 
 impl KeyReports {
@@ -60,9 +57,9 @@ impl KeyReports {
         ensures { StandsFor [] self.new }
     {
         self.debouncer = Debouncer::new();
-        self.held.clear();
+        self.held = Held::new();
         self.poller.reset();
-        self.poller.make(self.held.lent(), Protocol::Report);
+        self.poller.make(&Usages::none(), Protocol::Report);
     }
 
     /// Takes one scan, one millisecond after the last. The keys that the debounced scan releases are
@@ -80,7 +77,8 @@ impl KeyReports {
         } else {
             make_for(&mut self.poller, &self.held, protocol);
             take_edges(&mut self.held, keymap, &edges);
-            self.poller.tick_to(self.held.lent(), protocol);
+            let now = self.held.usages();
+            self.poller.tick_to(&now, protocol);
         }
     }
 
@@ -172,27 +170,30 @@ impl KeyReports {
         self.poller.reset()
     }
 
-    /// The bytes of the boot report, made of the held keys. Rare.
+    /// The bytes of the boot report, made of the held keys. Rare, and with the usages on its own stack.
     #[inline(never)]
+    #[tactic(auto, using(crate::proofs::Standing::boot_after))]
     fn boot_anew(&self) -> [u8; 8]
         ensures { (past : List KeyCall) → StandsFor past self.now → result ≡ wanted_after past Input.Boot }
     {
-        reports::boot(self.held.lent())
+        reports::boot(&self.usages())
     }
 
-    /// The bytes of the report of ID 1, made of the held keys. Rare.
+    /// The bytes of the report of ID 1, made of the held keys. Rare, and with the usages on its own stack.
     #[inline(never)]
+    #[tactic(auto, using(crate::proofs::Standing::bitmap_after))]
     fn bitmap_anew(&self) -> [u8; 23]
         ensures { (past : List KeyCall) → StandsFor past self.now → result ≡ wanted_after past Input.One }
     {
-        reports::bitmap(self.held.lent())
+        reports::bitmap(&self.usages())
     }
 
-    /// The bytes of the report of ID 2, made of the held keys. Rare.
+    /// The bytes of the report of ID 2, made of the held keys. Rare, and with the usages on its own stack.
     #[inline(never)]
+    #[tactic(auto, using(crate::proofs::Standing::consumer_bytes_after))]
     fn consumer_anew(&self) -> [u8; 9]
         ensures { (past : List KeyCall) → StandsFor past self.now → result ≡ wanted_after past Input.Two }
     {
-        reports::consumer(self.held.lent())
+        reports::consumer(&self.usages())
     }
 }

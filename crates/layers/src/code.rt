@@ -18,9 +18,6 @@ pub enum KeymapError {
     BadCode,
 }
 
-/// How many layers there are.
-pub(crate) const LAYERS: usize = 4;
-
 /// How many keys there are.
 pub(crate) const KEYS: usize = 96;
 
@@ -165,16 +162,11 @@ impl Code {
         }
     }
 
-    /// The layer that a key with this code activates while it is held, if it activates one.
-    pub(crate) fn layer(self) -> Option<LayerNo>
-        ensures { MatchOption result ((layer : ℕ) → activates layer self ≡ false) (λ l. (layer : ℕ) → activates layer self ≡ (l == layer)) }
+    /// Whether a key with this code activates the layer while it is held.
+    pub(crate) fn activates(self, layer: LayerNo) -> bool
+        ensures { result ≡ activates layer self }
     {
-        match self.bits {
-            MOMENTARY_FIRST..=MOMENTARY_LAST => Some(LayerNo {
-                layer: (self.bits - MOMENTARY_BASE) as u8,
-            }),
-            _ => None,
-        }
+        MOMENTARY_BASE + layer.layer as u16 == self.bits
     }
 
     /// The bits of the code.

@@ -243,9 +243,8 @@ impl Poller {
     {
         match self.queue.pop() {
             Some(front) => {
-                let report = report_of(front.as_slice());
-                self.count_as_sent(&report);
-                Some(report)
+                self.count_as_sent(&front);
+                Some(front)
             },
             None => None,
         }

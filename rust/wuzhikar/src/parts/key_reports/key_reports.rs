@@ -36,9 +36,9 @@ impl KeyReports {
     /// start.
     pub fn restart(&mut self) {
         self.debouncer = Debouncer::new();
-        self.held.clear();
+        self.held = Held::new();
         self.poller.reset();
-        self.poller.make(self.held.lent(), Protocol::Report);
+        self.poller.make(&Usages::none(), Protocol::Report);
     }
 
     /// Takes one scan, one millisecond after the last. The keys that the debounced scan releases are
@@ -51,7 +51,8 @@ impl KeyReports {
         } else {
             make_for(&mut self.poller, &self.held, protocol);
             take_edges(&mut self.held, keymap, &edges);
-            self.poller.tick_to(self.held.lent(), protocol);
+            let now = self.held.usages();
+            self.poller.tick_to(&now, protocol);
         }
     }
 
@@ -118,21 +119,21 @@ impl KeyReports {
         self.poller.reset()
     }
 
-    /// The bytes of the boot report, made of the held keys. Rare.
+    /// The bytes of the boot report, made of the held keys. Rare, and with the usages on its own stack.
     #[inline(never)]
     fn boot_anew(&self) -> [u8; 8] {
-        crate::parts::reports::boot(self.held.lent())
+        crate::parts::reports::boot(&self.usages())
     }
 
-    /// The bytes of the report of ID 1, made of the held keys. Rare.
+    /// The bytes of the report of ID 1, made of the held keys. Rare, and with the usages on its own stack.
     #[inline(never)]
     fn bitmap_anew(&self) -> [u8; 23] {
-        crate::parts::reports::bitmap(self.held.lent())
+        crate::parts::reports::bitmap(&self.usages())
     }
 
-    /// The bytes of the report of ID 2, made of the held keys. Rare.
+    /// The bytes of the report of ID 2, made of the held keys. Rare, and with the usages on its own stack.
     #[inline(never)]
     fn consumer_anew(&self) -> [u8; 9] {
-        crate::parts::reports::consumer(self.held.lent())
+        crate::parts::reports::consumer(&self.usages())
     }
 }
