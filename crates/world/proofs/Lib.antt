@@ -14,4 +14,3 @@ pub mod Wearing
 pub mod Ordering
 pub mod Single
 pub mod Promising
-pub mod Wanting
