@@ -14,3 +14,4 @@ pub mod Wearing
 pub mod Ordering
 pub mod Single
 pub mod Promising
+pub mod Wanting

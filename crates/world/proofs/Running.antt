@@ -1,5 +1,5 @@
 -- A run, event by event.
-use Rattle.std.proofs.Common.{◌≡◌, ℕ, ◌+◌, ◌<◌, Bool, true, false, Result, Ok, Err, is_ok, is_err, List, [], ◌∷◌, ◌++◌, map, reverse, length, take, get_or, refl, arith, sym, ◌∙◌, ap, append_assoc}
+use Rattle.std.proofs.Common.{◌≡◌, ℕ, ◌+◌, ◌<◌, ◌≤◌, Bool, true, false, Result, Ok, Err, is_ok, is_err, List, [], ◌∷◌, ◌++◌, map, reverse, length, take, get_or, refl, arith, sym, ◌∙◌, ap, append_assoc}
 use Rattle.std.proofs.lemmas.List.{take_more, append-nil, map-append}
 use Rattle.std.proofs.lemmas.Grind.{reverse_onto}
 use Rattle.flash_model.specs.Sim.{SimValue}
@@ -25,9 +25,9 @@ pub record Going (start : SimValue) (past : List Step) (n : ℕ) (world : WorldV
 pub going_none : (start : SimValue) (past : List Step) (world : WorldValue) (events : List Event) (before : List Answer) → StandsFor start past world → Going start past 0 world events before before
 going_none start past world events before s = record { steps = []; count = refl; stands = s; events_are = refl; answers_are = sym (append-nil before); none = tt }
 
-ended : (start : SimValue) (past : List Step) (n : ℕ) (world : WorldValue) (events : List Event) (before after : List Answer) (ok : Bool) (g : Going start past n world events before after) → EndsAfter ok g.steps events
-    → Went start past world events before after ok
-ended start past n world events before after ok g e = record {
+ended : (start : SimValue) (past : List Step) (n : ℕ) (world : WorldValue) (events : List Event) (room : ℕ) (before after : List Answer) (ok : Bool) (g : Going start past n world events before after) → EndsAfter room ok g.steps events
+    → Went start past world events room before after ok
+ended start past n world events room before after ok g e = record {
   steps = g.steps;
   stands = g.stands;
   events_are = rw g.count g.events_are;
@@ -35,18 +35,20 @@ ended start past n world events before after ok g e = record {
   ends = e;
 }
 
-pub went_all : (start : SimValue) (past : List Step) (n : ℕ) (world : WorldValue) (events : List Event) (before after : List Answer) → n ≡ length events → Going start past n world events before after
-    → Went start past world events before after true
-went_all start past n world events before after l g = ended start past n world events before after true g (g.count ∙ l, g.none)
+pub went_all : (start : SimValue) (past : List Step) (n : ℕ) (world : WorldValue) (events : List Event) (room : ℕ) (before after : List Answer) → n ≡ length events → Going start past n world events before after
+    → Went start past world events room before after true
+went_all start past n world events room before after l g = ended start past n world events room before after true g (g.count ∙ l, g.none)
 
 pub not_ok : {A E : Type 0} (r : Result A E) → is_err r ≡ true → is_ok r ≡ false
 not_ok (Ok x) e = cc
 not_ok (Err x) e = refl
 
-pub went_no_room : (start : SimValue) (past : List Step) (n : ℕ) (world : WorldValue) (events : List Event) (before after : List Answer) → n < length events → Going start past n world events before after
-    → Went start past world events before after false
-went_no_room start past n world events before after l g =
-    ended start past n world events before after false g (let fewer : length g.steps < length events = omega (arith, g.count) in no_room fewer g.none)
+pub went_no_room : (start : SimValue) (past : List Step) (n : ℕ) (world : WorldValue) (events : List Event) (room : ℕ) (before after : List Answer) → n < length events → room ≤ n → Going start past n world events before after
+    → Went start past world events room before after false
+went_no_room start past n world events room before after l used g =
+    let all_used : room ≤ length g.steps = omega (arith, g.count) in
+    let fewer : length g.steps < length events = omega (arith, g.count) in
+    ended start past n world events room before after false g (no_room all_used fewer g.none)
 
 mapped_more : {B : Type 0} (f : Step → B) (s : Step) (steps : List Step) → map f (reverse (s ∷ steps)) ≡ map f (reverse steps) ++ f s ∷ []
 mapped_more f s steps = rw (reverse_onto steps s []) (map-append f (reverse steps) (s ∷ []))
@@ -87,10 +89,10 @@ going_more start past n world next events before after event told l e r g step =
     }
 
 -- in the last one the host was refused memory
-pub went_refused : (start : SimValue) (past : List Step) (n : ℕ) (world next : WorldValue) (events : List Event) (before after : List Answer) (event : Event) (told : Told)
+pub went_refused : (start : SimValue) (past : List Step) (n : ℕ) (world next : WorldValue) (events : List Event) (room : ℕ) (before after : List Answer) (event : Event) (told : Told)
     → n < length events → event ≡ get_or events n event → told.refused ≡ true
-    → Going start past n world events before after → Takes event world told next → Went start past next events before (after ++ told.answer ∷ []) false
-went_refused start past n world next events before after event told l e r g step =
+    → Going start past n world events before after → Takes event world told next → Went start past next events room before (after ++ told.answer ∷ []) false
+went_refused start past n world next events room before after event told l e r g step =
     let new : Step = record { event = event; answer = told.answer; flash = next.flash; refused = told.refused } in
     let more = one_more start past n world next events before after event told l e g step in
     record {
@@ -102,9 +104,9 @@ went_refused start past n world next events before after event told l e r g step
     }
 
 -- so a run makes a longer history of which the promise holds
-pub runs_longer : (start : SimValue) (past : List Step) (world : WorldValue) (events : List Event) (before after : List Answer) (ok : Bool) → Went start past world events before after ok
-    → LongerHistory Promise start past world events before after ok
-runs_longer start past world events before after ok g = record {
+pub runs_longer : (start : SimValue) (past : List Step) (world : WorldValue) (events : List Event) (room : ℕ) (before after : List Answer) (ok : Bool) → Went start past world events room before after ok
+    → LongerHistory Promise start past world events room before after ok
+runs_longer start past world events room before after ok g = record {
   steps = g.steps;
   stands = g.stands;
   flash_is = g.stands.flash;

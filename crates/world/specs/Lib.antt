@@ -4,6 +4,7 @@ pub mod Flash
 pub mod History
 pub mod Kinds
 pub mod Lawful
+pub mod Memory
 pub mod Moments
 pub mod Order
 pub mod Promise

@@ -1,5 +1,5 @@
 -- Only ties code to its definitions: contracts of the world's private calls.
-use Rattle.std.specs.Prelude.{◌≡◌, Bool, ◌∷◌, ◌++◌, List, map, reverse, length, take}
+use Rattle.std.specs.Prelude.{◌≡◌, ℕ, Bool, ◌∷◌, ◌++◌, List, map, reverse, length, take}
 use Rattle.flash_model.specs.Sim.{SimValue}
 use Rattle.world.specs.declared.event.Event.{Event}
 use Rattle.world.specs.declared.event.Answer.{Answer}
@@ -15,9 +15,9 @@ Takes event old told new =
     → StandsFor start (record { event = event; answer = told.answer; flash = new.flash; refused = told.refused } ∷ past) new
 
 -- a run that is over: a longer history without what follows
-pub record Went (start : SimValue) (past : List Step) (world : WorldValue) (events : List Event) (before after : List Answer) (ok : Bool) : Type 0 where
+pub record Went (start : SimValue) (past : List Step) (world : WorldValue) (events : List Event) (room : ℕ) (before after : List Answer) (ok : Bool) : Type 0 where
   pub steps : List Step
   pub stands : StandsFor start (steps ++ past) world
   pub events_are : map (λ (s : Step). s.event) (reverse steps) ≡ take (length steps) events
   pub answers_are : after ≡ before ++ map (λ (s : Step). s.answer) (reverse steps)
-  pub ends : EndsAfter ok steps events
+  pub ends : EndsAfter room ok steps events

@@ -2,8 +2,10 @@
 
 ghost use Rattle.std.specs.Prelude.{◌≡◌, List, map};
 ghost use Rattle.flash_model.specs.Sim.{SimValue};
+ghost use Rattle.world.specs.History.{EachStep};
 ghost use Rattle.world.specs.Kinds.{Step};
 ghost use Rattle.world.specs.Lawful.{IsLawful};
+ghost use Rattle.world.specs.Memory.{IsRefusedWhereWanted};
 ghost use Rattle.world.specs.Promise.{Promise};
 
 /// The promise holds of every history in which each event is answered by what came before it, whatever
@@ -19,4 +21,11 @@ pub fn answered_is_promised()
 pub fn one_history()
     ensures { (start : SimValue) (a b : List Step) → IsLawful start a → IsLawful start b → map (λ (s : Step). s.event) a ≡ map (λ (s : Step). s.event) b
         → map (λ (s : Step). s.refused) a ≡ map (λ (s : Step). s.refused) b → a ≡ b }
+{}
+
+/// A step in which the host was refused memory is one for which it wants some: a packet of data while it
+/// gathers, or a report that it reads. So a run whose answers have room is refused nothing else.
+pub fn memory_is_refused_where_wanted()
+    ensures { (start : SimValue) (history : List Step) → IsLawful start history
+        → EachStep IsRefusedWhereWanted start history }
 {}

@@ -49,7 +49,7 @@ impl World {
     ghost use Rattle.host.specs.StandsFor as host_stands;
     ghost use Rattle.world.specs.History.{host_calls};
     ghost use Rattle.world.specs.Promise.{Promise};
-    ghost use Rattle.world.specs.Stands.{StandsFor, Runs};
+    ghost use Rattle.world.specs.Stands.{StandsFor, Runs, room_for};
     ghost use Rattle.world.specs.Private.{Takes, Went};
 
     /// The keyboard as it starts on a flash, whose keymap it reads, and a host that keeps no
@@ -103,7 +103,7 @@ impl World {
     pub fn run(&mut self, events: &[Event], answers: &mut Vec<Answer>) -> Result<(), AllocError>
         // From each history that the world stood for it makes a longer one, by the events that were taken with their answers,
         // and the promise holds of that.
-        ensures promise { Runs Promise self.old self.new events.now answers.old.items answers.new.items (is_ok result) }
+        ensures promise { Runs Promise self.old self.new events.now (room_for answers.old) answers.old.items answers.new.items (is_ok result) }
         // Ok says that all events were taken, and there is at most one answer for each.
         ensures all { OnOk result (vec_len answers.new ≡ vec_len answers.old + length events.now) }
         ensures at_most { vec_len answers.new ≤ vec_len answers.old + length events.now }
@@ -114,7 +114,7 @@ impl World {
     /// Takes the events in order.
     fn take_all(&mut self, events: &[Event], answers: &mut Vec<Answer>) -> Result<(), AllocError>
         ensures went { (start : SimValue) (past : List Step) → StandsFor start past self.old
-            → Went start past self.new events.now answers.old.items answers.new.items (is_ok result) }
+            → Went start past self.new events.now (room_for answers.old) answers.old.items answers.new.items (is_ok result) }
         ensures all { OnOk result (vec_len answers.new ≡ vec_len answers.old + length events.now) }
         ensures at_most { vec_len answers.new ≤ vec_len answers.old + length events.now }
     {
