@@ -8,7 +8,7 @@ use Rattle.debounce.specs.Samples.{down}
 use Rattle.debounce.specs.Stands as debounce
 use Rattle.layers.specs.Codes.{keys}
 use Rattle.layers.specs.Held.{HeldCall, any_below, code}
-use Rattle.layers.specs.HeldStands.{HeldStandsFor}
+use Rattle.layers.specs.HeldStands.{HeldValue, HeldStandsFor}
 use Rattle.layers.specs.Usages.{UsageSets, has_key, has_consumer, key_usages, consumer_usages}
 use Rattle.reports.specs.declared.Protocol.{Protocol}
 use Rattle.reports.specs.declared.Input.{Input}
@@ -64,23 +64,28 @@ pub stands-asked : (past : List KeyCall) (call : PollerCall) (value : KeysValue)
 unfolding scans_of held_calls poller_calls keys_after consumer_after
 stands-asked past call value poller s p m = record { debouncer = s.debouncer; held = s.held; poller = p (poller_calls past) s.poller; made = m }
 
-pub keys-held : (past : List KeyCall) (held : List (Option ℕ)) (f : ℕ → Bool) → HeldStandsFor (held_calls past) held
+pub keys-held : (past : List KeyCall) (held : HeldValue) (f : ℕ → Bool) → HeldStandsFor (held_calls past) held
     → ((calls : List HeldCall) (usage : ℕ) → HeldStandsFor calls held → f usage ≡ key_usages calls usage) → (usage : ℕ) → f usage ≡ keys_after past usage
 unfolding keys_after
 keys-held past held f s e usage = e (held_calls past) usage s
 
-pub consumer-held : (past : List KeyCall) (held : List (Option ℕ)) (g : ℕ → Bool) → HeldStandsFor (held_calls past) held
+pub consumer-held : (past : List KeyCall) (held : HeldValue) (g : ℕ → Bool) → HeldStandsFor (held_calls past) held
     → ((calls : List HeldCall) (usage : ℕ) → HeldStandsFor calls held → g usage ≡ consumer_usages calls usage) → (usage : ℕ) → g usage ≡ consumer_after past usage
 unfolding consumer_after
 consumer-held past held g s e usage = e (held_calls past) usage s
 
 -- what is told of sets that are read off the held keys
-pub record AreUsages (held : List (Option ℕ)) (f g : ℕ → Bool) : Type 0 where
+pub record AreUsages (held : HeldValue) (f g : ℕ → Bool) : Type 0 where
   pub keys : (calls : List HeldCall) (usage : ℕ) → HeldStandsFor calls held → f usage ≡ key_usages calls usage
   pub consumer : (calls : List HeldCall) (usage : ℕ) → HeldStandsFor calls held → g usage ≡ consumer_usages calls usage
 
-pub wanted-held : (past : List KeyCall) (held : List (Option ℕ)) (f g : ℕ → Bool) → HeldStandsFor (held_calls past) held → AreUsages held f g → wanted f g ≡ wanted_after past
+pub wanted-held : (past : List KeyCall) (held : HeldValue) (f g : ℕ → Bool) → HeldStandsFor (held_calls past) held → AreUsages held f g → wanted f g ≡ wanted_after past
 wanted-held past held f g s u = wanted-is past f g (keys-held past held f s u.keys) (consumer-held past held g s u.consumer)
+
+-- the bytes that were made for no key that is held
+pub made_cleared : (held : HeldValue) (f g : ℕ → Bool) (poller : reports_kept.Kept) → HeldStandsFor [] held → AreUsages held f g → reports.IsMade (wanted f g) poller → reports.IsMade (wanted_after []) poller
+unfolding held_calls
+made_cleared held f g poller s u m = subst (λ (w : Input → List ℕ). reports.IsMade w poller) (wanted-held [] held f g s u) m
 
 -- a scan: its edges, the releases and the presses
 pub record Scans (scan : Scan) (keymap : List ℕ) (old new : KeysValue) (edges : Edges) : Type 0 where
@@ -152,7 +157,7 @@ stands-passed past scan keymap protocol old new edges p s =
     let wn : wanted_after past ≡ wanted_after (Scanned scan keymap protocol ∷ past) = wanted-passed past (Scanned scan keymap protocol ∷ past) same in
     record {
       debouncer = p.fed (scans_of past) s.debouncer;
-      held = subst (λ (calls : List HeldCall). HeldStandsFor calls new.held) (sym same) (subst (λ (held : List (Option ℕ)). HeldStandsFor (held_calls past) held) (sym p.held) s.held);
+      held = subst (λ (calls : List HeldCall). HeldStandsFor calls new.held) (sym same) (subst (λ (held : HeldValue). HeldStandsFor (held_calls past) held) (sym p.held) s.held);
       poller = subst (λ (w : Input → List ℕ). reports.StandsFor (ticked protocol (wanted_after past) w ∷ poller_calls past) new.poller) wn (p.ticks (poller_calls past) protocol (wanted_after past) s.poller);
       made = subst (λ (w : Input → List ℕ). reports.IsMade w new.poller) wn (p.made (wanted_after past) s.made);
     }
@@ -163,7 +168,7 @@ unfolding answer_after
 answer_is past protocol answer e = e
 
 -- the bytes of the protocol's reports, made for the held keys
-pub made_for_held : (past : List KeyCall) (protocol : Protocol) (held : List (Option ℕ)) (f g : ℕ → Bool) (poller : reports_kept.Kept) → HeldStandsFor (held_calls past) held → AreUsages held f g
+pub made_for_held : (past : List KeyCall) (protocol : Protocol) (held : HeldValue) (f g : ℕ → Bool) (poller : reports_kept.Kept) → HeldStandsFor (held_calls past) held → AreUsages held f g
     → reports.IsMadeFor protocol (wanted f g) poller → reports.IsMadeFor protocol (wanted_after past) poller
 made_for_held past protocol held f g poller s u m = subst (λ (w : Input → List ℕ). reports.IsMadeFor protocol w poller) (wanted-held past held f g s u) m
 

@@ -1,10 +1,10 @@
 -- Only ties code to its definitions: the releases and presses that the edges of a scan come to, newest first.
-use Rattle.std.specs.Prelude.{ℕ, Option, List, ◌++◌, map, reverse}
+use Rattle.std.specs.Prelude.{ℕ, List, ◌++◌, map, reverse}
 use Rattle.debounce.specs.declared.Scan.{Scan}
 use Rattle.debounce.specs.declared.debouncer.Edges.{Edges}
 use Rattle.debounce.specs.Scans.{set_keys}
 use Rattle.layers.specs.Held.{HeldCall, Press, Release}
-use Rattle.layers.specs.HeldStands.{HeldStandsFor}
+use Rattle.layers.specs.HeldStands.{HeldValue, HeldStandsFor}
 
 -- the releases of these keys by rising number, after other calls
 unfoldable pub with_releases : Scan → List HeldCall → List HeldCall
@@ -19,5 +19,5 @@ unfoldable pub with_edges : List ℕ → Edges → List HeldCall → List HeldCa
 with_edges keymap edges past = with_presses keymap edges.pressed (with_releases edges.released past)
 
 -- the held keys took these calls
-pub record Takes (calls : List HeldCall → List HeldCall) (old new : List (Option ℕ)) : Type 0 where
+pub record Takes (calls : List HeldCall → List HeldCall) (old new : HeldValue) : Type 0 where
   pub each : (past : List HeldCall) → HeldStandsFor past old → HeldStandsFor (calls past) new

@@ -28,11 +28,14 @@ pub struct KeyReports {
 }
 
 impl Model for KeyReports {
+    ghost use Rattle.std.specs.Prelude.{◌≡◌, true};
     ghost use Rattle.key_reports.specs.Value.{KeysValue};
 
     ghost Value = { KeysValue };
 
     ghost view = { λ k. record { debouncer = k.debouncer; held = k.held; poller = k.poller } };
+
+    ghost invariant = { λ k. k.held.named ≡ true };
 }
 
 impl KeyReports {
@@ -57,9 +60,9 @@ impl KeyReports {
         ensures { StandsFor [] self.new }
     {
         self.debouncer = Debouncer::new();
-        self.held = Held::new();
+        self.held.clear();
         self.poller.reset();
-        self.poller.make(&Usages::none(), Protocol::Report);
+        self.poller.make(self.held.lent(), Protocol::Report);
     }
 
     /// Takes one scan, one millisecond after the last. The keys that the debounced scan releases are
@@ -77,8 +80,7 @@ impl KeyReports {
         } else {
             make_for(&mut self.poller, &self.held, protocol);
             take_edges(&mut self.held, keymap, &edges);
-            let now = self.held.usages();
-            self.poller.tick_to(&now, protocol);
+            self.poller.tick_to(self.held.lent(), protocol);
         }
     }
 
@@ -170,30 +172,27 @@ impl KeyReports {
         self.poller.reset()
     }
 
-    /// The bytes of the boot report, made of the held keys. Rare, and with the usages on its own stack.
+    /// The bytes of the boot report, made of the held keys. Rare.
     #[inline(never)]
-    #[tactic(auto, using(crate::proofs::Standing::boot_after))]
     fn boot_anew(&self) -> [u8; 8]
         ensures { (past : List KeyCall) → StandsFor past self.now → result ≡ wanted_after past Input.Boot }
     {
-        reports::boot(&self.usages())
+        reports::boot(self.held.lent())
     }
 
-    /// The bytes of the report of ID 1, made of the held keys. Rare, and with the usages on its own stack.
+    /// The bytes of the report of ID 1, made of the held keys. Rare.
     #[inline(never)]
-    #[tactic(auto, using(crate::proofs::Standing::bitmap_after))]
     fn bitmap_anew(&self) -> [u8; 23]
         ensures { (past : List KeyCall) → StandsFor past self.now → result ≡ wanted_after past Input.One }
     {
-        reports::bitmap(&self.usages())
+        reports::bitmap(self.held.lent())
     }
 
-    /// The bytes of the report of ID 2, made of the held keys. Rare, and with the usages on its own stack.
+    /// The bytes of the report of ID 2, made of the held keys. Rare.
     #[inline(never)]
-    #[tactic(auto, using(crate::proofs::Standing::consumer_bytes_after))]
     fn consumer_anew(&self) -> [u8; 9]
         ensures { (past : List KeyCall) → StandsFor past self.now → result ≡ wanted_after past Input.Two }
     {
-        reports::consumer(&self.usages())
+        reports::consumer(self.held.lent())
     }
 }

@@ -1,6 +1,6 @@
 //! The held keys after the edges of a scan, and the bytes of the reports for them.
 
-ghost use Rattle.std.specs.Prelude.{List};
+ghost use Rattle.std.specs.Prelude.{◌≡◌, true, List};
 ghost use Rattle.layers.specs.HeldStands.{HeldStandsFor};
 ghost use Rattle.reports.specs.Calls.{PollerCall};
 ghost use Rattle.reports.specs.Stands.{StandsFor, IsMade, IsMadeFor};
@@ -13,9 +13,9 @@ use layers::{Held, KeyNo, Keymap};
 use reports::{Poller, Protocol};
 
 /// Takes the edges of a scan: the releases, then the presses, each by rising number.
-#[tactic(auto, using(crate::proofs::Edges::takes_edges))]
 pub(crate) fn take_edges(held: &mut Held, keymap: &Keymap, edges: &Edges)
-    ensures { Takes (with_edges keymap.now edges.now) held.old held.new }
+    ensures takes { Takes (with_edges keymap.now edges.now) held.old held.new }
+    ensures named { held.new.named ≡ true }
 {
     release_all(held, &edges.released);
     press_all(held, keymap, &edges.pressed);
@@ -42,6 +42,7 @@ fn press_all(held: &mut Held, keymap: &Keymap, pressed: &Scan)
 
 /// Makes the bytes of the protocol's reports where those of the other protocol were made last.
 pub(crate) fn make_for(poller: &mut Poller, held: &Held, protocol: Protocol)
+    requires { held.now.named ≡ true }
     ensures stands { (calls : List PollerCall) → StandsFor calls poller.old → StandsFor calls poller.new }
     ensures made { (past : List KeyCall) → HeldStandsFor (held_calls past) held.now
         → IsMade (wanted_after past) poller.old → IsMadeFor protocol (wanted_after past) poller.new }
@@ -51,12 +52,13 @@ pub(crate) fn make_for(poller: &mut Poller, held: &Held, protocol: Protocol)
     }
 }
 
-/// Makes the bytes of the protocol's reports. Rare, and with the usages on its own stack.
+/// Makes the bytes of the protocol's reports. Rare.
 #[inline(never)]
 fn make_anew(poller: &mut Poller, held: &Held, protocol: Protocol)
+    requires { held.now.named ≡ true }
     ensures stands { (calls : List PollerCall) → StandsFor calls poller.old → StandsFor calls poller.new }
     ensures made { (past : List KeyCall) → HeldStandsFor (held_calls past) held.now
         → IsMadeFor protocol (wanted_after past) poller.new }
 {
-    poller.make(&held.usages(), protocol);
+    poller.make(held.lent(), protocol);
 }

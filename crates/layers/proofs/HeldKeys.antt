@@ -1,12 +1,13 @@
 -- The codes of the held keys after one call more.
-use Rattle.std.proofs.Common.{◌≡◌, ◌≢◌, ◌≤◌, ℕ, zero, suc, ◌+◌, ◌<◌, ◌==◌, ◌||◌, not, Bool, true, false, Option, Some, None, is_none, is_some, List, [], ◌∷◌, length, get_or, refl, arith, sym, ap, ◌∙◌, inl, inr}
+use Rattle.std.proofs.Common.{◌≡◌, ◌≢◌, ◌≤◌, ℕ, zero, suc, ◌+◌, ◌<◌, ◌==◌, ◌||◌, ◌&&◌, not, if◌then◌else◌, Bool, true, false, Option, Some, None, is_none, is_some, List, [], ◌∷◌, length, get_or, refl, arith, sym, ap, ◌∙◌, inl, inr}
 use Rattle.std.proofs.Math.ListN.{set}
-use Rattle.std.proofs.lemmas.Bool.{cases_Bool, or_cases, cases_eq, eq-eqb, ne_eqb}
-use Rattle.std.proofs.lemmas.List.{get_or_default, get_or-set_same, get_or-set_other, length-set}
+use Rattle.std.proofs.lemmas.Bool.{cases_Bool, or_cases, cases_eq, cases_lt, eq-eqb, ne_eqb}
+use Rattle.std.proofs.lemmas.List.{get_or_default, get_or-set_same, get_or-set_other}
 use Rattle.layers.specs.Codes.{keys, none, transparent, activates}
 use Rattle.layers.specs.Keymaps.{code_at}
 use Rattle.layers.specs.Held.{any_below, passes, any_has, is_active, counts, resolved, code, HeldCall, Press, Release}
-use Rattle.layers.specs.HeldStands.{kept, HeldStandsFor}
+use Rattle.layers.specs.HeldStands.{HeldValue, kept, with_names, HeldStandsFor, Puts}
+use Rattle.layers.specs.Usages.{has_bit, IsNext, PassesNoneFrom}
 use Rattle.layers.specs.Resolved.{SomeHas, IsHighest, IsTransparent}
 
 pub any_below-zero : (test : ℕ → Bool) → any_below test 0 ≡ false
@@ -60,73 +61,140 @@ pub resolved-none : (entries : ℕ → ℕ → ℕ) (codes : ℕ → Option ℕ)
 unfolding resolved
 resolved-none entries codes key h = rw (h 3 (omega arith), h 2 (omega arith), h 1 (omega arith), h 0 (omega arith)) refl
 
-pub stands_new : (codes : List (Option ℕ)) → length codes ≡ keys → ((key : ℕ) → key < keys → kept codes key ≡ None) → HeldStandsFor [] codes
-unfolding code
-stands_new codes n h = record { whole = n; each = h }
+pub kept-clear : (codes held : List ℕ) (key : ℕ) → has_bit 32 held key ≡ false → kept codes held key ≡ None
+unfolding kept
+kept-clear codes held key e = rw e refl
 
-pub stands_released : (past : List HeldCall) (codes : List (Option ℕ)) (key : ℕ) → key < keys → HeldStandsFor past codes → HeldStandsFor (Release key ∷ past) (set codes key None)
+pub kept-held : (codes held : List ℕ) (key : ℕ) → has_bit 32 held key ≡ true → kept codes held key ≡ Some (get_or codes key 0)
+unfolding kept
+kept-held codes held key e = rw e refl
+
+pub kept-is_some : (codes held : List ℕ) (key : ℕ) → has_bit 32 held key ≡ is_some (kept codes held key)
+unfolding kept
+kept-is_some codes held key =
+    elim (cases_Bool (has_bit 32 held key)) [
+      | inl e ↦ rw e refl
+      | inr e ↦ rw e refl
+    ]
+
+kept-same : (codes a b : List ℕ) (key : ℕ) → has_bit 32 a key ≡ has_bit 32 b key → kept codes a key ≡ kept codes b key
+unfolding kept
+kept-same codes a b key e = rw e refl
+
+-- the code of a key that is held, and of one that is not
+pub kept-some_is : (codes held : List ℕ) (key d : ℕ) → key < length codes → is_some (kept codes held key) ≡ true → kept codes held key ≡ Some (get_or codes key d)
+kept-some_is codes held key d l e = kept-held codes held key (kept-is_some codes held key ∙ e) ∙ ap (λ (n : ℕ). Some n) (get_or_default codes key 0 d l)
+
+pub kept-none_is : (codes held : List ℕ) (key : ℕ) → is_some (kept codes held key) ≡ false → kept codes held key ≡ None
+kept-none_is codes held key e = kept-clear codes held key (kept-is_some codes held key ∙ e)
+
+kept-other : (codes other_codes held : List ℕ) (key : ℕ) → get_or codes key 0 ≡ get_or other_codes key 0 → kept codes held key ≡ kept other_codes held key
+unfolding kept
+kept-other codes other_codes held key e = rw e refl
+
+pub stands_new : (value : HeldValue) → ((key : ℕ) → has_bit 32 value.held key ≡ false) → HeldStandsFor [] value
 unfolding code
-stands_released past codes key l h = record {
-  whole = length-set codes key None ∙ h.whole;
+stands_new value z = record { each = λ key l. kept-clear value.codes value.held key (z key) }
+
+pub stands_named : (past : List HeldCall) (value : HeldValue) → HeldStandsFor past value → HeldStandsFor past (with_names value)
+stands_named past value h = record { each = h.each }
+
+pub stands_released : (past : List HeldCall) (codes held after : List ℕ) (old new : Bool) (key : ℕ)
+    → ((other : ℕ) → has_bit 32 after other ≡ (not (key == other) && has_bit 32 held other))
+    → HeldStandsFor past (record { codes = codes; held = held; named = old }) → HeldStandsFor (Release key ∷ past) (record { codes = codes; held = after; named = new })
+unfolding code
+stands_released past codes held after old new key r h = record {
   each = λ other m. elim (cases_eq key other) [
-    | inl e ↦ rw (← e, eq-eqb key key refl) (get_or-set_same codes key None None (rw h.whole l))
-    | inr d ↦ rw (ne_eqb key other d) (get_or-set_other codes key other None None (λ e. d (sym e)) ∙ h.each other m)
+    | inl e ↦ rw (eq-eqb key other e) (kept-clear codes after other (r other ∙ rw (eq-eqb key other e) refl))
+    | inr d ↦ rw (ne_eqb key other d) (kept-same codes after held other (r other ∙ rw (ne_eqb key other d) refl) ∙ h.each other m)
   ];
 }
-
-pub stands_pressed_again : (past : List HeldCall) (codes : List (Option ℕ)) (keymap : List ℕ) (key : ℕ) → key < keys → is_none (kept codes key) ≡ false → HeldStandsFor past codes → HeldStandsFor (Press keymap key ∷ past) codes
-unfolding code
-stands_pressed_again past codes keymap key l held h = record {
-  whole = h.whole;
-  each = λ other m. elim (cases_eq key other) [
-    | inl e ↦ (let t : is_none (code past other) ≡ false = rw (← h.each other m, ← e) held in
-        rw (eq-eqb key other e, t) (h.each other m))
-    | inr d ↦ rw (ne_eqb key other d) (h.each other m)
-  ];
-}
-
-pub stands_pressed : (past : List HeldCall) (codes : List (Option ℕ)) (keymap : List ℕ) (key is : ℕ) → key < keys → is_none (kept codes key) ≡ true → is ≡ resolved (code_at keymap) (kept codes) key → HeldStandsFor past codes → HeldStandsFor (Press keymap key ∷ past) (set codes key (Some is))
-unfolding code
-stands_pressed past codes keymap key is l free e h = record {
-  whole = length-set codes key (Some is) ∙ h.whole;
-  each = λ other m. elim (cases_eq key other) [
-    | inl f ↦ (let t : is_none (code past key) ≡ true = rw (← h.each key l) free in
-        rw (← f, eq-eqb key key refl, t)
-        (get_or-set_same codes key (Some is) None (rw h.whole l)
-        ∙ ap (λ (c : ℕ). Some c) (e ∙ resolved-same (code_at keymap) (kept codes) (λ before. code past before) key h.each)))
-    | inr d ↦ rw (ne_eqb key other d) (get_or-set_other codes key other (Some is) None (λ f. d (sym f)) ∙ h.each other m)
-  ];
-}
-
--- an element as a loop reads it
-pub kept-item : (codes : List (Option ℕ)) (i : ℕ) (item : Option ℕ) → i < length codes → item ≡ get_or codes i item → kept codes i ≡ item
-kept-item codes i item l e = get_or_default codes i None item l ∙ sym e
-
-pub any_below-item : (codes : List (Option ℕ)) (test : ℕ → Bool) (n i code : ℕ) (item : Option ℕ) → length codes ≡ n → i < length codes → item ≡ get_or codes i item → item ≡ Some code → test code ≡ true
-    → any_below (λ key. passes test (kept codes key)) n ≡ true
-any_below-item codes test n i code item e l is some t =
-    any_below-true (λ key. passes test (kept codes key)) n i (rw (← e) l) (rw (kept-item codes i item l is, some) t)
-
-pub any_below-next : (codes : List (Option ℕ)) (test : ℕ → Bool) (i : ℕ) (item : Option ℕ) → i < length codes → item ≡ get_or codes i item
-    → any_below (λ key. passes test (kept codes key)) (i + 1) ≡ (passes test item || any_below (λ key. passes test (kept codes key)) i)
-any_below-next codes test i item l is = rw (any_below-more (λ key. passes test (kept codes key)) i, kept-item codes i item l is) refl
-
-pub any_below-next_some : (codes : List (Option ℕ)) (test : ℕ → Bool) (i code : ℕ) (item : Option ℕ) → i < length codes → item ≡ get_or codes i item → item ≡ Some code
-    → any_below (λ key. passes test (kept codes key)) (i + 1) ≡ (test code || any_below (λ key. passes test (kept codes key)) i)
-any_below-next_some codes test i code item l is some = any_below-next codes test i item l is ∙ rw some refl
-
-pub any_below-next_none : (codes : List (Option ℕ)) (test : ℕ → Bool) (i : ℕ) (item : Option ℕ) → i < length codes → item ≡ get_or codes i item → item ≡ None
-    → any_below (λ key. passes test (kept codes key)) (i + 1) ≡ any_below (λ key. passes test (kept codes key)) i
-any_below-next_none codes test i item l is none = any_below-next codes test i item l is ∙ rw none refl
-
-pub counts-true : (entries : ℕ → ℕ → ℕ) (codes : ℕ → Option ℕ) (key layer : ℕ) → is_active codes layer ≡ true → not (entries layer key == 1) ≡ true → counts entries codes key layer ≡ true
-counts-true entries codes key layer a n = rw (a, n) refl
 
 pub is_none-some : (o : Option ℕ) (b : Bool) → is_some o ≡ not b → is_none o ≡ b
 is_none-some None true e = refl
 is_none-some None false e = cc
 is_none-some (Some x) true e = cc
 is_none-some (Some x) false e = refl
+
+pub stands_pressed_again : (past : List HeldCall) (value : HeldValue) (keymap : List ℕ) (key : ℕ) → key < keys → is_some (kept value.codes value.held key) ≡ true → HeldStandsFor past value → HeldStandsFor (Press keymap key ∷ past) value
+unfolding code
+stands_pressed_again past value keymap key l held h = record {
+  each = λ other m. elim (cases_eq key other) [
+    | inl e ↦ (let t : is_none (code past other) ≡ false = is_none-some (code past other) false (rw (← h.each other m, ← e) held) in
+        rw (eq-eqb key other e, t) (h.each other m))
+    | inr d ↦ rw (ne_eqb key other d) (h.each other m)
+  ];
+}
+
+pub stands_put : (past : List HeldCall) (old new : HeldValue) (keymap : List ℕ) (key : ℕ) → key < keys → is_some (kept old.codes old.held key) ≡ false
+    → Puts old new key (resolved (code_at keymap) (kept old.codes old.held) key) → HeldStandsFor past old → HeldStandsFor (Press keymap key ∷ past) new
+unfolding code
+stands_put past old new keymap key l free p h = record {
+  each = λ other m. p.each other ∙ elim (cases_eq key other) [
+    | inl f ↦ (let t : is_none (code past key) ≡ true = is_none-some (code past key) true (rw (← h.each key l) free) in
+        rw (← f, eq-eqb key key refl, t)
+        (ap (λ (c : ℕ). Some c) (resolved-same (code_at keymap) (kept old.codes old.held) (λ before. code past before) key h.each)))
+    | inr d ↦ rw (ne_eqb key other d) (h.each other m)
+  ];
+}
+
+-- a key that is put among those that are held, as its code and its bit
+pub kept-put : (codes held after : List ℕ) (key is : ℕ) → key < length codes → ((other : ℕ) → has_bit 32 after other ≡ (key == other || has_bit 32 held other))
+    → (other : ℕ) → kept (set codes key is) after other ≡ (if key == other then Some is else kept codes held other)
+kept-put codes held after key is l b other =
+    elim (cases_eq key other) [
+      | inl e ↦
+          rw (← e, eq-eqb key key refl)
+          (kept-held (set codes key is) after key (b key ∙ rw (eq-eqb key key refl) refl) ∙ ap (λ (n : ℕ). Some n) (get_or-set_same codes key is 0 l))
+      | inr d ↦
+          rw (ne_eqb key other d)
+          (kept-same (set codes key is) after held other (b other ∙ rw (ne_eqb key other d) refl) ∙ kept-other (set codes key is) codes held other (get_or-set_other codes key other is 0 (λ e. d (sym e))))
+    ]
+
+-- the keys from one number to another, none of which passes
+any_below-skip : (test : ℕ → Bool) (from to : ℕ) → from ≤ to → ((k : ℕ) → from ≤ k → k < to → test k ≡ false) → any_below test to ≡ any_below test from
+unfolding any_below
+any_below-skip test from zero l h = let e : from ≡ 0 = omega arith in rw e refl
+any_below-skip test from (suc n) l h =
+    elim (cases_lt from (suc n)) [
+      | inl m ↦ rw (h n (omega arith) (omega arith), any_below-skip test from n (omega arith) (λ k a b. h k a (omega arith))) refl
+      | inr m ↦ let e : from ≡ suc n = omega arith in rw e refl
+    ]
+
+-- up to the next key that is held, and with it
+pub any_below-next : (codes held : List ℕ) (test : ℕ → Bool) (from key d : ℕ) → key < length codes → IsNext (has_bit 32 held) from key
+    → any_below (λ k. passes test (kept codes held k)) (key + 1) ≡ (test (get_or codes key d) || any_below (λ k. passes test (kept codes held k)) from)
+any_below-next codes held test from key d l n =
+    any_below-more (λ k. passes test (kept codes held k)) key
+    ∙ rw (any_below-skip (λ k. passes test (kept codes held k)) from key n.after (λ k a b. rw (kept-clear codes held k (n.first k a b)) refl), kept-held codes held key n.is, get_or_default codes key 0 d l) refl
+
+-- all keys, where none is held from one number on
+pub any_below-rest : (codes held : List ℕ) (test : ℕ → Bool) (from : ℕ) → from ≤ keys → PassesNoneFrom (has_bit 32 held) from
+    → any_has (kept codes held) test ≡ any_below (λ k. passes test (kept codes held k)) from
+any_below-rest codes held test from l n =
+    any_below-skip (λ k. passes test (kept codes held k)) from keys l (λ k a b. rw (kept-clear codes held k (n.each k a)) refl)
+
+pub counts-true : (entries : ℕ → ℕ → ℕ) (codes : ℕ → Option ℕ) (key layer : ℕ) → is_active codes layer ≡ true → not (entries layer key == 1) ≡ true → counts entries codes key layer ≡ true
+counts-true entries codes key layer a n = rw (a, n) refl
+
+-- a layer above layer 0 that no code activates
+pub counts-inactive : (entries : ℕ → ℕ → ℕ) (codes : ℕ → Option ℕ) (key layer : ℕ) → 0 < layer → any_has codes (activates layer) ≡ false → counts entries codes key layer ≡ false
+counts-inactive entries codes key layer l e = rw (ne_eqb layer 0 (omega arith), e) refl
+
+not_transparent : {P : Type 0} → (is : ℕ) → not (is == 1) ≡ true → is ≡ 1 → P
+not_transparent is n e = let f : false ≡ true = rw e at n in cc
+
+-- the search from the top, at the first layer that gives a code
+pub resolved-here : (entries : ℕ → ℕ → ℕ) (codes : ℕ → Option ℕ) (key layer is : ℕ) → layer < 4
+    → is ≡ (if is_active codes layer then entries layer key else transparent) → not (is == 1) ≡ true
+    → ((above : ℕ) → layer < above → above < 4 → counts entries codes key above ≡ false) → is ≡ resolved entries codes key
+resolved-here entries codes key layer is l i n h =
+    elim (cases_Bool (is_active codes layer)) [
+      | inl on ↦
+          let e : is ≡ entries layer key = i ∙ rw on refl in
+          e ∙ sym (resolved-found entries codes key layer l (counts-true entries codes key layer on (rw e at n)) h)
+      | inr off ↦ not_transparent is n (i ∙ rw off refl)
+    ]
 
 -- the calls one by one
 pub code-press_new : (past : List HeldCall) (keymap : List ℕ) (key : ℕ) → code past key ≡ None → code (Press keymap key ∷ past) key ≡ Some (resolved (code_at keymap) (code past) key)

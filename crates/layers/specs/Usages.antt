@@ -12,10 +12,12 @@ key_usages past usage = any_has (code past) (names_key_usage usage)
 abbrev pub consumer_usages : List HeldCall → ℕ → Bool
 consumer_usages past usage = any_has (code past) (names_consumer usage)
 
--- two sets of usages, of page 07h and of page 0Ch: a bit for each number, eight to a byte and 64 to a word
+-- two sets of usages, of page 07h and of page 0Ch: a bit for each number, eight to a byte and 32 to a word; and a bit
+-- for each word of the second that may have one
 pub record UsageSets : Type 0 where
   pub key_bits : List ℕ
   pub consumer_words : List ℕ
+  pub occupied : List ℕ
 
 -- the bit of a number is set in cells of so many bits each
 abbrev pub has_bit : ℕ → List ℕ → ℕ → Bool
@@ -27,7 +29,11 @@ has_key usages usage = has_bit 8 usages.key_bits usage
 
 -- a usage of page 0Ch is in the set
 unfoldable pub has_consumer : UsageSets → ℕ → Bool
-has_consumer usages usage = has_bit 64 usages.consumer_words usage
+has_consumer usages usage = has_bit 32 usages.consumer_words usage
+
+-- each number of a set lies in a word that is marked
+pub record AreMarked (words occupied : List ℕ) : Type 0 where
+  pub each : (number : ℕ) → has_bit 32 words number ≡ true → has_bit 32 occupied (number / 32) ≡ true
 
 -- the least number at or after `from` that passes
 pub record IsNext (test : ℕ → Bool) (from number : ℕ) : Type 0 where

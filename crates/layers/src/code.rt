@@ -18,6 +18,9 @@ pub enum KeymapError {
     BadCode,
 }
 
+/// How many layers there are.
+pub(crate) const LAYERS: usize = 4;
+
 /// How many keys there are.
 pub(crate) const KEYS: usize = 96;
 
@@ -162,11 +165,16 @@ impl Code {
         }
     }
 
-    /// Whether a key with this code activates the layer while it is held.
-    pub(crate) fn activates(self, layer: LayerNo) -> bool
-        ensures { result ≡ activates layer self }
+    /// The layer that a key with this code activates while it is held, if it activates one.
+    pub(crate) fn layer(self) -> Option<LayerNo>
+        ensures { MatchOption result ((layer : ℕ) → activates layer self ≡ false) (λ l. (layer : ℕ) → activates layer self ≡ (l == layer)) }
     {
-        MOMENTARY_BASE + layer.layer as u16 == self.bits
+        match self.bits {
+            MOMENTARY_FIRST..=MOMENTARY_LAST => Some(LayerNo {
+                layer: (self.bits - MOMENTARY_BASE) as u8,
+            }),
+            _ => None,
+        }
     }
 
     /// The bits of the code.

@@ -10,6 +10,7 @@
 //! press. `keymap_store` keeps a `Keymap`, `key_reports` a `Held`, and `keyboard` reads commands.
 #![tactic(auto)]
 
+mod bits;
 pub mod code;
 pub mod command;
 pub mod held;

@@ -1,35 +1,38 @@
 //! The usages of the keys that are held, as sets of bits.
 
-ghost use Rattle.std.specs.Prelude.{◌≡◌, ◌+◌, ◌*◌, ◌/◌, ◌<◌, ◌≤◌, ◌==◌, ◌||◌, ℕ, List, true, false, length, slice_index, MatchOption, IfSome};
+ghost use Rattle.std.specs.Prelude.{◌≡◌, ◌+◌, ◌*◌, ◌/◌, ◌<◌, ◌==◌, ◌||◌, ◌≤◌, ℕ, List, true, false, length, slice_index, MatchOption, IfSome};
 ghost use Rattle.std.specs.Int.{bit_at};
 ghost use Rattle.layers.specs.Codes.{names_key_usage, names_consumer};
-ghost use Rattle.layers.specs.Usages.{has_bit, has_key, has_consumer, IsNext, PassesNoneFrom, IsNextConsumer, HasNoConsumerFrom};
+ghost use Rattle.layers.specs.Usages.{has_bit, has_key, has_consumer, AreMarked, IsNextConsumer, HasNoConsumerFrom};
 
 use crate::Code;
+use crate::bits::{contains, insert, next_member};
 use std::marker::Model;
 
-/// How many words of 64 bits hold the usages 000h to 3FFh.
-const CONSUMER_WORDS: usize = 16;
+/// How many words of 32 bits hold the usages 000h to 3FFh.
+const CONSUMER_WORDS: usize = 32;
 
 /// A set of usages of the keyboard page 07h (HUT section 10), and one of usages 001h to 3FFh of the
 /// consumer page 0Ch (HUT section 15).
 #[derive(Clone, Copy, Debug, PartialEq, Eq)]
 pub struct Usages {
     keys: [u8; 32],
-    consumer: [u64; CONSUMER_WORDS],
+    consumer: [u32; CONSUMER_WORDS],
+    /// The words of `consumer` that have a usage, as bits.
+    occupied: [u32; 1],
 }
 
 impl Model for Usages {
     ghost use Rattle.std.specs.Prelude.{◌≡◌, length};
-    ghost use Rattle.layers.specs.Usages.{UsageSets};
+    ghost use Rattle.layers.specs.Usages.{UsageSets, AreMarked};
 
     ghost Value = { UsageSets };
 
-    ghost view = { λ u. record { key_bits = u.keys; consumer_words = u.consumer } };
+    ghost view = { λ u. record { key_bits = u.keys; consumer_words = u.consumer; occupied = u.occupied } };
 
-    ghost invariant = { λ u. (length u.keys ≡ 32) × (length u.consumer ≡ 16) };
+    ghost invariant = { λ u. (length u.keys ≡ 32) × (length u.consumer ≡ 32) × (length u.occupied ≡ 1) × AreMarked u.consumer u.occupied };
 
-    ghost inverse = { λ s. record { keys = s.key_bits; consumer = s.consumer_words } };
+    ghost inverse = { λ s. record { keys = s.key_bits; consumer = s.consumer_words; occupied = s.occupied } };
 }
 
 impl Usages {
@@ -41,7 +44,18 @@ impl Usages {
         Usages {
             keys: [0; 32],
             consumer: [0; CONSUMER_WORDS],
+            occupied: [0],
         }
+    }
+
+    /// Leaves no usage.
+    pub(crate) fn clear(&mut self)
+        ensures no_keys { (usage : ℕ) → has_key self.new usage ≡ false }
+        ensures no_consumer { (usage : ℕ) → has_consumer self.new usage ≡ false }
+    {
+        self.keys = [0; 32];
+        self.consumer = [0; CONSUMER_WORDS];
+        self.occupied = [0];
     }
 
     /// Adds the usage that a code names, if it names one.
@@ -50,7 +64,7 @@ impl Usages {
         ensures consumer { (usage : ℕ) → has_consumer self.new usage ≡ (names_consumer usage code || has_consumer self.old usage) }
     {
         insert_key_usage(&mut self.keys, code);
-        insert_consumer(&mut self.consumer, code);
+        insert_consumer(&mut self.consumer, &mut self.occupied, code);
     }
 
     /// Whether a usage of page 07h is in the set.
@@ -79,7 +93,7 @@ impl Usages {
     pub fn has_consumer(&self, usage: u16) -> bool
         ensures { result ≡ has_consumer self.now usage }
     {
-        usage < 0x400 && (self.consumer[usage as usize / 64] >> (usage % 64)) & 1 == 1
+        usage < 0x400 && contains(&self.consumer, usage)
     }
 
     /// The least usage of page 0Ch in the set that is at or after `from`, if there is one.
@@ -87,31 +101,11 @@ impl Usages {
         ensures next { MatchOption result (HasNoConsumerFrom self.now from) (λ usage. IsNextConsumer self.now from usage) }
         ensures within { IfSome result (λ usage. usage < 0x400) }
     {
-        next_member(&self.consumer, from)
-    }
-}
-
-/// The least number at or after `from` in a set of bits, 64 to a word, if there is one.
-fn next_member(words: &[u64], from: u16) -> Option<u16>
-    requires { length words.now ≡ 16 }
-    ensures next { MatchOption result (PassesNoneFrom (has_bit 64 words.now) from) (λ number. IsNext (has_bit 64 words.now) from number) }
-    ensures within { IfSome result (λ number. number < 0x400) }
-{
-    let first = from as usize / 64;
-    if first >= words.len() {
-        return None;
-    }
-    let bits = words[first] >> (from % 64);
-    if bits != 0 {
-        return Some(from + bits.trailing_zeros() as u16);
-    }
-    for place in first + 1..words.len() {
-        let bits = words[place];
-        if bits != 0 {
-            return Some(64 * place as u16 + bits.trailing_zeros() as u16);
+        match next_member(&self.occupied, from / 32) {
+            Some(place) => next_member(&self.consumer, later(from, 32 * place)),
+            None => None,
         }
     }
-    None
 }
 
 /// Adds the usage of page 07h that a code names, if it names one.
@@ -124,13 +118,25 @@ fn insert_key_usage(set: &mut [u8], code: Code)
     }
 }
 
-/// Adds the usage of page 0Ch that a code names, if it names one.
-fn insert_consumer(set: &mut [u64], code: Code)
-    requires { length set.old ≡ 16 }
-    ensures { (usage : ℕ) → has_bit 64 set.new usage ≡ (names_consumer usage code || has_bit 64 set.old usage) }
+/// The later of two numbers.
+fn later(a: u16, b: u16) -> u16
+    ensures first { a ≤ result }
+    ensures second { b ≤ result }
+    ensures least { (n : ℕ) → n < result → a ≤ n → n < b }
+{
+    if a < b { b } else { a }
+}
+
+/// Adds the usage of page 0Ch that a code names, if it names one, and marks its word.
+fn insert_consumer(set: &mut [u32], occupied: &mut [u32], code: Code)
+    requires words { length set.old ≡ 32 }
+    requires marks { length occupied.old ≡ 1 }
+    ensures adds { (usage : ℕ) → has_bit 32 set.new usage ≡ (names_consumer usage code || has_bit 32 set.old usage) }
+    ensures marked { AreMarked set.old occupied.old → AreMarked set.new occupied.new }
 {
     if let Some(usage) = code.consumer_usage() {
-        insert_word_bit(set, usage);
+        insert(set, usage);
+        insert(occupied, usage / 32);
     }
 }
 
@@ -140,12 +146,4 @@ fn insert_byte_bit(set: &mut [u8], number: u8)
     ensures { (other : ℕ) → has_bit 8 set.new other ≡ ((number == other) || has_bit 8 set.old other) }
 {
     set[number as usize / 8] |= 1 << (number % 8);
-}
-
-/// Adds a number to a set of bits, 64 to a word.
-fn insert_word_bit(set: &mut [u64], number: u16)
-    requires { number / 64 < length set.old }
-    ensures { (other : ℕ) → has_bit 64 set.new other ≡ ((number == other) || has_bit 64 set.old other) }
-{
-    set[number as usize / 64] |= 1 << (number % 64);
 }

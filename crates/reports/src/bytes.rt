@@ -65,7 +65,7 @@ fn next_listed(usages: &Usages, from: u8) -> Option<u8>
     ensures { FindsNext (has_key usages.now) from 164 result }
 {
     let bits = usages.key_bits();
-    for byte in from / 8..=LAST_USAGE / 8 {
+    for byte in from / 8..LAST_USAGE / 8 + 1 {
         if let Some(bit) = next_bit(bits[byte as usize], from.saturating_sub(8 * byte)) {
             let usage = 8 * byte + bit;
             return if usage <= LAST_USAGE {

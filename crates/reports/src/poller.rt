@@ -243,8 +243,9 @@ impl Poller {
     {
         match self.queue.pop() {
             Some(front) => {
-                self.count_as_sent(&front);
-                Some(front)
+                let report = report_of(front.as_slice());
+                self.count_as_sent(&report);
+                Some(report)
             },
             None => None,
         }

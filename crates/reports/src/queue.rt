@@ -7,6 +7,7 @@ ghost use Rattle.circular_buffer.specs.Buffer.{keep_last};
 
 use crate::Report;
 use crate::sent::are_same;
+use arrayvec::ArrayVec;
 use circular_buffer::HeapCircularBuffer;
 use std::alloc::{AllocError, Global};
 use std::marker::Model;
@@ -14,10 +15,13 @@ use std::marker::Model;
 /// How many reports can wait.
 const ROOM: usize = 8;
 
+/// The bytes of a report that waits: the longest has 23.
+pub(crate) type Waiting = ArrayVec<u8, 24>;
+
 /// At most eight reports; where one more comes, the oldest is dropped.
 #[derive(Debug, Drop)]
 pub(crate) struct Queue {
-    ring: HeapCircularBuffer<Report>,
+    ring: HeapCircularBuffer<Waiting>,
 }
 
 impl Model for Queue {
@@ -41,17 +45,17 @@ impl Queue {
 
     /// Appends the new bytes of a report where they are not the old ones.
     pub(crate) fn push_change<const N: usize>(&mut self, before: &[u8; N], now: &[u8; N])
-        requires { N ≤ 32 }
+        requires { N ≤ 24 }
         ensures { self.new ≡ (if bytes_eq before.now now.now then self.old else keep_last 8 (self.old ++ now.now ∷ [])) }
     {
         if !are_same(before, now) {
-            self.push(report_of(now));
+            self.push(waiting_of(now));
         }
     }
 
     /// Appends a report.
     #[tactic(auto, using(crate::proofs::Ring::pushed_on))]
-    fn push(&mut self, report: Report)
+    fn push(&mut self, report: Waiting)
         ensures { self.new ≡ keep_last 8 (self.old ++ report.items ∷ []) }
     {
         self.ring.push_back(report);
@@ -65,7 +69,7 @@ impl Queue {
     }
 
     /// Takes the report that has waited longest.
-    pub(crate) fn pop(&mut self) -> Option<Report>
+    pub(crate) fn pop(&mut self) -> Option<Waiting>
         ensures front { option_map (λ r. r.items) result ≡ slice_get self.old 0 }
         ensures rest { self.new ≡ drop 1 self.old }
     {
@@ -77,6 +81,18 @@ impl Queue {
         ensures { self.new ≡ [] }
     {
         self.ring.clear();
+    }
+}
+
+/// A report of these bytes, as it waits.
+fn waiting_of(bytes: &[u8]) -> Waiting
+    requires { length bytes.now ≤ 24 }
+    ensures { result.items ≡ bytes.now }
+{
+    let mut report = Waiting::new();
+    match report.try_extend_from_slice(bytes) {
+        Ok(()) => report,
+        Err(_) => unreachable!(),
     }
 }
 

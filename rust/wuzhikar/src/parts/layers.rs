@@ -10,6 +10,7 @@
 //! an entry is what the last command that writes it says, and that a held key keeps the code of its
 //! press. `keymap_store` keeps a `Keymap`, `key_reports` a `Held`, and `keyboard` reads commands.
 
+mod bits;
 pub mod code;
 pub mod command;
 pub mod held;

@@ -36,9 +36,9 @@ impl KeyReports {
     /// start.
     pub fn restart(&mut self) {
         self.debouncer = Debouncer::new();
-        self.held = Held::new();
+        self.held.clear();
         self.poller.reset();
-        self.poller.make(&Usages::none(), Protocol::Report);
+        self.poller.make(self.held.lent(), Protocol::Report);
     }
 
     /// Takes one scan, one millisecond after the last. The keys that the debounced scan releases are
@@ -51,8 +51,7 @@ impl KeyReports {
         } else {
             make_for(&mut self.poller, &self.held, protocol);
             take_edges(&mut self.held, keymap, &edges);
-            let now = self.held.usages();
-            self.poller.tick_to(&now, protocol);
+            self.poller.tick_to(self.held.lent(), protocol);
         }
     }
 
@@ -119,21 +118,21 @@ impl KeyReports {
         self.poller.reset()
     }
 
-    /// The bytes of the boot report, made of the held keys. Rare, and with the usages on its own stack.
+    /// The bytes of the boot report, made of the held keys. Rare.
     #[inline(never)]
     fn boot_anew(&self) -> [u8; 8] {
-        crate::parts::reports::boot(&self.usages())
+        crate::parts::reports::boot(self.held.lent())
     }
 
-    /// The bytes of the report of ID 1, made of the held keys. Rare, and with the usages on its own stack.
+    /// The bytes of the report of ID 1, made of the held keys. Rare.
     #[inline(never)]
     fn bitmap_anew(&self) -> [u8; 23] {
-        crate::parts::reports::bitmap(&self.usages())
+        crate::parts::reports::bitmap(self.held.lent())
     }
 
-    /// The bytes of the report of ID 2, made of the held keys. Rare, and with the usages on its own stack.
+    /// The bytes of the report of ID 2, made of the held keys. Rare.
     #[inline(never)]
     fn consumer_anew(&self) -> [u8; 9] {
-        crate::parts::reports::consumer(&self.usages())
+        crate::parts::reports::consumer(self.held.lent())
     }
 }

@@ -33,8 +33,8 @@ pub(crate) fn make_for(poller: &mut Poller, held: &Held, protocol: Protocol) {
     }
 }
 
-/// Makes the bytes of the protocol's reports. Rare, and with the usages on its own stack.
+/// Makes the bytes of the protocol's reports. Rare.
 #[inline(never)]
 fn make_anew(poller: &mut Poller, held: &Held, protocol: Protocol) {
-    poller.make(&held.usages(), protocol);
+    poller.make(held.lent(), protocol);
 }

@@ -14,6 +14,9 @@ pub enum KeymapError {
     BadCode,
 }
 
+/// How many layers there are.
+pub(crate) const LAYERS: usize = 4;
+
 /// How many keys there are.
 pub(crate) const KEYS: usize = 96;
 
@@ -126,9 +129,14 @@ impl Code {
         }
     }
 
-    /// Whether a key with this code activates the layer while it is held.
-    pub(crate) fn activates(self, layer: LayerNo) -> bool {
-        MOMENTARY_BASE + layer.layer as u16 == self.bits
+    /// The layer that a key with this code activates while it is held, if it activates one.
+    pub(crate) fn layer(self) -> Option<LayerNo> {
+        match self.bits {
+            MOMENTARY_FIRST..=MOMENTARY_LAST => Some(LayerNo {
+                layer: (self.bits - MOMENTARY_BASE) as u8,
+            }),
+            _ => None,
+        }
     }
 
     /// The bits of the code.

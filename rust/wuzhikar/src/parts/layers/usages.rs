@@ -2,21 +2,24 @@
 //! The usages of the keys that are held, as sets of bits.
 
 use crate::parts::layers::Code;
+use crate::parts::layers::bits::{contains, insert, next_member};
 
-/// How many words of 64 bits hold the usages 000h to 3FFh.
-const CONSUMER_WORDS: usize = 16;
+/// How many words of 32 bits hold the usages 000h to 3FFh.
+const CONSUMER_WORDS: usize = 32;
 
 /// A set of usages of the keyboard page 07h (HUT section 10), and one of usages 001h to 3FFh of the
 /// consumer page 0Ch (HUT section 15).
 #[derive(Clone, Copy, Debug, PartialEq, Eq)]
 pub struct Usages {
     keys: [u8; 32],
-    consumer: [u64; CONSUMER_WORDS],
+    consumer: [u32; CONSUMER_WORDS],
+    /// The words of `consumer` that have a usage, as bits.
+    occupied: [u32; 1],
 }
 
 impl Usages {
     /// Zeros, where memory waits for a keyboard to start there.
-    pub(crate) const UNSTARTED: Self = Usages { keys: [0; 32], consumer: [0; CONSUMER_WORDS] };
+    pub(crate) const UNSTARTED: Self = Usages { keys: [0; 32], consumer: [0; CONSUMER_WORDS], occupied: [0; 1] };
 }
 
 impl Usages {
@@ -25,13 +28,21 @@ impl Usages {
         Usages {
             keys: [0; 32],
             consumer: [0; CONSUMER_WORDS],
+            occupied: [0],
         }
+    }
+
+    /// Leaves no usage.
+    pub(crate) fn clear(&mut self) {
+        self.keys = [0; 32];
+        self.consumer = [0; CONSUMER_WORDS];
+        self.occupied = [0];
     }
 
     /// Adds the usage that a code names, if it names one.
     pub(crate) fn add(&mut self, code: Code) {
         insert_key_usage(&mut self.keys, code);
-        insert_consumer(&mut self.consumer, code);
+        insert_consumer(&mut self.consumer, &mut self.occupied, code);
     }
 
     /// Whether a usage of page 07h is in the set.
@@ -51,32 +62,16 @@ impl Usages {
 
     /// Whether a usage of page 0Ch is in the set.
     pub fn has_consumer(&self, usage: u16) -> bool {
-        usage < 0x400 && (self.consumer[usage as usize / 64] >> (usage % 64)) & 1 == 1
+        usage < 0x400 && contains(&self.consumer, usage)
     }
 
     /// The least usage of page 0Ch in the set that is at or after `from`, if there is one.
     pub fn next_consumer(&self, from: u16) -> Option<u16> {
-        next_member(&self.consumer, from)
-    }
-}
-
-/// The least number at or after `from` in a set of bits, 64 to a word, if there is one.
-fn next_member(words: &[u64], from: u16) -> Option<u16> {
-    let first = from as usize / 64;
-    if first >= words.len() {
-        return None;
-    }
-    let bits = words[first] >> (from % 64);
-    if bits != 0 {
-        return Some(from + bits.trailing_zeros() as u16);
-    }
-    for place in first + 1..words.len() {
-        let bits = words[place];
-        if bits != 0 {
-            return Some(64 * place as u16 + bits.trailing_zeros() as u16);
+        match next_member(&self.occupied, from / 32) {
+            Some(place) => next_member(&self.consumer, later(from, 32 * place)),
+            None => None,
         }
     }
-    None
 }
 
 /// Adds the usage of page 07h that a code names, if it names one.
@@ -86,19 +81,20 @@ fn insert_key_usage(set: &mut [u8], code: Code) {
     }
 }
 
-/// Adds the usage of page 0Ch that a code names, if it names one.
-fn insert_consumer(set: &mut [u64], code: Code) {
+/// The later of two numbers.
+fn later(a: u16, b: u16) -> u16 {
+    if a < b { b } else { a }
+}
+
+/// Adds the usage of page 0Ch that a code names, if it names one, and marks its word.
+fn insert_consumer(set: &mut [u32], occupied: &mut [u32], code: Code) {
     if let Some(usage) = code.consumer_usage() {
-        insert_word_bit(set, usage);
+        insert(set, usage);
+        insert(occupied, usage / 32);
     }
 }
 
 /// Adds a number to a set of bits, eight to a byte.
 fn insert_byte_bit(set: &mut [u8], number: u8) {
     set[number as usize / 8] |= 1 << (number % 8);
-}
-
-/// Adds a number to a set of bits, 64 to a word.
-fn insert_word_bit(set: &mut [u64], number: u16) {
-    set[number as usize / 64] |= 1 << (number % 64);
 }

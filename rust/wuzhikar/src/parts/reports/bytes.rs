@@ -54,7 +54,7 @@ fn places(usages: &Usages) -> [u8; 6] {
 /// The least usage from `from` to A4h in the set, if there is one.
 fn next_listed(usages: &Usages, from: u8) -> Option<u8> {
     let bits = usages.key_bits();
-    for byte in from / 8..=LAST_USAGE / 8 {
+    for byte in from / 8..LAST_USAGE / 8 + 1 {
         if let Some(bit) = next_bit(bits[byte as usize], from.saturating_sub(8 * byte)) {
             let usage = 8 * byte + bit;
             return if usage <= LAST_USAGE {

@@ -29,15 +29,15 @@ pub returns-else-is_none-clause-stands : goal.returns-else-is_none-clause-stands
 returns-else-is_none-clause-stands c past s =
     stands-scanned past c.args.scan c.args.keymap.now c.args.protocol (record { debouncer = c.self.inside.debouncer; held = c.self.inside.held; poller = c.self.inside.poller })
     (record { debouncer = c.feed-edges.new.self; held = c.take_edges.new.held; poller = c.tick_to.new.self })
-    c.feed-edges.result (has_key c.usages-now.result) (has_consumer c.usages-now.result)
+    c.feed-edges.result (has_key c.lent.result.now) (has_consumer c.lent.result.now)
     (record {
       fed = c.feed-edges.ensures.stands;
       released_is = c.feed-edges.ensures.released;
       pressed_is = c.feed-edges.ensures.pressed;
-      takes = c.take_edges.ensures;
+      takes = c.take_edges.ensures.takes;
     })
     (record {
-      now = record { keys = c.usages-now.ensures.keys; consumer = c.usages-now.ensures.consumer };
+      now = record { keys = c.lent.ensures.keys; consumer = c.lent.ensures.consumer };
       ticks = λ before h calls p. c.tick_to.ensures.stands calls (wanted_after before) (c.make_for.ensures.made before h.held h.made) (c.make_for.ensures.stands calls p);
       made = λ before h. c.tick_to.ensures.made (wanted_after before) (c.make_for.ensures.made before h.held h.made);
     })

@@ -1,11 +1,11 @@
-use Rattle.std.proofs.Common.{refl, None}
-use Rattle.std.proofs.lemmas.List.{get_or-replicate}
-use Rattle.layers.proofs.HeldKeys.{stands_new}
-use Rattle.layers.proofs.NamedUsages.{named_none}
+use Rattle.std.proofs.Common.{refl, false}
+use Rattle.layers.proofs.BitSets.{has_bit-zeros}
+use Rattle.layers.proofs.HeldKeys.{kept-clear, stands_new}
+use Rattle.layers.proofs.NamedUsages.{named_none, no_layer}
 use Rattle.layers.proofs.held.Held.new.Goals as goal
 
-pub invariant_of-result : goal.invariant_of-result
-invariant_of-result c = (refl, λ e. named_none _ _ (λ key l. get_or-replicate 96 key None None l) c.none.ensures.no_keys c.none.ensures.no_consumer)
+pub invariant_of-result-2 : goal.invariant_of-result-2
+invariant_of-result-2 c = (refl, refl, refl, λ e. named_none _ _ _ (λ key. kept-clear _ _ key (has_bit-zeros 32 3 key)) c.none.ensures.no_keys c.none.ensures.no_consumer no_layer)
 
-pub returns : goal.returns
-returns c = stands_new _ refl (λ key l. get_or-replicate 96 key None None l)
+pub returns-clause-stands : goal.returns-clause-stands
+returns-clause-stands c = stands_new _ (λ key. has_bit-zeros 32 3 key)

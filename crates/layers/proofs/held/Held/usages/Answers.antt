@@ -7,16 +7,16 @@ use Rattle.layers.proofs.held.Held.usages.Goals as goal
 
 pub returns-then-self-clause-keys : goal.returns-then-self-clause-keys
 returns-then-self-clause-keys c past usage h =
-    (c.self.invariant.1 c.if-self.true).keys usage ∙ any_has-same (kept c.self.inside.codes) (code past) (names_key_usage usage) (rw (← c.self.view_is) at h.each)
+    (c.self.invariant.3 c.if-self.true).keys usage ∙ any_has-same (kept c.self.inside.codes c.self.inside.held) (code past) (names_key_usage usage) (rw (← c.self.view_is) at h.each)
 
 pub returns-then-self-clause-consumer : goal.returns-then-self-clause-consumer
 returns-then-self-clause-consumer c past usage h =
-    (c.self.invariant.1 c.if-self.true).consumer usage ∙ any_has-same (kept c.self.inside.codes) (code past) (names_consumer usage) (rw (← c.self.view_is) at h.each)
+    (c.self.invariant.3 c.if-self.true).consumer usage ∙ any_has-same (kept c.self.inside.codes c.self.inside.held) (code past) (names_consumer usage) (rw (← c.self.view_is) at h.each)
 
 pub returns-else-self-clause-keys : goal.returns-else-self-clause-keys
 returns-else-self-clause-keys c past usage h =
-    c.named.ensures.keys usage ∙ any_has-same (kept c.self.inside.codes) (code past) (names_key_usage usage) (rw (← c.self.view_is) at h.each)
+    c.names-usages.ensures.keys usage ∙ any_has-same (kept c.args.self.now.codes c.args.self.now.held) (code past) (names_key_usage usage) h.each
 
 pub returns-else-self-clause-consumer : goal.returns-else-self-clause-consumer
 returns-else-self-clause-consumer c past usage h =
-    c.named.ensures.consumer usage ∙ any_has-same (kept c.self.inside.codes) (code past) (names_consumer usage) (rw (← c.self.view_is) at h.each)
+    c.names-usages.ensures.consumer usage ∙ any_has-same (kept c.args.self.now.codes c.args.self.now.held) (code past) (names_consumer usage) h.each

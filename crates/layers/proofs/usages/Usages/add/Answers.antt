@@ -7,4 +7,4 @@ returns-clause-keys c usage = rw (← c.self.view_is) (c.insert_key_usage.ensure
 
 pub returns-clause-consumer : goal.returns-clause-consumer
 unfolding has_consumer
-returns-clause-consumer c usage = rw (← c.self.view_is) (c.insert_consumer.ensures usage)
+returns-clause-consumer c usage = rw (← c.self.view_is) (c.insert_consumer.ensures.adds usage)

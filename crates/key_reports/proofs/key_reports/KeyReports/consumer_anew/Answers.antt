@@ -1,0 +1,8 @@
+use Rattle.std.proofs.Common.{◌∙◌}
+use Rattle.key_reports.proofs.Standing.{consumer-held, consumer_bytes_after}
+use Rattle.key_reports.proofs.key_reports.KeyReports.consumer_anew.Goals as goal
+
+pub returns : goal.returns
+returns c past s =
+    let h = rw (← c.self.view_is) at s in
+    c.consumer.ensures ∙ consumer_bytes_after past c.lent.result.now (consumer-held past c.self.inside.held _ h.held c.lent.ensures.consumer)

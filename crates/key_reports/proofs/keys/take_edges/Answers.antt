@@ -1,0 +1,9 @@
+use Rattle.key_reports.specs.Edges.{with_edges}
+use Rattle.key_reports.proofs.Edges.{takes_edges, takes_named}
+use Rattle.key_reports.proofs.keys.take_edges.Goals as goal
+
+pub returns-clause-takes : goal.returns-clause-takes
+returns-clause-takes c =
+    rw c.name_usages.ensures
+    (takes_named (with_edges c.args.keymap.now c.args.edges.now) c.args.held.now c.press_all.new.held
+    (takes_edges c.args.keymap.now c.args.edges.now c.args.held.now c.release_all.new.held c.press_all.new.held c.release_all.ensures c.press_all.ensures))
