@@ -8,7 +8,7 @@ use Rattle.debounce.proofs.Counts.{debounced_run}
 use Rattle.debounce.proofs.Feeding.{down-none}
 use Rattle.layers.specs.Codes.{keys}
 use Rattle.layers.specs.Held.{HeldCall, Press, Release}
-use Rattle.layers.specs.HeldStands.{HeldStandsFor}
+use Rattle.layers.specs.HeldStands.{HeldValue, HeldStandsFor}
 use Rattle.layers.specs.Usages.{key_usages, consumer_usages}
 use Rattle.reports.specs.declared.Protocol.{Protocol}
 use Rattle.reports.specs.declared.Input.{Input}
@@ -54,13 +54,13 @@ called_next : (call : ℕ → HeldCall) (test : ℕ → Bool) (n : ℕ) (past : 
 unfolding those_below
 called_next call test n past = called_by call (test n) n (those_below test n) past
 
-pub called-more : (call : ℕ → HeldCall) (test : ℕ → Bool) (n next : ℕ) (past : List HeldCall) (so : Bool) (held : List (Option ℕ)) → next ≡ n + 1 → so ≡ test n
+pub called-more : (call : ℕ → HeldCall) (test : ℕ → Bool) (n next : ℕ) (past : List HeldCall) (so : Bool) (held : HeldValue) → next ≡ n + 1 → so ≡ test n
     → HeldStandsFor (if so then call n ∷ called call test n past else called call test n past) held → HeldStandsFor (called call test next past) held
 called-more call test n next past so held m e h =
     let more : next ≡ suc n = omega arith in
     rw (more, ← called_next call test n past, ← e) h
 
-pub called-none : (call : ℕ → HeldCall) (test : ℕ → Bool) (past : List HeldCall) (held : List (Option ℕ)) → HeldStandsFor past held → HeldStandsFor (called call test 0 past) held
+pub called-none : (call : ℕ → HeldCall) (test : ℕ → Bool) (past : List HeldCall) (held : HeldValue) → HeldStandsFor past held → HeldStandsFor (called call test 0 past) held
 unfolding those_below
 called-none call test past held h = h
 
@@ -77,7 +77,7 @@ keys-asked past call old new k s h c =
     record { scans_are = s ∙ k.scans_are; held_are = rw h k.held_are; calls_are = c ∙ ap (λ (xs : List PollerCall). call ∷ xs) k.calls_are }
 
 -- after a scan
-wanted-after : (calls : List KeyCall) (held : List (Option ℕ)) (f : Input → List ℕ) → HeldStandsFor (held_calls calls) held
+wanted-after : (calls : List KeyCall) (held : HeldValue) (f : Input → List ℕ) → HeldStandsFor (held_calls calls) held
     → ((past : List HeldCall) → HeldStandsFor past held → f ≡ wanted (key_usages past) (consumer_usages past)) → f ≡ wanted_after calls
 unfolding keys_after consumer_after
 wanted-after calls held f h w = w (held_calls calls) h
@@ -86,7 +86,7 @@ pub wanted-now : (calls : List KeyCall) (now : Keys) (f : Input → List ℕ) �
     → ((past : List HeldCall) → HeldStandsFor past now.held → f ≡ wanted (key_usages past) (consumer_usages past)) → f ≡ wanted_after calls
 wanted-now calls now f k w = wanted-after calls now.held f k.held_are w
 
-held-scanned : (calls : List KeyCall) (taken : ScanValue) (codes : List ℕ) (in_force : Protocol) (held : List (Option ℕ))
+held-scanned : (calls : List KeyCall) (taken : ScanValue) (codes : List ℕ) (in_force : Protocol) (held : HeldValue)
     → HeldStandsFor (called (Press codes) (turns (taken ∷ scans_of calls) (scans_of calls)) keys (called (λ key. Release key) (turns (scans_of calls) (taken ∷ scans_of calls)) keys (held_calls calls))) held
     → HeldStandsFor (held_calls (Scanned taken codes in_force ∷ calls)) held
 unfolding held_calls

@@ -82,10 +82,10 @@ step_is : (s : Step) (e : Event) (a : Answer) (f : SimValue) → s.event ≡ e �
 step_is s e a f p q r n = rw (← p, ← q, ← r, ← n) refl
 
 -- a run of one event is that event's step
-pub took_one : (P : SimValue → List Step → Type 0) (old new : WorldValue) (e : Event) (before after rest : List Answer) (answer : Answer)
-    → Runs P old new (e ∷ []) before after true → before ≡ [] → length after ≡ 1 → after ≡ rest ++ answer ∷ [] → Takes e answer old new
-took_one P old new e before after rest answer runs none one last start past stands =
-    let g : LongerHistory P start past new (e ∷ []) before after true = runs start past stands in
+pub took_one : (P : SimValue → List Step → Type 0) (old new : WorldValue) (e : Event) (room : ℕ) (before after rest : List Answer) (answer : Answer)
+    → Runs P old new (e ∷ []) room before after true → before ≡ [] → length after ≡ 1 → after ≡ rest ++ answer ∷ [] → Takes e answer old new
+took_one P old new e room before after rest answer runs none one last start past stands =
+    let g : LongerHistory P start past new (e ∷ []) room before after true = runs start past stands in
     let told : after ≡ map (λ (s : Step). s.answer) (reverse g.steps) = g.answers_are ∙ ap (λ (xs : List Answer). xs ++ map (λ (s : Step). s.answer) (reverse g.steps)) none in
     let count : length g.steps ≡ 1 = sym (length-reverse g.steps) ∙ sym (length-map (reverse g.steps) (λ (s : Step). s.answer)) ∙ sym (ap length told) ∙ one in
     let (s, is) = one_of g.steps count in
@@ -100,12 +100,12 @@ took_one P old new e before after rest answer runs none one last start past stan
     subst (λ (x : Step). StandsFor start (x ∷ past) new) (step_is s e answer new.flash event_same answer_same (sym flash_is) none_refused) stood
 
 -- the same, where all that is known of the answers is that there is one
-pub passed_one : (P : SimValue → List Step → Type 0) (old new : WorldValue) (e : Event) (before after : List Answer)
-    → Runs P old new (e ∷ []) before after true → before ≡ [] → length after ≡ length before + 1 → IsPassed e after old new
-passed_one P old new e before after runs none one =
+pub passed_one : (P : SimValue → List Step → Type 0) (old new : WorldValue) (e : Event) (room : ℕ) (before after : List Answer)
+    → Runs P old new (e ∷ []) room before after true → before ≡ [] → length after ≡ length before + 1 → IsPassed e after old new
+passed_one P old new e room before after runs none one =
     let only : length after ≡ 1 = omega (arith, one, ap length none) in
     let (answer, is) = one_of after only in
-    (answer, is, took_one P old new e before after [] answer runs none only is)
+    (answer, is, took_one P old new e room before after [] answer runs none only is)
 
 -- the answer is what popping it gives
 pub popped_one : (old new : WorldValue) (e : Event) (after rest : List Answer) (popped : Option Answer) (result : Result Answer AllocError)
