@@ -21,8 +21,6 @@ FUNCTION_LINES = 40
 STILL_LONG = {
     "crates/explanations/src/explanation.rt fmt",
     "crates/kbsim_tests/src/tests/scripts/generated.rt",
-    "crates/key_reports_tests/src/tests/debouncing.rt compare",
-    "crates/key_reports_tests/src/tests/keys/histories.rt compare",
     "crates/keyboard_tests/src/tests/endpoint.rt",
     "crates/keyboard_tests/src/tests/endpoint/look_back.rt",
     "crates/keyboard_tests/src/tests/sessions.rt",
