@@ -21,9 +21,6 @@ FUNCTION_LINES = 40
 STILL_LONG = {
     "crates/explanations/src/explanation.rt fmt",
     "crates/kbsim_tests/src/tests/scripts/generated.rt",
-    "crates/keyboard_tests/src/tests/endpoint.rt",
-    "crates/keyboard_tests/src/tests/endpoint/look_back.rt",
-    "crates/keyboard_tests/src/tests/sessions.rt",
 }
 
 SOURCES = (".rt", ".antt", ".rs", ".py", ".c", ".h", ".js", ".css", ".sh")
