@@ -17,17 +17,6 @@ ROOT = os.path.dirname(os.path.dirname(os.path.abspath(__file__)))
 FILE_LINES = 500
 FUNCTION_LINES = 40
 
-# What is longer still: a file, or a file and a function. One that has become short is told, too.
-STILL_LONG = {
-    "crates/explanations/src/explanation.rt fmt",
-    "crates/kbsim_tests/src/tests/scripts/generated.rt",
-    "crates/key_reports_tests/src/tests/debouncing.rt compare",
-    "crates/key_reports_tests/src/tests/keys/histories.rt compare",
-    "crates/keyboard_tests/src/tests/endpoint.rt",
-    "crates/keyboard_tests/src/tests/endpoint/look_back.rt",
-    "crates/keyboard_tests/src/tests/sessions.rt",
-}
-
 SOURCES = (".rt", ".antt", ".rs", ".py", ".c", ".h", ".js", ".css", ".sh")
 
 # What a program writes, and tables.
@@ -140,13 +129,13 @@ def functions(text, kind):
 
 
 def too_long(path, text):
-    """What of a source is too long: its name in `STILL_LONG`, and a line that tells it."""
+    """What of a source is too long, a line each."""
     count = text.count("\n")
     if count > FILE_LINES:
-        yield path, f"{path}: {count} lines, where {FILE_LINES} are the most"
+        yield f"{path}: {count} lines, where {FILE_LINES} are the most"
     for name, first, lines in functions(text, os.path.splitext(path)[1]):
         if lines > FUNCTION_LINES:
-            yield f"{path} {name}", f"{path}:{first}: {name} has {lines} lines, where {FUNCTION_LINES} are the most"
+            yield f"{path}:{first}: {name} has {lines} lines, where {FUNCTION_LINES} are the most"
 
 
 def sources():
@@ -159,15 +148,13 @@ def sources():
 
 def main():
     argparse.ArgumentParser(description=__doc__, formatter_class=argparse.RawDescriptionHelpFormatter).parse_args()
-    count, found = 0, {}
+    count, found = 0, []
     for path in sources():
         count += 1
         with open(f"{ROOT}/{path}", encoding="utf-8") as file:
-            found.update(too_long(path, file.read()))
-    told = [line for name, line in found.items() if name not in STILL_LONG]
-    told += [f"STILL_LONG has {name}, which is short" for name in sorted(STILL_LONG - found.keys())]
-    print("\n".join(told) if told else f"{count} files, of at most {FILE_LINES} lines, with functions of at most {FUNCTION_LINES}, but for {len(found)}")
-    sys.exit(1 if told else 0)
+            found.extend(too_long(path, file.read()))
+    print("\n".join(found) if found else f"{count} files, of at most {FILE_LINES} lines, with functions of at most {FUNCTION_LINES}")
+    sys.exit(1 if found else 0)
 
 
 if __name__ == "__main__":

@@ -35,9 +35,9 @@ class Shape(unittest.TestCase):
 
     def test_what_is_longer_is_told(self):
         text = "fn f() {\n" + "    g();\n" * 39 + "}\n"
-        self.assertEqual(list(check_shape.too_long("a.rt", text)), [("a.rt f", "a.rt:1: f has 41 lines, where 40 are the most")])
+        self.assertEqual(list(check_shape.too_long("a.rt", text)), ["a.rt:1: f has 41 lines, where 40 are the most"])
         self.assertEqual(list(check_shape.too_long("a.antt", "\n" * 500)), [])
-        self.assertEqual(list(check_shape.too_long("a.antt", "\n" * 501)), [("a.antt", "a.antt: 501 lines, where 500 are the most")])
+        self.assertEqual(list(check_shape.too_long("a.antt", "\n" * 501)), ["a.antt: 501 lines, where 500 are the most"])
 
 
 class Statements(unittest.TestCase):

@@ -1,10 +1,16 @@
-//! Numbers, bytes, keys and slots, as the rows of tests write them, and numbers that look random.
+//! Texts of rows, a line each, and what runs them (`rows`); numbers, bytes, keys and slots, as the rows of tests write them,
+//! and numbers that look random.
 //!
 //! Nothing is kept, and nothing is promised but an answer: what is read wrong fails the test that reads it. The tests of
 //! the device and of the judges call it.
 #![tactic(auto)]
 
+mod rows;
+#[cfg(test)]
+mod tests;
+
 use arrayvec::ArrayVec;
+pub use rows::{Row, RunsRows, first_wrong, first_wrong_of_each};
 
 /// A decimal number, below 65,536.
 pub fn number(text: &str) -> Option<u16> {

@@ -12,7 +12,7 @@
 use ecc_flash::EccFlash;
 use ecc_flash::reading::is_blank;
 use ecc_sim::{CellMask, EccFlashError, SimEccFlash};
-use row_text::{byte, eight, number, two};
+use row_text::{RunsRows, byte, eight, first_wrong, number, two};
 use std::alloc::Global;
 use std::process::Abort;
 
@@ -25,17 +25,26 @@ enum Told {
     Unit([u8; 8]),
 }
 
-/// Each of these lines is answered as it says, on a flash of two pages.
-fn expect_rows(rt: &impl Abort, alloc: Global, script: &str) {
-    let mut flash = SimEccFlash::new(alloc, 2).expect(rt, "a flash");
-    for line in script.lines() {
-        expect_row(rt, &mut flash, line.trim());
+/// A flash that lines ask.
+#[derive(Drop)]
+struct Asked(SimEccFlash);
+
+impl<'a> RunsRows<'a> for Asked {
+    type Told = Told;
+
+    fn told(&mut self, ask: &'a str) -> Option<Told> {
+        answer(&mut self.0, ask)
+    }
+
+    fn wanted(_ask: &'a str, answer: &'a str) -> Option<Told> {
+        wanted_of(answer)
     }
 }
 
-fn expect_row(rt: &impl Abort, flash: &mut SimEccFlash, line: &str) {
-    let (ask, wanted) = line.split_once(" = ").unwrap_or((line, ""));
-    assert_eq!(rt; answer(flash, ask), wanted_of(wanted), "{line}");
+/// Each of these lines is answered as it says, on a flash of two pages.
+fn expect_rows(rt: &impl Abort, alloc: Global, script: &str) {
+    let mut flash = Asked(SimEccFlash::new(alloc, 2).expect(rt, "a flash"));
+    assert_eq!(rt; first_wrong(&mut flash, script), None);
 }
 
 fn wanted_of(text: &str) -> Option<Told> {

@@ -1,8 +1,10 @@
 //! Bounces of every length, presses and releases in one scan, the keys of scans, the planes, and the
 //! debouncer beside the plain definition.
 
+ghost use Rattle.std.specs.Prelude.{◌<◌};
+
 use super::text::Random;
-use debounce::{Debouncer, Scan};
+use debounce::{Debouncer, Edges, Scan};
 use std::process::Abort;
 
 mod plain;
@@ -162,6 +164,56 @@ fn row_of(random: &mut Random, old: u16, left: &mut [u8; 16]) -> u16 {
     row
 }
 
+/// The next scan.
+fn next_scan(random: &mut Random, old: Scan, left: &mut [[u8; 16]; 6]) -> Scan {
+    let mut scan = old;
+    for (row, scans) in scan.rows.iter_mut().zip(left.iter_mut()) {
+        *row = row_of(random, *row, scans);
+    }
+    scan
+}
+
+/// Compares the planes at a key with its count.
+fn compare_planes(rt: &impl Abort, planes: &[[u16; 6]; 3], key: u8, count: u8, seed: u64)
+    requires { key < 96 }
+{
+    for (bit, plane) in planes.iter().enumerate() {
+        let word = plane[key as usize / 16];
+        assert_eq!(rt;
+            (word >> (key % 16)) & 1,
+            ((count >> (bit % 8)) & 1) as u16,
+            "plane {bit}, key {key}, seed {seed}"
+        );
+    }
+}
+
+/// Compares a key, after a scan with these edges, with what its samples say, newest first.
+fn compare_key(
+    rt: &impl Abort,
+    keys: &Debouncer,
+    edges: &Edges,
+    key: u8,
+    samples: &[bool],
+    seed: u64,
+)
+    requires { key < 96 }
+{
+    let before = plain::debounced(samples.get(1..).unwrap_or(&[]));
+    let now = plain::debounced(samples);
+    assert_eq!(rt; keys.is_down(key), now, "key {key}, seed {seed}");
+    assert_eq!(rt;
+        edges.pressed.has(key),
+        now && !before,
+        "key {key}, seed {seed}"
+    );
+    assert_eq!(rt;
+        edges.released.has(key),
+        before && !now,
+        "key {key}, seed {seed}"
+    );
+    compare_planes(rt, keys.planes(), key, plain::equal_latest(samples), seed);
+}
+
 fn compare(rt: &impl Abort, seed: u64) {
     let mut random = Random(seed);
     let mut keys = Debouncer::new();
@@ -169,36 +221,12 @@ fn compare(rt: &impl Abort, seed: u64) {
     let mut scan = NONE;
     let mut past = [[false; SCANS]; 96];
     for later in (0..SCANS).rev() {
-        let old = scan;
-        for r in 0..6usize {
-            scan.rows[r] = row_of(&mut random, old.rows[r], &mut left[r]);
-        }
+        scan = next_scan(&mut random, scan, &mut left);
         let edges = keys.feed(scan);
         for key in 0..96u8 {
             let samples = &mut past[key as usize];
             samples[later] = scan.has(key);
-            let before = plain::debounced(&samples[later + 1..]);
-            let now = plain::debounced(&samples[later..]);
-            assert_eq!(rt; keys.is_down(key), now, "key {key}, seed {seed}");
-            assert_eq!(rt;
-                edges.pressed.has(key),
-                now && !before,
-                "key {key}, seed {seed}"
-            );
-            assert_eq!(rt;
-                edges.released.has(key),
-                before && !now,
-                "key {key}, seed {seed}"
-            );
-            let count = plain::equal_latest(&samples[later..]);
-            for (bit, plane) in keys.planes().iter().enumerate() {
-                let word = plane[key as usize / 16];
-                assert_eq!(rt;
-                    (word >> (key % 16)) & 1,
-                    ((count >> (bit % 8)) & 1) as u16,
-                    "plane {bit}, key {key}, seed {seed}"
-                );
-            }
+            compare_key(rt, &keys, &edges, key, &samples[later..], seed);
         }
         assert_keys_are_set(rt, scan);
     }

@@ -19,7 +19,7 @@ use super::text::{Told, answer_of, id, of_bytes, protocol, sent};
 use debounce::Scan;
 use key_reports::{IdleId, KeyReports, Protocol, Report};
 use layers::{Command, Keymap};
-use row_text::{byte, hex16, number, pressed};
+use row_text::{RunsRows, byte, first_wrong_of_each, hex16, number, pressed};
 use std::alloc::{AllocError, Global};
 use std::process::Abort;
 
@@ -34,35 +34,12 @@ struct Device {
     protocol: Protocol,
 }
 
-impl Device {
-    fn start(alloc: Global) -> Result<Device, AllocError> {
-        Ok(Device {
-            keys: KeyReports::new(alloc)?,
-            keymap: Keymap::standard(),
-            protocol: Protocol::Report,
-        })
-    }
+impl<'a> RunsRows<'a> for Device {
+    type Told = Told;
 
-    /// The first of these rows whose call doesn't answer as it says, and what it answers: `None` where the row can't be
-    /// read.
-    fn first_wrong<'a>(&mut self, rows: &'a str) -> Option<(&'a str, Option<Told>)> {
-        for row in rows.lines() {
-            let row = row.trim();
-            let (call, answers) = row.split_once(" = ").unwrap_or((row, ""));
-            for answer in answers.split(", ") {
-                let told = self.call(call);
-                if told.is_none() || told != answer_of(answer) {
-                    return Some((row, told));
-                }
-            }
-        }
-        None
-    }
-
-    fn call(&mut self, call: &str) -> Option<Told> {
+    fn told(&mut self, call: &'a str) -> Option<Told> {
         let (word, rest) = call.split_once(' ').unwrap_or((call, ""));
         match word {
-            "" | "#" => {},
             "protocol" => self.protocol = protocol(rest)?,
             "entry" => self.keymap.apply(command(rest)?),
             "scans" => return self.scans(rest),
@@ -80,6 +57,20 @@ impl Device {
             _ => return None,
         }
         Some(Told::Done)
+    }
+
+    fn wanted(_call: &'a str, answer: &'a str) -> Option<Told> {
+        answer_of(answer)
+    }
+}
+
+impl Device {
+    fn start(alloc: Global) -> Result<Device, AllocError> {
+        Ok(Device {
+            keys: KeyReports::new(alloc)?,
+            keymap: Keymap::standard(),
+            protocol: Protocol::Report,
+        })
     }
 
     fn scans(&mut self, rest: &str) -> Option<Told> {
@@ -121,7 +112,7 @@ fn yes(is: bool) -> Told {
 fn expect_rows<R: AllocGlobal + Abort>(rt: &R, rows: &str) {
     for part in rows.split("\n\n") {
         let mut device = Device::start(rt.alloc()).ok().expect(rt, "memory");
-        assert_eq!(rt; device.first_wrong(part), None, "in {part}");
+        assert_eq!(rt; first_wrong_of_each(&mut device, part), None, "in {part}");
     }
 }
 

@@ -18,7 +18,7 @@
 use super::text::{Told, answer_of, id, of_bytes, protocol, sent};
 use layers::{Command, Held, KeyNo, Keymap, Usages};
 use reports::{IdleId, Poller, Protocol, Report, bitmap, boot, consumer};
-use row_text::{byte, hex16, number};
+use row_text::{RunsRows, byte, first_wrong_of_each, hex16, number};
 use std::alloc::{AllocError, Global};
 use std::process::Abort;
 
@@ -48,34 +48,12 @@ struct Session {
     protocol: Protocol,
 }
 
-impl Session {
-    fn start(alloc: Global) -> Result<Session, AllocError> {
-        Ok(Session {
-            poller: Poller::new(alloc)?,
-            protocol: Protocol::Report,
-        })
-    }
+impl<'a> RunsRows<'a> for Session {
+    type Told = Told;
 
-    /// The first of these rows whose call doesn't answer as it says, and what it answers: `None` where the row can't be
-    /// read.
-    fn first_wrong<'a>(&mut self, rows: &'a str) -> Option<(&'a str, Option<Told>)> {
-        for row in rows.lines() {
-            let row = row.trim();
-            let (call, answers) = row.split_once(" = ").unwrap_or((row, ""));
-            for answer in answers.split(", ") {
-                let told = self.call(call);
-                if told.is_none() || told != answer_of(answer) {
-                    return Some((row, told));
-                }
-            }
-        }
-        None
-    }
-
-    fn call(&mut self, call: &str) -> Option<Told> {
+    fn told(&mut self, call: &'a str) -> Option<Told> {
         let (word, rest) = call.split_once(' ').unwrap_or((call, ""));
         match word {
-            "" | "#" => {},
             "boot" => return Some(of_bytes(&boot(&keys(rest)?))),
             "bitmap" => return Some(of_bytes(&bitmap(&keys(rest)?))),
             "consumer" => return Some(of_bytes(&consumer(&keys(rest)?))),
@@ -91,6 +69,19 @@ impl Session {
             _ => return None,
         }
         Some(Told::Done)
+    }
+
+    fn wanted(_call: &'a str, answer: &'a str) -> Option<Told> {
+        answer_of(answer)
+    }
+}
+
+impl Session {
+    fn start(alloc: Global) -> Result<Session, AllocError> {
+        Ok(Session {
+            poller: Poller::new(alloc)?,
+            protocol: Protocol::Report,
+        })
     }
 
     fn poll(&mut self, held: &Usages) -> Told {
@@ -158,7 +149,7 @@ fn keys(text: &str) -> Option<Usages> {
 fn expect_rows<R: AllocGlobal + Abort>(rt: &R, rows: &str) {
     for part in rows.split("\n\n") {
         let mut session = Session::start(rt.alloc()).ok().expect(rt, "memory");
-        assert_eq!(rt; session.first_wrong(part), None, "in {part}");
+        assert_eq!(rt; first_wrong_of_each(&mut session, part), None, "in {part}");
     }
 }
 

@@ -3,6 +3,7 @@
 use super::plain_held;
 use super::rows::{Session, expect_rows};
 use layers::{Code, Held, KeyNo, Keymap, LayerNo};
+use row_text::first_wrong;
 
 #[test]
 fn keys_and_modifiers_of_the_default_keymap(rt: HostRuntime) {
@@ -252,7 +253,8 @@ fn after_plainly(
 fn the_held_codes_are_the_look_back(rt: HostRuntime) {
     // Keys 0 and 1 activate layers, key 2 has a code on each layer, key 0 a code on layer 2.
     let mut session = Session::start();
-    let read = session.first_wrong(
+    let read = first_wrong(
+        &mut session,
         "set 0 0 5001
         set 1 1 5002
         set 0 1 5003

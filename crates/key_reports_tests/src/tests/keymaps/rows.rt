@@ -27,7 +27,7 @@
 //! and `#` begins a comment. Each part between blank lines has a keymap of its own, the default one, and no key held.
 
 use layers::{Code, Command, Held, KeyNo, Keymap, KeymapError, LayerNo, Usages};
-use row_text::{byte, hex, hex16, number};
+use row_text::{RunsRows, byte, first_wrong, hex, hex16, number};
 use std::process::Abort;
 
 /// What a row's call answers.
@@ -55,32 +55,12 @@ pub struct Session {
     held: Held,
 }
 
-impl Session {
-    pub fn start() -> Session {
-        Session {
-            keymap: Keymap::standard(),
-            held: Held::new(),
-        }
-    }
+impl<'a> RunsRows<'a> for Session {
+    type Told = Told;
 
-    /// The first of these rows whose call doesn't answer as it says, and what it answers: `None` where the row can't be
-    /// read.
-    pub fn first_wrong<'a>(&mut self, rows: &'a str) -> Option<(&'a str, Option<Told>)> {
-        for row in rows.lines() {
-            let row = row.trim();
-            let (call, answer) = row.split_once(" = ").unwrap_or((row, ""));
-            let told = self.call(call);
-            if told.is_none() || told != answer_of(answer) {
-                return Some((row, told));
-            }
-        }
-        None
-    }
-
-    fn call(&mut self, call: &str) -> Option<Told> {
+    fn told(&mut self, call: &'a str) -> Option<Told> {
         let (word, rest) = call.split_once(' ').unwrap_or((call, ""));
         match word {
-            "" | "#" => Some(Told::Done),
             "code" => Some(read_code(hex16(rest)?)),
             "read" => read_command(rest),
             "word" => Some(Told::Hex(command_of(rest)?.word())),
@@ -92,6 +72,19 @@ impl Session {
             "changes" | "get" | "next" => self.ask_keymap(word, rest),
             "held" | "active" => self.ask_held(word, rest),
             _ => ask_usages(&self.held.usages(), word, rest),
+        }
+    }
+
+    fn wanted(_call: &'a str, answer: &'a str) -> Option<Told> {
+        answer_of(answer)
+    }
+}
+
+impl Session {
+    pub fn start() -> Session {
+        Session {
+            keymap: Keymap::standard(),
+            held: Held::new(),
         }
     }
 
@@ -324,6 +317,6 @@ fn byte_of(text: &str) -> Option<u8> {
 pub fn expect_rows(rt: &impl Abort, rows: &str) {
     for part in rows.split("\n\n") {
         let mut session = Session::start();
-        assert_eq!(rt; session.first_wrong(part), None, "in {part}");
+        assert_eq!(rt; first_wrong(&mut session, part), None, "in {part}");
     }
 }

@@ -7,6 +7,7 @@ use key_reports::{IdleId, KeyReports};
 use layers::{Command, KeyNo, Keymap};
 use reports::plain::{Call, Wanted, idle_value, poll_answer};
 use reports::{Input, Protocol, Report};
+use std::alloc::{AllocError, Global};
 use std::process::Abort;
 use std::test::Fail;
 
@@ -199,6 +200,20 @@ struct History {
 }
 
 impl History {
+    fn start(alloc: Global, seed: u64) -> Result<History, AllocError> {
+        Ok(History {
+            random: Random(seed),
+            keys: KeyReports::new(alloc)?,
+            protocol: if seed % 4 < 2 {
+                Protocol::Boot
+            } else {
+                Protocol::Report
+            },
+            calls: Vec::new(alloc),
+            seed,
+        })
+    }
+
     fn assert_wanted(&self, rt: &impl Abort, wanted: &Wanted) {
         let seed = self.seed;
         assert_eq!(rt; self.keys.boot(), wanted.boot, "seed {seed}");
@@ -282,18 +297,17 @@ impl History {
     }
 }
 
+/// Mostly the first one.
+fn keymap_of<'k>(random: &mut Random, keymaps: &'k [Keymap; 2]) -> &'k Keymap {
+    if random.below(8) == 0 {
+        &keymaps[1]
+    } else {
+        &keymaps[0]
+    }
+}
+
 fn compare<R: AllocGlobal + Abort>(rt: &R, keymaps: &[Keymap; 2], seed: u64) -> Result<(), Fail> {
-    let mut history = History {
-        random: Random(seed),
-        keys: KeyReports::new(rt.alloc())?,
-        protocol: if seed % 4 < 2 {
-            Protocol::Boot
-        } else {
-            Protocol::Report
-        },
-        calls: Vec::new(rt.alloc()),
-        seed,
-    };
+    let mut history = History::start(rt.alloc(), seed)?;
     let mut left = [0, 1, 2, 3, 4, 2u8];
     let mut scan = Scan::NONE;
     let mut scans: Vec<(Scan, &Keymap)> = Vec::new(rt.alloc());
@@ -307,11 +321,7 @@ fn compare<R: AllocGlobal + Abort>(rt: &R, keymaps: &[Keymap; 2], seed: u64) -> 
             down = [false; 6];
         }
         scan = next_scan(&mut history.random, scan, &mut left, pace_of(seed));
-        let keymap = if history.random.below(8) == 0 {
-            &keymaps[1]
-        } else {
-            &keymaps[0]
-        };
+        let keymap = keymap_of(&mut history.random, keymaps);
         history.keys.scan(scan, keymap, history.protocol);
         scans.insert(0, (scan, keymap))?;
         let now = if changes(scans.as_slice(), &mut down) {

@@ -18,20 +18,28 @@
 use super::super::slots::{slot, slot_of};
 use super::super::text::{bytes_of, mask_of, number, place_of};
 use flash_model::{Mask, NorFlash, SimFlash};
-use row_text::byte;
+use row_text::{RunsRows, byte, first_wrong};
 use std::process::Abort;
 
-/// Each of these lines is answered as it says.
-pub fn expect_rows(rt: &impl Abort, flash: &mut SimFlash, script: &str) {
-    for (number, line) in script.lines().enumerate() {
-        expect_row(rt, flash, number, line.trim());
+/// A flash that lines ask.
+#[derive(Drop)]
+struct Asked<'f>(&'f mut SimFlash);
+
+impl<'a> RunsRows<'a> for Asked<'_> {
+    type Told = Told<'a>;
+
+    fn told(&mut self, ask: &'a str) -> Option<Told<'a>> {
+        answer(self.0, ask)
+    }
+
+    fn wanted(ask: &'a str, answer: &'a str) -> Option<Told<'a>> {
+        Some(wanted_of(ask, answer))
     }
 }
 
-fn expect_row(rt: &impl Abort, flash: &mut SimFlash, number: usize, line: &str) {
-    let (ask, wanted) = line.split_once(" = ").unwrap_or((line, ""));
-    let told = answer(flash, ask);
-    assert_eq!(rt; told, Some(wanted_of(ask, wanted)), "line {number}, {line}");
+/// Each of these lines is answered as it says.
+pub fn expect_rows(rt: &impl Abort, flash: &mut SimFlash, script: &str) {
+    assert_eq!(rt; first_wrong(&mut Asked(flash), script), None);
 }
 
 /// What came of a line.
@@ -84,7 +92,6 @@ fn answer(flash: &mut SimFlash, ask: &str) -> Option<Told<'static>> {
 /// Takes a line of one word.
 fn whole(flash: &mut SimFlash, word: &str) -> Option<Told<'static>> {
     match word {
-        "" => Some(Told::Word("")),
         "disarm" => {
             flash.disarm();
             Some(Told::Word(""))

@@ -24,7 +24,7 @@ use super::super::slots::{fill, put, slot_of};
 use super::super::text::{bytes_of, mask_of, number};
 use flash_model::{Mask, SimFlash};
 use page_turnover::{Log, Step, TurnRefusal, Unsound};
-use row_text::hex;
+use row_text::{RunsRows, first_wrong, hex};
 use std::alloc::Global;
 use std::marker::Model;
 use std::process::Abort;
@@ -52,6 +52,27 @@ impl Model for Bench {
     ghost invariant = { λ b. Describes b.flash.image b.log };
 }
 
+impl<'a> RunsRows<'a> for Bench {
+    type Told = Told<'a>;
+
+    fn told(&mut self, ask: &'a str) -> Option<Told<'a>> {
+        let (word, rest) = ask.split_once(' ').unwrap_or((ask, ""));
+        match word {
+            "put" | "fill" => return self.write(word, rest),
+            "fault" => self.fault(mask_of(rest)?.as_slice()),
+            "append" => return Some(done(self.append(hex(rest)?))),
+            "copy" => return Some(done(self.copy(hex(rest)?))),
+            "slot" => return Some(Told::Bytes(slot_of(&self.flash, rest)?)),
+            _ => return self.ask(ask),
+        }
+        Some(Told::Word(""))
+    }
+
+    fn wanted(ask: &'a str, answer: &'a str) -> Option<Told<'a>> {
+        Some(wanted_of(ask, answer))
+    }
+}
+
 impl Bench {
     /// The log of a blank flash.
     pub fn blank(rt: &impl Abort, alloc: Global, pages: usize) -> Bench {
@@ -68,35 +89,12 @@ impl Bench {
 
     /// Each of these lines is answered as it says.
     pub fn rows(&mut self, rt: &impl Abort, script: &str) {
-        for (number, line) in script.lines().enumerate() {
-            self.row(rt, number, line.trim());
-        }
-    }
-
-    fn row(&mut self, rt: &impl Abort, number: usize, line: &str) {
-        let (ask, wanted) = line.split_once(" = ").unwrap_or((line, ""));
-        let told = self.take(ask);
-        assert_eq!(rt; told, Some(wanted_of(ask, wanted)), "line {number}, {line}");
-    }
-
-    /// Does what a line asks, and says what came of it; `None` where it asks nothing that there is.
-    fn take(&mut self, ask: &str) -> Option<Told<'static>> {
-        let (word, rest) = ask.split_once(' ').unwrap_or((ask, ""));
-        match word {
-            "put" | "fill" => return self.write(word, rest),
-            "fault" => self.fault(mask_of(rest)?.as_slice()),
-            "append" => return Some(done(self.append(hex(rest)?))),
-            "copy" => return Some(done(self.copy(hex(rest)?))),
-            "slot" => return Some(Told::Bytes(slot_of(&self.flash, rest)?)),
-            _ => return self.ask(ask),
-        }
-        Some(Told::Word(""))
+        assert_eq!(rt; first_wrong(self, script), None);
     }
 
     /// Takes a line of one word.
     fn ask(&mut self, word: &str) -> Option<Told<'static>> {
         let told = match word {
-            "" => Told::Word(""),
             "mount" => self.mount(),
             "turn" => Told::Word(self.turn()),
             "seal" => done(self.seal()),
@@ -189,7 +187,7 @@ impl Bench {
 
 /// What came of a line.
 #[derive(Clone, Copy, Debug, PartialEq, Eq)]
-enum Told<'a> {
+pub enum Told<'a> {
     Word(&'a str),
     Log(Seen),
     Words(Runs),
@@ -314,7 +312,7 @@ fn active_of(text: &str) -> Option<(usize, u32)> {
 
 /// Words in their order, equal neighbours as one run, the last run first.
 #[derive(Clone, Copy, Debug, PartialEq, Eq)]
-struct Runs {
+pub struct Runs {
     /// A word, and how often it stands there; at most four runs.
     last: [(u32, usize); 4],
     /// Whether there are more runs.

@@ -24,7 +24,7 @@ use super::super::text::{bytes_of, mask_of, number, place_of};
 use flash_model::{Mask, SimFlash};
 use keymap_store::{Store, SubmitRefusal, Taken, Work};
 use layers::{Command, KeyNo, LayerNo};
-use row_text::{good, hex, hex16};
+use row_text::{RunsRows, first_wrong, good, hex, hex16};
 use std::alloc::Global;
 use std::marker::Model;
 use std::process::Abort;
@@ -52,6 +52,30 @@ impl Model for Device {
     ghost invariant = { λ d. Mirrors d.flash.image d.store };
 }
 
+impl<'a> RunsRows<'a> for Device {
+    type Told = Told<'a>;
+
+    fn told(&mut self, ask: &'a str) -> Option<Told<'a>> {
+        let (word, rest) = ask.split_once(' ').unwrap_or((ask, ""));
+        match word {
+            "put" | "fill" | "entries" => return self.write(word, rest),
+            "fault" => self.arm(mask_of(rest)?),
+            "cut" if rest.is_empty() => self.cut(),
+            "slot" => return Some(Told::Bytes(slot_of(&self.flash, rest)?)),
+            "entry" => return self.entry_of(rest),
+            "work" | "settle" if !rest.is_empty() => return None,
+            "work" => return Some(Told::Word(work_word(self.work()))),
+            "settle" => return Some(Told::Operations(self.settle())),
+            _ => return self.command(word, rest),
+        }
+        Some(Told::Word(""))
+    }
+
+    fn wanted(ask: &'a str, answer: &'a str) -> Option<Told<'a>> {
+        Some(wanted_of(ask, answer))
+    }
+}
+
 impl Device {
     /// A device on a blank flash.
     pub fn blank(rt: &impl Abort, alloc: Global, pages: usize) -> Device {
@@ -74,33 +98,7 @@ impl Device {
 
     /// Each of these lines is answered as it says.
     pub fn rows(&mut self, rt: &impl Abort, script: &str) {
-        for (number, line) in script.lines().enumerate() {
-            self.row(rt, number, line.trim());
-        }
-    }
-
-    fn row(&mut self, rt: &impl Abort, number: usize, line: &str) {
-        let (ask, wanted) = line.split_once(" = ").unwrap_or((line, ""));
-        let told = self.answer(ask);
-        assert_eq!(rt; told, Some(wanted_of(ask, wanted)), "line {number}, {line}");
-    }
-
-    /// Does what a line asks, and says what came of it; `None` where it asks nothing that there is.
-    fn answer(&mut self, ask: &str) -> Option<Told<'static>> {
-        let (word, rest) = ask.split_once(' ').unwrap_or((ask, ""));
-        match word {
-            "put" | "fill" | "entries" => return self.write(word, rest),
-            "fault" => self.arm(mask_of(rest)?),
-            "cut" if rest.is_empty() => self.cut(),
-            "" => {}
-            "slot" => return Some(Told::Bytes(slot_of(&self.flash, rest)?)),
-            "entry" => return self.entry_of(rest),
-            "work" | "settle" if !rest.is_empty() => return None,
-            "work" => return Some(Told::Word(work_word(self.work()))),
-            "settle" => return Some(Told::Operations(self.settle())),
-            _ => return self.command(word, rest),
-        }
-        Some(Told::Word(""))
+        assert_eq!(rt; first_wrong(self, script), None);
     }
 
     /// Takes a line with the word of a command.
@@ -184,7 +182,7 @@ impl Device {
 
 /// What came of a line.
 #[derive(Clone, Copy, Debug, PartialEq, Eq)]
-enum Told<'a> {
+pub enum Told<'a> {
     Word(&'a str),
     Operations(Option<usize>),
     Code(u16),

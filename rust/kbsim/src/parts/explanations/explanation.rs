@@ -68,76 +68,60 @@ struct OfAction<'a, 'e, 't> {
 impl fmt::Display for OfAction<'_, '_, '_> {
     fn fmt(&self, f: &mut fmt::Formatter<'_>) -> fmt::Result {
         let whole = self.explanation;
-        let answer = whole.answer;
         match self.action {
-            Action::Scan(_) => {
-                let changes = whole.changes;
-                write!(f, "{changes}")
-            }
-            Action::Poll => {
-                let poll = OfPoll(answer);
-                write!(f, "{poll}")
-            }
-            Action::Setup(packet) => {
-                let request = ShownRequest(*packet);
-                write!(f, "{request}")
-            }
-            Action::Out(packet) => {
-                let out = OfOut {
-                    answer,
-                    packet: packet.as_slice(),
-                };
-                write!(f, "{out}")
-            }
-            Action::In => {
-                let packet = OfIn {
-                    answer,
-                    read: whole.read,
-                };
-                write!(f, "{packet}")
-            }
-            Action::Work => {
-                let work = OfWork {
-                    answer,
-                    made: whole.made,
-                    torn: false,
-                };
-                write!(f, "{work}")
-            }
-            Action::WorkFault(_) => {
-                let work = OfWork {
-                    answer,
-                    made: whole.made,
-                    torn: true,
-                };
-                write!(f, "{work}")
-            }
+            Action::Scan(_) => write!(f, "{}", whole.changes),
+            Action::Poll => write!(f, "{}", OfPoll(whole.answer)),
+            Action::Setup(packet) => write!(f, "{}", ShownRequest(*packet)),
+            Action::Out(packet) => write!(f, "{}", out_of(whole.answer, packet.as_slice())),
+            Action::In => write!(f, "{}", whole.packet()),
+            Action::Work => write!(f, "{}", whole.work(false)),
+            Action::WorkFault(_) => write!(f, "{}", whole.work(true)),
             Action::Cut => f.write_str("the power is cut, and the keyboard starts on its flash"),
-            Action::CutWork(_) => {
-                let cut = OfCut(whole.made);
-                write!(f, "{cut}")
-            }
+            Action::CutWork(_) => write!(f, "{}", OfCut(whole.made)),
             Action::Reset => f.write_str(
                 "a bus reset: report protocol, no LED is on, no report waits",
             ),
             Action::Entry(layer, key) => {
-                let layer = layer.number();
-                let key = key.number();
-                let code = PrintedCode(answer);
-                write!(f, "layer {layer}, key {key} = {code}")
+                let (layer, key) = (layer.number(), key.number());
+                write!(
+                    f,
+                    "layer {layer}, key {key} = {}",
+                    PrintedCode(whole.answer)
+                )
             }
             Action::Slot { page, slot } => {
-                let shown = ShownSlot {
-                    page: *page,
-                    slot: *slot,
-                    follower: whole.follower,
-                };
+                let shown = whole.slot(*page, *slot);
                 write!(f, "page {page}, slot {slot}: {shown}")
             }
-            Action::Leds => {
-                let leds = PrintedLeds(answer);
-                write!(f, "{leds}")
-            }
+            Action::Leds => write!(f, "{}", PrintedLeds(whole.answer)),
+        }
+    }
+}
+
+impl<'e> Explanation<'e, '_> {
+    /// The answer of an IN token.
+    fn packet(&self) -> OfIn<'e> {
+        OfIn {
+            answer: self.answer,
+            read: self.read,
+        }
+    }
+
+    /// The answer of a step of the flash work, by a line with a fault or without.
+    fn work(&self, torn: bool) -> OfWork<'e> {
+        OfWork {
+            answer: self.answer,
+            made: self.made,
+            torn,
+        }
+    }
+
+    /// A slot of the keyboard's flash.
+    fn slot(&self, page: u8, slot: u16) -> ShownSlot<'e> {
+        ShownSlot {
+            page,
+            slot,
+            follower: self.follower,
         }
     }
 }
@@ -237,6 +221,10 @@ impl fmt::Display for OfOut<'_> {
         let refusal = Refusal(self.answer);
         write!(f, "{refusal}")
     }
+}
+
+fn out_of<'a>(answer: &'a str, packet: &'a [u8]) -> OfOut<'a> {
+    OfOut { answer, packet }
 }
 
 /// An OUT packet that was taken: the end of a read, the LEDs, or a feature report.

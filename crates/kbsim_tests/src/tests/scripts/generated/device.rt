@@ -1,0 +1,138 @@
+//! What a device answers to the events of a line, as a text.
+
+use super::words::push_answer;
+use arrayvec::ArrayVec;
+use kbsim::{Answer, Event, Work, World};
+use script::{Action, Statement};
+use std::alloc::{AllocError, Global};
+use std::slice;
+
+/// Takes one event.
+fn taken(
+    world: &mut World,
+    answers: &mut Vec<Answer>,
+    event: &Event,
+) -> Result<Answer, AllocError> {
+    answers.clear();
+    world.run(slice::from_ref(event), answers)?;
+    answers.pop().ok_or(AllocError)
+}
+
+/// Takes the events of a line, and adds what it prints to a text.
+pub fn take_line(
+    alloc: Global,
+    world: &mut World,
+    answers: &mut Vec<Answer>,
+    statement: &Statement<'_>,
+    text: &mut String,
+) -> Result<(), AllocError> {
+    let answer = match statement {
+        Statement::One(action) => taken(world, answers, &event_of(action))?,
+        Statement::Scans { count, scan } => {
+            let event = Event::Scan(*scan);
+            for _again in 1..count.get() {
+                taken(world, answers, &event)?;
+            }
+            taken(world, answers, &event)?
+        }
+        Statement::Set { layer, key, code } => set(world, answers, [*layer, *key], *code)?,
+        Statement::Fetch => return fetched(alloc, world, answers, text),
+    };
+    push_answer(text, &answer)
+}
+
+/// The event of a line of one event.
+fn event_of(action: &Action<'_>) -> Event {
+    match action {
+        Action::Scan(scan) => Event::Scan(*scan),
+        Action::Poll => Event::Poll,
+        Action::Setup(packet) => Event::Setup(*packet),
+        Action::Out(packet) => Event::OutPacket(packet_of(packet.as_slice())),
+        Action::In => Event::InPacket,
+        Action::Work => Event::Work,
+        Action::WorkFault(mask) => Event::WorkFault(mask.mask()),
+        Action::Cut => Event::Cut,
+        Action::CutWork(mask) => Event::CutInWork(mask.mask()),
+        Action::Reset => Event::BusReset,
+        Action::Entry(layer, key) => Event::Entry(*layer, *key),
+        Action::Slot { page, slot } => Event::SlotAt {
+            page: *page,
+            slot: *slot,
+        },
+        Action::Leds => Event::Leds,
+    }
+}
+
+/// A packet of these bytes, of which there are at most eight.
+fn packet_of(bytes: &[u8]) -> ArrayVec<u8, 8> {
+    let mut packet = ArrayVec::new();
+    let _full = packet.try_extend_from_slice(bytes);
+    packet
+}
+
+/// A feature transfer that sets an entry.
+fn set(
+    world: &mut World,
+    answers: &mut Vec<Answer>,
+    place: [u8; 2],
+    code: u16,
+) -> Result<Answer, AllocError> {
+    taken(world, answers, &Event::Setup([0x21, 9, 3, 3, 0, 0, 6, 0]))?;
+    let [layer, key] = place;
+    let [low, high] = code.to_le_bytes();
+    let report = packet_of(&[3, 1, layer, key, low, high]);
+    let told = taken(world, answers, &Event::OutPacket(report))?;
+    if !matches!(told, Answer::Ack) {
+        return Ok(told);
+    }
+    for _step in 0..500 {
+        let worked = taken(world, answers, &Event::Work)?;
+        if !matches!(worked, Answer::Worked(Work::Working)) {
+            break;
+        }
+    }
+    let status = taken(world, answers, &Event::InPacket)?;
+    Ok(match length(&status) {
+        Some(0) => Answer::Ack,
+        _ => status,
+    })
+}
+
+/// How many bytes a packet of data has.
+fn length(answer: &Answer) -> Option<usize> {
+    match answer {
+        Answer::Packet(bytes) => Some(bytes.len()),
+        _ => None,
+    }
+}
+
+/// A transfer of the report descriptor. What its line prints is added to a text.
+fn fetched(
+    alloc: Global,
+    world: &mut World,
+    answers: &mut Vec<Answer>,
+    text: &mut String,
+) -> Result<(), AllocError> {
+    taken(
+        world,
+        answers,
+        &Event::Setup([0x81, 6, 0, 0x22, 0, 0, 0xFF, 0]),
+    )?;
+    let mut count = 0usize;
+    for _packet in 0..99 {
+        let told = taken(world, answers, &Event::InPacket)?;
+        let Some(length) = length(&told) else {
+            return push_answer(text, &told);
+        };
+        count = count.wrapping_add(length);
+        if length < 8 {
+            break;
+        }
+    }
+    let told = taken(world, answers, &Event::OutPacket(ArrayVec::new()))?;
+    if !matches!(told, Answer::Ack) {
+        return push_answer(text, &told);
+    }
+    let printed = format!(in alloc; "fetched {count}")?;
+    text.push_str(printed.as_str())
+}
