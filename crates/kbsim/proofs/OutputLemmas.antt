@@ -2,7 +2,7 @@
 use Rattle.std.proofs.Common.{◌≡◌, ◌≢◌, true, false, ℕ, ◌+◌, ◌⊎◌, inl, inr, List, [], ◌∷◌, ◌++◌, map, reverse, length, take, get_or, ◌<◌, Option, None, Some, Result, Ok, Err, refl, ap, sym, subst, ◌∙◌, arith, append_assoc, append-nil, length-append}
 use Rattle.std.proofs.Math.Seq.{take-length}
 use Rattle.std.proofs.lemmas.List.{length-map, length-reverse, take_more}
-use Rattle.std.specs.Prelude.{IfOk, IfSome, alloc_error}
+use Rattle.std.specs.Prelude.{IfOk, IfSome, MatchResult, alloc_error, is_ok}
 use Rattle.std.specs.Str.Lines.{lines}
 use Rattle.script.specs.Scripts.{Script}
 use Rattle.std.specs.declared.alloc.AllocError.{AllocError}
@@ -139,21 +139,21 @@ RepeatedSoFar e count old new = GoesOn (λ steps. All (λ (step : Step). step.ev
 pub repeated_none : (e : Event) (world : WorldValue) → RepeatedSoFar e 1 world world
 repeated_none e world start past stands = ([], (All-nil (λ (step : Step). step.event ≡ e), refl), tt, stands)
 
-pub repeated_more : (e : Event) (count : ℕ) (old world new : WorldValue) (answer : Answer) → RepeatedSoFar e count old world
-    → Takes e answer world new → RepeatedSoFar e (count + 1) old new
-repeated_more e count old world new answer so_far takes start past stands =
+pub repeated_more : (e taken : Event) (count : ℕ) (old world new : WorldValue) (answer : Answer) → taken ≡ e → RepeatedSoFar e count old world
+    → Takes taken answer world new → RepeatedSoFar e (count + 1) old new
+repeated_more e taken count old world new answer same so_far takes start past stands =
     let (steps, (all, long), none, stood) = so_far start past stands in
-    let step : Step = record { event = e; answer = answer; flash = new.flash; refused = false } in
-    (step ∷ steps, (All-cons (λ (s : Step). s.event ≡ e) step steps refl all, omega (arith, long)), (refl, none), takes start (steps ++ past) stood)
+    let step : Step = record { event = taken; answer = answer; flash = new.flash; refused = false } in
+    (step ∷ steps, (All-cons (λ (s : Step). s.event ≡ e) step steps same all, omega (arith, long)), (refl, none), takes start (steps ++ past) stood)
 
-pub repeated : (e : Event) (count total : ℕ) (old world new : WorldValue) (r : Result Answer AllocError) → RepeatedSoFar e count old world → count ≡ total
-    → IfOk r (λ answer. Takes e answer world new) → IfOk r (λ answer. GoesOn (λ steps. IsRepeated e total steps answer) old new)
-repeated e count total old world new (Err error) so_far same takes = tt
-repeated e count total old world new (Ok answer) so_far same takes = λ start past stands.
+pub repeated : (e taken : Event) (count total : ℕ) (old world new : WorldValue) (r : Result Answer AllocError) → taken ≡ e → RepeatedSoFar e count old world
+    → count ≡ total → IfOk r (λ answer. Takes taken answer world new) → IfOk r (λ answer. GoesOn (λ steps. IsRepeated e total steps answer) old new)
+repeated e taken count total old world new (Err error) same so_far whole takes = tt
+repeated e taken count total old world new (Ok answer) same so_far whole takes = λ start past stands.
     let (steps, (all, long), none, stood) = so_far start past stands in
-    let step : Step = record { event = e; answer = answer; flash = new.flash; refused = false } in (
+    let step : Step = record { event = taken; answer = answer; flash = new.flash; refused = false } in (
       step ∷ steps,
-      record { last = step; before = steps; steps_are = refl; last_is = refl; equal = all; count_is = omega (arith, long, same); shows = refl },
+      record { last = step; before = steps; steps_are = refl; last_is = same; equal = all; count_is = omega (arith, long, whole); shows = refl },
       (refl, none),
       takes start (steps ++ past) stood,
     )
@@ -317,6 +317,15 @@ stopped_at start lines i world first now so_far more =
 pub stopped_none : (start : SimValue) (lines : List Line) (first : Option (List ℕ)) → Stopped start lines first first
 stopped_none start lines first =
     (0, [], start, inl refl, record { steps = []; promise = promise start [] tt; none_refused = tt; prints = (refl, refl); leaves = refl }, Appends-nil first)
+
+pub stopped_some : (start : SimValue) (lines : List Line) (first now : Option (List ℕ)) → StoppedAt start lines first now → Stopped start lines first now
+stopped_some start lines first now (count, text, after, fewer, run, appends) = (count, text, after, inr fewer, run, appends)
+
+-- a result that was mapped to an error was that error
+pub mapped_err : {A B E : Type 0} (was : Result A E) (now : Result B E) (e : E) (P : A → Type 0)
+    → MatchResult was P (λ d. now ≡ Err d) → is_ok now ≡ is_ok was → now ≡ Err e → was ≡ Err e
+mapped_err (Ok x) now e P cases same is = cc
+mapped_err (Err d) now e P cases same is = cc
 
 -- and then a fault's line
 pub told_stopped : (start : SimValue) (lines : List Line) (first now after : Option (List ℕ)) (more : List ℕ) → Stopped start lines first now → Appends now after more

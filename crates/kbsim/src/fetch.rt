@@ -5,8 +5,9 @@ ghost use Rattle.kbsim.specs.Fetches.{get_report_descriptor, IsGathered, IsFetch
 ghost use Rattle.kbsim.specs.Outputs.{FetchRuns, GoesOn};
 
 use crate::outcome::Outcome;
-use crate::run::{is_ack, send, take};
-use crate::{Answer, Event, World};
+use crate::run::{ask, is_ack, open, send};
+use crate::spare::Spare;
+use crate::{Answer, World};
 use arrayvec::ArrayVec;
 use std::alloc::AllocError;
 
@@ -19,14 +20,18 @@ const MOST_PACKETS: u16 = 32;
 /// Asks for the report descriptor, and closes the transfer once its data came. The outcome is the
 /// number of bytes, or the first answer that is neither a packet of data nor, of the packet that
 /// closes it, `Ack`.
-pub(crate) fn fetch(world: &mut World, answers: &mut Vec<Answer>) -> Result<Outcome, AllocError>
+pub(crate) fn fetch(
+    world: &mut World,
+    answers: &mut Vec<Answer>,
+    spare: &mut Spare,
+) -> Result<Outcome, AllocError>
     ensures { IfOk result (λ outcome. GoesOn (λ steps. FetchRuns steps outcome) world.old world.new) }
 {
-    let count = match gather(world, answers)? {
+    let count = match gather(world, answers, spare)? {
         Ok(count) => count,
         Err(answer) => return Ok(Outcome::Answered(answer)),
     };
-    let told = send(world, ArrayVec::new(), answers)?;
+    let told = send(world, ArrayVec::new(), answers, spare)?;
     if is_ack(&told) {
         return Ok(Outcome::Fetched(count));
     }
@@ -35,16 +40,19 @@ pub(crate) fn fetch(world: &mut World, answers: &mut Vec<Answer>) -> Result<Outc
 
 /// Asks for the report descriptor, and takes IN packets until one is shorter than eight bytes. The
 /// answer is the number of bytes that came, or the first answer that is no packet of data.
-fn gather(world: &mut World, answers: &mut Vec<Answer>) -> Result<Result<u16, Answer>, AllocError>
+fn gather(
+    world: &mut World,
+    answers: &mut Vec<Answer>,
+    spare: &mut Spare,
+) -> Result<Result<u16, Answer>, AllocError>
     ensures { IfOk result (λ gathered. MatchResult gathered
         (λ count. GoesOn (IsGathered count) world.old world.new)
         (λ answer. GoesOn (IsCutShort answer) world.old world.new)) }
 {
     // A SETUP packet is always acknowledged.
-    take(world, &Event::Setup(GET_REPORT_DESCRIPTOR), answers)?;
-    let event = Event::InPacket;
+    open(world, GET_REPORT_DESCRIPTOR, answers, spare)?;
     for full in 0..MOST_PACKETS {
-        let answer = take(world, &event, answers)?;
+        let answer = ask(world, answers, spare)?;
         let Some(length) = packet_length(&answer) else {
             return Ok(Err(answer));
         };

@@ -19,6 +19,7 @@ use crate::fetch::fetch;
 use crate::flash::blank_flash;
 use crate::outcome::Outcome;
 use crate::print::{FaultLine, PrintedLine};
+use crate::spare::Spare;
 use crate::{Answer, Event, RunError, Work, World};
 use arrayvec::ArrayVec;
 use flash_model::{NorFlash, SimFlash};
@@ -191,7 +192,8 @@ fn perform<W: Write>(
     ensures same_writer_stopped { result ≡ Err RunError.Memory → printer_writer printer.new ≡ printer_writer printer.old }
 {
     let mut world = world_on(alloc, flash)?;
-    let ended = run_each(&mut world, lines, &mut Vec::new(alloc), printer);
+    let answers = &mut Vec::new(alloc);
+    let ended = run_each(&mut world, lines, answers, &mut Spare::new(), printer);
     let after = world.into_flash();
     ended.map(|()| after)
 }
@@ -201,6 +203,7 @@ fn run_each<W: Write>(
     world: &mut World,
     lines: &[Line<'_>],
     answers: &mut Vec<Answer>,
+    spare: &mut Spare,
     printer: &mut Printer<'_, W>,
 ) -> Result<(), RunError>
     ensures printed { OnOk result ((start : SimValue) → StandsFor start [] world.old → (text : List ℕ)
@@ -213,7 +216,7 @@ fn run_each<W: Write>(
     ensures same_writer_stopped { result ≡ Err RunError.Memory → printer_writer printer.new ≡ printer_writer printer.old }
 {
     for line in lines {
-        let Ok(outcome) = run_line(world, &line.statement, answers) else {
+        let Ok(outcome) = run_line(world, &line.statement, answers, spare) else {
             return Err(RunError::Memory);
         };
         let shown = PrintedLine {
@@ -240,33 +243,34 @@ fn run_line(
     world: &mut World,
     statement: &Statement<'_>,
     answers: &mut Vec<Answer>,
+    spare: &mut Spare,
 ) -> Result<Outcome, AllocError>
     ensures { IfOk result (λ outcome. GoesOn (λ steps. LineRuns statement.now steps outcome) world.old world.new) }
 {
     match statement {
-        Statement::One(action) => act(world, action, answers),
+        Statement::One(action) => act(world, action, answers, spare),
         Statement::Scans { count, scan } => {
-            let answer = repeat(world, *scan, *count, answers)?;
+            let answer = repeat(world, *scan, *count, answers, spare)?;
             Ok(Outcome::Answered(answer))
         }
         Statement::Set { layer, key, code } => {
-            let answer = set(world, [*layer, *key], *code, answers)?;
+            let answer = set(world, [*layer, *key], *code, answers, spare)?;
             Ok(Outcome::Answered(answer))
         }
-        Statement::Fetch => fetch(world, answers),
+        Statement::Fetch => fetch(world, answers, spare),
     }
 }
 
-/// Runs a line of one event. Each place where an `Event` is made is in a function of its own, or outside a loop: all of
-/// an `Event` is filled with zeros where a function that has one begins, with the mask of 4,096 bytes that it may hold.
+/// Runs a line of one event.
 fn act(
     world: &mut World,
     action: &Action<'_>,
     answers: &mut Vec<Answer>,
+    spare: &mut Spare,
 ) -> Result<Outcome, AllocError>
     ensures { IfOk result (λ outcome. GoesOn (λ steps. LineRuns (Statement.One action.now) steps outcome) world.old world.new) }
 {
-    let answer = take(world, &event_of(action), answers)?;
+    let answer = take(world, event_of(action, spare), answers)?;
     Ok(Outcome::Answered(answer))
 }
 
@@ -292,22 +296,22 @@ fn pass(world: &mut World, event: &Event, answers: &mut Vec<Answer>) -> Result<(
     Ok(())
 }
 
-/// Takes a scan `count` times. Its event is built once, however often it is taken. The answer is the
-/// last one.
+/// Takes a scan `count` times. The answer is the last one.
 fn repeat(
     world: &mut World,
     scan: Scan,
     count: NonZeroU16,
     answers: &mut Vec<Answer>,
+    spare: &mut Spare,
 ) -> Result<Answer, AllocError>
     ensures { IfOk result (λ answer. GoesOn (λ steps.
         IsRepeated (Event.Scan scan) (non_zero_u16_get count) steps answer) world.old world.new) }
 {
-    let event = Event::Scan(scan);
+    let event = spare.scan(scan);
     for _again in 1..count.get() {
-        pass(world, &event, answers)?;
+        pass(world, event, answers)?;
     }
-    take(world, &event, answers)
+    take(world, event, answers)
 }
 
 /// Sets an entry by a feature report, and takes the steps of its flash work. The answer is that
@@ -317,23 +321,36 @@ fn set(
     place: [u8; 2],
     code: u16,
     answers: &mut Vec<Answer>,
+    spare: &mut Spare,
 ) -> Result<Answer, AllocError>
     ensures { IfOk result (λ answer. GoesOn (λ steps.
         IsRefusedSet (slice_index place 0) (slice_index place 1) code steps answer
         ⊎ IsTakenSet (slice_index place 0) (slice_index place 1) code steps answer) world.old world.new) }
 {
     // A SETUP packet is always acknowledged.
-    take(world, &Event::Setup(SET_FEATURE), answers)?;
-    let told = send(world, command(place, code), answers)?;
+    open(world, SET_FEATURE, answers, spare)?;
+    let told = send(world, command(place, code), answers, spare)?;
     if !is_ack(&told) {
         return Ok(told);
     }
-    work_off(world, answers)?;
-    let status = ask(world, answers)?;
+    work_off(world, answers, spare)?;
+    let status = ask(world, answers, spare)?;
     if is_success(&status) {
         return Ok(Answer::Ack);
     }
     Ok(status)
+}
+
+/// Takes a SETUP packet.
+pub(crate) fn open(
+    world: &mut World,
+    packet: [u8; 8],
+    answers: &mut Vec<Answer>,
+    spare: &mut Spare,
+) -> Result<Answer, AllocError>
+    ensures { IfOk result (λ answer. Takes (Event.Setup packet) answer world.old world.new) }
+{
+    take(world, spare.setup(packet), answers)
 }
 
 /// Takes an OUT packet.
@@ -341,17 +358,29 @@ pub(crate) fn send(
     world: &mut World,
     packet: ArrayVec<u8, 8>,
     answers: &mut Vec<Answer>,
+    spare: &mut Spare,
 ) -> Result<Answer, AllocError>
     ensures { IfOk result (λ answer. Takes (Event.OutPacket packet) answer world.old world.new) }
 {
-    take(world, &Event::OutPacket(packet), answers)
+    take(world, spare.out_packet(packet), answers)
 }
 
 /// Takes an IN packet.
-fn ask(world: &mut World, answers: &mut Vec<Answer>) -> Result<Answer, AllocError>
+pub(crate) fn ask(
+    world: &mut World,
+    answers: &mut Vec<Answer>,
+    spare: &Spare,
+) -> Result<Answer, AllocError>
     ensures { IfOk result (λ answer. Takes Event.InPacket answer world.old world.new) }
 {
-    take(world, &Event::InPacket, answers)
+    take(world, spare.in_packet(), answers)
+}
+
+/// Takes a step of the flash work.
+fn work(world: &mut World, answers: &mut Vec<Answer>, spare: &Spare) -> Result<Answer, AllocError>
+    ensures { IfOk result (λ answer. Takes Event.Work answer world.old world.new) }
+{
+    take(world, spare.work(), answers)
 }
 
 pub(crate) fn is_ack(answer: &Answer) -> bool
@@ -378,12 +407,11 @@ fn needs_more(answer: &Answer) -> bool
 }
 
 /// Takes steps of the flash work until one needs no more.
-fn work_off(world: &mut World, answers: &mut Vec<Answer>) -> Result<(), AllocError>
+fn work_off(world: &mut World, answers: &mut Vec<Answer>, spare: &Spare) -> Result<(), AllocError>
     ensures { OnOk result (GoesOn IsFlashWork world.old world.new) }
 {
-    let event = Event::Work;
     for _step in 0..MOST_STEPS {
-        let answer = take(world, &event, answers)?;
+        let answer = work(world, answers, spare)?;
         if !needs_more(&answer) {
             return Ok(());
         }

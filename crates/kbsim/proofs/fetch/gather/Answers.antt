@@ -4,7 +4,7 @@ use Rattle.kbsim.proofs.FetchLemmas.{gathered_none, gathered_more, gathered_all,
 use Rattle.kbsim.proofs.fetch.gather.Goals as goal
 
 pub loop-full-init : goal.loop-full-init
-loop-full-init c = gathered_none _ _ _ c.in_ok-take.ensures
+loop-full-init c = gathered_none _ _ _ c.in_ok-open.ensures
 
 pub returns-in_default : goal.returns-in_default
 returns-in_default c = cut_short _ _ _ _ _ c.loop-full.invariant c.in_ok-answer.ensures c.in_default.ensures

@@ -8,7 +8,7 @@ loop-again-init c = repeated_none _ _
 pub loop-again-preserved : goal.loop-again-preserved
 loop-again-preserved c =
     let (answer, is, takes) = c.in_ok-pass.ensures in
-    repeated_more _ _ _ _ _ _ c.loop-again.invariant takes
+    repeated_more _ _ _ _ _ _ _ c.scan-event.ensures c.loop-again.invariant takes
 
 pub returns : goal.returns
-returns c = repeated _ _ _ _ _ _ _ c.loop-again.invariant (search rules) c.take.ensures
+returns c = repeated _ _ _ _ _ _ _ _ c.scan-event.ensures c.loop-again.invariant (search rules) c.take.ensures
