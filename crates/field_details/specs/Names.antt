@@ -5,22 +5,22 @@ use Rattle.descriptor_parse.specs.Items.{ItemValue}
 use Rattle.descriptor_parse.specs.Globals.{unsigned}
 use Rattle.descriptor_parse.specs.Locals.{since_main}
 use Rattle.field_details.specs.declared.naming.Naming.{Naming}
-use Rattle.field_details.specs.declared.naming.Naming.TheVariants.{String, Designator}
+use Rattle.field_details.specs.declared.naming.Naming.TheVariants.{Strings, Designators}
 use Rattle.field_details.specs.Extents.{is_with}
 
 -- The Local items String Index 78h, String Minimum 88h and String Maximum 98h, and Designator Index 38h, Designator Minimum
 -- 48h and Designator Maximum 58h (HID 1.11, 6.2.2.8).
 abbrev pub index_prefix : Naming → ℕ
-index_prefix String = 120
-index_prefix Designator = 56
+index_prefix Strings = 120
+index_prefix Designators = 56
 
 abbrev pub minimum_prefix : Naming → ℕ
-minimum_prefix String = 136
-minimum_prefix Designator = 72
+minimum_prefix Strings = 136
+minimum_prefix Designators = 72
 
 abbrev pub maximum_prefix : Naming → ℕ
-maximum_prefix String = 152
-maximum_prefix Designator = 88
+maximum_prefix Strings = 152
+maximum_prefix Designators = 88
 
 -- the latest Minimum, if no Maximum came after it
 abbrev pub waiting : Naming → List ItemValue → Option ℕ

@@ -19,9 +19,9 @@ use std::marker::Model;
 #[derive(Clone, Copy, Debug, PartialEq, Eq)]
 pub enum Naming {
     /// String Index, String Minimum and String Maximum: numbers of string descriptors.
-    String,
+    Strings,
     /// Designator Index, Designator Minimum and Designator Maximum: numbers in the physical descriptor.
-    Designator,
+    Designators,
 }
 
 impl Naming {
@@ -30,8 +30,8 @@ impl Naming {
         ensures { result ≡ index_prefix self }
     {
         match self {
-            Naming::String => 0x78,
-            Naming::Designator => 0x38,
+            Naming::Strings => 0x78,
+            Naming::Designators => 0x38,
         }
     }
 
@@ -40,8 +40,8 @@ impl Naming {
         ensures { result ≡ minimum_prefix self }
     {
         match self {
-            Naming::String => 0x88,
-            Naming::Designator => 0x48,
+            Naming::Strings => 0x88,
+            Naming::Designators => 0x48,
         }
     }
 
@@ -50,8 +50,8 @@ impl Naming {
         ensures { result ≡ maximum_prefix self }
     {
         match self {
-            Naming::String => 0x98,
-            Naming::Designator => 0x58,
+            Naming::Strings => 0x98,
+            Naming::Designators => 0x58,
         }
     }
 }
