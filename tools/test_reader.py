@@ -136,7 +136,9 @@ def told(descriptor):
     for place, collection in enumerate(descriptor.collections):
         if collection[1] == 1:
             line += f"application {place} {reports_told(descriptor.reports(place))};"
-    line += "".join(f"report {kind} {number} {descriptor.bits(kind, number)};" for kind, number in descriptor.reports())
+    line += "".join(f"report {report_told(descriptor, kind, number)};" for kind, number in descriptor.reports())
+    line += f"padding {places_told(place for place, item in enumerate(descriptor.declared) if item.constant)};"
+    line += f"data {places_told(place for place, item in enumerate(descriptor.declared) if not item.constant)};"
     for item in descriptor.declared:
         application = descriptor.application(item)
         numbers = (item.offset, item.kind, item.flags, item.id, item.bit, item.size, item.count, item.least, item.greatest,
@@ -145,6 +147,17 @@ def told(descriptor):
                    item.dimensions if isinstance(item.dimensions, str) else ",".join(map(str, item.dimensions)))
         line += " ".join(map(str, numbers)) + ";"
     return line
+
+
+def report_told(descriptor, kind, number):
+    """A report with its length, its data items and its applications."""
+    bits, members = descriptor.bits(kind, number), descriptor.members(kind, number)
+    return f"{kind} {number} {bits} {-(-bits // 8)} {places_told(members)} {places_told(descriptor.applications(kind, number))}"
+
+
+def places_told(places):
+    """Places, or numbers of collections."""
+    return ",".join(map(str, places))
 
 
 def reports_told(reports):

@@ -151,6 +151,14 @@ class Descriptor:
         return list(dict.fromkeys((item.kind, item.id) for item in self.declared
                                   if application is None or self.application(item) == application))
 
+    def members(self, kind, number):
+        """The data items of a report, by their places among all."""
+        return [place for place, item in enumerate(self.declared) if (item.kind, item.id) == (kind, number)]
+
+    def applications(self, kind, number):
+        """The applications that the data items of a report belong to, by their places."""
+        return sorted({self.application(self.declared[place]) for place in self.members(kind, number)} - {None})
+
 
 class Parser:
     """Goes over the items once, with what is in force."""

@@ -118,10 +118,15 @@ DETAILS = Rules(
     below=(READER,),
     allocs=True,
     hidden=frozenset({("field_details", "Details::around")}),
-    renamed={("field_details", "Details::around"): "numbers_around"},
+    renamed={("field_details", "Details::around"): "numbers_around", ("field_details", "Details::each_around"): "around"},
+    inlined=frozenset(("field_details", name) for name in
+                      ("PlacedFields::next", "PlacedFields::take", "Applications::next", "Applications::take", "first_from", "passes",
+                       "belongs", "is_of_report", "same_kind", "application_of", "inside", "outer", "less", "is_application",
+                       "PlacedFields::new", "Detail::is_constant", "Collection::is_application")),
     derives={("field_details", "Details"): ("Clone", "Default", "PartialEq", "Eq")},
     docs={("field_details", "text"): [("`descriptor_parse::parse`", "`wuzhikar_reader::parse`")],
-          ("field_details", "told"): [("`descriptor_parse::Descriptor`", "`wuzhikar_reader::Descriptor`")]},
+          ("field_details", "told"): [("`descriptor_parse::Descriptor`", "`wuzhikar_reader::Descriptor`"),
+                                      ("`descriptor_parse::Descriptor::fields`", "`wuzhikar_reader::Descriptor::fields`")]},
 )
 
 SIMULATOR = Rules(

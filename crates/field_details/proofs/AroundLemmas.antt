@@ -223,40 +223,6 @@ none_left groups (x ∷ xs) c = (let no = c.0 in cc)
 pub left_none : (groups : List Group) (all xs : List ℕ) → IsLeft groups None all xs → xs ≡ all
 left_none groups all xs l = l.whole ∙ ap (λ ys. all ++ ys) (none_left groups l.left l.chain) ∙ append-nil all
 
--- the first that passes is left, or none was
-pub record IsFirstLeft (test : ℕ → Bool) (groups : List Group) (next : Option ℕ) (xs : List ℕ) : Type 0 where
-  pub left : List ℕ
-  pub chain : IsChain groups next left
-  pub found : find test xs ≡ find test left
-
-pub first_all : (test : ℕ → Bool) (groups : List Group) (next : Option ℕ) (xs : List ℕ) → IsChain groups next xs → IsFirstLeft test groups next xs
-first_all test groups next xs c = record { left = xs; chain = c; found = refl }
-
-first_by : (test : ℕ → Bool) (groups : List Group) (number : ℕ) (xs left : List ℕ) → IsChain groups (Some number) left → find test xs ≡ find test left → test number ≡ false
-    → IsFirstLeft test groups (outer_in groups number) xs
-first_by test groups number xs [] c f n = cc
-first_by test groups number xs (x ∷ rest) c f n =
-    let e : number ≡ x = (let s = c.0 in cc) in
-    let n' : test x ≡ false = ap test (sym e) ∙ n in
-    record { left = rest; chain = rw e c.2; found = f ∙ ap (λ b. cond b (Some x) (find test rest)) n' }
-
-pub first_fewer : (test : ℕ → Bool) (groups : List Group) (number : ℕ) (xs : List ℕ) → IsFirstLeft test groups (Some number) xs → test number ≡ false
-    → IsFirstLeft test groups (outer_in groups number) xs
-first_fewer test groups number xs l n = first_by test groups number xs l.left l.chain l.found n
-
-first_here_by : (test : ℕ → Bool) (groups : List Group) (number : ℕ) (xs left : List ℕ) → IsChain groups (Some number) left → find test xs ≡ find test left → test number ≡ true → Some number ≡ find test xs
-first_here_by test groups number xs [] c f y = cc
-first_here_by test groups number xs (x ∷ rest) c f y =
-    let e : number ≡ x = (let s = c.0 in cc) in
-    let y' : test x ≡ true = ap test (sym e) ∙ y in
-    ap Some e ∙ sym (f ∙ ap (λ b. cond b (Some x) (find test rest)) y')
-
-pub first_here : (test : ℕ → Bool) (groups : List Group) (number : ℕ) (xs : List ℕ) → IsFirstLeft test groups (Some number) xs → test number ≡ true → Some number ≡ find test xs
-first_here test groups number xs l y = first_here_by test groups number xs l.left l.chain l.found y
-
-pub first_none : (test : ℕ → Bool) (groups : List Group) (xs : List ℕ) → IsFirstLeft test groups None xs → None ≡ find test xs
-first_none test groups xs l = sym (l.found ∙ ap (find test) (none_left groups l.left l.chain))
-
 -- ---- heights
 
 by_option : (number : ℕ) (o : Option ℕ) → height (option_and_then (less_than number) o) < number + 1

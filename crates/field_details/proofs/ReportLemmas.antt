@@ -14,7 +14,10 @@ use Rattle.descriptor_parse.specs.Globals.{report_size, report_count, report_id}
 use Rattle.descriptor_parse.specs.Fields.{report_bits, takes_bit}
 use Rattle.field_details.specs.declared.detail.Detail.{Detail}
 use Rattle.field_details.specs.Details.{declared_detail, details}
-use Rattle.field_details.specs.Stands.{is_of_report, end_of, end_of_some, end_in}
+use Rattle.field_details.specs.Stands.{end_of, end_of_some, end_in}
+use Rattle.field_details.specs.declared.report.ReportFacts.{ReportFacts}
+use Rattle.field_details.specs.Reports.{is_of_report, facts}
+use Rattle.field_details.specs.Asked.{facts_in}
 
 -- one more at the end
 pub end_in_more : (kind : Kind) (id : ℕ) (told : List Detail) (last : Detail)
@@ -112,3 +115,10 @@ pub told_bits : (kind : Kind) (id : ℕ) (before : List ItemValue) → end_in ki
 unfolding details report_bits
 told_bits kind id [] = refl
 told_bits kind id (item ∷ before) = after_item (tag item) kind id before item refl (told_bits kind id before)
+
+abbrev pub facts_with : Kind → ℕ → ℕ → ReportFacts
+facts_with kind id bits = record { kind = kind; id = id; bits = bits }
+
+-- a report's facts are those of all its data items
+pub facts_are : (items : List ItemValue) (p : ℕ × Detail) → facts_in (details items) p ≡ facts items p
+facts_are items p = ap (facts_with p.1.kind p.1.id) (told_bits p.1.kind p.1.id items)

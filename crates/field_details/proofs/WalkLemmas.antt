@@ -18,6 +18,7 @@ use Rattle.descriptor_parse.specs.Globals.{unsigned, in_force}
 use Rattle.descriptor_parse.specs.Locals.{has_page, since_main, usage_number}
 use Rattle.descriptor_parse.specs.Fields.{takes_bit, report_bits}
 use Rattle.descriptor_parse.specs.Faults.{onto, all_items}
+use Rattle.field_details.specs.Asked.{AreShort}
 use Rattle.field_details.specs.declared.usage.Usage.{Usage as Written}
 use Rattle.field_details.specs.declared.usage.Usage.TheVariants.{Short, Whole}
 use Rattle.field_details.specs.declared.walk.Walk.{Walk}
@@ -236,12 +237,6 @@ long_skipped prefix t e n = λ long. n (sym e ∙ (rw long refl))
 
 -- ---- all items of a text
 
--- a short item has 0, 1, 2 or 4 bytes of data
-abbrev pub AreShort : List (Result ItemValue ParseError) → Type 0
-AreShort [] = Unit
-AreShort (Ok item ∷ more) = (item.prefix ≢ 254 → (length item.bytes ≤ 4) × (length item.bytes ≢ 3)) × AreShort more
-AreShort (Err e ∷ more) = Unit
-
 data_few : (prefix : ℕ) → (data_size prefix ≤ 4) × (data_size prefix ≢ 3)
 data_few prefix = cond_both (prefix % 4 == 3) 4 (prefix % 4) (λ n. (n ≤ 4) × (n ≢ 3)) (λ e. (omega arith, omega arith))
     (λ e. (omega arith, λ three. let no = rw three at e in cc))
@@ -258,7 +253,7 @@ front_few offset b bs short whole =
     omega arith) in
     rw (no, all) few
 
-all_short : (n offset : ℕ) (text : List ℕ) → AreShort (first_items n offset text)
+pub all_short : (n offset : ℕ) (text : List ℕ) → AreShort (first_items n offset text)
 unfolding first_items
 all_short zero offset text = tt
 all_short (suc n) offset [] = tt
@@ -268,7 +263,7 @@ all_short (suc n) offset (b ∷ bs) =
       | inr whole ↦ rw whole (λ short. front_few offset b bs short (ltb-false _ _ whole), all_short n (offset + item_size (b ∷ bs)) (drop (item_size (b ∷ bs)) (b ∷ bs)))
     ]
 
-all_short_items : (text : List ℕ) → AreShort (items_at 0 text)
+pub all_short_items : (text : List ℕ) → AreShort (items_at 0 text)
 unfolding items_at
 all_short_items text = all_short (length text) 0 text
 

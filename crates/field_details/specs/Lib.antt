@@ -6,3 +6,6 @@ pub mod Details
 pub mod Stands
 pub mod AsFields
 pub mod Around
+pub mod Reports
+pub mod Names
+pub mod Asked

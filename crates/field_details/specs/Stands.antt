@@ -4,7 +4,7 @@ use Rattle.descriptor_parse.specs.declared.field.Kind.{Kind}
 use Rattle.descriptor_parse.specs.declared.tag.GlobalTag.{GlobalTag}
 use Rattle.descriptor_parse.specs.declared.tag.GlobalTag.TheVariants.{UsagePage, LogicalMinimum, LogicalMaximum, ReportSize, ReportId, ReportCount, Push, Pop}
 use Rattle.descriptor_parse.specs.Items.{ItemValue}
-use Rattle.descriptor_parse.specs.Tags.{tag, same_kind, is_usage_page, is_logical_minimum, is_logical_maximum, is_report_size, is_report_id, is_report_count, is_push}
+use Rattle.descriptor_parse.specs.Tags.{tag, is_usage_page, is_logical_minimum, is_logical_maximum, is_report_size, is_report_id, is_report_count, is_push}
 use Rattle.descriptor_parse.specs.Globals.{unsigned, signed, latest, in_force}
 use Rattle.descriptor_parse.specs.Locals.{has_page, since_main}
 use Rattle.field_details.specs.declared.globals.Maximum.{Maximum}
@@ -17,6 +17,7 @@ use Rattle.field_details.specs.declared.walk.Walk.{Walk}
 use Rattle.field_details.specs.Extents.{latest_with, power_of}
 use Rattle.field_details.specs.Collections.{first_usage, open_now, collections}
 use Rattle.field_details.specs.Details.{details}
+use Rattle.field_details.specs.Reports.{is_of_report}
 
 -- ---- Global items
 
@@ -83,10 +84,6 @@ usage_on page (Short id) = page * 2 ^ 16 + id
 usage_on page (Whole number) = number
 
 -- ---- reports
-
--- a data item is of this report
-abbrev pub is_of_report : Kind → ℕ → Detail → Bool
-is_of_report kind id detail = same_kind kind detail.kind && detail.id == id
 
 -- the bit after its last one, as far as 64 bits count
 abbrev pub end_of : Detail → ℕ

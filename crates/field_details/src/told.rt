@@ -1,11 +1,15 @@
 //! What was declared.
 
-ghost use Rattle.std.specs.Prelude.{◌≡◌, List, [], IfOk, option_and_then};
+ghost use Rattle.std.specs.Prelude.{◌≡◌, List, [], IfOk};
 ghost use Rattle.descriptor_parse.specs.Items.{ItemValue};
-ghost use Rattle.field_details.specs.Around.{is_application, less_than, inside_in, outer_in};
 
+use crate::applications::Applications;
+use crate::around::{Around, application_of, inside, outer};
 use crate::collection::Collection;
 use crate::detail::Detail;
+use crate::placed::{PlacedFields, Question};
+use crate::report::{Reports, ReportsOf};
+use descriptor_parse::Kind;
 use std::alloc::{AllocError, Global};
 
 /// What a report descriptor declares, padding among it.
@@ -23,6 +27,7 @@ pub struct Details {
 
 impl Details {
     ghost use Rattle.field_details.specs.Around.{Tells, around, application};
+    ghost use Rattle.field_details.specs.Reports.{data_fields, padding, report, reports, reports_of, applications, applications_of};
 
     pub(crate) fn new(alloc: Global) -> Details
         ensures fields { result.fields.items ≡ [] }
@@ -54,52 +59,64 @@ impl Details {
     pub fn application(&self, place: usize) -> Option<usize>
         ensures { (items : List ItemValue) → Tells items self.now → result ≡ application items place }
     {
-        let mut next = inside(&self.fields, place);
-        while let Some(number) = next {
-            if is_application(&self.collections, number) {
-                return Some(number);
-            }
-            next = outer(&self.collections, number);
-        }
-        None
+        application_of(&self.fields, &self.collections, place)
     }
-}
 
-/// The innermost collection around a data item.
-fn inside(told: &[Detail], place: usize) -> Option<usize>
-    ensures { result ≡ inside_in told.now place }
-{
-    match told.get(place) {
-        Some(detail) => detail.inside,
-        None => None,
+    /// The numbers of the collections around a data item, outermost first, one by one; none where there is no such item.
+    pub fn each_around(&self, place: usize) -> Around<'_>
+        ensures { (items : List ItemValue) → Tells items self.now → result ≡ around items place }
+    {
+        Around::new(&self.fields, &self.collections, place)
     }
-}
 
-/// The collection right around one: it began before.
-fn outer(groups: &[Collection], number: usize) -> Option<usize>
-    ensures { result ≡ outer_in groups.now number }
-{
-    match groups.get(number) {
-        Some(group) => less(group.outer, number),
-        None => None,
+    /// The data items that are no padding: those that `descriptor_parse::Descriptor::fields` has, in its order.
+    pub fn data_fields(&self) -> PlacedFields<'_>
+        ensures { result ≡ data_fields self.now.fields.items }
+    {
+        PlacedFields::new(Question::Data, &self.fields, &self.collections)
     }
-}
 
-/// A number, if it is less than this.
-fn less(outer: Option<usize>, number: usize) -> Option<usize>
-    ensures { result ≡ option_and_then (less_than number) outer }
-{
-    match outer {
-        Some(outer) if outer < number => Some(outer),
-        _ => None,
+    /// The Constant data items, in order: padding.
+    pub fn padding(&self) -> PlacedFields<'_>
+        ensures { result ≡ padding self.now.fields.items }
+    {
+        PlacedFields::new(Question::Padding, &self.fields, &self.collections)
     }
-}
 
-fn is_application(groups: &[Collection], number: usize) -> bool
-    ensures { result ≡ is_application groups.now number }
-{
-    match groups.get(number) {
-        Some(group) => group.is_application(),
-        None => false,
+    /// The data items of one report in order, padding among them. The ID is 0 where none is used.
+    pub fn report(&self, kind: Kind, id: u32) -> PlacedFields<'_>
+        ensures { result ≡ report kind id self.now.fields.items }
+    {
+        PlacedFields::new(Question::Report(kind, id), &self.fields, &self.collections)
+    }
+
+    /// All reports, in order of their first data items.
+    pub fn reports(&self) -> Reports<'_>
+        ensures { (items : List ItemValue) → Tells items self.now → result ≡ reports items }
+    {
+        Reports::new(&self.fields, &self.collections)
+    }
+
+    /// The Application collections with their places in `collections`, in order.
+    pub fn applications(&self) -> Applications<'_>
+        ensures { result ≡ applications self.now.collections.items }
+    {
+        Applications::new(None, &self.fields, &self.collections)
+    }
+
+    /// The reports that have a data item in an application, innermost, in order of their first data items in it. One report
+    /// may be of several. The application is given by its place in `collections`.
+    pub fn reports_of(&self, application: usize) -> ReportsOf<'_>
+        ensures { (items : List ItemValue) → Tells items self.now → result ≡ reports_of items application }
+    {
+        ReportsOf::new(&self.fields, &self.collections, application)
+    }
+
+    /// The applications that the data items of a report belong to, with their places in `collections`, in order. There can be
+    /// several, as there can be data items outside of all.
+    pub fn applications_of(&self, kind: Kind, id: u32) -> Applications<'_>
+        ensures { (items : List ItemValue) → Tells items self.now → result ≡ applications_of items kind id }
+    {
+        Applications::new(Some((kind, id)), &self.fields, &self.collections)
     }
 }

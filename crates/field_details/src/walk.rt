@@ -1,22 +1,22 @@
 //! The walk over the items of a text, which keeps what is in force.
 
-ghost use Rattle.std.specs.Prelude.{◌≡◌, ◌≢◌, ◌-◌, ◌^◌, ◌≤◌, List, [], ◌∷◌, OnOk, length, min, Some, option_map};
+ghost use Rattle.std.specs.Prelude.{◌≡◌, ◌≢◌, ◌≤◌, List, [], ◌∷◌, OnOk, length, Some, option_map};
 ghost use Rattle.std.specs.Option.{option_or};
 ghost use Rattle.descriptor_parse.specs.Items.{ItemValue};
 ghost use Rattle.descriptor_parse.specs.ItemViews.{item_view};
-ghost use Rattle.descriptor_parse.specs.Tags.{tag_of, same_kind};
+ghost use Rattle.descriptor_parse.specs.Tags.{tag_of};
 ghost use Rattle.descriptor_parse.specs.Globals.{unsigned};
-ghost use Rattle.descriptor_parse.specs.Fields.{report_bits};
 ghost use Rattle.descriptor_parse.specs.Faults.{all_items};
 ghost use Rattle.descriptor_parse.specs.declared.tag.Tag.{Tag};
 ghost use Rattle.descriptor_parse.specs.declared.tag.MainTag.{MainTag};
 ghost use Rattle.field_details.specs.Collections.{innermost, declared_collection};
 ghost use Rattle.field_details.specs.Details.{declared_detail, details};
-ghost use Rattle.field_details.specs.Stands.{WalkStands, is_of_report, usage_on};
+ghost use Rattle.field_details.specs.Stands.{WalkStands, usage_on};
 
 use crate::collection::Collection;
 use crate::detail::Detail;
 use crate::globals::GlobalStack;
+use crate::report::end_of_report;
 use crate::told::Details;
 use crate::usage::Usage;
 use descriptor_parse::number::unsigned;
@@ -203,38 +203,5 @@ fn usage_on(page: u16, usage: Option<Usage>) -> Option<u32>
     match usage {
         Some(usage) => Some(usage.on(page)),
         None => None,
-    }
-}
-
-/// The bit after the last of these data items that is of a report, 0 if none is.
-fn end_of_report(told: &[Detail], kind: Kind, id: u32) -> u64
-    ensures { (before : List ItemValue) → told.now ≡ details before → result ≡ min (2 ^ 64 - 1) (report_bits kind id before) }
-{
-    let mut rest = told;
-    // Mostly it is the last one of all.
-    while let Some((last, front)) = rest.split_last() {
-        if is_of_report(last, kind, id) {
-            return last.end();
-        }
-        rest = front;
-    }
-    0
-}
-
-/// Whether a data item is of a report.
-fn is_of_report(detail: &Detail, kind: Kind, id: u32) -> bool
-    ensures { result ≡ is_of_report kind id detail.now }
-{
-    same_kind(kind, detail.kind) && detail.id == id
-}
-
-fn same_kind(a: Kind, b: Kind) -> bool
-    ensures { result ≡ same_kind a b }
-{
-    match (a, b) {
-        (Kind::Input, Kind::Input) => true,
-        (Kind::Output, Kind::Output) => true,
-        (Kind::Feature, Kind::Feature) => true,
-        _ => false,
     }
 }

@@ -1,12 +1,14 @@
-//! What a report descriptor declares beside the bits of its fields (HID 1.11, sections 6.2.2.4 to 6.2.2.8), with what is
-//! asked of it by hand: tested, not proved.
+//! What a report descriptor declares beside the bits of its fields (HID 1.11, sections 6.2.2.4 to 6.2.2.8). It is
+//! exported from a proved source, but for the names of units and of types of collections: by hand, tested, not proved.
 
 mod facts;
 mod questions;
 
-pub use crate::parts::field_details::{Collection, Detail, Details, Dimension};
+pub use crate::parts::field_details::{
+    Applications, Around, Collection, Detail, Details, Dimension, Placed, PlacedFields, ReportFacts, Reports, ReportsOf,
+};
 pub use facts::NoUnit;
-pub use questions::{Naming, Placed, ReportFacts, namings};
+pub use questions::{Naming, namings};
 
 use crate::parts::field_details;
 use wuzhikar_reader::AllocError;

@@ -156,8 +156,8 @@
 //! [`ReadingError`] says why. A driver drops the report, keeps its last state and reads the next one. Without Report IDs a
 //! report of another kind can't be told by its first byte.
 //!
-//! **Exported from a proved source: what a descriptor declares.** The fields of [`Details`], its collections, the bits, extents
-//! and units of a [`Detail`], and [`Details::application`] are in the hidden module `parts`, the text of crates that are proved
+//! **Exported from a proved source: what a descriptor declares.** The fields of [`Details`], its collections, its calls, the
+//! bits, extents and units of a [`Detail`], and what [`namings`] gives are in the hidden module `parts`, the text of crates that are proved
 //! in Rattle (Rust with contracts), as is how [`Reader::write`] writes a value into the bits of a place, and as are the fields
 //! and their usages of `wuzhikar-reader`. **All else is written by hand:
 //! tested, not proved**; it is compared with a program in another language over some ten thousand descriptors.
@@ -176,7 +176,10 @@ pub mod parts;
 pub mod rattle;
 mod values;
 
-pub use crate::details::{Collection, Detail, Details, Dimension, Naming, NoUnit, Placed, ReportFacts, details, namings};
+pub use crate::details::{
+    Applications, Around, Collection, Detail, Details, Dimension, Naming, NoUnit, Placed, PlacedFields, ReportFacts, Reports,
+    ReportsOf, details, namings,
+};
 pub use crate::names::{UsageName, page_name};
 pub use crate::values::{
     Asked, NoPhysical, Physical, Reader, ReaderError, Reading, ReadingError, Setting, Target, Value, Within, WriteError,

@@ -7,17 +7,27 @@
 //!
 //! The promise is that each of these is exactly what the items before the data item say, by a look back over them.
 
+mod applications;
+mod around;
 pub mod collection;
 pub mod detail;
 mod globals;
+mod naming;
+mod placed;
+mod report;
 mod text;
 mod told;
 pub mod unit;
 mod usage;
 mod walk;
 
+pub use applications::Applications;
+pub use around::Around;
 pub use collection::Collection;
 pub use detail::Detail;
+pub use naming::{NamedRanges, Naming, namings};
+pub use placed::{Placed, PlacedFields};
+pub use report::{ReportFacts, Reports, ReportsOf};
 pub use text::details_of;
 pub use told::Details;
 pub use unit::Dimension;

@@ -43,6 +43,10 @@ fn option(number: Option<impl ToString>) -> String {
     number.map_or("-".into(), |number| number.to_string())
 }
 
+fn places(places: impl Iterator<Item = usize>) -> String {
+    places.map(|place| place.to_string()).collect::<Vec<_>>().join(",")
+}
+
 /// A data item by all that is told of it.
 fn tell_item(line: &mut String, text: &[u8], told: &Details, place: usize) {
     let detail = &told.fields[place];
@@ -96,8 +100,14 @@ fn descriptor(text: &[u8]) -> (String, Option<Reader>) {
         let _ = write!(line, "application {place} {};", reports.join(","));
     }
     for report in told.reports() {
-        let _ = write!(line, "report {} {} {};", kind_word(report.kind), report.id, report.bits);
+        let (kind, id) = (report.kind, report.id);
+        let items = places(told.report(kind, id).map(|placed| placed.place));
+        let applications = places(told.applications_of(kind, id).map(|(place, _)| place));
+        let _ = write!(line, "report {} {id} {} {} ", kind_word(kind), report.bits, report.bytes());
+        let _ = write!(line, "{items} {applications};");
     }
+    let _ = write!(line, "padding {};", places(told.padding().map(|placed| placed.place)));
+    let _ = write!(line, "data {};", places(told.data_fields().map(|placed| placed.place)));
     for place in 0..told.fields.len() {
         tell_item(&mut line, text, told, place);
     }

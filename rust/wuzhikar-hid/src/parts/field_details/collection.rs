@@ -16,6 +16,7 @@ pub struct Collection {
 
 impl Collection {
     /// Whether it is an Application collection.
+    #[inline(always)]
     pub fn is_application(&self) -> bool {
         self.kind == 1
     }

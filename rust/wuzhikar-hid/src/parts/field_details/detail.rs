@@ -40,6 +40,7 @@ pub struct Detail {
 
 impl Detail {
     /// Bit 0: Constant, as padding is, and not Data (HID 1.11, 6.2.2.5).
+    #[inline(always)]
     pub fn is_constant(&self) -> bool {
         self.flags % 2 == 1
     }

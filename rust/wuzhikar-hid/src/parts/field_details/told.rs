@@ -1,8 +1,13 @@
 // Exported from crates/field_details/src/told.rt by bin/export-rust. Edit that file instead.
 //! What was declared.
 
+use crate::parts::field_details::applications::Applications;
+use crate::parts::field_details::around::{Around, application_of, inside, outer};
 use crate::parts::field_details::collection::Collection;
 use crate::parts::field_details::detail::Detail;
+use crate::parts::field_details::placed::{PlacedFields, Question};
+use crate::parts::field_details::report::{Reports, ReportsOf};
+use wuzhikar_reader::parts::descriptor_parse::Kind;
 use crate::rattle::alloc::{AllocError, Global};
 
 /// What a report descriptor declares, padding among it.
@@ -43,45 +48,49 @@ impl Details {
 
     /// The number of the innermost Application collection around a data item, if it is in one.
     pub fn application(&self, place: usize) -> Option<usize> {
-        let mut next = inside(&self.fields, place);
-        while let Some(number) = next {
-            if is_application(&self.collections, number) {
-                return Some(number);
-            }
-            next = outer(&self.collections, number);
-        }
-        None
+        application_of(&self.fields, &self.collections, place)
     }
-}
 
-/// The innermost collection around a data item.
-fn inside(told: &[Detail], place: usize) -> Option<usize> {
-    match told.get(place) {
-        Some(detail) => detail.inside,
-        None => None,
+    /// The numbers of the collections around a data item, outermost first, one by one; none where there is no such item.
+    pub fn around(&self, place: usize) -> Around<'_> {
+        Around::new(&self.fields, &self.collections, place)
     }
-}
 
-/// The collection right around one: it began before.
-fn outer(groups: &[Collection], number: usize) -> Option<usize> {
-    match groups.get(number) {
-        Some(group) => less(group.outer, number),
-        None => None,
+    /// The data items that are no padding: those that `wuzhikar_reader::Descriptor::fields` has, in its order.
+    pub fn data_fields(&self) -> PlacedFields<'_> {
+        PlacedFields::new(Question::Data, &self.fields, &self.collections)
     }
-}
 
-/// A number, if it is less than this.
-fn less(outer: Option<usize>, number: usize) -> Option<usize> {
-    match outer {
-        Some(outer) if outer < number => Some(outer),
-        _ => None,
+    /// The Constant data items, in order: padding.
+    pub fn padding(&self) -> PlacedFields<'_> {
+        PlacedFields::new(Question::Padding, &self.fields, &self.collections)
     }
-}
 
-fn is_application(groups: &[Collection], number: usize) -> bool {
-    match groups.get(number) {
-        Some(group) => group.is_application(),
-        None => false,
+    /// The data items of one report in order, padding among them. The ID is 0 where none is used.
+    pub fn report(&self, kind: Kind, id: u32) -> PlacedFields<'_> {
+        PlacedFields::new(Question::Report(kind, id), &self.fields, &self.collections)
+    }
+
+    /// All reports, in order of their first data items.
+    pub fn reports(&self) -> Reports<'_> {
+        Reports::new(&self.fields, &self.collections)
+    }
+
+    /// The Application collections with their places in `collections`, in order.
+    pub fn applications(&self) -> Applications<'_> {
+        Applications::new(None, &self.fields, &self.collections)
+    }
+
+    /// The reports that have a data item in an application, innermost, in order of their first data items in it. One report
+    /// may be of several. The application is given by its place in `collections`.
+    pub fn reports_of(&self, application: usize) -> ReportsOf<'_> {
+        ReportsOf::new(&self.fields, &self.collections, application)
+    }
+
+    /// The applications that the data items of a report belong to, with their places in `collections`, in order. There can be
+    /// several, as there can be data items outside of all.
+    pub fn applications_of(&self, kind: Kind, id: u32) -> Applications<'_> {
+        Applications::new(Some((kind, id)), &self.fields, &self.collections)
     }
 }
 

@@ -4,6 +4,7 @@
 use crate::parts::field_details::collection::Collection;
 use crate::parts::field_details::detail::Detail;
 use crate::parts::field_details::globals::GlobalStack;
+use crate::parts::field_details::report::end_of_report;
 use crate::parts::field_details::told::Details;
 use crate::parts::field_details::usage::Usage;
 use wuzhikar_reader::parts::descriptor_parse::number::unsigned;
@@ -150,33 +151,6 @@ fn usage_on(page: u16, usage: Option<Usage>) -> Option<u32> {
     match usage {
         Some(usage) => Some(usage.on(page)),
         None => None,
-    }
-}
-
-/// The bit after the last of these data items that is of a report, 0 if none is.
-fn end_of_report(told: &[Detail], kind: Kind, id: u32) -> u64 {
-    let mut rest = told;
-    // Mostly it is the last one of all.
-    while let Some((last, front)) = rest.split_last() {
-        if is_of_report(last, kind, id) {
-            return last.end();
-        }
-        rest = front;
-    }
-    0
-}
-
-/// Whether a data item is of a report.
-fn is_of_report(detail: &Detail, kind: Kind, id: u32) -> bool {
-    same_kind(kind, detail.kind) && detail.id == id
-}
-
-fn same_kind(a: Kind, b: Kind) -> bool {
-    match (a, b) {
-        (Kind::Input, Kind::Input) => true,
-        (Kind::Output, Kind::Output) => true,
-        (Kind::Feature, Kind::Feature) => true,
-        _ => false,
     }
 }
 

@@ -1,6 +1,6 @@
 use Rattle.std.proofs.Common.{◌≡◌, length}
 use Rattle.field_details.specs.Stands.{end_in}
-use Rattle.field_details.proofs.walk.end_of_report.Given as goal
+use Rattle.field_details.proofs.report.end_of_report.Given as goal
 
 -- those behind are of other reports
 abbrev pub invariant-loop-last : goal.invariant-loop-last
