@@ -2,8 +2,7 @@
 
 use super::reader::{Kept, Reader};
 use super::report::ReadingError;
-use super::spots::Spot;
-use crate::parts::field_values::{PlaceError, is_held, null_of, put_value, set_place};
+use crate::parts::field_values::{PlaceError, is_held, null_of, put_value, read_place, set_place};
 
 pub use crate::parts::field_values::Asked;
 
@@ -232,10 +231,7 @@ impl<'a> Writing<'a> {
         if on && value > kept.field.max {
             return Err(WriteError::OutOfRange(number));
         }
-        let named = |writing: &Self, place: usize| {
-            let spot = Spot::new(writing.reader.descriptor(), kept, place as u16, 1);
-            spot.value(writing.reader, spot.bits(writing.bytes), 0).usage
-        };
+        let named = |writing: &Self, place: usize| read_place(&usages, kept.has_null, writing.bytes, place as u16).usage;
         let places = 0..usize::from(kept.field.count);
         let has = |writing: &Self, place: usize| named(writing, place) == Some(usage);
         if !on {
