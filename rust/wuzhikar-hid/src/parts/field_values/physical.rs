@@ -31,6 +31,9 @@ pub enum NoPhysical {
 }
 
 /// The physical value of a logical one: the line through the logical and the physical extents, also past their ends.
+///
+/// The physical extents are numbers of 32 bits, as those of a descriptor. The errors: `EqualLimits` where the logical
+/// extents are equal, `InvertedLimits` where the minimum is over the maximum.
 pub fn physical_value(
     logical: Extents,
     physical: Extents,
