@@ -1,1 +1,4 @@
 mod Writing
+mod NullLemmas
+mod Fractions
+mod Reading

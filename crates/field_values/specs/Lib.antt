@@ -1,2 +1,6 @@
 pub mod Places
 pub mod Held
+pub mod Values
+pub mod Nulls
+pub mod Limits
+pub mod Physical

@@ -1,11 +1,22 @@
-//! Values in the bits of reports (HID 1.11, sections 5.6 and 5.8).
+//! Values in the bits of reports (HID 1.11, sections 5.6, 5.8, 5.10 and 6.2.2.5 to 6.2.2.8).
 //!
-//! [`put_number`] writes a number into some bits of a report's bytes. The promise is that what is read there is what was
-//! written, as `host_extract` reads it, and that each other bit is what it was.
+//! [`read_place`] reads a place of a field: its number, where that is by the logical extents, and the usage that it has
+//! or names. [`set_place`] writes a value or a null into one, and [`write_place`] a value. The promise is that what is
+//! read there is what was asked for, and that each other bit is what it was. [`physical_value`] is what a value is in
+//! its unit, as an exact fraction.
+//!
+//! Nothing is kept, and nothing takes memory.
 #![tactic(auto)]
 
 mod bits;
+pub mod laws;
+mod null;
+mod physical;
 mod place;
+mod value;
 
-pub use bits::put_number;
+pub use bits::{number_at, put_number, window};
+pub use null::{Asked, is_null, null_of, set_place};
+pub use physical::{Extents, NoPhysical, Physical, physical_value};
 pub use place::{PlaceError, is_held, put_value, write_place};
+pub use value::{PlaceValue, Within, raw_at, read_place, where_is};

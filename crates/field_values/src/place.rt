@@ -17,6 +17,8 @@ pub enum PlaceError {
     NoPlace,
     /// The bytes end before the place does.
     Short,
+    /// A null, and the field is an Array or without Null State, or has no value for it.
+    NoNull,
     /// The bits can't hold the value.
     TooLarge,
     /// The value is outside the logical extents.
@@ -48,7 +50,7 @@ pub fn write_place(
 }
 
 /// Writes a value into a place of a field.
-fn put_place(field: &Field, bytes: &mut [u8], place: u16, value: i64)
+pub(crate) fn put_place(field: &Field, bytes: &mut [u8], place: u16, value: i64)
     requires fits { FitsReading field.now }
     requires within { place < field.now.count }
     requires held { is_held field.now.min field.now.size value ≡ true }
@@ -79,14 +81,14 @@ fn refuse(field: &Field, bytes: &[u8], place: u16, value: i64) -> Option<PlaceEr
 }
 
 /// Whether a value is within the logical extents of a field.
-fn is_within(field: &Field, value: i64) -> bool
+pub(crate) fn is_within(field: &Field, value: i64) -> bool
     ensures { result ≡ is_within field.now value }
 {
     value >= field.min && value <= field.max
 }
 
 /// Whether the bytes have all bits of a place.
-fn has_bits(field: &Field, bytes: &[u8], place: u16) -> bool
+pub(crate) fn has_bits(field: &Field, bytes: &[u8], place: u16) -> bool
     requires fits { FitsReading field.now }
     requires within { place < field.now.count }
     ensures { result ≡ has_bits field.now bytes.now place }

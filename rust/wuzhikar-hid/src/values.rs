@@ -1,6 +1,5 @@
 //! The values of a report, by a kept reader. Written by hand: tested, not proved.
 
-mod bits;
 mod physical;
 mod reader;
 mod report;

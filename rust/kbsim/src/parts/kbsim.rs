@@ -17,6 +17,7 @@ mod flash;
 mod outcome;
 mod print;
 mod run;
+mod spare;
 
 pub use fault::RunError;
 pub use flash::{blank_flash, image_flash};

@@ -1,30 +1,11 @@
-//! What a value is in its unit, exactly. Written by hand: tested, not proved.
+//! What a value is in its unit, as text. Written by hand: tested, not proved; the value itself is that of the proved source.
+
+pub use crate::parts::field_values::{NoPhysical, Physical};
 
 use crate::Detail;
+use crate::parts::field_values::{Extents, physical_value};
 use alloc::string::String;
 use core::fmt;
-
-/// A value in its unit: `numerator` / `denominator` times ten to the power of `exponent` (HID 1.11, 6.2.2.7).
-///
-/// The fraction is in its lowest terms, and its denominator is positive.
-#[derive(Clone, Copy, Debug, PartialEq, Eq)]
-pub struct Physical {
-    /// Above the line, with its sign.
-    pub numerator: i128,
-    /// Below the line, at least 1.
-    pub denominator: i128,
-    /// The power of ten, the unit exponent.
-    pub exponent: i64,
-}
-
-/// Why a value has no physical one.
-#[derive(Clone, Copy, Debug, PartialEq, Eq)]
-pub enum NoPhysical {
-    /// The Logical Minimum is the Logical Maximum.
-    EqualLimits,
-    /// The Logical Minimum is over the Logical Maximum.
-    InvertedLimits,
-}
 
 impl fmt::Display for NoPhysical {
     fn fmt(&self, f: &mut fmt::Formatter<'_>) -> fmt::Result {
@@ -37,28 +18,11 @@ impl fmt::Display for NoPhysical {
 
 impl core::error::Error for NoPhysical {}
 
-fn common_divisor(mut a: i128, mut b: i128) -> i128 {
-    while b != 0 {
-        (a, b) = (b, a % b);
-    }
-    a.abs()
-}
-
 impl Detail {
     /// The physical value of a logical one: the line through the logical and the physical extents, also past their ends.
     pub fn physical_value(&self, value: i64) -> Result<Physical, NoPhysical> {
-        let span = i128::from(self.max) - i128::from(self.min);
-        if span == 0 {
-            return Err(NoPhysical::EqualLimits);
-        }
-        if span < 0 {
-            return Err(NoPhysical::InvertedLimits);
-        }
-        let (least, greatest) = self.physical();
-        let (least, greatest) = (i128::from(least), i128::from(greatest));
-        let numerator = least * span + (i128::from(value) - i128::from(self.min)) * (greatest - least);
-        let divisor = common_divisor(numerator, span).max(1);
-        Ok(Physical { numerator: numerator / divisor, denominator: span / divisor, exponent: self.exponent })
+        let (min, max) = self.physical();
+        physical_value(Extents { min: self.min, max: self.max }, Extents { min, max }, self.exponent, value)
     }
 }
 

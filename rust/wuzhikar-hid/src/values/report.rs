@@ -1,8 +1,10 @@
 //! The values of a report. Written by hand: tested, not proved.
 
-use super::bits::number_at;
 use super::reader::{Kept, Reader};
 use super::spots::Spot;
+use crate::parts::field_values::number_at;
+
+pub use crate::parts::field_values::Within;
 
 use alloc::vec::Vec;
 use core::fmt;
@@ -22,17 +24,6 @@ pub struct Value {
     pub raw: i64,
     /// Where it is, by the logical extents.
     pub within: Within,
-}
-
-/// Where a value is, by the logical extents of its field.
-#[derive(Clone, Copy, Debug, PartialEq, Eq)]
-pub enum Within {
-    /// Within them.
-    Range,
-    /// Outside, in a Variable field with Null State: the control has no value.
-    Null,
-    /// Outside, in any other field.
-    Out,
 }
 
 /// Why a report is not read. Where several hold, the first is told.

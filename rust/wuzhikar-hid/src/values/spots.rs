@@ -1,8 +1,8 @@
 //! What a kept reader keeps of the places of a report, so that a value takes few steps. Written by hand: tested, not proved.
 
-use super::bits::window;
 use super::reader::{Kept, Reader};
 use super::report::{Value, Within};
+use crate::parts::field_values::window;
 use alloc::vec::Vec;
 use core::iter::once;
 use wuzhikar_reader::{AllocError, Descriptor};

@@ -2,6 +2,7 @@
 
 use super::{Asked, Reader, Setting, Target, Within};
 use crate::Kind;
+use crate::parts::field_values::read_place;
 use alloc::vec::Vec;
 
 fn reader_of(hex: &str) -> Reader {
@@ -44,6 +45,22 @@ fn what_was_read_is_written_back() {
             .map(|value| set(Target::Field { field: value.field, place: value.place.into() }, Asked::Value(value.raw)))
             .collect();
         assert_eq!(reader.write(Kind::Input, 0, &settings, Some(&report)), Ok(report));
+    }
+}
+
+#[test]
+fn values_are_those_of_the_proved_source() {
+    let mut seed = 3;
+    for reader in [gamepad(), keyboard(), reader_of(include_str!("many_places.hex"))] {
+        let len = reader.descriptor().report_len(Kind::Input, 0).expect("a report");
+        for _ in 0..200 {
+            let report = bytes_like_random(&mut seed, len);
+            for value in reader.read(Kind::Input, &report).expect("a report") {
+                let null_state = reader.detail(value.field).is_some_and(|detail| detail.has_null_state());
+                let told = read_place(&reader.field_usages(value.field), null_state, &report, value.place);
+                assert_eq!((value.raw, value.within, value.usage), (told.raw, told.within, told.usage));
+            }
+        }
     }
 }
 

@@ -2,8 +2,9 @@
 
 use super::reader::{Kept, Reader};
 use super::report::ReadingError;
-use super::spots::Spot;
-use crate::parts::field_values::{PlaceError, is_held, put_value, write_place};
+use crate::parts::field_values::{PlaceError, is_held, null_of, put_value, read_place, set_place};
+
+pub use crate::parts::field_values::Asked;
 
 use alloc::vec::Vec;
 use core::fmt;
@@ -27,15 +28,6 @@ pub enum Target {
         /// The place in it.
         place: usize,
     },
-}
-
-/// What a control is set to.
-#[derive(Clone, Copy, Debug, PartialEq, Eq)]
-pub enum Asked {
-    /// A value. For a usage of an Array 1 puts it into a place that names none, and 0 takes it out of all.
-    Value(i64),
-    /// No value: Null State.
-    Null,
 }
 
 /// A control of a report, and what it is set to.
@@ -95,13 +87,6 @@ impl fmt::Display for WriteError {
 
 impl core::error::Error for WriteError {}
 
-/// A value outside the extents that the bits hold: 0, one more than the greatest, or one less than the least.
-fn outside(kept: &Kept) -> Option<i64> {
-    let is_outside =
-        |value: &i64| (*value < kept.field.min || *value > kept.field.max) && is_held(kept.field.min, kept.field.size, *value);
-    [0, kept.field.max + 1, kept.field.min - 1].into_iter().find(is_outside)
-}
-
 /// A value by which a place of an array names no usage: 0 where it does, else one outside the extents, past the list, or of
 /// a usage whose low half is 0.
 fn unused(kept: &Kept, usages: &FieldUsages<'_>) -> Option<i64> {
@@ -118,7 +103,7 @@ fn unused(kept: &Kept, usages: &FieldUsages<'_>) -> Option<i64> {
         before += i64::from(last - first) + 1;
         (first & 0xFFFF == 0).then_some(field.min + number)
     });
-    [Some(0), outside(kept), Some(field.min + i64::from(count)), id_zero].into_iter().flatten().find(names_none)
+    [Some(0), null_of(field), Some(field.min + i64::from(count)), id_zero].into_iter().flatten().find(names_none)
 }
 
 /// The number of a usage in the list of an array.
@@ -165,7 +150,7 @@ impl<'a> Writing<'a> {
             let value = if kept.field.array {
                 unused(kept, &self.reader.usages(kept)).ok_or(WriteError::NoUnused(kept.number))?
             } else if kept.has_null {
-                outside(kept).unwrap_or(0)
+                null_of(&kept.field).unwrap_or(0)
             } else {
                 continue;
             };
@@ -221,17 +206,10 @@ impl<'a> Writing<'a> {
 
     fn set_place(&mut self, kept: &Kept, place: usize, asked: Asked, number: usize) -> Result<(), WriteError> {
         self.mark(kept, place, number)?;
-        let value = match asked {
-            Asked::Value(value) => value,
-            Asked::Null if kept.has_null => {
-                self.put(kept, place, outside(kept).ok_or(WriteError::NoNull(number))?);
-                return Ok(());
-            }
-            Asked::Null => return Err(WriteError::NoNull(number)),
-        };
-        write_place(&kept.field, self.bytes, place as u16, value).map_err(|error| match error {
+        set_place(&kept.field, kept.has_null, self.bytes, place as u16, asked).map_err(|error| match error {
             PlaceError::NoPlace => WriteError::Unknown(number),
             PlaceError::Short => WriteError::Short,
+            PlaceError::NoNull => WriteError::NoNull(number),
             PlaceError::TooLarge => WriteError::TooLarge(number),
             PlaceError::OutOfRange => WriteError::OutOfRange(number),
         })
@@ -253,10 +231,7 @@ impl<'a> Writing<'a> {
         if on && value > kept.field.max {
             return Err(WriteError::OutOfRange(number));
         }
-        let named = |writing: &Self, place: usize| {
-            let spot = Spot::new(writing.reader.descriptor(), kept, place as u16, 1);
-            spot.value(writing.reader, spot.bits(writing.bytes), 0).usage
-        };
+        let named = |writing: &Self, place: usize| read_place(&usages, kept.has_null, writing.bytes, place as u16).usage;
         let places = 0..usize::from(kept.field.count);
         let has = |writing: &Self, place: usize| named(writing, place) == Some(usage);
         if !on {

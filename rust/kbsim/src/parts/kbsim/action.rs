@@ -2,28 +2,26 @@
 //! The event of a line.
 
 use crate::parts::kbsim::Event;
+use crate::parts::kbsim::spare::Spare;
 use arrayvec::ArrayVec;
 use crate::parts::script::Action;
 
-/// The event of a line of one event.
-pub(crate) fn event_of(action: &Action<'_>) -> Event {
+/// The event of a line of one event, in its place.
+pub(crate) fn event_of<'s>(action: &Action<'_>, spare: &'s mut Spare) -> &'s Event {
     match action {
-        Action::Scan(scan) => Event::Scan(*scan),
-        Action::Poll => Event::Poll,
-        Action::Setup(packet) => Event::Setup(*packet),
-        Action::Out(packet) => Event::OutPacket(same(packet)),
-        Action::In => Event::InPacket,
-        Action::Work => Event::Work,
-        Action::WorkFault(mask) => Event::WorkFault(mask.mask()),
-        Action::Cut => Event::Cut,
-        Action::CutWork(mask) => Event::CutInWork(mask.mask()),
-        Action::Reset => Event::BusReset,
-        Action::Entry(layer, key) => Event::Entry(*layer, *key),
-        Action::Slot { page, slot } => Event::SlotAt {
-            page: *page,
-            slot: *slot,
-        },
-        Action::Leds => Event::Leds,
+        Action::Scan(scan) => spare.scan(*scan),
+        Action::Poll => spare.poll(),
+        Action::Setup(packet) => spare.setup(*packet),
+        Action::Out(packet) => spare.out_packet(same(packet)),
+        Action::In => spare.in_packet(),
+        Action::Work => spare.work(),
+        Action::WorkFault(mask) => spare.work_fault(mask.mask()),
+        Action::Cut => spare.cut(),
+        Action::CutWork(mask) => spare.cut_in_work(mask.mask()),
+        Action::Reset => spare.bus_reset(),
+        Action::Entry(layer, key) => spare.entry(*layer, *key),
+        Action::Slot { page, slot } => spare.slot_at(*page, *slot),
+        Action::Leds => spare.leds(),
     }
 }
 

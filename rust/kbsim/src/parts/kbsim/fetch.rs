@@ -2,8 +2,9 @@
 //! A whole transfer of the report descriptor.
 
 use crate::parts::kbsim::outcome::Outcome;
-use crate::parts::kbsim::run::{is_ack, send, take};
-use crate::parts::kbsim::{Answer, Event, World};
+use crate::parts::kbsim::run::{ask, is_ack, open, send};
+use crate::parts::kbsim::spare::Spare;
+use crate::parts::kbsim::{Answer, World};
 use arrayvec::ArrayVec;
 use crate::rattle::alloc::AllocError;
 
@@ -16,12 +17,16 @@ const MOST_PACKETS: u16 = 32;
 /// Asks for the report descriptor, and closes the transfer once its data came. The outcome is the
 /// number of bytes, or the first answer that is neither a packet of data nor, of the packet that
 /// closes it, `Ack`.
-pub(crate) fn fetch(world: &mut World, answers: &mut crate::rattle::Vec<Answer>) -> Result<Outcome, AllocError> {
-    let count = match gather(world, answers)? {
+pub(crate) fn fetch(
+    world: &mut World,
+    answers: &mut crate::rattle::Vec<Answer>,
+    spare: &mut Spare,
+) -> Result<Outcome, AllocError> {
+    let count = match gather(world, answers, spare)? {
         Ok(count) => count,
         Err(answer) => return Ok(Outcome::Answered(answer)),
     };
-    let told = send(world, ArrayVec::new(), answers)?;
+    let told = send(world, ArrayVec::new(), answers, spare)?;
     if is_ack(&told) {
         return Ok(Outcome::Fetched(count));
     }
@@ -30,12 +35,15 @@ pub(crate) fn fetch(world: &mut World, answers: &mut crate::rattle::Vec<Answer>)
 
 /// Asks for the report descriptor, and takes IN packets until one is shorter than eight bytes. The
 /// answer is the number of bytes that came, or the first answer that is no packet of data.
-fn gather(world: &mut World, answers: &mut crate::rattle::Vec<Answer>) -> Result<Result<u16, Answer>, AllocError> {
+fn gather(
+    world: &mut World,
+    answers: &mut crate::rattle::Vec<Answer>,
+    spare: &mut Spare,
+) -> Result<Result<u16, Answer>, AllocError> {
     // A SETUP packet is always acknowledged.
-    take(world, &Event::Setup(GET_REPORT_DESCRIPTOR), answers)?;
-    let event = Event::InPacket;
+    open(world, GET_REPORT_DESCRIPTOR, answers, spare)?;
     for full in 0..MOST_PACKETS {
-        let answer = take(world, &event, answers)?;
+        let answer = ask(world, answers, spare)?;
         let Some(length) = packet_length(&answer) else {
             return Ok(Err(answer));
         };

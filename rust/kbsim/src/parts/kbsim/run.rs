@@ -6,6 +6,7 @@ use crate::parts::kbsim::fetch::fetch;
 use crate::parts::kbsim::flash::blank_flash;
 use crate::parts::kbsim::outcome::Outcome;
 use crate::parts::kbsim::print::{FaultLine, PrintedLine};
+use crate::parts::kbsim::spare::Spare;
 use crate::parts::kbsim::{Answer, Event, RunError, Work, World};
 use arrayvec::ArrayVec;
 use wuzhikar_log::parts::flash_model::{NorFlash, SimFlash};
@@ -125,7 +126,8 @@ fn perform<W: Write>(
     printer: &mut Printer<'_, W>,
 ) -> Result<SimFlash, RunError> {
     let mut world = world_on(alloc, flash)?;
-    let ended = run_each(&mut world, lines, &mut crate::rattle::vec::new(alloc), printer);
+    let answers = &mut crate::rattle::vec::new(alloc);
+    let ended = run_each(&mut world, lines, answers, &mut Spare::new(), printer);
     let after = world.into_flash();
     ended.map(|()| after)
 }
@@ -135,10 +137,11 @@ fn run_each<W: Write>(
     world: &mut World,
     lines: &[Line<'_>],
     answers: &mut crate::rattle::Vec<Answer>,
+    spare: &mut Spare,
     printer: &mut Printer<'_, W>,
 ) -> Result<(), RunError> {
     for line in lines {
-        let Ok(outcome) = run_line(world, &line.statement, answers) else {
+        let Ok(outcome) = run_line(world, &line.statement, answers, spare) else {
             return Err(RunError::Memory);
         };
         let shown = PrintedLine {
@@ -162,29 +165,30 @@ fn run_line(
     world: &mut World,
     statement: &Statement<'_>,
     answers: &mut crate::rattle::Vec<Answer>,
+    spare: &mut Spare,
 ) -> Result<Outcome, AllocError> {
     match statement {
-        Statement::One(action) => act(world, action, answers),
+        Statement::One(action) => act(world, action, answers, spare),
         Statement::Scans { count, scan } => {
-            let answer = repeat(world, *scan, *count, answers)?;
+            let answer = repeat(world, *scan, *count, answers, spare)?;
             Ok(Outcome::Answered(answer))
         }
         Statement::Set { layer, key, code } => {
-            let answer = set(world, [*layer, *key], *code, answers)?;
+            let answer = set(world, [*layer, *key], *code, answers, spare)?;
             Ok(Outcome::Answered(answer))
         }
-        Statement::Fetch => fetch(world, answers),
+        Statement::Fetch => fetch(world, answers, spare),
     }
 }
 
-/// Runs a line of one event. Each place where an `Event` is made is in a function of its own, or outside a loop: all of
-/// an `Event` is filled with zeros where a function that has one begins, with the mask of 4,096 bytes that it may hold.
+/// Runs a line of one event.
 fn act(
     world: &mut World,
     action: &Action<'_>,
     answers: &mut crate::rattle::Vec<Answer>,
+    spare: &mut Spare,
 ) -> Result<Outcome, AllocError> {
-    let answer = take(world, &event_of(action), answers)?;
+    let answer = take(world, event_of(action, spare), answers)?;
     Ok(Outcome::Answered(answer))
 }
 
@@ -206,19 +210,19 @@ fn pass(world: &mut World, event: &Event, answers: &mut crate::rattle::Vec<Answe
     Ok(())
 }
 
-/// Takes a scan `count` times. Its event is built once, however often it is taken. The answer is the
-/// last one.
+/// Takes a scan `count` times. The answer is the last one.
 fn repeat(
     world: &mut World,
     scan: Scan,
     count: NonZeroU16,
     answers: &mut crate::rattle::Vec<Answer>,
+    spare: &mut Spare,
 ) -> Result<Answer, AllocError> {
-    let event = Event::Scan(scan);
+    let event = spare.scan(scan);
     for _again in 1..count.get() {
-        pass(world, &event, answers)?;
+        pass(world, event, answers)?;
     }
-    take(world, &event, answers)
+    take(world, event, answers)
 }
 
 /// Sets an entry by a feature report, and takes the steps of its flash work. The answer is that
@@ -228,19 +232,30 @@ fn set(
     place: [u8; 2],
     code: u16,
     answers: &mut crate::rattle::Vec<Answer>,
+    spare: &mut Spare,
 ) -> Result<Answer, AllocError> {
     // A SETUP packet is always acknowledged.
-    take(world, &Event::Setup(SET_FEATURE), answers)?;
-    let told = send(world, command(place, code), answers)?;
+    open(world, SET_FEATURE, answers, spare)?;
+    let told = send(world, command(place, code), answers, spare)?;
     if !is_ack(&told) {
         return Ok(told);
     }
-    work_off(world, answers)?;
-    let status = ask(world, answers)?;
+    work_off(world, answers, spare)?;
+    let status = ask(world, answers, spare)?;
     if is_success(&status) {
         return Ok(Answer::Ack);
     }
     Ok(status)
+}
+
+/// Takes a SETUP packet.
+pub(crate) fn open(
+    world: &mut World,
+    packet: [u8; 8],
+    answers: &mut crate::rattle::Vec<Answer>,
+    spare: &mut Spare,
+) -> Result<Answer, AllocError> {
+    take(world, spare.setup(packet), answers)
 }
 
 /// Takes an OUT packet.
@@ -248,13 +263,23 @@ pub(crate) fn send(
     world: &mut World,
     packet: ArrayVec<u8, 8>,
     answers: &mut crate::rattle::Vec<Answer>,
+    spare: &mut Spare,
 ) -> Result<Answer, AllocError> {
-    take(world, &Event::OutPacket(packet), answers)
+    take(world, spare.out_packet(packet), answers)
 }
 
 /// Takes an IN packet.
-fn ask(world: &mut World, answers: &mut crate::rattle::Vec<Answer>) -> Result<Answer, AllocError> {
-    take(world, &Event::InPacket, answers)
+pub(crate) fn ask(
+    world: &mut World,
+    answers: &mut crate::rattle::Vec<Answer>,
+    spare: &Spare,
+) -> Result<Answer, AllocError> {
+    take(world, spare.in_packet(), answers)
+}
+
+/// Takes a step of the flash work.
+fn work(world: &mut World, answers: &mut crate::rattle::Vec<Answer>, spare: &Spare) -> Result<Answer, AllocError> {
+    take(world, spare.work(), answers)
 }
 
 pub(crate) fn is_ack(answer: &Answer) -> bool {
@@ -275,10 +300,9 @@ fn needs_more(answer: &Answer) -> bool {
 }
 
 /// Takes steps of the flash work until one needs no more.
-fn work_off(world: &mut World, answers: &mut crate::rattle::Vec<Answer>) -> Result<(), AllocError> {
-    let event = Event::Work;
+fn work_off(world: &mut World, answers: &mut crate::rattle::Vec<Answer>, spare: &Spare) -> Result<(), AllocError> {
     for _step in 0..MOST_STEPS {
-        let answer = take(world, &event, answers)?;
+        let answer = work(world, answers, spare)?;
         if !needs_more(&answer) {
             return Ok(());
         }

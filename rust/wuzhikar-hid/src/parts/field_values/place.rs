@@ -11,6 +11,8 @@ pub enum PlaceError {
     NoPlace,
     /// The bytes end before the place does.
     Short,
+    /// A null, and the field is an Array or without Null State, or has no value for it.
+    NoNull,
     /// The bits can't hold the value.
     TooLarge,
     /// The value is outside the logical extents.
@@ -34,7 +36,7 @@ pub fn write_place(
 }
 
 /// Writes a value into a place of a field.
-fn put_place(field: &Field, bytes: &mut [u8], place: u16, value: i64) {
+pub(crate) fn put_place(field: &Field, bytes: &mut [u8], place: u16, value: i64) {
     let from = field.bit + field.size as u64 * place as u64;
     put_value(bytes, from, field.size, field.min, value);
 }
@@ -55,12 +57,12 @@ fn refuse(field: &Field, bytes: &[u8], place: u16, value: i64) -> Option<PlaceEr
 }
 
 /// Whether a value is within the logical extents of a field.
-fn is_within(field: &Field, value: i64) -> bool {
+pub(crate) fn is_within(field: &Field, value: i64) -> bool {
     value >= field.min && value <= field.max
 }
 
 /// Whether the bytes have all bits of a place.
-fn has_bits(field: &Field, bytes: &[u8], place: u16) -> bool {
+pub(crate) fn has_bits(field: &Field, bytes: &[u8], place: u16) -> bool {
     let end = field.bit + field.size as u64 * place as u64 + field.size as u64;
     let bytes = bytes.len() as u64;
     end / 8 < bytes || (end / 8 == bytes && end % 8 == 0)

@@ -1,0 +1,20 @@
+-- Believed: what a place of a field holds beside its number (HID 1.11, 5.10, 6.2.2.5 and 6.2.2.8).
+use Rattle.std.specs.Prelude.{ℕ, if◌then◌else◌, not, ◌&&◌, Bool, List, slice_get, ℤ, Option, None}
+use Rattle.std.specs.Int.{int_gap}
+use Rattle.descriptor_parse.specs.declared.field.Field.{Field}
+use Rattle.descriptor_parse.specs.Descriptor.{usage_of_place}
+use Rattle.field_values.specs.declared.value.Within.{Within}
+use Rattle.field_values.specs.declared.value.Within.TheVariants.{Range, Null, Out}
+use Rattle.field_values.specs.Held.{is_within}
+
+-- Outside the logical extents a Variable field with Null State has no value; in any other field the value is out of range.
+abbrev pub where_is : Field → Bool → ℤ → Within
+where_is field null_state value =
+    if is_within field value then Range else (if null_state && not field.array then Null else Out)
+
+-- A place of a Variable field has a usage of its own; one of an Array the usage of the list with the number that its value is
+-- above the Logical Minimum, if the value is within the logical extents.
+abbrev pub usage_read : Field → List ℕ → ℕ → ℤ → Option ℕ
+usage_read field usages place value =
+    if field.array then (if is_within field value then slice_get usages (int_gap field.min value) else None)
+    else usage_of_place field usages place
