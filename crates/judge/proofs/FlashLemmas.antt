@@ -2,7 +2,7 @@
 use Rattle.std.proofs.Common.{◌≡◌, ℕ, ◌+◌, ◌*◌, ◌/◌, ◌%◌, ◌<◌, ◌≤◌, Bool, true, false, ◌^◌, List, length, get_or, refl, ap, sym, ◌∙◌, subst, arith, inl, inr, ◌⊎◌}
 use Rattle.std.proofs.lemmas.Bool.{cases_lt, cases_eq}
 use Rattle.flash_model.specs.Image.{IsImage, slot_at, place_of, page_count}
-use Rattle.flash_model.specs.Operations.{Programs, Erases}
+use Rattle.flash_model.specs.Operations.{OneSlot, OnePage, Programs, Erases}
 use Rattle.flash_model.proofs.Places.{slot_byte, same_slot}
 use Rattle.records.specs.Slots.{encoded, slot_of}
 use Rattle.records.proofs.SlotLemmas.{free_is_blank, slot_of-blank}
@@ -25,7 +25,7 @@ apart p s page slot l m n =
       ]
     ]
 
-others : (old new : List ℕ) (page slot : ℕ) → length new ≡ length old → slot < 512 → SameOutside old new (place_of page slot) 8
+pub others : (old new : List ℕ) (page slot : ℕ) → length new ≡ length old → slot < 512 → SameOutside old new (place_of page slot) 8
     → (p s : ℕ) → s < 512 → (p ≡ page → s ≡ slot → ⊥) → slot_at new p s ≡ slot_at old p s
 others old new page slot e m o p s l n =
     elim (apart p s page slot l m n) [
@@ -45,11 +45,14 @@ byte_same : (old new : List ℕ) (page slot i : ℕ) → ((p s : ℕ) → s < 51
 byte_same old new page slot i o n =
     byte_at new i ∙ ap (λ (bytes : List ℕ). get_or bytes (i % 8) 0) (o (i / 4096) (i % 4096 / 8) (omega arith) n) ∙ sym (byte_at old i)
 
-pub outside : (old new : List ℕ) (page slot : ℕ) (programmed : List ℕ) → slot < 512 → Programs old page slot programmed new → SameOutside old new (place_of page slot) 8
-outside old new page slot programmed s w = record {
-  below = λ i l. byte_same old new page slot i w.rest.others (λ a b. omega arith);
-  above = λ i l. byte_same old new page slot i w.rest.others (λ a b. omega arith);
+pub outside_slot : (old new : List ℕ) (page slot : ℕ) → slot < 512 → OneSlot old page slot new → SameOutside old new (place_of page slot) 8
+outside_slot old new page slot s o = record {
+  below = λ i l. byte_same old new page slot i o.others (λ a b. omega arith);
+  above = λ i l. byte_same old new page slot i o.others (λ a b. omega arith);
 }
+
+pub outside : (old new : List ℕ) (page slot : ℕ) (programmed : List ℕ) → slot < 512 → Programs old page slot programmed new → SameOutside old new (place_of page slot) 8
+outside old new page slot programmed s w = outside_slot old new page slot s w.rest
 
 pub programs_decided : (answer : Bool) (old new : List ℕ) (page slot : ℕ) (programmed : List ℕ) → length new ≡ length old → slot < 512
     → SameOutside old new (place_of page slot) 8 → Decides answer (IsAnd (slot_at new page slot) (slot_at old page slot) programmed) → Decides answer (Programs old page slot programmed new)
@@ -81,7 +84,7 @@ pub as_many_pages : (old new : List ℕ) → length new ≡ length old → page_
 as_many_pages old new e = rw e refl
 
 -- the slots of the other pages, by the bytes
-other_pages : (old new : List ℕ) (page : ℕ) → length new ≡ length old → SameOutside old new (4096 * page) 4096
+pub other_pages : (old new : List ℕ) (page : ℕ) → length new ≡ length old → SameOutside old new (4096 * page) 4096
     → (p s : ℕ) → s < 512 → (p ≡ page → ⊥) → slot_at new p s ≡ slot_at old p s
 other_pages old new page e o p s l n =
     elim (cases_lt p page) [
@@ -96,11 +99,14 @@ byte_same_page : (old new : List ℕ) (page i : ℕ) → ((p s : ℕ) → s < 51
 byte_same_page old new page i o n =
     byte_at new i ∙ ap (λ (bytes : List ℕ). get_or bytes (i % 8) 0) (o (i / 4096) (i % 4096 / 8) (omega arith) n) ∙ sym (byte_at old i)
 
-pub outside_page : (old new : List ℕ) (page : ℕ) → Erases old page new → SameOutside old new (4096 * page) 4096
-outside_page old new page w = record {
-  below = λ i l. byte_same_page old new page i w.rest.others (λ a. omega arith);
-  above = λ i l. byte_same_page old new page i w.rest.others (λ a. omega arith);
+pub outside_one_page : (old new : List ℕ) (page : ℕ) → OnePage old page new → SameOutside old new (4096 * page) 4096
+outside_one_page old new page o = record {
+  below = λ i l. byte_same_page old new page i o.others (λ a. omega arith);
+  above = λ i l. byte_same_page old new page i o.others (λ a. omega arith);
 }
+
+pub outside_page : (old new : List ℕ) (page : ℕ) → Erases old page new → SameOutside old new (4096 * page) 4096
+outside_page old new page w = outside_one_page old new page w.rest
 
 pub erases_decided : (answer : Bool) (old new : List ℕ) (page : ℕ) → length new ≡ length old → IsImage new → page < page_count new → SameOutside old new (4096 * page) 4096
     → Decides answer (IsBlank new page) → Decides answer (Erases old page new)

@@ -1,6 +1,9 @@
 pub mod Splits
 pub mod FlashLemmas
 pub mod LawfulLemmas
+pub mod ListLemmas
+pub mod TornLemmas
+pub mod MakingLemmas
 pub mod KeyLemmas
 pub mod CommandLemmas
 pub mod EndpointLemmas

@@ -32,15 +32,15 @@ abbrev pub Passes : List ℕ → List Call → Call → Type 0
 Passes start before (Worked work image) = WorkPasses (working start before) (image_after start before) work image
 Passes start before call = IsAnswered start before call
 
--- the call with so many before it is the first that does not pass
-pub record FirstWrong (start : List ℕ) (past : List Call) (index : ℕ) : Type 0 where
+-- the call with so many before it is the first of which something does not hold
+pub record FirstWrong (P : List ℕ → List Call → Call → Type 0) (start : List ℕ) (past : List Call) (index : ℕ) : Type 0 where
   pub later : List Call
   pub call : Call
   pub before : List Call
   pub split : past ≡ later ++ call ∷ before
   pub at_index : length before ≡ index
-  pub passed : EachCall Passes start before
-  pub wrong : Passes start before call → ⊥
+  pub passed : EachCall P start before
+  pub wrong : P start before call → ⊥
 
 -- an entry of a keymap
 pub record IsEntry (entry : Entry) : Type 0 where

@@ -4,5 +4,8 @@ pub mod Keys
 pub mod Commands
 pub mod Endpoint
 pub mod Judged
+pub mod Lists
+pub mod Making
+pub mod Steps
 pub mod Sessions
 pub mod Histories

@@ -10,11 +10,11 @@
 //! first call that does not pass (`specs/Judged`): that was not answered as it has to be.
 //!
 //! Of a step of the flash work while a command works, `first_wrong` judges the two images and the
-//! answer by `StepPasses`. What such a step has to be beside (`keyboard/specs/Operated`) the modules
-//! `steps` and `torn` judge, which have no contracts and are only tested: `first_misstep` finds the
-//! first step that does not make the operation which comes next for its command, whole or torn, and
-//! `cut_leaves` tells what a cut inside the operation may leave. Not judged are which bits a mask lets
-//! take effect, which no call tells, and what every other cut inside an operation would have left.
+//! answer by `StepPasses`. Which operation such a step makes the modules `operations`, `torn`, `making`
+//! and `steps` judge: `first_misstep` finds the first step that does not make the one that comes next in
+//! the list of its command, whole or torn, and none exactly where each does (`specs/Steps`), and
+//! `cut_leaves` tells exactly what a cut inside that operation may leave. Not judged are which bits a mask
+//! lets take effect, which no call tells, and what every other cut inside an operation would have left.
 //!
 //! The laws say that the definition of a legal restart refuses what it should.
 
@@ -28,6 +28,8 @@ pub mod keymap;
 pub mod keys;
 pub mod lawful;
 pub mod laws;
+mod making;
+pub mod operations;
 pub mod record;
 pub mod recorded;
 pub mod steps;

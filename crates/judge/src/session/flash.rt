@@ -73,7 +73,7 @@ pub(crate) fn is_blank(flash: &SimFlash, page: usize) -> bool
 }
 
 /// Whether a slot is free.
-fn is_free(flash: &SimFlash, page: usize, slot: usize) -> bool
+pub(crate) fn is_free(flash: &SimFlash, page: usize, slot: usize) -> bool
     requires in_pages { page < page_count flash.now.image }
     requires in_page { slot < 512 }
     ensures { Decides result (slot_of (slot_at flash.now.image page slot) ≡ Slot.Free) }
@@ -196,7 +196,7 @@ pub(crate) fn is_active(flash: &SimFlash, page: usize) -> bool
 }
 
 /// Whether one flash is the other after a page is erased.
-fn is_erased(old: &SimFlash, new: &SimFlash, page: usize) -> bool
+pub(crate) fn is_erased(old: &SimFlash, new: &SimFlash, page: usize) -> bool
     requires same_length { length new.now.image ≡ length old.now.image }
     requires in_pages { page < page_count old.now.image }
     ensures { Decides result (Erases old.now.image page new.now.image) }
@@ -248,7 +248,7 @@ fn is_and(new: [u8; 8], old: [u8; 8], programmed: [u8; 8]) -> bool
 }
 
 /// Whether the bytes from a place on, so many, are the only ones that differ.
-fn same_outside(old: &[u8], new: &[u8], place: usize, size: usize) -> bool
+pub(crate) fn same_outside(old: &[u8], new: &[u8], place: usize, size: usize) -> bool
     requires same_length { length new.now ≡ length old.now }
     requires in_old { place < 65536 }
     requires small { size < 65536 }

@@ -29,7 +29,7 @@ pub fn first_wrong(
     start: &SimFlash,
     past: &[Recorded],
 ) -> Result<Option<usize>, AllocError>
-    ensures { IfOk result (λ found. MatchOption found (EachCall Passes start.now.image (calls_of past.now)) (λ index. FirstWrong start.now.image (calls_of past.now) index)) }
+    ensures { IfOk result (λ found. MatchOption found (EachCall Passes start.now.image (calls_of past.now)) (λ index. FirstWrong Passes start.now.image (calls_of past.now) index)) }
 {
     match past {
         [] => Ok(None),

@@ -2,6 +2,7 @@
 
 ghost use Rattle.std.specs.Prelude.{◌≡◌, ◌<◌, ◌&&◌, ℕ, slice_index, IfOk, length, ◌∷◌, []};
 ghost use Rattle.layers.specs.Entries.{changed};
+ghost use Rattle.page_turnover.specs.Words.{words};
 ghost use Rattle.keyboard.specs.Calls.{keymap};
 ghost use Rattle.keyboard.specs.Operated.{AddsRecord};
 ghost use Rattle.keymap_store.specs.Keymap.{SameEntries};
@@ -39,6 +40,15 @@ pub(crate) fn is_changed_by(command: &Command, old: &SimFlash, new: &SimFlash) -
     let mut changed = keymap_of(old);
     changed.apply(*command);
     same_table(&keymap_of(new), &changed)
+}
+
+/// Whether the words of the active page are as before.
+pub(crate) fn keeps_words(alloc: Global, old: &SimFlash, new: &SimFlash) -> Result<bool, AllocError>
+    ensures { IfOk result (λ kept. Decides kept (words new.now.image ≡ words old.now.image)) }
+{
+    let before = words_of(alloc, old)?;
+    let after = words_of(alloc, new)?;
+    Ok(same_words(after.as_slice(), before.as_slice()))
 }
 
 /// Whether two slices have the same words.

@@ -2,13 +2,12 @@
 
 ghost use Rattle.std.specs.Prelude.{◌≡◌, Option, IfOk};
 ghost use Rattle.keymap_store.specs.declared.store.Work.{Work};
-ghost use Rattle.page_turnover.specs.Words.{words};
 ghost use Rattle.judge.specs.Decides.{Decides};
 ghost use Rattle.judge.specs.Judged.{StepPasses, WorkPasses};
 
 use crate::session::answers::both;
-use crate::session::flash::{is_usable, operates, same_image, words_of};
-use crate::session::record::{adds_record, same_keymap, same_words};
+use crate::session::flash::{is_usable, operates, same_image};
+use crate::session::record::{adds_record, keeps_words, same_keymap};
 use flash_model::SimFlash;
 use keyboard::Work;
 use layers::Command;
@@ -65,13 +64,4 @@ fn step_passes(
             Ok(both(both(same_keymap(old, new), kept), is_usable(new)))
         }
     }
-}
-
-/// Whether the words of the active page are as before.
-fn keeps_words(alloc: Global, old: &SimFlash, new: &SimFlash) -> Result<bool, AllocError>
-    ensures { IfOk result (λ kept. Decides kept (words new.now.image ≡ words old.now.image)) }
-{
-    let before = words_of(alloc, old)?;
-    let after = words_of(alloc, new)?;
-    Ok(same_words(after.as_slice(), before.as_slice()))
 }
