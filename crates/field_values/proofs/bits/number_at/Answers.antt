@@ -1,4 +1,4 @@
-use Rattle.std.proofs.Common.{◌≡◌, ◌*◌, ◌/◌, ◌%◌, ◌^◌, sym, ◌∙◌, ap, arith}
+use Rattle.std.proofs.Common.{◌≡◌, ◌*◌, ◌/◌, ◌%◌, ◌^◌, ◌∙◌, ap, arith}
 use Rattle.std.proofs.lemmas.Nat.{one_shl, and_mask}
 use Rattle.host_extract.proofs.NumberLemmas.{number-five}
 use Rattle.field_values.proofs.bits.number_at.Goals as goal

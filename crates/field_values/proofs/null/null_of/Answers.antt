@@ -1,5 +1,4 @@
-use Rattle.std.proofs.Common.{◌≡◌, sym, ◌∙◌, rules, to_z, of_z, w64}
-use Rattle.std.specs.Prelude.{pos, ◌+ℤ◌, ◌-ℤ◌}
+use Rattle.std.proofs.Common.{sym, ◌∙◌, rules}
 use Rattle.field_values.proofs.NullLemmas.{third_null, no_null, never_null}
 use Rattle.field_values.proofs.null.null_of.Goals as goal
 

@@ -1,4 +1,4 @@
-use Rattle.std.proofs.Common.{◌≡◌, ◌∙◌, ap, sym, to_z, of_z, w64, rules}
+use Rattle.std.proofs.Common.{◌≡◌, ◌∙◌, ap, to_z, of_z, w64, rules}
 use Rattle.std.specs.Int.{w128}
 use Rattle.std.specs.Prelude.{pos, int_lt, ◌-ℤ◌, ◌*ℤ◌, false}
 use Rattle.field_values.proofs.Fractions.{natural_is}

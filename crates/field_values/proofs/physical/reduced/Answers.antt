@@ -1,8 +1,8 @@
-use Rattle.std.proofs.Common.{◌≡◌, ◌/◌, ◌∙◌, ap, arith, to_z, of_z, rules}
-use Rattle.std.specs.Prelude.{pos, ◌<ℤ◌, unsigned_abs}
+use Rattle.std.proofs.Common.{◌≡◌, ◌/◌, ◌∙◌, arith, to_z, of_z, rules}
+use Rattle.std.specs.Prelude.{pos, unsigned_abs}
 use Rattle.std.specs.Int.{w128}
 use Rattle.std.proofs.lemmas.Int.{ints}
-use Rattle.field_values.proofs.Fractions.{divisor_some, some_below, reduced_same, reduced_lowest, with_sign_of}
+use Rattle.field_values.proofs.Fractions.{divisor_some, some_below, reduced_same, reduced_lowest}
 use Rattle.field_values.proofs.physical.reduced.Goals as goal
 
 pub nonzero_div-above : goal.nonzero_div-above
