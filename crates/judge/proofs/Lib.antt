@@ -10,3 +10,4 @@ pub mod EndpointLemmas
 pub mod SelectedLemmas
 pub mod PassLemmas
 pub mod Restarts
+pub mod Lawfully

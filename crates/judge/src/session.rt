@@ -29,7 +29,7 @@ pub mod keys;
 pub mod lawful;
 pub mod laws;
 mod making;
-pub mod operations;
+mod operations;
 pub mod record;
 pub mod recorded;
 pub mod steps;

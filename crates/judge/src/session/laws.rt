@@ -1,4 +1,4 @@
-//! Restarts that the definition of a legal one refuses.
+//! Restarts that the definition of a legal one refuses, and that nothing is found in a lawful session.
 
 ghost use Rattle.std.specs.Prelude.{◌≡◌, ℕ, List, [], ◌∷◌};
 ghost use Rattle.layers.specs.Codes.{default_code};
@@ -7,6 +7,10 @@ ghost use Rattle.layers.specs.declared.command.Command.TheVariants.{SetKey};
 ghost use Rattle.keyboard.specs.Commands.{Accepted, commands_of};
 ghost use Rattle.keymap_store.specs.Keymap.{SameEntries};
 ghost use Rattle.keyboard.specs.Restart.{LegalRestart};
+ghost use Rattle.keyboard.specs.Calls.{Call, EachCall};
+ghost use Rattle.keyboard.specs.Lawful.{IsLawful};
+ghost use Rattle.judge.specs.Judged.{Passes};
+ghost use Rattle.judge.specs.Steps.{IsNextStep};
 ghost use Rattle.judge.specs.Sessions.{AllSettled, is_settled, still_works, has_failed};
 
 /// Where each command of a session is settled, a legal restart finds its keymap changed by all of
@@ -35,4 +39,10 @@ pub fn skipped_command_is_refused()
 /// A restart that keeps a command that failed is refused.
 pub fn failed_command_is_refused()
     ensures { (next : ℕ → ℕ → ℕ) → next 0 0 ≡ 5 → LegalRestart default_code (has_failed (SetKey 0 0 5) ∷ []) next → ⊥ }
+{}
+
+/// In a session each of whose calls is answered as it has to be, each call passes, and each step of the
+/// flash work makes the next operation of its command: no function here finds fault with it.
+pub fn lawful_session_passes()
+    ensures { (start : List ℕ) (past : List Call) → IsLawful start past → EachCall Passes start past × EachCall IsNextStep start past }
 {}

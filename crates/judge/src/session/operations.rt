@@ -34,7 +34,7 @@ const PLACES: u16 = 384;
 
 /// The flash operations of a command that is accepted on this flash, in their order. `AllocError` where
 /// there was no memory for them.
-pub fn operations_of(
+pub(crate) fn operations_of(
     alloc: Global,
     accepted: &SimFlash,
     command: &Command,
