@@ -141,10 +141,10 @@ class Results(unittest.TestCase):
 
     def test_the_sections_that_the_toolchain_fills(self):
         known = results.read(f"{ROOT}/bench/results.tsv")
-        self.assertEqual([what for target, what in known if target == "rattle"], rattle.CALLS)
+        self.assertEqual([what for target, what in known if target == "rattle"], [what for what, packet in rattle.CALLS])
         for section in ("scripts", "plain"):
             self.assertEqual([what for target, what in known if target == section], [what for what, _, _ in lines.LINES])
-        for what in rattle.CALLS:
+        for what, packet in rattle.CALLS:
             self.assertEqual(known["rattle", what].peer, known[rattle.peers_row(what)].peer)
 
     def test_the_documents_of_the_repository(self):

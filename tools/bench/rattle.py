@@ -7,14 +7,20 @@ import os
 import re
 import shutil
 import subprocess
+import tempfile
 
 import cases
 from builds import BENCH, ROOT, Skipped
 from results import Row
 
-# What bench/rattle/calls.rattle calls by its first byte.
-CALLS = ["scan without an edge", "poll, nothing due", "SETUP, unknown request",
-         "GET_DESCRIPTOR of the report descriptor and its first packet", "GET_REPORT of ID 1 and its first packet, six keys"]
+# What bench/rattle/calls.rattle calls by its first byte, and the SETUP packet that it sends.
+CALLS = [
+    ("scan without an edge", "0000000000000000"),
+    ("poll, nothing due", "0000000000000000"),
+    ("SETUP, unknown request", "8000000000000200"),
+    ("GET_DESCRIPTOR of the report descriptor and its first packet", "8106002200006300"),
+    ("GET_REPORT of ID 1 and its first packet, six keys", "A101010100001700"),
+]
 
 
 def peers_row(what):
@@ -70,10 +76,9 @@ def crates_below(crates):
     return [name for name in lines if name in found]
 
 
-def laid_out(room, source, crates, *without):
-    """A folder for a program over some crates, with copies of them and of all below, without some of their folders."""
+def laid_out(folder, source, crates, *without):
+    """Fills a folder with a program over some crates, with copies of them and of all below, without some of their folders."""
     name = source.removesuffix(".rattle")
-    folder = room.path(f"rattle-{name}")
     shutil.rmtree(folder, ignore_errors=True)
     os.makedirs(f"{folder}/crates/{name}/src")
     shutil.copy(f"{BENCH}/rattle/{source}", f"{folder}/crates/{name}/src/main.rt")
@@ -87,12 +92,18 @@ def laid_out(room, source, crates, *without):
 
 
 def built(room, source, *crates):
-    """A program that Rattle proves and builds over some proved crates, in a folder of its own."""
-    for crate in crates:
-        room.run(["rt", "lib"], f"{ROOT}/crates/{crate}")
-    folder = laid_out(room, source, crates)
-    room.run(["rt", "run"], folder, given=bytes(4))
-    return f"{folder}/out/{source.removesuffix('.rattle')}"
+    """A program that Rattle proves and builds over some crates, in a folder of its own: by the gate, which proves no crate that it
+    has proved on this machine. It also runs the program, without input, and then says that it failed."""
+    name = source.removesuffix(".rattle")
+    program = room.path(name)
+    with tempfile.TemporaryDirectory() as top:
+        folder = laid_out(f"{top}/sources", source, crates, "out", "must-fail", "more-edits")
+        shutil.copy(f"{ROOT}/HANDLES", f"{top}/sources")
+        told = subprocess.run(["rt", "ci"], cwd=f"{top}/sources", capture_output=True, text=True)
+        if not os.path.exists(f"{folder}/out/{name}"):
+            raise RuntimeError(f"rt ci did not build {source}:\n{told.stdout[-3000:]}{told.stderr[-3000:]}")
+        shutil.copy(f"{folder}/out/{name}", program)
+    return program
 
 
 def keyboard(room):
@@ -100,8 +111,8 @@ def keyboard(room):
     needs("rt", "valgrind")
     program = built(room, "calls.rattle", "keyboard", "debounce", "flash_model")
     rows = []
-    for kind, name in enumerate(CALLS):
-        many, few = (instructions(room, [program], bytes([kind, hundreds])) for hundreds in (11, 1))
+    for kind, (name, packet) in enumerate(CALLS):
+        many, few = (instructions(room, [program], bytes([kind, hundreds]) + bytes.fromhex(packet)) for hundreds in (11, 1))
         rows.append(Row("rattle", name, round((many - few) / 1000), None))
     return rows
 
@@ -109,7 +120,7 @@ def keyboard(room):
 def sizes(room):
     """Bytes of the device's values on a 64-bit machine, as the toolchain's unproved run of a program prints them."""
     needs("rt")
-    folder = laid_out(room, "sizes.rattle", PARTS, "out", "proofs", "must-fail", "more-edits")
+    folder = laid_out(room.path("rattle-sizes"), "sizes.rattle", PARTS, "out", "proofs", "must-fail", "more-edits")
     told = room.run(["rt", "try", "--steps", "1"], folder).decode()
     return [Row("sizes", f"{name}, bytes", int(number), None) for name, number in re.findall(r"^([A-Z]\w+) (\d+)$", told, re.M)]
 
