@@ -1,5 +1,6 @@
 //! What is given beside what is told of it. Rows are lines of one text.
 
+mod asked;
 mod bits;
 mod limits;
 mod made_up;

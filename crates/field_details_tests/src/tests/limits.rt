@@ -1,7 +1,8 @@
 //! Texts of the greatest length, and numbers that are as large as they can be.
 
 use super::{push_byte, same};
-use field_details::{Details, details_of};
+use descriptor_parse::Kind;
+use field_details::{Details, Naming, details_of, namings};
 use std::alloc::Global;
 use std::process::Abort;
 
@@ -112,4 +113,54 @@ fn bits_past_what_64_bits_count(rt: HostRuntime) {
         &told,
         "2043 Some((18446744073709551615, 0, None)) 0 None",
     );
+}
+
+/// 256 fields of one report in an application, with a string each.
+#[test]
+fn as_many_fields_as_a_descriptor_has(rt: HostRuntime) {
+    let mut text = filled(
+        &rt,
+        rt.alloc(),
+        &[0xA1, 1, 0x75, 1, 0x95, 1],
+        &[0x79, 9, 0x81, 2],
+    );
+    text.truncate(6 + 256 * 4);
+    push_byte(&rt, &mut text, 0xC0);
+    let told = details_of(rt.alloc(), &text).ok().expect(&rt, "memory");
+    let line = format!(in rt.alloc();
+        "{} {} {} {:?} {:?} {} {:?} {:?}",
+        told.data_fields().count(),
+        told.padding().count(),
+        told.report(Kind::Input, 0).count(),
+        told.reports().last(),
+        told.reports_of(0).last(),
+        told.applications_of(Kind::Input, 0).count(),
+        told.each_around(255).last(),
+        namings(&text, 1028, Naming::Strings).last()
+    )
+    .ok()
+    .expect(&rt, "memory");
+    let wanted =
+        "256 0 256 Some(ReportFacts { kind: Input, id: 0, bits: 256 }) Some((Input, 0)) 1 Some(0) Some((9, 9))";
+    same(&rt, line.as_str(), wanted, "of 256 fields");
+}
+
+/// 2,046 data items of padding, and 2,047 strings.
+#[test]
+fn as_much_as_there_can_be_is_asked(rt: HostRuntime) {
+    let padded = told(&rt, rt.alloc(), &[0x75, 1, 0x95, 1], &[0x81, 3]);
+    let mut text = filled(&rt, rt.alloc(), &[], &[0x79, 7]);
+    text.truncate(4094);
+    push_byte(&rt, &mut text, 0x81);
+    push_byte(&rt, &mut text, 2);
+    let line = format!(in rt.alloc();
+        "{} {} {} {}",
+        padded.padding().count(),
+        padded.data_fields().count(),
+        padded.reports().count(),
+        namings(&text, 4094, Naming::Strings).count()
+    )
+    .ok()
+    .expect(&rt, "memory");
+    same(&rt, line.as_str(), "2046 0 1 2047", "of 4,096 bytes");
 }

@@ -1,5 +1,6 @@
 //! The walk beside the plain program, over texts that are made up.
 
+use super::asked::check_asked;
 use super::plain::{application, around, collection, detail, items_of};
 use super::{byte_of, push_byte};
 use descriptor_parse::Item;
@@ -13,6 +14,7 @@ pub(crate) fn check(rt: &impl Abort, alloc: Global, text: &[u8]) {
     let items = items_of(rt, alloc, text);
     check_fields(rt, alloc, &told, &items, text);
     check_collections(rt, alloc, &told, &items, text);
+    check_asked(rt, alloc, &told, text);
 }
 
 fn check_fields(rt: &impl Abort, alloc: Global, told: &Details, items: &[Item<'_>], text: &[u8]) {
@@ -92,6 +94,8 @@ impl Numbers {
 
 /// Items that often go well with others, one or two a row: of the bytes that commas part one is taken, and `*` is any byte.
 const ITEMS: &str = "\
+79,89,99,39,49,59 01,02,07
+7A,8A,9A,3A,4A,5A 01,02 00,01
 75 00,01,03,08,20
 95 00,01,02,06
 15 00,00,01,81,FF
@@ -131,7 +135,7 @@ FE 01 09 *
 
 /// Adds the items of a row.
 fn push_item(rt: &impl Abort, numbers: &mut Numbers, text: &mut Vec<u8>) {
-    let row = numbers.next() as usize % 36;
+    let row = numbers.next() as usize % 38;
     for choices in ITEMS.lines().nth(row).expect(rt, "a row").split(' ') {
         push_byte(rt, text, one_of(rt, numbers, choices));
     }

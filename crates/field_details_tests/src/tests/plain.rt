@@ -286,3 +286,55 @@ pub(crate) fn application(told: &[Collection], numbers: &[usize]) -> Option<usiz
     }
     last
 }
+
+/// The ranges that the Local items before the Main item at an offset make, where this is the prefix of their Index: that of
+/// the Minimum is 10h more, or that of the Maximum 20h.
+pub(crate) fn names(
+    rt: &impl Abort,
+    alloc: Global,
+    items: &[Item<'_>],
+    offset: usize,
+    index: u8,
+) -> Vec<(u32, u32)> {
+    let mut ranges = Vec::new(alloc);
+    for (place, item) in items.iter().enumerate() {
+        if item.offset < offset && is_last_part(items, place, offset) {
+            if let Some(range) = range_at(items, place, index) {
+                ranges.push(range).ok().expect(rt, "memory");
+            }
+        }
+    }
+    ranges
+}
+
+/// Whether no Main item comes between an item and an offset.
+fn is_last_part(items: &[Item<'_>], place: usize, offset: usize) -> bool {
+    let (_, behind) = items.split_at(place.min(items.len()));
+    for item in behind {
+        if item.offset < offset && is_main(item) {
+            return false;
+        }
+    }
+    true
+}
+
+/// The range that the item at a place ends: for a Maximum the way back to a Minimum, past neither a Maximum nor a Main item.
+fn range_at(items: &[Item<'_>], place: usize, index: u8) -> Option<(u32, u32)> {
+    let item = items.get(place)?;
+    let number = unsigned(item.bytes);
+    if code(item) == index {
+        return Some((number, number));
+    }
+    if code(item) != index.wrapping_add(0x20) {
+        return None;
+    }
+    for before in front(items, place).iter().rev() {
+        if code(before) == index.wrapping_add(0x10) {
+            return Some((unsigned(before.bytes), number));
+        }
+        if is_main(before) || code(before) == index.wrapping_add(0x20) {
+            return None;
+        }
+    }
+    None
+}
