@@ -2,3 +2,5 @@ mod Writing
 mod NullLemmas
 mod Fractions
 mod Reading
+mod Filling
+mod Listing

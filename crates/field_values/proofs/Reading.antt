@@ -1,18 +1,18 @@
 -- What is read where bits stay.
-use Rattle.std.proofs.Common.{◌≡◌, ◌≢◌, ℕ, suc, ◌+◌, ◌-◌, ◌*◌, ◌/◌, ◌%◌, ◌^◌, ◌<◌, ◌≤◌, Bool, true, false, List, [], ◌∷◌, length, get_or, arith, refl, sym, ◌∙◌, ap, inl, inr, None}
-use Rattle.std.specs.Prelude.{Option, ℤ, pos, ◌-ℤ◌, int_lt, nat_lt, not, ◌&&◌, ◌||◌, if◌then◌else◌, slice_get, slice_index}
+use Rattle.std.proofs.Common.{◌≡◌, ◌≢◌, ℕ, zero, suc, ◌+◌, ◌-◌, ◌*◌, ◌/◌, ◌%◌, ◌^◌, ◌<◌, ◌≤◌, Bool, true, false, List, [], ◌∷◌, length, get_or, arith, refl, sym, ◌∙◌, ap, inl, inr, Some, None}
+use Rattle.std.specs.Prelude.{Option, ◌⊎◌, ℤ, pos, ◌+ℤ◌, ◌-ℤ◌, int_lt, nat_lt, not, ◌&&◌, ◌||◌, if◌then◌else◌, slice_get, slice_index}
 use Rattle.std.specs.Int.{bit_at, int_gap}
-use Rattle.std.proofs.lemmas.Bool.{cases_lt}
+use Rattle.std.proofs.lemmas.Bool.{cases_lt, cases_Bool}
 use Rattle.std.proofs.lemmas.Int.{ints}
 use Rattle.std.proofs.Math.Nat.{mul-le-mul_left}
 use Rattle.std.proofs.lemmas.Nat.Bits.{same_from_bits_below}
 use Rattle.descriptor_parse.specs.declared.field.Field.{Field}
 use Rattle.descriptor_parse.specs.Descriptor.{usage_of_place}
-use Rattle.host_extract.specs.Found.{value_at, named, reading_at}
+use Rattle.host_extract.specs.Found.{value_at, named, in_array, reading_at}
 use Rattle.host_extract.specs.Numbers.{report_bit, number_at, value_under}
 use Rattle.host_extract.proofs.NumberLemmas.{number-lt, number-bit}
 use Rattle.field_values.specs.Places.{IsOutside}
-use Rattle.field_values.specs.Held.{place_bit}
+use Rattle.field_values.specs.Held.{place_bit, is_within}
 use Rattle.field_values.specs.Values.{usage_read}
 
 pub same_number : (old now : List ℕ) (bit size : ℕ) → ((i : ℕ) → i < size → report_bit now (bit + i) ≡ report_bit old (bit + i))
@@ -22,10 +22,10 @@ same_number old now bit size h =
     (λ i l. number-bit now size bit i l ∙ h i l ∙ sym (number-bit old size bit i l))
 
 -- places of a field lie apart
-next_place : (size place : ℕ) → size * (place + 1) ≡ size * place + size
+pub next_place : (size place : ℕ) → size * (place + 1) ≡ size * place + size
 next_place size place = omega arith
 
-later_place : (size place other : ℕ) → place < other → size * place + size ≤ size * other
+pub later_place : (size place other : ℕ) → place < other → size * place + size ≤ size * other
 later_place size place other l =
     let far : place + 1 ≤ other = omega arith in
     rw (sym (next_place size place)) (mul-le-mul_left size far)

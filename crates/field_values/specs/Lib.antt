@@ -4,3 +4,4 @@ pub mod Values
 pub mod Nulls
 pub mod Limits
 pub mod Physical
+pub mod Lists

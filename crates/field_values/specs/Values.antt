@@ -12,9 +12,12 @@ abbrev pub where_is : Field → Bool → ℤ → Within
 where_is field null_state value =
     if is_within field value then Range else (if null_state && not field.array then Null else Out)
 
--- A place of a Variable field has a usage of its own; one of an Array the usage of the list with the number that its value is
--- above the Logical Minimum, if the value is within the logical extents.
+-- A value of an Array names the usage of the list with the number that it is above the Logical Minimum, if it is within the
+-- logical extents.
+abbrev pub listed : Field → List ℕ → ℤ → Option ℕ
+listed field usages value = if is_within field value then slice_get usages (int_gap field.min value) else None
+
+-- A place of a Variable field has a usage of its own; one of an Array the usage that its value names.
 abbrev pub usage_read : Field → List ℕ → ℕ → ℤ → Option ℕ
 usage_read field usages place value =
-    if field.array then (if is_within field value then slice_get usages (int_gap field.min value) else None)
-    else usage_of_place field usages place
+    if field.array then listed field usages value else usage_of_place field usages place

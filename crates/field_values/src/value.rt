@@ -5,7 +5,7 @@ ghost use Rattle.descriptor_parse.specs.Descriptor.{usage_list};
 ghost use Rattle.host_extract.specs.Fits.{FitsReading};
 ghost use Rattle.host_extract.specs.Found.{value_at};
 ghost use Rattle.host_extract.specs.Numbers.{value_under};
-ghost use Rattle.field_values.specs.Values.{where_is, usage_read};
+ghost use Rattle.field_values.specs.Values.{where_is, usage_read, listed};
 
 use crate::bits::number_at;
 use crate::place::is_within;
@@ -83,7 +83,16 @@ fn usage_of(declared: &FieldUsages<'_>, place: u16, value: i64) -> Option<u32>
 {
     if !declared.field.array {
         declared.usage(place as usize)
-    } else if is_within(&declared.field, value) {
+    } else {
+        listed(declared, value)
+    }
+}
+
+/// The usage that a value of an Array names.
+pub(crate) fn listed(declared: &FieldUsages<'_>, value: i64) -> Option<u32>
+    ensures { result ≡ listed declared.now.field (usage_list declared.now.ranges.now) value }
+{
+    if is_within(&declared.field, value) {
         declared.nth(value.abs_diff(declared.field.min) as usize)
     } else {
         None

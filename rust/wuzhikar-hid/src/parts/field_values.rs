@@ -9,12 +9,16 @@
 //! Nothing is kept, and nothing takes memory.
 
 mod bits;
+mod fill;
+mod list;
 mod null;
 mod physical;
 mod place;
 mod value;
 
 pub use bits::{number_at, put_number, window};
+pub use fill::fill_places;
+pub use list::{is_unused, number_of_usage};
 pub use null::{Asked, is_null, null_of, set_place};
 pub use physical::{Extents, NoPhysical, Physical, physical_value};
 pub use place::{PlaceError, is_held, put_value, write_place};

@@ -2,7 +2,9 @@
 
 use super::reader::{Kept, Reader};
 use super::report::ReadingError;
-use crate::parts::field_values::{PlaceError, is_held, null_of, put_value, read_place, set_place};
+use crate::parts::field_values::{
+    PlaceError, fill_places, is_held, is_unused, null_of, number_of_usage, put_value, read_place, set_place,
+};
 
 pub use crate::parts::field_values::Asked;
 
@@ -91,11 +93,6 @@ impl core::error::Error for WriteError {}
 /// a usage whose low half is 0.
 fn unused(kept: &Kept, usages: &FieldUsages<'_>) -> Option<i64> {
     let field = &kept.field;
-    let names_none = |value: &i64| {
-        let within = *value >= field.min && *value <= field.max;
-        let usage = if within { usages.nth(value.abs_diff(field.min) as usize) } else { None };
-        is_held(field.min, field.size, *value) && usage.is_none_or(|usage| usage & 0xFFFF == 0)
-    };
     let count = usages.counts.last().copied().unwrap_or(0);
     let mut before = 0i64;
     let id_zero = usages.ranges.iter().find_map(|(first, last)| {
@@ -103,19 +100,10 @@ fn unused(kept: &Kept, usages: &FieldUsages<'_>) -> Option<i64> {
         before += i64::from(last - first) + 1;
         (first & 0xFFFF == 0).then_some(field.min + number)
     });
-    [Some(0), null_of(field), Some(field.min + i64::from(count)), id_zero].into_iter().flatten().find(names_none)
-}
-
-/// The number of a usage in the list of an array.
-fn number_in(usages: &FieldUsages<'_>, usage: u32) -> Option<i64> {
-    let mut before = 0i64;
-    for (first, last) in usages.ranges {
-        if (first..=last).contains(&&usage) {
-            return Some(before + i64::from(usage - first));
-        }
-        before += i64::from(last - first) + 1;
-    }
-    None
+    [Some(0), null_of(field), Some(field.min + i64::from(count)), id_zero]
+        .into_iter()
+        .flatten()
+        .find(|value| is_unused(usages, *value))
 }
 
 /// A report that is being written.
@@ -154,9 +142,7 @@ impl<'a> Writing<'a> {
             } else {
                 continue;
             };
-            for place in 0..kept.field.count.into() {
-                self.put(kept, place, value);
-            }
+            fill_places(&kept.field, self.bytes, value);
         }
         Ok(())
     }
@@ -184,7 +170,7 @@ impl<'a> Writing<'a> {
         for kept in self.fields {
             let usages = self.reader.usages(kept);
             if kept.field.array {
-                if number_in(&usages, usage).is_some() {
+                if number_of_usage(&usages, usage).is_some() {
                     if left == 0 {
                         return Some((kept, None));
                     }
@@ -218,7 +204,9 @@ impl<'a> Writing<'a> {
     /// Puts a usage into an array, or takes it out.
     fn set_in_array(&mut self, kept: &Kept, usage: u32, asked: Asked, number: usize) -> Result<(), WriteError> {
         let usages = self.reader.usages(kept);
-        let value = number_in(&usages, usage).map(|place| kept.field.min + place).ok_or(WriteError::Unknown(number))?;
+        let value = number_of_usage(&usages, usage)
+            .map(|place| kept.field.min + i64::from(place))
+            .ok_or(WriteError::Unknown(number))?;
         let on = match asked {
             Asked::Null => return Err(WriteError::NoNull(number)),
             Asked::Value(0) => false,

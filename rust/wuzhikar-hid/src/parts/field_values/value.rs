@@ -63,7 +63,14 @@ pub fn where_is(field: &Field, null_state: bool, value: i64) -> Within {
 fn usage_of(declared: &FieldUsages<'_>, place: u16, value: i64) -> Option<u32> {
     if !declared.field.array {
         declared.usage(place as usize)
-    } else if is_within(&declared.field, value) {
+    } else {
+        listed(declared, value)
+    }
+}
+
+/// The usage that a value of an Array names.
+pub(crate) fn listed(declared: &FieldUsages<'_>, value: i64) -> Option<u32> {
+    if is_within(&declared.field, value) {
         declared.nth(value.abs_diff(declared.field.min) as usize)
     } else {
         None

@@ -1,0 +1,86 @@
+//! What is given beside what is told of it. Rows are lines of one text.
+
+mod lists;
+mod physical;
+mod reading;
+mod writing;
+
+ghost use Rattle.std.specs.Prelude.{◌≡◌, true};
+ghost use Rattle.host_extract.specs.Fits.{FitsReading};
+ghost use Rattle.field_values.specs.Limits.{FitsLimits};
+
+use descriptor_parse::{Field, Kind};
+use std::process::Abort;
+use std::str::SplitWhitespace;
+
+/// The two sides of a row.
+fn two<'a>(rt: &impl Abort, row: &'a str, between: &str) -> (&'a str, &'a str) {
+    match row.split_once(between) {
+        Some(sides) => sides,
+        None => panic!(rt; "{row} has no {between}"),
+    }
+}
+
+/// Compares what is told with what a row wants.
+fn same(rt: &impl Abort, told: &str, wanted: &str, row: &str) {
+    assert_eq!(rt; told, wanted, "of the row {row}");
+}
+
+/// The next number of a row.
+fn number(rt: &impl Abort, words: &mut SplitWhitespace<'_>) -> i64 {
+    match words.next() {
+        Some(word) => value(rt, word),
+        None => panic!(rt; "a number is missing"),
+    }
+}
+
+fn value(rt: &impl Abort, word: &str) -> i64 {
+    match word.parse::<i64>() {
+        Ok(number) => number,
+        Err(_) => panic!(rt; "{word} is no number"),
+    }
+}
+
+/// A field of four places, from `SIZE MINIMUM MAXIMUM BIT`.
+fn field_of(rt: &impl Abort, words: &mut SplitWhitespace<'_>) -> Field {
+    let size = number(rt, words);
+    let min = number(rt, words);
+    let max = number(rt, words);
+    let bit = number(rt, words);
+    made(
+        u8::try_from(size).ok().expect(rt, "a size"),
+        min,
+        max,
+        u64::try_from(bit).ok().expect(rt, "a bit"),
+    )
+}
+
+fn made(size: u8, min: i64, max: i64, bit: u64) -> Field {
+    Field {
+        kind: Kind::Input,
+        id: 0,
+        bit,
+        size,
+        count: 4,
+        min,
+        max,
+        array: false,
+    }
+}
+
+/// Whether the bits of a field have numbers of 64 bits.
+fn is_readable(field: &Field) -> bool
+    ensures { result ≡ true → FitsReading field.now }
+{
+    let Some(bits) = (field.size as u64).checked_mul(field.count as u64) else {
+        return false;
+    };
+    field.size <= 32 && field.bit.checked_add(bits).is_some()
+}
+
+/// Whether the logical extents are of 32 bits.
+fn is_limited(field: &Field) -> bool
+    ensures { result ≡ true → FitsLimits field.now }
+{
+    field.min.unsigned_abs() <= 0x1_0000_0000 && field.max.unsigned_abs() <= 0x1_0000_0000
+}
