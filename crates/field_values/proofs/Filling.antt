@@ -29,9 +29,9 @@ one_filled field value old count now then w l t o = record {
     | inr high ↦ (let same : place ≡ count = omega arith in rw same (t (rw (w.long, ← same) bits)))
   ]);
   others = λ bit out. (
-    let more = next_place field.size count in
-    elim out [
-      | inl low ↦ o bit (inl (omega arith)) ∙ w.others bit (inl low)
-      | inr high ↦ o bit (inr (omega arith)) ∙ w.others bit (inr (omega arith))
-    ]);
+      let more = next_place field.size count in
+      elim out [
+        | inl low ↦ o bit (inl (omega arith)) ∙ w.others bit (inl low)
+        | inr high ↦ o bit (inr (omega arith)) ∙ w.others bit (inr (omega arith))
+      ]);
 }

@@ -9,8 +9,8 @@
 #![tactic(auto)]
 
 mod bits;
-pub mod laws;
 mod fill;
+pub mod laws;
 mod list;
 mod null;
 mod physical;

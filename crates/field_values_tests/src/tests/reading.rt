@@ -12,14 +12,18 @@ fn check_read(rt: &impl Abort, alloc: Global, row: &str) {
     let (field, report) = two(rt, given, " < ");
     let mut words = field.split_whitespace();
     let field = field_of(rt, &mut words);
-    let place = u16::try_from(number(rt, &mut words)).ok().expect(rt, "a place");
+    let place = u16::try_from(number(rt, &mut words))
+        .ok()
+        .expect(rt, "a place");
     let report = bytes::<16>(report).expect(rt, "bytes");
     if !is_readable(&field) || place >= field.count {
         panic!(rt; "no such place: {row}");
     }
     let raw = raw_at(&field, &report, place);
     let within = where_is(&field, true, raw);
-    let told = format!(in alloc; "{raw} {within:?}").ok().expect(rt, "memory");
+    let told = format!(in alloc; "{raw} {within:?}")
+        .ok()
+        .expect(rt, "memory");
     same(rt, told.as_str(), wanted, row);
 }
 

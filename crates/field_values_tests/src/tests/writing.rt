@@ -36,8 +36,18 @@ fn check_written(rt: &impl Abort, alloc: Global, null_state: bool, row: &str) {
     let (field, report) = two(rt, given, " < ");
     let mut words = field.split_whitespace();
     let field = field_of(rt, &mut words);
-    let place = u16::try_from(number(rt, &mut words)).ok().expect(rt, "a place");
-    let told = written(rt, alloc, &field, null_state, place, report, asked(rt, value));
+    let place = u16::try_from(number(rt, &mut words))
+        .ok()
+        .expect(rt, "a place");
+    let told = written(
+        rt,
+        alloc,
+        &field,
+        null_state,
+        place,
+        report,
+        asked(rt, value),
+    );
     same(rt, told.as_str(), wanted, row);
 }
 
