@@ -128,20 +128,23 @@ fn as_many_fields_as_a_descriptor_has(rt: HostRuntime) {
     push_byte(&rt, &mut text, 0xC0);
     let told = details_of(rt.alloc(), &text).ok().expect(&rt, "memory");
     let line = format!(in rt.alloc();
-        "{} {} {} {:?} {:?} {} {:?} {:?}",
-        told.data_fields().count(),
-        told.padding().count(),
-        told.report(Kind::Input, 0).count(),
+        "{} {:?} {:?} {:?} {:?} {:?} {:?} {:?} {:?}",
+        told.fields.len(),
+        told.data_fields().nth(255).map(|placed| placed.place),
+        told.padding().last().map(|placed| placed.place),
+        told.report(Kind::Input, 0)
+            .nth(255)
+            .map(|placed| placed.place),
         told.reports().last(),
         told.reports_of(0).last(),
-        told.applications_of(Kind::Input, 0).count(),
+        told.applications_of(Kind::Input, 0).last(),
         told.each_around(255).last(),
         namings(&text, 1028, Naming::Strings).last()
     )
     .ok()
     .expect(&rt, "memory");
     let wanted =
-        "256 0 256 Some(ReportFacts { kind: Input, id: 0, bits: 256 }) Some((Input, 0)) 1 Some(0) Some((9, 9))";
+        "256 Some(255) None Some(255) Some(ReportFacts { kind: Input, id: 0, bits: 256 }) Some((Input, 0)) Some(0) Some(0) Some((9, 9))";
     same(&rt, line.as_str(), wanted, "of 256 fields");
 }
 
@@ -154,13 +157,18 @@ fn as_much_as_there_can_be_is_asked(rt: HostRuntime) {
     push_byte(&rt, &mut text, 0x81);
     push_byte(&rt, &mut text, 2);
     let line = format!(in rt.alloc();
-        "{} {} {} {}",
-        padded.padding().count(),
-        padded.data_fields().count(),
-        padded.reports().count(),
-        namings(&text, 4094, Naming::Strings).count()
+        "{} {:?} {:?} {:?} {:?} {:?} {:?}",
+        padded.fields.len(),
+        padded.padding().nth(2045).map(|placed| placed.place),
+        padded.data_fields().last().map(|placed| placed.place),
+        padded.reports().nth(0),
+        padded.reports().nth(1),
+        namings(&text, 4094, Naming::Strings).nth(2046),
+        namings(&text, 4094, Naming::Strings).nth(2047)
     )
     .ok()
     .expect(&rt, "memory");
-    same(&rt, line.as_str(), "2046 0 1 2047", "of 4,096 bytes");
+    let wanted =
+        "2046 Some(2045) None Some(ReportFacts { kind: Input, id: 0, bits: 2046 }) None Some((7, 7)) None";
+    same(&rt, line.as_str(), wanted, "of 4,096 bytes");
 }
