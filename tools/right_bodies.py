@@ -3,8 +3,8 @@
 A wrong body that is refused shows what the contract refuses only where a right body of the same shape is proved.
 tests/right_bodies/CRATE/NAME.edit stands beside crates/CRATE/must-fail/NAME.edit, and is written as that: a file of the crate, a
 text that stands there once, and what takes its place, maybe several times; a text may go on over several lines. All of a crate's
-are applied to a copy of the repository, and the crate has to be proved with them. A crate takes half a minute of processor and
-more, over what `rt check` kept. bin/test only sees that each can be applied.
+are applied to a copy of the repository, and the crate has to be proved with them: by `rt ci`, which takes what the gate proved
+here of the crates below. A crate takes half a minute of processor and more. bin/test only sees that each can be applied.
 """
 
 import argparse
@@ -72,10 +72,10 @@ def copied(work):
 
 
 def copy_crate(crate, work):
-    """Copies a crate without what checks made in it."""
+    """Copies a crate without its edits and what checks made in it."""
     top = f"{ROOT}/crates/{crate}"
     shutil.rmtree(f"{work}/crates/{crate}", ignore_errors=True)
-    shutil.copytree(top, f"{work}/crates/{crate}", ignore=lambda at, names: ["out"] if at == top else [])
+    shutil.copytree(top, f"{work}/crates/{crate}", ignore=lambda at, names: ["out", "must-fail", "more-edits"] if at == top else [])
 
 
 def is_proved(crate, paths, work):
@@ -83,8 +83,9 @@ def is_proved(crate, paths, work):
     copy_crate(crate, work)
     for path in paths:
         apply(path, f"{work}/crates/{crate}")
-    ran = subprocess.run(["rt", "check"], cwd=f"{work}/crates/{crate}", stdout=subprocess.PIPE, stderr=subprocess.STDOUT)
-    return ran.returncode == 0, ran.stdout.decode(errors="replace")
+    ran = subprocess.run(["rt", "ci", crate], cwd=work, stdout=subprocess.PIPE, stderr=subprocess.STDOUT)
+    said = ran.stdout.decode(errors="replace")
+    return f"rt: {crate} proved\n" in said or f"rt: {crate} is kept:" in said, said
 
 
 def try_crate(crate, paths, work, each):
