@@ -289,6 +289,8 @@ class Shown:
     def wrong_refusals(self):
         """The words that are refused otherwise than they should be: status, standard output, and a part of standard error."""
         pad, none = "examples/hid_driver/gamepad.hex", "status 2, '' and"
+        # Three Buffered Bytes with a usage, and a place of 8 bits without one.
+        buffered, bytes_of = "0600ff090175089503150026ff00b202019501b102", "echo 0102ff07 |"
         asked = [
             ("bin/kbsim parse --details --json", none + " can't both be"), ("bin/kbsim parse --json=1", none + " takes no value"),
             ("bin/kbsim read --kind lamp x", none + " is no kind of report"), ("bin/kbsim read --kind", none + " wants a value"),
@@ -301,6 +303,9 @@ class Shown:
             ("echo 05 | bin/kbsim parse --json", "status 1, 'fault parse 1 at 0' and Truncated"),
             ("bin/kbsim parse --json nothing.hex", "status 1, 'fault input' and can't be read"),
             (f"echo 00 | bin/kbsim read --kind output {pad}", "status 1, 'fault UnknownReport at 1' and "),
+            (f"{bytes_of} bin/kbsim read --kind feature <(echo {buffered})", "status 0, '0 ff000001=bytes:0102ff f1[0]=7' and "),
+            (f"""{bytes_of} bin/kbsim read --json --kind feature <(echo {buffered}) | grep -o '"buffered":[^]]*]'""",
+             """status 0, '"buffered":[{"bytes":[1,2,255]' and """),
             (f"bin/kbsim write --kind input {pad} 0 00010030=40000", "status 1, 'fault write TooLarge 0' and does not fit"),
             (f"bin/kbsim write --kind input {pad} 0 00010039=9", "status 1, 'fault write OutOfRange 0' and is out of range"),
             (f"bin/kbsim write --kind input {pad} 0 00010030=1 00010030=none", "status 1, 'fault write Twice 1' and set twice"),

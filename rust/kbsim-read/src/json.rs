@@ -4,7 +4,7 @@ use crate::details::bit_words;
 use crate::{Ended, given};
 use serde_json::{Value as Json, json};
 use std::io::Write;
-use wuzhikar_hid::{Detail, Dimension, Naming, Reader, Reading, UsageName, Within, namings};
+use wuzhikar_hid::{Detail, Dimension, Kind, Naming, Reader, Reading, ReadingError, UsageName, Value, Within, namings};
 
 /// The version of the schema.
 const VERSION: u32 = 1;
@@ -113,9 +113,23 @@ pub fn parse(path: &str, from: Option<given::From>, out: &mut impl Write) -> Res
     Ok(())
 }
 
-/// The object of a report that is read.
-pub fn report(reader: &Reader, reading: Reading<'_>) -> Json {
+/// The bytes of each field of Buffered Bytes in a report of a kind.
+fn buffered(reader: &Reader, (kind, report): (Kind, &[u8]), reading: Reading<'_>) -> Result<Vec<Json>, ReadingError> {
+    let is_first = |value: &Value| value.place == 0 && reader.detail(value.field).is_some_and(Detail::is_buffered);
+    reading
+        .filter(is_first)
+        .map(|value| {
+            let bytes = reader.buffered(kind, report, value.field)?;
+            Ok(json!({"field": value.field, "usage": value.usage, "name": value.usage.map(|usage| UsageName(usage).to_string()),
+                      "bytes": bytes}))
+        })
+        .collect()
+}
+
+/// The object of a report of a kind, and what is read of it.
+pub fn report(reader: &Reader, of: (Kind, &[u8]), reading: Reading<'_>) -> Result<Json, ReadingError> {
     let (id, rest) = (reading.id(), reading.rest().to_vec());
+    let buffered = buffered(reader, of, reading.clone())?;
     let values: Json = reading
         .map(|value| {
             let physical = reader.detail(value.field).and_then(|detail| detail.physical_value(value.raw).ok());
@@ -138,7 +152,7 @@ pub fn report(reader: &Reader, reading: Reading<'_>) -> Json {
             })
         })
         .collect();
-    json!({"version": VERSION, "id": id, "values": values, "rest": rest})
+    Ok(json!({"version": VERSION, "id": id, "values": values, "buffered": buffered, "rest": rest}))
 }
 
 /// The object of a report that is refused.

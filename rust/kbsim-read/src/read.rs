@@ -5,7 +5,7 @@ use std::collections::HashMap;
 use std::fs::File;
 use std::io::{self, Read, Write};
 use std::process::ExitCode;
-use wuzhikar_hid::{Kind, Reader, UsageName, Value, Within};
+use wuzhikar_hid::{Kind, Reader, ReadingError, UsageName, Value, Within};
 
 /// How reports come and are told.
 #[derive(Clone, Copy)]
@@ -61,15 +61,26 @@ fn put_number(line: &mut Vec<u8>, number: i64) {
 }
 
 impl<W: Write> Teller<'_, W> {
-    fn put_value(&mut self, value: &Value) {
+    /// Puts the value of a place of a report, or all bytes of a field of Buffered Bytes at its first place.
+    fn put_value(&mut self, report: &[u8], value: &Value) -> Result<(), ReadingError> {
         let detail = self.reader.detail(value.field);
+        if detail.is_some_and(|detail| detail.is_buffered()) {
+            return if value.place == 0 { self.put_bytes(report, value) } else { Ok(()) };
+        }
         if detail.is_some_and(|detail| !detail.is_variable()) {
             // A place of an array says a usage, or nothing.
             if let Some(usage) = value.usage.filter(|usage| usage & 0xFFFF != 0) {
                 self.put_usage(usage);
             }
-            return;
+            return Ok(());
         }
+        self.put_place(value);
+        self.put_raw(value);
+        Ok(())
+    }
+
+    /// Puts what a place is called, by its usage or by field and place, with an equals sign.
+    fn put_place(&mut self, value: &Value) {
         match value.usage {
             Some(usage) => self.put_usage(usage),
             None => {
@@ -81,6 +92,19 @@ impl<W: Write> Teller<'_, W> {
             }
         }
         self.line.push(b'=');
+    }
+
+    fn put_bytes(&mut self, report: &[u8], value: &Value) -> Result<(), ReadingError> {
+        let bytes = self.reader.buffered(self.kind, report, value.field)?;
+        self.put_place(value);
+        self.line.extend_from_slice(b"bytes:");
+        for byte in bytes {
+            self.line.extend([byte >> 4, byte & 15].map(|digit| b"0123456789abcdef"[usize::from(digit)]));
+        }
+        Ok(())
+    }
+
+    fn put_raw(&mut self, value: &Value) {
         if value.within == Within::Null {
             self.line.extend_from_slice(b"null");
             return;
@@ -106,13 +130,18 @@ impl<W: Write> Teller<'_, W> {
     fn tell(&mut self, report: &[u8]) -> io::Result<()> {
         match self.reader.read(self.kind, report) {
             Err(error) => self.refuse(&format!("{error:?}")),
-            Ok(reading) if self.form.json => writeln!(self.out, "{}", json::report(self.reader, reading)),
+            Ok(reading) if self.form.json => match json::report(self.reader, (self.kind, report), reading) {
+                Err(error) => self.refuse(&format!("{error:?}")),
+                Ok(object) => writeln!(self.out, "{object}"),
+            },
             Ok(reading) => {
                 self.line.clear();
                 put_number(&mut self.line, reading.id().into());
                 let rest = reading.rest().len();
                 for value in reading {
-                    self.put_value(&value);
+                    if let Err(error) = self.put_value(report, &value) {
+                        return self.refuse(&format!("{error:?}"));
+                    }
                 }
                 if rest > 0 {
                     self.line.extend_from_slice(b" and ");
