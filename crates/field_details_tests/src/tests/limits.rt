@@ -137,7 +137,9 @@ fn as_many_fields_as_a_descriptor_has(rt: HostRuntime) {
             .map(|placed| placed.place),
         told.reports().last(),
         told.reports_of(0).last(),
-        told.applications_of(Kind::Input, 0).last(),
+        told.applications_of(Kind::Input, 0)
+            .last()
+            .map(|found| found.0),
         told.each_around(255).last(),
         namings(&text, 1028, Naming::Strings).last()
     )
