@@ -53,6 +53,54 @@ static void print_collections(void) {
     }
 }
 
+/* The applications that have a report, of all of them. */
+static void print_applications(const hidr_report *report, const uint32_t *applications, size_t count) {
+    static hidr_report reports[MOST];
+    const char *before = "";
+    for (size_t number = 0; number < count; number++) {
+        size_t its, at = 0;
+        ANSWERS(HIDR_OK, hidr_reports_of(reader, applications[number], reports, MOST, &its));
+        while (at < its && (reports[at].kind != report->kind || reports[at].id != report->id))
+            at++;
+        if (at < its) {
+            printf("%s%" PRIu32, before, applications[number]);
+            before = ",";
+        }
+    }
+}
+
+static void print_report(const hidr_report *report, const uint32_t *applications, size_t count) {
+    static uint32_t places[MOST];
+    size_t bytes, items;
+    ANSWERS(HIDR_OK, hidr_report_length(reader, report->kind, report->id, &bytes));
+    CHECK(bytes == report->bytes);
+    ANSWERS(HIDR_OK, hidr_report_details(reader, report->kind, report->id, places, MOST, &items));
+    CHECK(items > 0);
+    printf("report %s %u %" PRIu64 " %" PRIu64 " ", kinds[report->kind], report->id, report->bits, (report->bits + 7) / 8);
+    for (size_t at = 0; at < items; at++)
+        printf("%s%" PRIu32, at > 0 ? "," : "", places[at]);
+    printf(" ");
+    print_applications(report, applications, count);
+    printf(";");
+}
+
+/* The data items that are padding, or those that are none. */
+static void print_places(const char *name, uint32_t constant) {
+    size_t count;
+    const char *before = "";
+    ANSWERS(HIDR_OK, hidr_detail_count(reader, &count));
+    printf("%s ", name);
+    for (size_t number = 0; number < count; number++) {
+        hidr_detail told;
+        ANSWERS(HIDR_OK, hidr_detail_at(reader, number, &told));
+        if ((told.flags & HIDR_CONSTANT) == constant) {
+            printf("%s%zu", before, number);
+            before = ",";
+        }
+    }
+    printf(";");
+}
+
 static void print_reports(void) {
     static uint32_t applications[MOST];
     static hidr_report reports[MOST];
@@ -66,14 +114,10 @@ static void print_reports(void) {
         printf(";");
     }
     ANSWERS(HIDR_OK, hidr_reports(reader, reports, MOST, &its));
-    for (size_t at = 0; at < its; at++) {
-        size_t bytes, items;
-        ANSWERS(HIDR_OK, hidr_report_length(reader, reports[at].kind, reports[at].id, &bytes));
-        CHECK(bytes == reports[at].bytes);
-        ANSWERS(HIDR_OK, hidr_report_details(reader, reports[at].kind, reports[at].id, NULL, 0, &items));
-        CHECK(items > 0);
-        printf("report %s %u %" PRIu64 ";", kinds[reports[at].kind], reports[at].id, reports[at].bits);
-    }
+    for (size_t at = 0; at < its; at++)
+        print_report(&reports[at], applications, count < MOST ? count : MOST);
+    print_places("padding", HIDR_CONSTANT);
+    print_places("data", 0);
 }
 
 static void print_namings(uint64_t offset, uint8_t naming) {
