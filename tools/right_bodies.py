@@ -83,6 +83,8 @@ def is_proved(crate, paths, work):
     copy_crate(crate, work)
     for path in paths:
         apply(path, f"{work}/crates/{crate}")
+    # The gate wants the text as `rt fmt` has it, which a body in one line seldom is.
+    subprocess.run(["rt", "fmt"], cwd=f"{work}/crates/{crate}", stdout=subprocess.DEVNULL, check=True)
     ran = subprocess.run(["rt", "ci", crate], cwd=work, stdout=subprocess.PIPE, stderr=subprocess.STDOUT)
     said = ran.stdout.decode(errors="replace")
     return f"rt: {crate} proved\n" in said or f"rt: {crate} is kept:" in said, said
