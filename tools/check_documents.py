@@ -36,10 +36,20 @@ ALLOWED = re.compile(
     "|[a-z0-9_]+-[a-z0-9_-]+"
 )
 OURS = re.compile(r"(examples|docs|bin|crates)/.*|.*/(specs|proofs)/.*")
-BELIEVED = ("-- Believed: ", "-- Believed where this crate is called: ", "-- Only ties code to its definitions: ")
+BELIEVED = ("-- Believed: ", "-- Believed where this crate is called: ")
+TIES = "-- Only ties code to its definitions: "
+# Believed files that name what only ties code, each with the files that it names.
+NAMES_TIES = {
+    # the promise of a run is one over what the world stands for before and after it, and so of what a script passes
+    "crates/world/specs/Stands.antt": {"world.specs.ties.Stands", "world.specs.ties.Value"},
+    "crates/kbsim/specs/Outputs.antt": {"world.specs.ties.Stands", "world.specs.ties.Value"},
+    # a step leaves a log that describes the flash, and a call of `work` a store that mirrors it, so that both hold of the next one too
+    "crates/page_turnover/specs/Steps.antt": {"page_turnover.specs.ties.Log"},
+    "crates/keymap_store/specs/Works.antt": {"keymap_store.specs.ties.Store"},
+}
 BY_HAND = "By hand"  # the group of README's table that crates.txt has not
-# Crates whose contracts promise nothing to a caller: tests, what they read, a closed example, the words of the command line.
-WITHOUT_CONTRACTS = re.compile(r"\w+_tests|row_text|session_example|command_line")
+# Crates whose contracts promise nothing to a caller: names, tests, what they read, a closed example, the words of the command line.
+WITHOUT_CONTRACTS = re.compile(r"shapes|\w+_tests|row_text|session_example|command_line")
 LONG = 120  # a paragraph of so many characters is one that could be said once
 
 
@@ -241,11 +251,17 @@ def promise(tree):
 
 
 def believed(tree):
-    """Files of definitions whose first line does not say whether a reader of public contracts has to believe them."""
+    """Files of definitions whose first line does not say whether a reader of public contracts has to believe them, or that stand in
+    the wrong folder by it; and believed ones that name what only ties code."""
     for path in sorted(tree.walk("crates")):
-        if "/specs/" in path and path.endswith(".antt") and os.path.basename(path) != "Lib.antt":
-            if not tree.read(path).startswith(BELIEVED):
-                yield f"{path}: its first line does not say who has to believe its definitions"
+        if "/specs/" not in path or not path.endswith(".antt") or os.path.basename(path) == "Lib.antt":
+            continue
+        text, ties = tree.read(path), "/specs/ties" in path
+        if not text.startswith(TIES if ties else BELIEVED):
+            yield f"{path}: its first line does not say who has to believe its definitions, or it stands in the wrong folder"
+        named = set() if ties else set(re.findall(r"^use Rattle\.(\w+\.specs\.ties\.\w+)", text, re.MULTILINE))
+        for name in sorted(named ^ NAMES_TIES.get(path, set())):
+            yield f"{path}: {name} only ties code" if name in named else f"{path}: it does not name {name}"
 
 
 def measured(tree):

@@ -76,6 +76,9 @@ class Checks(unittest.TestCase):
             (checks.proof_rows, {"crates.txt": "one: .\ntwo: .\n"}, "its rows of proofs are not those of crates.txt"),
             (checks.benched, {"bench/results.tsv": RESULTS, "docs/MEASUREMENTS.md": shown(8)}, "docs/MEASUREMENTS.md: it shows other numbers"),
             (checks.believed, {"crates/one/specs/Sizes.antt": "pub def Size\n"}, "its first line does not say"),
+            (checks.believed, {"crates/one/specs/Sizes.antt": "-- Only ties code to its definitions: x\n"}, "stands in the wrong folder"),
+            (checks.believed, {"crates/one/specs/ties/Kept.antt": "-- Believed: x\n"}, "stands in the wrong folder"),
+            (checks.believed, {"crates/one/specs/Sizes.antt": "-- Believed: x\nuse Rattle.two.specs.ties.Kept.{Size}\n"}, "two.specs.ties.Kept only ties"),
         ]
         for check, files, told in table:
             wrong = self.found(check, files=files)

@@ -236,6 +236,10 @@ hidr_status hidr_reports(hidr_reader reader, hidr_report *into, size_t room, siz
  * collection with this number is none, or is not there. */
 hidr_status hidr_reports_of(hidr_reader reader, size_t application, hidr_report *into, size_t room, size_t *count);
 
+/* The numbers of the Application collections that a report has an item in, innermost, in order: the first `room`, and in *count
+ * how many there are. HIDR_ABSENT where there is no such report. */
+hidr_status hidr_applications_of(hidr_reader reader, uint8_t kind, uint8_t id, uint32_t *into, size_t room, size_t *count);
+
 /* The numbers of the items of a report, in order, padding among them: the first `room`, and in *count how many there are.
  * HIDR_ABSENT where there is no such report. */
 hidr_status hidr_report_details(hidr_reader reader, uint8_t kind, uint8_t id, uint32_t *into, size_t room, size_t *count);
@@ -321,11 +325,11 @@ typedef struct hidr_setting {
 
 /* A report of a kind and ID, 0 where none is used, with `count` controls set: its first `room` bytes, and in *length how many
  * there are, the ID byte among them. Each other bit is that of the report `onto`, of `onto_length` bytes; where that is 0 the
- * report is new: places with Null State are null, places of arrays name no usage, and the rest is 0. The report may be written
- * over `onto`. The first of these, and of several settings that of the first one: HIDR_NO_MEMORY for the settings,
- * HIDR_UNKNOWN_REPORT, HIDR_NO_MEMORY for the report, HIDR_OTHER_ID, HIDR_SHORT_REPORT, HIDR_NO_UNUSED with the field in *which;
- * and with the number of the setting in *which HIDR_UNKNOWN_CONTROL, HIDR_TWICE, HIDR_NO_NULL, HIDR_TOO_LARGE,
- * HIDR_OUT_OF_RANGE, HIDR_NO_ROOM. */
+ * report is new: places with Null State are null where there is a value for it, places of arrays name no usage, and the rest
+ * is 0. The report may be written over `onto`. The first of these, and of several settings that of the first one:
+ * HIDR_NO_MEMORY for the settings, HIDR_UNKNOWN_REPORT, HIDR_OTHER_ID, HIDR_SHORT_REPORT, HIDR_NO_MEMORY for the report,
+ * HIDR_NO_UNUSED with the field in *which; and with the number of the setting in *which HIDR_UNKNOWN_CONTROL, HIDR_TWICE,
+ * HIDR_NO_NULL, HIDR_TOO_LARGE, HIDR_OUT_OF_RANGE, HIDR_NO_ROOM. */
 hidr_status hidr_write(hidr_reader reader, uint8_t kind, uint8_t id, const hidr_setting *settings, size_t count,
                        const uint8_t *onto, size_t onto_length, uint8_t *into, size_t room, size_t *length, size_t *which);
 

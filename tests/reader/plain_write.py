@@ -41,7 +41,7 @@ def unused(item):
         if first & 0xFFFF == 0:
             zeros.append(item.least + before)
         before += last - first + 1
-    wanted = [0, outside(item), item.least + item.listed, *zeros[:1]]
+    wanted = [0, outside(item), item.least + item.listed, *zeros]
     return next((value for value in wanted if value is not None and fits(item, value) and names_none(item, value)), None)
 
 

@@ -114,7 +114,7 @@ READER = Rules(
 
 DETAILS = Rules(
     name="wuzhikar-hid",
-    crates=("field_details", "field_values"),
+    crates=("field_details", "field_values", "report_write"),
     below=(READER,),
     allocs=True,
     hidden=frozenset({("field_details", "Details::around")}),
@@ -133,7 +133,7 @@ SIMULATOR = Rules(
     name="kbsim",
     crates=("host", "world", "text_io", "script", "kbsim", "c_array", "parse_lines", "sentences", "explanations"),
     below=(KEYBOARD, LOG, READER),
-    tests=("descriptor_plain", "host_tests", "script_tests", "kbsim_tests"),
+    tests=("row_text", "descriptor_plain", "host_tests", "script_tests", "kbsim_tests"),
     allocs=True,
     hidden=frozenset({("world", "World::new"), ("host", "Host::new")}),
     fallible_clones=frozenset({("host", "UsageList"), ("host", "Reading")}),
@@ -148,8 +148,8 @@ SIMULATOR = Rules(
 # All crates of plain Rust that are made, lowest first.
 WORKSPACE = (LOG, KEYBOARD, READER, DETAILS, SIMULATOR)
 
-# Crates that are laws alone, of which nothing is left.
-PROOF_CRATES = {"session_law", "reading_law"}
+# Crates that are laws or definitions alone, of which nothing is left.
+PROOF_CRATES = {"shapes", "session_law", "reading_law"}
 
 # Real crates of the registry that the source's code is written over.
 LIBRARIES = {"arrayvec"}

@@ -1,4 +1,4 @@
 pub mod Arrays
 pub mod Faults
 pub mod Gaps
-pub mod Walks
+pub mod ties

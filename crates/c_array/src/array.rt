@@ -7,7 +7,7 @@ ghost use Rattle.std.specs.List.{prefix_len};
 ghost use Rattle.c_array.specs.Arrays.{Begins, Elements, IsArray, IsDeclared, IsEnd, head_end, is_of_head};
 ghost use Rattle.c_array.specs.Faults.{IsSo};
 ghost use Rattle.c_array.specs.Gaps.{IsAt, IsGap, IsSolid, NoStarSlash};
-ghost use Rattle.c_array.specs.Walks.{IsElement, IsWithin};
+ghost use Rattle.c_array.specs.ties.Walks.{IsElement, IsWithin};
 
 use crate::ArrayFault;
 use crate::gap::gap_end;

@@ -14,7 +14,8 @@ use Rattle.control_ep.specs.Stage.{calls_since, last_setup, first_stall, count_i
 use Rattle.control_ep.specs.Answers.{in_answer, in_effect, received_report, report_step, out_step}
 use Rattle.arrayvec.specs.ArrayVec.{ArrayVec}
 use Rattle.control_ep.specs.Moves.{after_end}
-use Rattle.control_ep.specs.Stands.{is_offered, StandsFor}
+use Rattle.control_ep.specs.Stands.{is_offered}
+use Rattle.control_ep.specs.ties.Stands.{StandsFor}
 use Rattle.control_ep.proofs.Stages.{stage-is, stalled_again, stalled_again_out, sending_is, waiting_is, taking_is, status_confirmed, ended_others}
 use Rattle.control_ep.proofs.Clean.{offered_taking, clean, taking_unconfirmed, waiting_unconfirmed}
 

@@ -17,7 +17,8 @@ use Rattle.control_ep.specs.Packets.{packet_at}
 use Rattle.control_ep.specs.Stage.{outcome_of, progress_of, stage_with, stage}
 use Rattle.control_ep.specs.Answers.{in_answer, in_effect, received_report, report_step, out_step, judged_answer, packet_or_stall}
 use Rattle.control_ep.specs.Moves.{begun, after_in, after_out, after_verdict, stage_then}
-use Rattle.control_ep.specs.Stands.{is_offered, IsAnswered, AllAnswered, StandsFor}
+use Rattle.control_ep.specs.Stands.{is_offered, IsAnswered, AllAnswered}
+use Rattle.control_ep.specs.ties.Stands.{StandsFor}
 use Rattle.control_ep.proofs.Moves.{in_stalled, in_sent, in_confirmed, in_waiting, out_stalled, out_closed, out_leds, out_offered, judged_done, judged_working, judged_busy, judged_refused, settled, failed}
 use Rattle.control_ep.proofs.Clean.{received_is, offers, offered_feature}
 

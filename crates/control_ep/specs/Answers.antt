@@ -1,5 +1,6 @@
 -- Believed: what each packet is answered, stage by stage (USB 2.0 section 8.5.3).
-use Rattle.std.specs.Prelude.{ℕ, ◌%◌, ◌^◌, ◌==◌, not, Bool, true, List, [], ◌∷◌, length, drop, slice_index, nat_lt, if◌then◌else◌, Option, Some, None, Result, Ok, Err}
+use Rattle.shapes.specs.Shapes.{Bytes}
+use Rattle.std.specs.Prelude.{ℕ, ◌%◌, ◌^◌, ◌==◌, not, Bool, true, [], ◌∷◌, length, drop, slice_index, nat_lt, if◌then◌else◌, Option, Some, None, Result, Ok, Err}
 use Rattle.control_ep.specs.declared.why.Why.{Why}
 use Rattle.control_ep.specs.declared.why.Why.TheVariants.{UnknownReport, ShortData, LongData, WrongStage}
 use Rattle.control_ep.specs.declared.answer.EpAnswer.{EpAnswer}
@@ -15,7 +16,7 @@ use Rattle.control_ep.specs.Requests.{length_of, id_of}
 use Rattle.control_ep.specs.Packets.{packet_at}
 
 -- the packet that is left to send
-abbrev pub packet_or_stall : Option (List ℕ) → EpAnswer
+abbrev pub packet_or_stall : Option Bytes → EpAnswer
 packet_or_stall (Some packet) = Packet (record { items = packet })
 packet_or_stall None = Stall WrongStage
 
@@ -33,18 +34,18 @@ in_effect (Status effect) = effect
 in_effect _ = Nothing
 
 -- the report begins with its Report ID, if it has one
-abbrev pub has_id : Option ℕ → List ℕ → Bool
+abbrev pub has_id : Option ℕ → Bytes → Bool
 has_id None packet = true
 has_id (Some id) packet = slice_index packet 0 == id
 
 -- a report without its Report ID: LED bits 0 to 4 are taken, five bytes are offered
-abbrev pub content : HostReport → List ℕ → OutStep
+abbrev pub content : HostReport → Bytes → OutStep
 content LedsWithId packet = Leds (slice_index packet 1 % 2 ^ 5)
 content LedsAlone packet = Leds (slice_index packet 0 % 2 ^ 5)
 content FeatureData packet = Offer (drop 1 packet)
 
 -- the checks of a report's packet in their order
-abbrev pub received_report : HostReport → List ℕ → Result OutStep Why
+abbrev pub received_report : HostReport → Bytes → Result OutStep Why
 received_report report packet =
     if nat_lt (length packet) (length_of report) then Err ShortData
     else (if nat_lt (length_of report) (length packet) then Err LongData
@@ -57,12 +58,12 @@ report_step (Ok step) = step
 report_step (Err why) = Answered (Stall why)
 
 -- an empty packet ends a transfer that reads, at any time
-abbrev pub closing_step : List ℕ → OutStep
+abbrev pub closing_step : Bytes → OutStep
 closing_step [] = Answered Ack
 closing_step (_ ∷ _) = Answered (Stall WrongStage)
 
 -- what an OUT packet comes to
-abbrev pub out_step : Stage → List ℕ → OutStep
+abbrev pub out_step : Stage → Bytes → OutStep
 out_step (Sending bytes asked sent) packet = closing_step packet
 out_step (Taking report) packet = report_step (received_report report packet)
 out_step (Stalled why) packet = Answered (Stall why)

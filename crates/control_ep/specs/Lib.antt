@@ -7,5 +7,4 @@ pub mod Stage
 pub mod Answers
 pub mod Moves
 pub mod Stands
-pub mod ReadData
-pub mod Views
+pub mod ties

@@ -1,5 +1,6 @@
 -- Believed where this crate is called: what each call does to the stage, the look-back of `stage` one call at a time.
-use Rattle.std.specs.Prelude.{ℕ, ◌+◌, List, []}
+use Rattle.shapes.specs.Shapes.{Bytes}
+use Rattle.std.specs.Prelude.{ℕ, ◌+◌, []}
 use Rattle.control_ep.specs.declared.why.Why.TheVariants.{FlashFault, WrongStage}
 use Rattle.control_ep.specs.declared.answer.EpAnswer.{EpAnswer}
 use Rattle.control_ep.specs.declared.answer.EpAnswer.TheVariants.{Stall}
@@ -43,7 +44,7 @@ after_end Waiting next = next
 after_end stage next = stage
 
 -- a SETUP packet: the first stage of the transfer that it begins, or stalled where it is refused
-abbrev pub begun : List ℕ → DeviceView → Stage
+abbrev pub begun : Bytes → DeviceView → Stage
 begun setup view = stage_with (outcome_of (transfer_of (request_of setup) view) (request_of setup).length) (progress_of [])
 
 -- the stage after one more call

@@ -1,5 +1,6 @@
 -- Believed: the requests that are served, and the order in which a SETUP packet is checked (USB 2.0 sections 9.3 and 9.4.3,
 -- HID 1.11 section 7).
+use Rattle.shapes.specs.Shapes.{Bytes}
 use Rattle.std.specs.Prelude.{ℕ, ◌+◌, ◌*◌, ◌/◌, ◌%◌, ◌==◌, ◌&&◌, not, Bool, true, List, [], ◌∷◌, if◌then◌else◌, slice_index, Option, Some, None, Result, Ok, Err}
 use Rattle.descriptor_build.specs.Served.{device_bytes, configuration_bytes, hid_bytes, report_bytes}
 use Rattle.reports.specs.declared.Protocol.{Protocol}
@@ -12,11 +13,11 @@ use Rattle.control_ep.specs.declared.answer.DeviceView.{DeviceView}
 use Rattle.control_ep.specs.Transfers.{SetupFields, HostReport, LedsWithId, LedsAlone, FeatureData, Transfer, Reads, Takes, Sets}
 
 -- two bytes, the low one first
-abbrev pub word_at : List ℕ → ℕ → ℕ
+abbrev pub word_at : Bytes → ℕ → ℕ
 word_at bytes i = slice_index bytes i + 256 * slice_index bytes (i + 1)
 
 -- bmRequestType, bRequest, wValue, wIndex, wLength (USB 2.0 table 9-2)
-abbrev pub request_of : List ℕ → SetupFields
+abbrev pub request_of : Bytes → SetupFields
 request_of setup = record {
   kind = slice_index setup 0;
   code = slice_index setup 1;

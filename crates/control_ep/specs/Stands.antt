@@ -1,8 +1,6 @@
--- Believed where this crate is called: the calls of a control endpoint are answered by the tables. StandsFor only ties
--- code: a control endpoint stands for the calls that were made on it, newest first.
+-- Believed where this crate is called: the calls of a control endpoint are answered by the tables.
 use Rattle.std.specs.Prelude.{◌≡◌, Bool, true, false, List, [], ◌∷◌, IsTrue}
 use Rattle.control_ep.specs.declared.answer.OutStep.TheVariants.{Offer}
-use Rattle.control_ep.specs.Transfers.{Stage}
 use Rattle.control_ep.specs.Calls.{EpCall, Setup, Out, Judged, In, Settle, Fail, Reset}
 use Rattle.control_ep.specs.Stage.{stage}
 use Rattle.control_ep.specs.Answers.{in_answer, in_effect, out_step, judged_answer}
@@ -26,8 +24,3 @@ IsAnswered past Reset = Unit {0}
 abbrev pub AllAnswered : List EpCall → Type 0
 AllAnswered [] = Unit {0}
 AllAnswered (call ∷ past) = IsAnswered past call × AllAnswered past
-
--- the endpoint is in the stage of these calls, each of which was answered so
-pub record StandsFor (past : List EpCall) (now : Stage) : Type 0 where
-  pub answered : AllAnswered past
-  pub stage : now ≡ stage past

@@ -25,7 +25,7 @@ pub(crate) struct ReadData {
 
 impl Model for ReadData {
     ghost use Rattle.std.specs.Prelude.{ℕ, List};
-    ghost use Rattle.control_ep.specs.ReadData.{source_bytes};
+    ghost use Rattle.control_ep.specs.ties.ReadData.{source_bytes};
 
     ghost Value = { List ℕ };
 

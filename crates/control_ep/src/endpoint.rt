@@ -10,7 +10,7 @@ ghost use Rattle.control_ep.specs.declared.answer.OutStep.{OutStep};
 ghost use Rattle.control_ep.specs.declared.why.Why.{Why};
 ghost use Rattle.control_ep.specs.Stage.{stage_in, progress_of};
 ghost use Rattle.control_ep.specs.Transfers.{Rest, Taking, Status, Stalled, FeatureData};
-ghost use Rattle.control_ep.specs.Views.{stage_view, transfer_view};
+ghost use Rattle.control_ep.specs.ties.Views.{stage_view, transfer_view};
 ghost use Rattle.control_ep.specs.Calls.{EpCall, Setup, Out, Judged, In, Settle, Fail, Reset};
 
 use crate::data::ReadData;
@@ -69,7 +69,7 @@ pub struct ControlEp {
 
 impl Model for ControlEp {
     ghost use Rattle.control_ep.specs.Transfers.{Stage};
-    ghost use Rattle.control_ep.specs.Views.{stage_view};
+    ghost use Rattle.control_ep.specs.ties.Views.{stage_view};
 
     ghost Value = { Stage };
 
@@ -96,7 +96,8 @@ impl ControlEp {
     ghost use Rattle.control_ep.specs.Stage.{stage};
     ghost use Rattle.control_ep.specs.Moves.{begun, after_in, after_out, after_verdict, after_end};
     ghost use Rattle.control_ep.specs.Answers.{in_answer, in_effect, out_step, verdict_answer, IfNak, IfStall, IfAnswered, IfOffer};
-    ghost use Rattle.control_ep.specs.Stands.{StandsFor, is_offered};
+    ghost use Rattle.control_ep.specs.Stands.{is_offered};
+    ghost use Rattle.control_ep.specs.ties.Stands.{StandsFor};
 
     /// An endpoint at its start: no transfer is under way, and an IN or OUT packet is answered by
     /// `Stall(WrongStage)` until a SETUP packet comes.

@@ -4,7 +4,7 @@ use Rattle.std.specs.Int.{bit_at}
 use Rattle.std.proofs.lemmas.Bool.{cases_lt}
 use Rattle.std.proofs.lemmas.Bool.Decides.{nat_tests}
 use Rattle.debounce.specs.Samples.{run_of, debounced, equal_latest}
-use Rattle.debounce.specs.Rows.{KeyBits, KeyStandsFor}
+use Rattle.debounce.specs.ties.Rows.{KeyBits, KeyStandsFor}
 
 pub le_test : (a b : ℕ) → a ≤ b → nat_le a b ≡ true
 le_test a b l = grind (arith, nat_tests)

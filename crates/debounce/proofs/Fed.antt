@@ -7,9 +7,9 @@ use Rattle.debounce.specs.declared.Scan.{Scan}
 use Rattle.debounce.specs.declared.row.Row.{Row}
 use Rattle.debounce.specs.Scans.{has}
 use Rattle.debounce.specs.Samples.{samples, down}
-use Rattle.debounce.specs.Kept.{Kept, row_of}
-use Rattle.debounce.specs.Rows.{KeyBits, KeyStandsFor, Sampled, bits_of, parts}
-use Rattle.debounce.specs.Stands.{StandsFor}
+use Rattle.debounce.specs.ties.Kept.{Kept, row_of}
+use Rattle.debounce.specs.ties.Rows.{KeyBits, KeyStandsFor, Sampled, bits_of, parts}
+use Rattle.debounce.specs.ties.Stands.{StandsFor}
 
 -- ---- the halves of a word
 

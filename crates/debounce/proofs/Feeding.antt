@@ -4,7 +4,7 @@ use Rattle.std.specs.Int.{bit_at}
 use Rattle.std.proofs.lemmas.List.{get_or-replicate}
 use Rattle.std.proofs.lemmas.Nat.Bits.{bit_at-zero}
 use Rattle.debounce.specs.Samples.{debounced, down, equal_latest}
-use Rattle.debounce.specs.Rows.{KeyStandsFor}
+use Rattle.debounce.specs.ties.Rows.{KeyStandsFor}
 
 -- every key is up
 pub down-none : (key : ℕ) → down [] key ≡ false

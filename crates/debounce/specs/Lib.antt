@@ -1,6 +1,4 @@
 pub mod Scans
 pub mod Samples
 pub mod Windows
-pub mod Rows
-pub mod Kept
-pub mod Stands
+pub mod ties

@@ -48,7 +48,7 @@ pub struct Debouncer {
 }
 
 impl Model for Debouncer {
-    ghost use Rattle.debounce.specs.Kept.{Kept, HasSixRows};
+    ghost use Rattle.debounce.specs.ties.Kept.{Kept, HasSixRows};
 
     ghost Value = { Kept };
 
@@ -58,9 +58,9 @@ impl Model for Debouncer {
 }
 
 impl Debouncer {
-    ghost use Rattle.debounce.specs.Kept.{row_of};
-    ghost use Rattle.debounce.specs.Rows.{bits_of};
-    ghost use Rattle.debounce.specs.Stands.{StandsFor};
+    ghost use Rattle.debounce.specs.ties.Kept.{row_of};
+    ghost use Rattle.debounce.specs.ties.Rows.{bits_of};
+    ghost use Rattle.debounce.specs.ties.Stands.{StandsFor};
 
     /// Every key up, before the first scan.
     pub fn new() -> Debouncer

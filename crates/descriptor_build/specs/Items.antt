@@ -1,4 +1,5 @@
 -- Believed where this crate is called: the bytes of a short item (HID 1.11 section 6.2.2.2).
+use Rattle.shapes.specs.Shapes.{Bytes}
 use Rattle.std.specs.Prelude.{ℕ, ◌+◌, ◌^◌, min, ℤ, pos, negsuc, Bool, List, [], ◌∷◌, length, take, nat_lt, if◌then◌else◌, flat_map}
 use Rattle.std.specs.Int.{w32, to_le_bytes, cast_unsigned}
 use Rattle.descriptor_build.specs.declared.ReportSpec.{ReportSpec}
@@ -27,16 +28,16 @@ holds_signed k (pos n) = nat_lt n (2 ^ k)
 holds_signed k (negsuc n) = nat_lt n (2 ^ k)
 
 -- little-endian, in the fewest of 1 and 2 bytes that hold the number unsigned
-abbrev pub unsigned_bytes : ℕ → List ℕ
+abbrev pub unsigned_bytes : ℕ → Bytes
 unsigned_bytes n = take (if nat_lt n 256 then 1 else 2) (to_le_bytes w32 n)
 
 -- little-endian, in the fewest of 1, 2 and 4 bytes that hold the number in two's complement
-abbrev pub signed_bytes : ℤ → List ℕ
+abbrev pub signed_bytes : ℤ → Bytes
 signed_bytes z =
     take (if holds_signed 7 z then 1 else (if holds_signed 15 z then 2 else 4)) (to_le_bytes w32 (cast_unsigned w32 z))
 
 -- an item's data
-abbrev pub data_of : ReportSpec → List ℕ
+abbrev pub data_of : ReportSpec → Bytes
 data_of (UsagePage n) = unsigned_bytes n
 data_of (Usage n) = unsigned_bytes n
 data_of (UsageMin n) = unsigned_bytes n
@@ -57,9 +58,9 @@ abbrev pub size_bits : ℕ → ℕ
 size_bits n = min n 3
 
 -- an item: its prefix, then its data
-abbrev pub item_bytes : ReportSpec → List ℕ
+abbrev pub item_bytes : ReportSpec → Bytes
 item_bytes spec = (tag_of spec + size_bits (length (data_of spec))) ∷ data_of spec
 
 -- the items of a report descriptor, one after the other
-abbrev pub descriptor_bytes : List ReportSpec → List ℕ
+abbrev pub descriptor_bytes : List ReportSpec → Bytes
 descriptor_bytes specs = flat_map item_bytes specs

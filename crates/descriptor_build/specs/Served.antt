@@ -1,12 +1,13 @@
 -- Believed: the descriptors that the keyboard serves, byte by byte.
-use Rattle.std.specs.Prelude.{ℕ, ◌+◌, ◌*◌, List, [], ◌∷◌, ◌++◌, slice_index}
+use Rattle.shapes.specs.Shapes.{Bytes}
+use Rattle.std.specs.Prelude.{ℕ, ◌+◌, ◌*◌, [], ◌∷◌, ◌++◌, slice_index}
 
 -- two bytes from this place on, the low one first
-abbrev pub word_at : List ℕ → ℕ → ℕ
+abbrev pub word_at : Bytes → ℕ → ℕ
 word_at bytes i = slice_index bytes i + 256 * slice_index bytes (i + 1)
 
 -- USB 2.0 table 9-8
-abbrev pub device_bytes : List ℕ
+abbrev pub device_bytes : Bytes
 device_bytes =
     0x12 ∷ 0x01 ∷  -- 18 bytes, DEVICE
     0x00 ∷ 0x02 ∷  -- USB 2.00
@@ -18,14 +19,14 @@ device_bytes =
     0x01 ∷ []  -- one configuration
 
 -- the interface's HID descriptor, HID 1.11 section 6.2.1
-abbrev pub hid_bytes : List ℕ
+abbrev pub hid_bytes : Bytes
 hid_bytes =
     0x09 ∷ 0x21 ∷  -- 9 bytes, HID
     0x11 ∷ 0x01 ∷ 0x00 ∷  -- HID 1.11, no country
     0x01 ∷ 0x22 ∷ 0x63 ∷ 0x00 ∷ []  -- one report descriptor, of 99 bytes
 
 -- USB 2.0 tables 9-10, 9-12 and 9-13
-abbrev pub configuration_bytes : List ℕ
+abbrev pub configuration_bytes : Bytes
 configuration_bytes =
     (0x09 ∷ 0x02 ∷ 0x22 ∷ 0x00 ∷  -- CONFIGURATION, 34 bytes in all
     0x01 ∷ 0x01 ∷ 0x00 ∷  -- one interface, value 1, no string
@@ -37,7 +38,7 @@ configuration_bytes =
     0x20 ∷ 0x00 ∷ 0x0A ∷ [])  -- packets of 32 bytes, every 10 ms
 
 -- report 1: the keys and the LEDs
-abbrev pub keys_part : List ℕ
+abbrev pub keys_part : Bytes
 keys_part =
     0x05 ∷ 0x01 ∷ 0x09 ∷ 0x06 ∷ 0xA1 ∷ 0x01 ∷ 0x85 ∷ 0x01 ∷  -- Generic Desktop, Keyboard
     0x05 ∷ 0x07 ∷ 0x19 ∷ 0xE0 ∷ 0x29 ∷ 0xE7 ∷ 0x15 ∷ 0x00 ∷ 0x25 ∷ 0x01 ∷
@@ -48,18 +49,18 @@ keys_part =
     0x95 ∷ 0x03 ∷ 0x91 ∷ 0x03 ∷ 0xC0 ∷ []  -- three bits of padding
 
 -- report 2: four of the usages 001h to 3FFh of the consumer page
-abbrev pub consumer_part : List ℕ
+abbrev pub consumer_part : Bytes
 consumer_part =
     0x05 ∷ 0x0C ∷ 0x09 ∷ 0x01 ∷ 0xA1 ∷ 0x01 ∷ 0x85 ∷ 0x02 ∷  -- Consumer, Consumer Control
     0x15 ∷ 0x00 ∷ 0x26 ∷ 0xFF ∷ 0x03 ∷ 0x19 ∷ 0x00 ∷ 0x2A ∷ 0xFF ∷ 0x03 ∷
     0x75 ∷ 0x10 ∷ 0x95 ∷ 0x04 ∷ 0x81 ∷ 0x00 ∷ 0xC0 ∷ []  -- four places of 16 bits, an array
 
 -- report 3: five bytes of feature data on a vendor's page
-abbrev pub feature_part : List ℕ
+abbrev pub feature_part : Bytes
 feature_part =
     0x06 ∷ 0x00 ∷ 0xFF ∷ 0x09 ∷ 0x01 ∷ 0xA1 ∷ 0x01 ∷ 0x85 ∷ 0x03 ∷ 0x09 ∷ 0x02 ∷
     0x15 ∷ 0x00 ∷ 0x26 ∷ 0xFF ∷ 0x00 ∷ 0x75 ∷ 0x08 ∷ 0x95 ∷ 0x05 ∷ 0xB1 ∷ 0x02 ∷ 0xC0 ∷ []
 
 -- the report descriptor (HID 1.11 section 6.2.2), 99 bytes
-abbrev pub report_bytes : List ℕ
+abbrev pub report_bytes : Bytes
 report_bytes = keys_part ++ consumer_part ++ feature_part

@@ -8,8 +8,8 @@ use Rattle.descriptor_parse.specs.declared.field.Field.{Field}
 use Rattle.descriptor_parse.specs.declared.locals.UsageRange.{UsageRange}
 use Rattle.descriptor_parse.specs.Descriptor.{count_up, usage_list, usage_of_place}
 use Rattle.descriptor_parse.specs.Counts.{AreCounts}
-use Rattle.descriptor_parse.specs.CountsStand.{count_with, wrapped_counts, AreWrapped, AreCountsFrom}
-use Rattle.descriptor_parse.specs.Parts.{parts_from, AreEnds}
+use Rattle.descriptor_parse.specs.ties.CountsStand.{count_with, wrapped_counts, AreWrapped, AreCountsFrom}
+use Rattle.descriptor_parse.specs.ties.Parts.{parts_from, AreEnds}
 use Rattle.descriptor_parse.specs.WellFormed.{IsRange, AreFew}
 use Rattle.descriptor_parse.proofs.PartLemmas.{start_of, ends_within, start_is, field_part, no_field_part}
 use Rattle.descriptor_parse.proofs.UsageLemmas.{length_up, list_cons, list_append, behind, next_range, one_more, within_first, no_usages}

@@ -11,15 +11,16 @@ use Rattle.descriptor_parse.specs.Tags.{tag}
 use Rattle.descriptor_parse.specs.Faults.{shows, fault_at, item_faults, onto, all_items, IsFaultAmong, IsFaultAtEnd, HasFault, IsFaultless, IsFirst, wants_memory, WantsMemoryAt}
 use Rattle.descriptor_parse.specs.Fields.{open_collections}
 use Rattle.descriptor_parse.specs.declared.state.State.{State}
-use Rattle.descriptor_parse.specs.StateStands.{StateStands, IsRefused}
-use Rattle.descriptor_parse.specs.Parse.{HasReached, Refuses}
+use Rattle.descriptor_parse.specs.ties.StateStands.{StateStands, IsRefused}
+use Rattle.descriptor_parse.specs.Parse.{Refuses}
+use Rattle.descriptor_parse.specs.ties.Parse.{HasReached}
 use Rattle.descriptor_parse.specs.declared.field.Kind.{Kind}
 use Rattle.descriptor_parse.specs.declared.reports.Reports.{Reports}
-use Rattle.descriptor_parse.specs.Totals.{bits_in, no_reports}
+use Rattle.descriptor_parse.specs.ties.Totals.{bits_in, no_reports}
 use Rattle.std.proofs.Math.ListN.{get_or-map}
 use Rattle.descriptor_parse.specs.declared.totals.IdReports.{IdReports}
 use Rattle.descriptor_parse.specs.Descriptor.{Describes, bits_of, bits_on}
-use Rattle.descriptor_parse.specs.DescriptorView.{value_of}
+use Rattle.descriptor_parse.specs.ties.DescriptorView.{value_of}
 use Rattle.descriptor_parse.proofs.ItemLemmas.{size_pos, items_none, items_short, items_more, items_next}
 
 -- ---- the least fault of an item

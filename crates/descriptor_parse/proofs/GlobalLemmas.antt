@@ -10,7 +10,7 @@ use Rattle.descriptor_parse.specs.declared.tag.GlobalTag.TheVariants.{UsagePage,
 use Rattle.descriptor_parse.specs.Items.{ItemValue}
 use Rattle.descriptor_parse.specs.Tags.{tag, is_push, is_pop}
 use Rattle.descriptor_parse.specs.Globals.{unsigned, before_push, in_force, pushes}
-use Rattle.descriptor_parse.specs.GlobalsStand.{globals_with, globals_of, saved_of, GlobalsStand}
+use Rattle.descriptor_parse.specs.ties.GlobalsStand.{globals_with, globals_of, saved_of, GlobalsStand}
 
 abbrev pub is_global : Tag → Bool
 is_global (Global g) = true

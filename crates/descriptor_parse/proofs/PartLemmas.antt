@@ -5,7 +5,7 @@ use Rattle.std.proofs.lemmas.Bool.{ne_eqb}
 use Rattle.std.proofs.lemmas.Grind.{get_or_default_zero}
 use Rattle.std.proofs.lemmas.Option.{slice_get-get_or, slice_get_past}
 use Rattle.std.proofs.lemmas.List.{take-append-le, take_all}
-use Rattle.descriptor_parse.specs.Parts.{parts_from, AreEnds}
+use Rattle.descriptor_parse.specs.ties.Parts.{parts_from, AreEnds}
 
 drop_front : (xs ys : List (ℕ × ℕ)) → drop (length xs) (xs ++ ys) ≡ ys
 drop_front [] ys = refl

@@ -9,12 +9,12 @@ use Rattle.descriptor_parse.specs.declared.field.Kind.{Kind}
 use Rattle.descriptor_parse.specs.declared.field.Field.{Field}
 use Rattle.descriptor_parse.specs.declared.reports.Link.{Link}
 use Rattle.descriptor_parse.specs.Tags.{same_kind}
-use Rattle.descriptor_parse.specs.Parts.{parts_from, parts, AreEnds}
+use Rattle.descriptor_parse.specs.ties.Parts.{parts_from, parts, AreEnds}
 use Rattle.descriptor_parse.specs.Counts.{AreCounts}
-use Rattle.descriptor_parse.specs.CountsStand.{StandTogether}
+use Rattle.descriptor_parse.specs.ties.CountsStand.{StandTogether}
 use Rattle.descriptor_parse.specs.Readers.{is_of_report}
-use Rattle.descriptor_parse.specs.Linked.{ends_of, first_from, AreLinked}
-use Rattle.descriptor_parse.specs.FieldsLeft.{fields_left, IsNext}
+use Rattle.descriptor_parse.specs.ties.Linked.{ends_of, first_from, AreLinked}
+use Rattle.descriptor_parse.specs.ties.FieldsLeft.{fields_left, IsNext}
 use Rattle.descriptor_parse.proofs.PartLemmas.{field_part, no_field_part, field_ends, length_parts}
 use Rattle.descriptor_parse.proofs.CountLemmas.{field_counts, no_field_counts}
 use Rattle.descriptor_parse.proofs.LinkLemmas.{first_none, first_cons, drop_next, lands, next_is_of, next_at}

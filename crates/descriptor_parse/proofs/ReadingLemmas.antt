@@ -18,14 +18,16 @@ use Rattle.descriptor_parse.specs.declared.reading.Reading.{Reading}
 use Rattle.descriptor_parse.specs.Items.{ItemValue, items_at, item_size, front_item, data_size, head_size}
 use Rattle.descriptor_parse.specs.Faults.{fault_at, all_items, IsFaultAmong, IsFaultAtEnd, IsFirst, IsFirstFault, IsFaultless, MayWantMemory}
 use Rattle.descriptor_parse.specs.Descriptor.{DescriptorValue, Describes, bits_on, bits_of, no_bits}
-use Rattle.descriptor_parse.specs.DescriptorView.{value_of}
-use Rattle.descriptor_parse.specs.Linked.{ends_of}
-use Rattle.descriptor_parse.specs.ReportsStand.{CanLink}
+use Rattle.descriptor_parse.specs.ties.DescriptorView.{value_of}
+use Rattle.descriptor_parse.specs.ties.Linked.{ends_of}
+use Rattle.descriptor_parse.specs.ties.ReportsStand.{CanLink}
 use Rattle.descriptor_parse.specs.WellFormed.{FitsField}
-use Rattle.descriptor_parse.specs.CountsStand.{StandTogether}
-use Rattle.descriptor_parse.specs.StateStands.{StateStands, Takes, IsRefused}
-use Rattle.descriptor_parse.specs.Parse.{HasReached, Refuses, MayGoOn, is_of_the_end, Answers, IsOfTheText, AreSame}
-use Rattle.descriptor_parse.specs.Fed.{AreBytes, IsAt, IsFront, IsReading, RefusesAll, WasFed}
+use Rattle.descriptor_parse.specs.ties.CountsStand.{StandTogether}
+use Rattle.descriptor_parse.specs.ties.StateStands.{StateStands, Takes, IsRefused}
+use Rattle.descriptor_parse.specs.Parse.{Refuses, MayGoOn, is_of_the_end, Answers, IsOfTheText, AreSame}
+use Rattle.descriptor_parse.specs.ties.Parse.{HasReached}
+use Rattle.descriptor_parse.specs.Fed.{RefusesAll}
+use Rattle.descriptor_parse.specs.ties.Fed.{AreBytes, IsAt, IsFront, IsReading, WasFed}
 use Rattle.descriptor_parse.proofs.PartLemmas.{length_parts}
 use Rattle.descriptor_parse.proofs.CountLemmas.{exact_from}
 use Rattle.descriptor_parse.proofs.WellLemmas.{well_formed}

@@ -17,15 +17,15 @@ use Rattle.descriptor_parse.specs.Tags.{tag, same_kind, is_data, is_data_of, is_
 use Rattle.descriptor_parse.specs.Globals.{unsigned, in_force, usage_page, report_size, report_count, report_id}
 use Rattle.descriptor_parse.specs.Locals.{usages_since_main}
 use Rattle.descriptor_parse.specs.Fields.{is_constant, is_field, declared_field, fields, field_usages, report_bits, has_bare_data}
-use Rattle.descriptor_parse.specs.Totals.{bits_in, first_in, no_field}
-use Rattle.descriptor_parse.specs.Parts.{parts_from, parts, AreEnds}
-use Rattle.descriptor_parse.specs.Linked.{ends_of}
-use Rattle.descriptor_parse.specs.CountsStand.{wrapped_counts, AreWrapped}
+use Rattle.descriptor_parse.specs.ties.Totals.{bits_in, first_in, no_field}
+use Rattle.descriptor_parse.specs.ties.Parts.{parts_from, parts, AreEnds}
+use Rattle.descriptor_parse.specs.ties.Linked.{ends_of}
+use Rattle.descriptor_parse.specs.ties.CountsStand.{wrapped_counts, AreWrapped}
 use Rattle.descriptor_parse.proofs.PartLemmas.{ends_more, parts_more}
 use Rattle.descriptor_parse.proofs.CountLemmas.{wrapped_len, counts_more}
-use Rattle.descriptor_parse.specs.GlobalsStand.{globals_of}
-use Rattle.descriptor_parse.specs.LocalsStand.{LocalsStand, range_on}
-use Rattle.descriptor_parse.specs.ReportsStand.{declares, field_by, Declares, FitsData, ReportsStand}
+use Rattle.descriptor_parse.specs.ties.GlobalsStand.{globals_of}
+use Rattle.descriptor_parse.specs.ties.LocalsStand.{LocalsStand, range_on}
+use Rattle.descriptor_parse.specs.ties.ReportsStand.{declares, field_by, Declares, FitsData, ReportsStand}
 
 pub stand_new : (reports : Reports) → ((kind : Kind) (id : ℕ) → bits_in reports.totals kind id ≡ 0)
     → ((kind : Kind) (id : ℕ) → first_in reports.totals kind id ≡ no_field) → reports.fields.items ≡ []

@@ -20,10 +20,10 @@ use Rattle.descriptor_parse.specs.Globals.{unsigned, pushes, report_size, report
 use Rattle.descriptor_parse.specs.Locals.{has_page, unpaired, is_match, is_minimum}
 use Rattle.descriptor_parse.specs.Fields.{is_constant, is_field, open_collections}
 use Rattle.descriptor_parse.specs.Faults.{shows, fault_at, wants_memory}
-use Rattle.descriptor_parse.specs.GlobalsStand.{GlobalsStand}
-use Rattle.descriptor_parse.specs.LocalsStand.{LocalsStand, usage_of, raw_of, half_of, are_alike, fault_of_local, adds_range}
-use Rattle.descriptor_parse.specs.ReportsStand.{ReportsStand, FitsData, declares, fills}
-use Rattle.descriptor_parse.specs.StateStands.{StateStands, IsData, fault_of_main, fault_of_global}
+use Rattle.descriptor_parse.specs.ties.GlobalsStand.{GlobalsStand}
+use Rattle.descriptor_parse.specs.ties.LocalsStand.{LocalsStand, usage_of, raw_of, half_of, are_alike, fault_of_local, adds_range}
+use Rattle.descriptor_parse.specs.ties.ReportsStand.{ReportsStand, FitsData, declares, fills}
+use Rattle.descriptor_parse.specs.ties.StateStands.{StateStands, IsData, fault_of_main, fault_of_global}
 use Rattle.descriptor_parse.proofs.GlobalLemmas.{none_saved, stand_other, is_global}
 use Rattle.descriptor_parse.proofs.LocalLemmas.{stand_silent, is_silent}
 use Rattle.descriptor_parse.proofs.ReportLemmas.{stand_neutral, is_neutral, declares_field}

@@ -1,4 +1,5 @@
--- Believed: the descriptor of a text, and what is looked up in it; last_of only ties code.
+-- Believed: the descriptor of a text, and what is looked up in it.
+use Rattle.shapes.specs.Shapes.{UsageList}
 use Rattle.std.specs.Prelude.{◌≡◌, ℕ, zero, suc, ◌+◌, ◌-◌, ◌/◌, ◌==◌, nat_lt, min, Bool, if◌then◌else◌, List, [], ◌∷◌, length, flat_map, slice_get, slice_index_or, Option, Some, None, option_and_then, unwrap_or}
 use Rattle.descriptor_parse.specs.declared.field.Kind.{Kind}
 use Rattle.descriptor_parse.specs.declared.field.Kind.TheVariants.{Input, Output, Feature}
@@ -51,15 +52,12 @@ count_up first zero = []
 count_up first (suc n) = first ∷ count_up (first + 1) n
 
 -- the usages of ranges one by one
-unfoldable pub usage_list : List (ℕ × ℕ) → List ℕ
+unfoldable pub usage_list : List (ℕ × ℕ) → UsageList
 usage_list ranges = flat_map (λ range. count_up range.0 (range.1 + 1 - range.0)) ranges
-
-abbrev pub last_of : List ℕ → Option ℕ
-last_of usages = slice_get usages (length usages - 1)
 
 -- The usage of a place: for an array of that number in the list, for a variable field of the place, where the last
 -- usage serves the rest.
-abbrev pub usage_of_place : Field → List ℕ → ℕ → Option ℕ
+abbrev pub usage_of_place : Field → UsageList → ℕ → Option ℕ
 usage_of_place field usages place =
     if field.array then slice_get usages place
     else (if nat_lt place field.count then slice_get usages (min place (length usages - 1)) else None)

@@ -1,4 +1,5 @@
 -- Believed: the faults of a text, which of them is the first, and where memory may be wanted.
+use Rattle.shapes.specs.Shapes.{Bytes}
 use Rattle.std.specs.Prelude.{◌≡◌, ℕ, ◌<◌, ◌≤◌, ◌==◌, if◌then◌else◌, nat_lt, nat_le, Bool, true, false, not, ◌&&◌, ◌||◌, IsTrue, ◌⊎◌, List, [], ◌∷◌, length, find, int_lt, Option, is_some, Result, Ok, Err}
 use Rattle.descriptor_parse.specs.declared.fault.ParseError.{ParseError}
 use Rattle.descriptor_parse.specs.declared.fault.ParseFault.{ParseFault}
@@ -53,7 +54,7 @@ onto before [] = before
 onto before (Ok item ∷ more) = onto (item ∷ before) more
 onto before (Err e ∷ more) = before
 
-unfoldable pub all_items : List ℕ → List ItemValue
+unfoldable pub all_items : Bytes → List ItemValue
 all_items text = onto [] (items_at 0 text)
 
 -- A fault stands at an offset among the items that follow those before.
@@ -63,26 +64,26 @@ IsFaultAmong before (Ok item ∷ more) fault offset = (IsTrue (shows before item
 IsFaultAmong before (Err e ∷ more) fault offset = (fault ≡ e.fault) × (offset ≡ e.offset)
 
 -- what is wrong with a text as a whole
-abbrev pub IsFaultAtEnd : List ℕ → ParseFault → ℕ → Type 0
+abbrev pub IsFaultAtEnd : Bytes → ParseFault → ℕ → Type 0
 IsFaultAtEnd text CollectionOpen offset = (0 < open_collections (all_items text)) × (offset ≡ length text)
 IsFaultAtEnd text TooLong offset = (4096 < length text) × (offset ≡ 4096)
 IsFaultAtEnd text _ offset = ⊥
 
 -- a text has a fault at an offset
-abbrev pub HasFault : List ℕ → ParseFault → ℕ → Type 0
+abbrev pub HasFault : Bytes → ParseFault → ℕ → Type 0
 HasFault text fault offset = IsFaultAmong [] (items_at 0 text) fault offset ⊎ IsFaultAtEnd text fault offset
 
 -- a text shows no fault
-abbrev pub IsFaultless : List ℕ → Type 0
+abbrev pub IsFaultless : Bytes → Type 0
 IsFaultless text = (fault : ParseFault) (offset : ℕ) → HasFault text fault offset → ⊥
 
 -- no fault comes before this place, or at it with a lesser number
-abbrev pub IsFirst : List ℕ → ParseFault → ℕ → Type 0
+abbrev pub IsFirst : Bytes → ParseFault → ℕ → Type 0
 IsFirst text fault offset = (other : ParseFault) (at : ℕ) → HasFault text other at
     → (offset < at) ⊎ ((offset ≡ at) × (number_of fault ≤ number_of other))
 
 -- the first fault of a text: that of the least offset, and there of the least number
-abbrev pub IsFirstFault : List ℕ → ParseError → Type 0
+abbrev pub IsFirstFault : Bytes → ParseError → Type 0
 IsFirstFault text e = HasFault text e.fault e.offset × IsFirst text e.fault e.offset
 
 -- What is kept of an item for later ones may want memory: of a Push the Globals in force, of a Usage and of the second
@@ -101,5 +102,5 @@ WantsMemoryAt [] at = ⊥
 WantsMemoryAt (item ∷ before) at = (IsTrue (wants_memory (tag item) before) × (item.offset ≡ at)) ⊎ WantsMemoryAt before at
 
 -- An item that may want memory begins there, and each fault of the text comes after it.
-abbrev pub MayWantMemory : List ℕ → ℕ → Type 0
+abbrev pub MayWantMemory : Bytes → ℕ → Type 0
 MayWantMemory text offset = WantsMemoryAt (all_items text) offset × IsFirst text Memory offset

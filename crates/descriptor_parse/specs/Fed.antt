@@ -1,36 +1,9 @@
--- Believed: RefusesAll. All else only ties code: the parser to the bytes that it was fed.
-use Rattle.std.specs.Prelude.{◌≡◌, ℕ, ◌<◌, ◌≤◌, List, ◌++◌, length, slice_index, Option, Some, None}
+-- Believed: an answer to every text that begins with some bytes.
+use Rattle.shapes.specs.Shapes.{Bytes}
+use Rattle.std.specs.Prelude.{ℕ, List, ◌++◌}
 use Rattle.descriptor_parse.specs.declared.fault.ParseError.{ParseError}
-use Rattle.descriptor_parse.specs.declared.state.State.{State}
-use Rattle.descriptor_parse.specs.declared.reading.Reading.{Reading}
-use Rattle.descriptor_parse.specs.Items.{ItemValue, item_size, front_item}
-use Rattle.descriptor_parse.specs.Parse.{HasReached, Refuses}
-
--- Whatever follows a text, its items were read up to this offset, and the rest of it is left.
-pub record IsAt (text rest : List ℕ) (offset : ℕ) (state : State) : Type 0 where
-  pub reached : (more : List ℕ) → HasReached (text ++ more) (rest ++ more) offset state
-  pub within : offset ≤ 4096
+use Rattle.descriptor_parse.specs.Parse.{Refuses}
 
 -- an answer to every text that begins with these bytes
-abbrev pub RefusesAll : List ℕ → ParseError → Type 0
+abbrev pub RefusesAll : Bytes → ParseError → Type 0
 RefusesAll text e = (more : List ℕ) → Refuses (text ++ more) e
-
--- a whole item stands at the front
-pub record IsFront (item : ItemValue) (rest : List ℕ) (offset : ℕ) : Type 0 where
-  pub whole : item_size rest ≤ length rest
-  pub is : item ≡ front_item offset rest
-
--- a reading of these bytes keeps the item that is not whole yet
-pub record IsReading (text : List ℕ) (reading : Reading) : Type 0 where
-  pub at : IsAt text reading.part.items reading.offset reading.state
-  pub short : length reading.part.items < item_size reading.part.items
-
--- bytes
-abbrev pub AreBytes : List ℕ → Type 0
-AreBytes text = (i : ℕ) → slice_index text i < 256
-
--- A reading was fed these bytes, and tells this refusal.
-pub record WasFed (text : List ℕ) (reading : Reading) (refused : Option ParseError) : Type 0 where
-  pub bytes : AreBytes text
-  pub going : refused ≡ None → IsReading text reading
-  pub told : (e : ParseError) → refused ≡ Some e → RefusesAll text e

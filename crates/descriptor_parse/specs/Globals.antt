@@ -1,4 +1,5 @@
 -- Believed: the Global items in force, and the numbers in data.
+use Rattle.shapes.specs.Shapes.{Bytes}
 use Rattle.std.specs.Prelude.{ℕ, ◌+◌, ◌*◌, ◌^◌, ◌%◌, if◌then◌else◌, nat_lt, Bool, List, [], ◌∷◌, length, filter, ℤ, pos, ◌-ℤ◌, int_lt}
 use Rattle.std.specs.List.{list_any}
 use Rattle.descriptor_parse.specs.declared.tag.Tag.{Tag}
@@ -8,12 +9,12 @@ use Rattle.descriptor_parse.specs.Tags.{tag, is_usage_page, is_logical_minimum, 
 -- Lists of items in this file and the next ones hold the items before one, newest first.
 
 -- Data are little-endian (HID 1.11, 6.2.2.2); no data are 0.
-abbrev pub unsigned : List ℕ → ℕ
+abbrev pub unsigned : Bytes → ℕ
 unsigned [] = 0
 unsigned (b ∷ bs) = b + 256 * unsigned bs
 
 -- two's complement
-unfoldable pub signed : List ℕ → ℤ
+unfoldable pub signed : Bytes → ℤ
 signed bytes = if nat_lt (2 * unsigned bytes) (256 ^ length bytes) then pos (unsigned bytes) else pos (unsigned bytes) -ℤ pos (256 ^ length bytes)
 
 -- what stands before the latest Push, newest first

@@ -1,4 +1,5 @@
 -- Believed: the items of a text, one after the other.
+use Rattle.shapes.specs.Shapes.{Bytes}
 use Rattle.std.specs.Prelude.{ℕ, zero, suc, ◌+◌, ◌%◌, ◌==◌, if◌then◌else◌, nat_lt, List, [], ◌∷◌, length, take, drop, slice_index, Result, Ok, Err}
 use Rattle.descriptor_parse.specs.declared.fault.ParseError.{ParseError}
 use Rattle.descriptor_parse.specs.declared.fault.ParseFault.TheVariants.{Truncated}
@@ -7,7 +8,7 @@ use Rattle.descriptor_parse.specs.declared.fault.ParseFault.TheVariants.{Truncat
 pub record ItemValue : Type 0 where
   pub offset : ℕ
   pub prefix : ℕ
-  pub bytes : List ℕ
+  pub bytes : Bytes
 
 -- Bits 0 and 1 of a prefix say how many bytes of data follow: 0, 1, 2 or, for 3, four (HID 1.11, 6.2.2.2).
 abbrev pub data_size : ℕ → ℕ
@@ -18,11 +19,11 @@ abbrev pub head_size : ℕ → ℕ
 head_size prefix = if prefix == 254 then 3 else 1
 
 -- how many bytes the item at the front of a text takes
-abbrev pub item_size : List ℕ → ℕ
+abbrev pub item_size : Bytes → ℕ
 item_size text = if slice_index text 0 == 254 then 3 + slice_index text 1 else 1 + data_size (slice_index text 0)
 
 -- the item at the front of a text that stands at an offset
-abbrev pub front_item : ℕ → List ℕ → ItemValue
+abbrev pub front_item : ℕ → Bytes → ItemValue
 front_item offset text = record {
   offset = offset;
   prefix = slice_index text 0;
@@ -31,7 +32,7 @@ front_item offset text = record {
 
 -- The items of a text that stands at an offset, at most n of them: one after the other, up to its end or to
 -- the first that is not whole.
-unfoldable pub first_items : ℕ → ℕ → List ℕ → List (Result ItemValue ParseError)
+unfoldable pub first_items : ℕ → ℕ → Bytes → List (Result ItemValue ParseError)
 first_items zero offset text = []
 first_items (suc n) offset [] = []
 first_items (suc n) offset (b ∷ bs) =
@@ -40,5 +41,5 @@ first_items (suc n) offset (b ∷ bs) =
     else Ok (front_item offset (b ∷ bs)) ∷ first_items n (offset + item_size (b ∷ bs)) (drop (item_size (b ∷ bs)) (b ∷ bs))
 
 -- All items of a text that stands at an offset: no text has more items than bytes.
-unfoldable pub items_at : ℕ → List ℕ → List (Result ItemValue ParseError)
+unfoldable pub items_at : ℕ → Bytes → List (Result ItemValue ParseError)
 items_at offset text = first_items (length text) offset text

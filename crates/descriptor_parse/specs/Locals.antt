@@ -1,4 +1,5 @@
 -- Believed: the usages of a field by the Local items before it.
+use Rattle.shapes.specs.Shapes.{Bytes}
 use Rattle.std.specs.Prelude.{ℕ, ◌+◌, ◌*◌, ◌/◌, ◌%◌, ◌^◌, ◌==◌, if◌then◌else◌, nat_lt, Bool, true, false, not, ◌&&◌, ◌||◌, List, [], ◌∷◌, ◌++◌, length, filter, slice_get, Option, Some, None, is_some}
 use Rattle.descriptor_parse.specs.declared.tag.Tag.{Tag}
 use Rattle.descriptor_parse.specs.declared.tag.Tag.TheVariants.{Main, Local}
@@ -9,10 +10,10 @@ use Rattle.descriptor_parse.specs.Globals.{unsigned}
 
 -- A usage of four bytes has its page in the high half; a shorter one is of the page in force at the Main item
 -- (HID 1.11, 6.2.2.8).
-abbrev pub has_page : List ℕ → Bool
+abbrev pub has_page : Bytes → Bool
 has_page bytes = length bytes == 4
 
-abbrev pub usage_number : ℕ → List ℕ → ℕ
+abbrev pub usage_number : ℕ → Bytes → ℕ
 usage_number page bytes = if has_page bytes then unsigned bytes else page * 2 ^ 16 + unsigned bytes
 
 -- the items since the latest Main item

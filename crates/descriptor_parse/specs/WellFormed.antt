@@ -1,9 +1,8 @@
--- Believed: what holds of every descriptor; IsKnown only ties code.
-use Rattle.std.specs.Prelude.{◌≡◌, ℕ, ◌+◌, ◌*◌, ◌/◌, ◌^◌, ◌<◌, ◌≤◌, ◌↔◌, false, List, length, slice_index, All, pos, neg_ℤ, ◌≤ℤ◌, ◌<ℤ◌}
+-- Believed: what holds of every descriptor.
+use Rattle.std.specs.Prelude.{◌≡◌, ℕ, ◌+◌, ◌*◌, ◌/◌, ◌^◌, ◌<◌, ◌≤◌, ◌↔◌, false, List, length, All, pos, neg_ℤ, ◌≤ℤ◌, ◌<ℤ◌}
 use Rattle.descriptor_parse.specs.declared.field.Kind.{Kind}
 use Rattle.descriptor_parse.specs.declared.field.Field.{Field}
-use Rattle.descriptor_parse.specs.Descriptor.{DescriptorValue, Describes, bits_of}
-use Rattle.descriptor_parse.specs.Faults.{IsFaultless, all_items}
+use Rattle.descriptor_parse.specs.Descriptor.{DescriptorValue, bits_of}
 
 -- A field is within the limits, its bits are within its report, its extents are numbers of 32 bits, and its ID is 0
 -- exactly where none is used.
@@ -38,7 +37,3 @@ pub record IsWellFormed (d : DescriptorValue) : Type 0 where
   pub ranges : All (All IsRange) d.ranges
   pub few_ranges : All AreFew d.ranges
   pub bits_few : (kind : Kind) (id : ℕ) → bits_of d kind id ≤ 2 ^ 32
-
--- It is the descriptor of some text that shows no fault.
-abbrev pub IsKnown : DescriptorValue → Type 0
-IsKnown d = ∥ ((text : List ℕ) × ((i : ℕ) → slice_index text i < 256) × (length text ≤ 4096) × IsFaultless text × Describes (all_items text) d) ∥₁

@@ -3,12 +3,13 @@
 ghost use Rattle.std.specs.Prelude.{◌≡◌, ◌-◌, ◌==◌, List, length, slice_index, ◌≤◌, take, drop, if◌then◌else◌};
 ghost use Rattle.descriptor_parse.specs.Descriptor.{report_len, ranges_at, usage_list, usage_at};
 ghost use Rattle.descriptor_parse.specs.Counts.{AreCounts};
-ghost use Rattle.descriptor_parse.specs.CountsStand.{StandTogether};
-ghost use Rattle.descriptor_parse.specs.DescriptorView.{value_of};
-ghost use Rattle.descriptor_parse.specs.WellFormed.{IsWellFormed, IsKnown};
+ghost use Rattle.descriptor_parse.specs.ties.CountsStand.{StandTogether};
+ghost use Rattle.descriptor_parse.specs.ties.DescriptorView.{value_of};
+ghost use Rattle.descriptor_parse.specs.WellFormed.{IsWellFormed};
+ghost use Rattle.descriptor_parse.specs.ties.WellFormed.{IsKnown};
 ghost use Rattle.descriptor_parse.specs.Readers.{fields_of};
-ghost use Rattle.descriptor_parse.specs.Linked.{AreLinked, HasFirst, ends_of};
-ghost use Rattle.descriptor_parse.specs.ReportsStand.{CanLink};
+ghost use Rattle.descriptor_parse.specs.ties.Linked.{AreLinked, HasFirst, ends_of};
+ghost use Rattle.descriptor_parse.specs.ties.ReportsStand.{CanLink};
 
 use crate::counts::place_usage;
 use crate::field::{Field, Kind};
@@ -27,10 +28,10 @@ pub struct Descriptor {
 
 impl Model for Descriptor {
     ghost use Rattle.descriptor_parse.specs.Descriptor.{DescriptorValue};
-    ghost use Rattle.descriptor_parse.specs.DescriptorView.{value_of};
-    ghost use Rattle.descriptor_parse.specs.WellFormed.{IsKnown};
-    ghost use Rattle.descriptor_parse.specs.CountsStand.{StandTogether};
-    ghost use Rattle.descriptor_parse.specs.Linked.{AreLinked, HasFirst, ends_of};
+    ghost use Rattle.descriptor_parse.specs.ties.DescriptorView.{value_of};
+    ghost use Rattle.descriptor_parse.specs.ties.WellFormed.{IsKnown};
+    ghost use Rattle.descriptor_parse.specs.ties.CountsStand.{StandTogether};
+    ghost use Rattle.descriptor_parse.specs.ties.Linked.{AreLinked, HasFirst, ends_of};
 
     ghost Value = { DescriptorValue };
 

@@ -4,8 +4,8 @@ ghost use Rattle.std.specs.Prelude.{◌≡◌, ◌≢◌, ◌≤◌, ◌<◌, �
 ghost use Rattle.descriptor_parse.specs.Items.{ItemValue};
 ghost use Rattle.descriptor_parse.specs.Tags.{tag_of};
 ghost use Rattle.descriptor_parse.specs.Locals.{usage_number};
-ghost use Rattle.descriptor_parse.specs.LocalsStand.{LocalsStand, usage_of, usage_on, range_on, raw_of, are_alike, fault_of_pair, fault_of_local, adds_range, TakesHalf};
-ghost use Rattle.descriptor_parse.specs.CountsStand.{count_with, wrapped_counts};
+ghost use Rattle.descriptor_parse.specs.ties.LocalsStand.{LocalsStand, usage_of, usage_on, range_on, raw_of, are_alike, fault_of_pair, fault_of_local, adds_range, TakesHalf};
+ghost use Rattle.descriptor_parse.specs.ties.CountsStand.{count_with, wrapped_counts};
 ghost use Rattle.descriptor_parse.specs.declared.tag.Tag.{Tag};
 ghost use Rattle.descriptor_parse.specs.declared.tag.LocalTag.{LocalTag};
 

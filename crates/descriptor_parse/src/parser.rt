@@ -1,7 +1,8 @@
 //! The parser of a text that comes in pieces.
 
 ghost use Rattle.std.specs.Prelude.{◌≡◌, ℕ, List, [], ◌++◌, Err, IfErr, OnOk};
-ghost use Rattle.descriptor_parse.specs.Fed.{WasFed, RefusesAll};
+ghost use Rattle.descriptor_parse.specs.Fed.{RefusesAll};
+ghost use Rattle.descriptor_parse.specs.ties.Fed.{WasFed};
 
 use crate::descriptor::Descriptor;
 use crate::fault::ParseError;
@@ -23,7 +24,7 @@ pub struct Parser {
 
 impl Parser {
     ghost use Rattle.descriptor_parse.specs.Parse.{Answers, MayGoOn};
-    ghost use Rattle.descriptor_parse.specs.StandsFor.{StandsFor, HasRefused};
+    ghost use Rattle.descriptor_parse.specs.ties.StandsFor.{StandsFor, HasRefused};
 
     /// A parser that was fed nothing; it takes no memory yet.
     pub fn new(alloc: Global) -> Parser

@@ -3,10 +3,10 @@
 ghost use Rattle.std.specs.Prelude.{◌≡◌, ◌≤◌, [], ◌∷◌, MatchOption, length, take, drop};
 ghost use Rattle.std.specs.Iterator.{YieldsFirst, YieldsFirstBy, item_count};
 ghost use Rattle.descriptor_parse.specs.Descriptor.{usage_list};
-ghost use Rattle.descriptor_parse.specs.CountsStand.{StandTogether};
+ghost use Rattle.descriptor_parse.specs.ties.CountsStand.{StandTogether};
 ghost use Rattle.descriptor_parse.specs.FieldView.{field_view};
-ghost use Rattle.descriptor_parse.specs.FieldsLeft.{fields_left, IsNext};
-ghost use Rattle.descriptor_parse.specs.Linked.{AreLinked, ends_of};
+ghost use Rattle.descriptor_parse.specs.ties.FieldsLeft.{fields_left, IsNext};
+ghost use Rattle.descriptor_parse.specs.ties.Linked.{AreLinked, ends_of};
 
 use crate::descriptor::start_of;
 use crate::field::{Field, Kind};
@@ -32,9 +32,9 @@ pub struct ReportFields<'a> {
 impl<'a> Model for ReportFields<'a> {
     ghost use Rattle.std.specs.Prelude.{ℕ, List};
     ghost use Rattle.descriptor_parse.specs.declared.field.Field.{Field};
-    ghost use Rattle.descriptor_parse.specs.FieldsLeft.{fields_left, IsNext};
-    ghost use Rattle.descriptor_parse.specs.CountsStand.{StandTogether};
-    ghost use Rattle.descriptor_parse.specs.Linked.{AreLinked, ends_of};
+    ghost use Rattle.descriptor_parse.specs.ties.FieldsLeft.{fields_left, IsNext};
+    ghost use Rattle.descriptor_parse.specs.ties.CountsStand.{StandTogether};
+    ghost use Rattle.descriptor_parse.specs.ties.Linked.{AreLinked, ends_of};
 
     ghost Value = { List (Field × List (ℕ × ℕ)) };
 

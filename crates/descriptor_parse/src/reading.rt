@@ -3,7 +3,8 @@
 ghost use Rattle.std.specs.Prelude.{◌≡◌, ◌≢◌, ◌+◌, ◌-◌, ◌≤◌, ◌<◌, ℕ, List, [], ◌++◌, length, drop, MatchBool, OnOk, IfOk, IfErr};
 ghost use Rattle.descriptor_parse.specs.Items.{item_size, front_item};
 ghost use Rattle.descriptor_parse.specs.ItemViews.{item_view};
-ghost use Rattle.descriptor_parse.specs.Fed.{AreBytes, IsAt, IsFront, RefusesAll};
+ghost use Rattle.descriptor_parse.specs.Fed.{RefusesAll};
+ghost use Rattle.descriptor_parse.specs.ties.Fed.{AreBytes, IsAt, IsFront};
 
 use crate::descriptor::Descriptor;
 use crate::fault::{ParseError, ParseFault};
@@ -28,7 +29,7 @@ pub(crate) struct Reading {
 }
 
 impl Reading {
-    ghost use Rattle.descriptor_parse.specs.Fed.{IsReading};
+    ghost use Rattle.descriptor_parse.specs.ties.Fed.{IsReading};
 
     pub(crate) fn new(alloc: Global) -> Reading
         ensures { IsReading [] result }
@@ -80,7 +81,7 @@ impl Reading {
 }
 
 impl Reading {
-    ghost use Rattle.descriptor_parse.specs.Fed.{IsReading};
+    ghost use Rattle.descriptor_parse.specs.ties.Fed.{IsReading};
     ghost use Rattle.descriptor_parse.specs.Parse.{Answers};
 
     /// Ends the text: its descriptor, or that it ends too early.

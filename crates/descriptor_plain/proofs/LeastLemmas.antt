@@ -9,7 +9,8 @@ use Rattle.descriptor_parse.specs.Fault.{number_of}
 use Rattle.descriptor_parse.specs.Items.{ItemValue, items_at}
 use Rattle.descriptor_parse.specs.Faults.{shows, fault_at, onto, all_items, IsFaultAmong, IsFaultAtEnd, HasFault, IsFaultless, IsFirstFault}
 use Rattle.descriptor_parse.proofs.FaultLemmas.{clean, least_shown, shown_fault}
-use Rattle.descriptor_plain.specs.Least.{error_in, error_at, comes_first, lesser, IsShown, IsOpenAt, IsLongAt, IsBefore, IsLeast}
+use Rattle.descriptor_plain.specs.Least.{error_in}
+use Rattle.descriptor_plain.specs.ties.Least.{error_at, comes_first, lesser, IsShown, IsOpenAt, IsLongAt, IsBefore, IsLeast}
 
 later : (a b : ParseError) (fault : ParseFault) (at : ℕ) → IsBefore a b.fault b.offset → IsBefore b fault at → IsBefore a fault at
 later a b fault at p q =

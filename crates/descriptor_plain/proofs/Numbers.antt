@@ -2,7 +2,7 @@
 use Rattle.std.proofs.Common.{◌≡◌, ◌≢◌, ℕ, zero, suc, ◌+◌, ◌*◌, ◌^◌, ◌<◌, ◌≤◌, true, arith}
 use Rattle.descriptor_parse.specs.Tags.{tag_of}
 use Rattle.descriptor_parse.specs.Locals.{is_half}
-use Rattle.descriptor_plain.specs.Known.{is_known}
+use Rattle.descriptor_plain.specs.ties.Known.{is_known}
 
 -- a byte more
 pub byte_more : (n more : ℕ) → n ≤ 3 → more < 256 ^ n → 256 * more + 255 < 256 ^ (n + 1)

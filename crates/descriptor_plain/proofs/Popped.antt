@@ -10,8 +10,8 @@ use Rattle.descriptor_parse.specs.declared.tag.GlobalTag.TheVariants.{UsagePage,
 use Rattle.descriptor_parse.specs.Items.{ItemValue}
 use Rattle.descriptor_parse.specs.Tags.{tag, is_push, is_pop}
 use Rattle.descriptor_parse.specs.Globals.{before_push, in_force, latest, pushes}
-use Rattle.descriptor_plain.specs.Known.{is_known}
-use Rattle.descriptor_plain.specs.Waiting.{is_global, popped, waiting, is_kept, left_after, any_push}
+use Rattle.descriptor_plain.specs.ties.Known.{is_known}
+use Rattle.descriptor_plain.specs.ties.Waiting.{is_global, popped, waiting, is_kept, left_after, any_push}
 
 pub without_none : (pops : ℕ) → popped pops (in_force []) ≡ []
 unfolding in_force before_push

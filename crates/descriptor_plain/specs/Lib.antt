@@ -1,4 +1,3 @@
 pub mod Views
-pub mod Known
-pub mod Waiting
 pub mod Least
+pub mod ties

@@ -3,7 +3,7 @@
 ghost use Rattle.std.specs.Prelude.{◌≡◌, ◌<◌, IfOk, MatchOption, find, List, ℕ, length};
 ghost use Rattle.descriptor_parse.specs.Faults.{shows, fault_at, IsFaultless, IsFirstFault, all_items};
 ghost use Rattle.descriptor_plain.specs.Views.{item_of, items_of};
-ghost use Rattle.descriptor_plain.specs.Least.{lesser, comes_first, error_at, IsShown, IsOpenAt, IsLongAt, IsLeast};
+ghost use Rattle.descriptor_plain.specs.ties.Least.{lesser, comes_first, error_at, IsShown, IsOpenAt, IsLongAt, IsLeast};
 
 use crate::faults::shows;
 use crate::item::Plain;

@@ -4,7 +4,7 @@ ghost use Rattle.std.specs.Prelude.{◌≡◌, ◌+◌, ◌≤◌, ◌<◌, ◌^
 ghost use Rattle.descriptor_parse.specs.declared.tag.Tag.{Tag};
 ghost use Rattle.descriptor_parse.specs.declared.tag.GlobalTag.{GlobalTag};
 ghost use Rattle.descriptor_parse.specs.Globals.{latest, in_force, usage_page, report_size, report_count, report_id, logical_minimum, logical_maximum, pushes};
-ghost use Rattle.descriptor_plain.specs.Waiting.{is_global, popped, any_push};
+ghost use Rattle.descriptor_plain.specs.ties.Waiting.{is_global, popped, any_push};
 ghost use Rattle.descriptor_plain.specs.Views.{items_of};
 
 use crate::item::Plain;

@@ -4,7 +4,7 @@ ghost use Rattle.std.specs.Prelude.{◌≡◌, ◌≤◌, ◌<◌, ◌^◌, ◌%
 ghost use Rattle.descriptor_parse.specs.Tags.{tag};
 ghost use Rattle.descriptor_parse.specs.Globals.{unsigned, signed};
 ghost use Rattle.descriptor_plain.specs.Views.{item_of};
-ghost use Rattle.descriptor_plain.specs.Known.{is_known};
+ghost use Rattle.descriptor_plain.specs.ties.Known.{is_known};
 
 use crate::item::Plain;
 

@@ -4,7 +4,7 @@ ghost use Rattle.std.specs.Prelude.{◌≡◌, ◌+◌, ◌<◌, ◌^◌, ◌||�
 ghost use Rattle.descriptor_parse.specs.Tags.{tag_of, is_data, is_data_of, same_kind, is_main, is_collection, is_end_collection, is_delimiter};
 ghost use Rattle.descriptor_parse.specs.Fields.{kind_of};
 ghost use Rattle.descriptor_parse.specs.Locals.{is_half, is_minimum};
-ghost use Rattle.descriptor_plain.specs.Waiting.{is_global, waiting, is_kept, left_after};
+ghost use Rattle.descriptor_plain.specs.ties.Waiting.{is_global, waiting, is_kept, left_after};
 
 use descriptor_parse::{GlobalTag, Kind, LocalTag, MainTag, Tag};
 

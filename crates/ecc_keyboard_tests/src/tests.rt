@@ -5,9 +5,3 @@ mod cells;
 mod choices;
 mod rig;
 mod sessions;
-
-/// The next number of a fixed sequence.
-fn next(state: &mut u32) -> u32 {
-    *state = row_text::next(*state);
-    *state >> 8
-}

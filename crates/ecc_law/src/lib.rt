@@ -17,8 +17,8 @@ ghost use Rattle.keyboard.specs.Acknowledged.{IsAcknowledgedInSession};
 ghost use Rattle.keyboard.specs.Calls.{Call, Worked, image_after, keymap};
 ghost use Rattle.keyboard.specs.Lawful.{IsAnswered};
 ghost use Rattle.keyboard.specs.Restart.{RestartsLegally, CutsLegally};
-ghost use Rattle.keyboard.specs.Stands.{StandsFor};
-ghost use Rattle.keyboard.specs.Value.{RunsOn};
+ghost use Rattle.keyboard.specs.ties.Stands.{StandsFor};
+ghost use Rattle.keyboard.specs.ties.Value.{RunsOn};
 ghost use Rattle.keymap_store.specs.declared.store.Work.{Work};
 
 use ecc_flash::{CutFlash, EccFlash, PairedFlash};

@@ -1,4 +1,5 @@
 -- Believed: a flash whose units read as they are told to.
+use Rattle.shapes.specs.Shapes.{Bytes}
 use Rattle.std.specs.Prelude.{◌≡◌, ◌<◌, ◌+◌, ◌*◌, ◌%◌, ◌^◌, ℕ, Option, None, Some, List, ◌==◌, nat_lt, if◌then◌else◌, slice_index, slice_index_or, bit_and, bit_or}
 use Rattle.std.specs.Int.{bit_not, w8}
 use Rattle.ecc_flash.specs.Units.{IsEight}
@@ -31,7 +32,7 @@ abbrev pub bits_of : ℕ → ℕ → ℕ → ℕ → ℕ → ℕ
 bits_of meant more k byte bit = if k == byte then bit_and (bit_or meant more) (bit_not w8 (2 ^ (bit % 8))) else bit_or meant more
 
 -- an outcome by which a unit that is meant to be some bytes reads so
-abbrev pub Gives : Outcome → List ℕ → Option (List ℕ) → Type 0
+abbrev pub Gives : Outcome → Bytes → Option Bytes → Type 0
 Gives Error meant None = Unit {0}
 Gives (Bits more byte bit) meant (Some read) = IsEight read × ((k : ℕ) → k < 8 → slice_index read k ≡ bits_of (slice_index meant k) (slice_index more k) k byte bit)
 Gives _ meant reads = ⊥

@@ -1,4 +1,5 @@
 -- Believed: what is known of a simulated flash with error correction.
+use Rattle.shapes.specs.Shapes.{Bytes}
 use Rattle.std.specs.Prelude.{◌≡◌, ◌+◌, ◌*◌, ◌-◌, ◌<◌, ℕ, Bool, false, ◌&&◌, ◌||◌, not, ◌==◌, nat_lt, if◌then◌else◌, Option, None, Some, List, map, slice_index_or}
 use Rattle.std.specs.List.{range_with_len}
 use Rattle.flash_model.specs.ByMask.{mask_byte}
@@ -10,7 +11,7 @@ use Rattle.ecc_sim.specs.declared.unit.CellUnit.{CellUnit}
 -- power; whether faults are told; whether there is power
 pub record SimEccValue : Type 0 where
   pub units : List CellUnit
-  pub armed : Option (List ℕ)
+  pub armed : Option Bytes
   pub whole : ℕ
   pub cuts : Bool
   pub tells : Bool
@@ -24,17 +25,17 @@ abbrev pub unit_at : List CellUnit → ℕ → ℕ → WriteUnit
 unit_at units page unit = write_unit (held_at units page unit)
 
 -- whether the next operation is torn
-abbrev pub is_torn : Option (List ℕ) → ℕ → Bool
+abbrev pub is_torn : Option Bytes → ℕ → Bool
 is_torn None whole = false
 is_torn (Some mask) whole = whole == 0
 
 -- which cells of its byte i take effect
-abbrev pub effect_at : Option (List ℕ) → ℕ → ℕ → ℕ
+abbrev pub effect_at : Option Bytes → ℕ → ℕ → ℕ
 effect_at None whole i = 255
 effect_at (Some mask) whole i = if whole == 0 then mask_byte mask i else 255
 
 -- of the nine bytes of a unit that begin at one
-abbrev pub unit_mask : Option (List ℕ) → ℕ → ℕ → List ℕ
+abbrev pub unit_mask : Option Bytes → ℕ → ℕ → Bytes
 unit_mask armed whole at = map (λ k. effect_at armed whole (at + k)) (range_with_len 0 9)
 
 -- an operation has ended
@@ -50,6 +51,6 @@ abbrev pub is_fault : SimEccValue → Bool → Bool
 is_fault f refused = not f.on || (is_torn f.armed f.whole && f.cuts) || (f.tells && (is_torn f.armed f.whole || refused))
 
 -- the units of a page are erased, as far as the masks of each let it, and no other is touched
-pub record IsErasedByMask (old : List CellUnit) (page : ℕ) (armed : Option (List ℕ)) (whole : ℕ) (new : List CellUnit) : Type 0 where
+pub record IsErasedByMask (old : List CellUnit) (page : ℕ) (armed : Option Bytes) (whole : ℕ) (new : List CellUnit) : Type 0 where
   pub units : (u : ℕ) → u < 1024 → ErasesByMask (held_at old page u) (unit_mask armed whole (9 * u)) (held_at new page u)
   pub others : (p u : ℕ) → (p ≡ page → ⊥) → held_at new p u ≡ held_at old p u

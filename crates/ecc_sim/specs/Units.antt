@@ -1,5 +1,6 @@
 -- Believed: a write unit of cells, and what an operation makes of it, as far as a mask lets it.
-use Rattle.std.specs.Prelude.{◌≡◌, ◌<◌, ℕ, Some, false, List, replicate, slice_index, bit_and, bit_or}
+use Rattle.shapes.specs.Shapes.{Bytes}
+use Rattle.std.specs.Prelude.{◌≡◌, ◌<◌, ℕ, Some, false, replicate, slice_index, bit_and, bit_or}
 use Rattle.std.specs.Int.{bit_not, w8}
 use Rattle.ecc_flash.specs.Reading.{blank}
 use Rattle.ecc_flash.specs.Model.{WriteUnit}
@@ -20,17 +21,17 @@ abbrev pub IsHeld : CellUnit → Type 0
 IsHeld unit = HasCells check_cells (write_unit unit) unit.cells
 
 -- every cell takes effect
-abbrev pub IsWhole : List ℕ → Type 0
+abbrev pub IsWhole : Bytes → Type 0
 IsWhole mask = (k : ℕ) → k < 9 → slice_index mask k ≡ 255
 
 -- a program: the cells that the mask has are cleared where the code word of the bytes has them clear
-pub record ProgramsByMask (old : CellUnit) (bytes mask : List ℕ) (new : CellUnit) : Type 0 where
+pub record ProgramsByMask (old : CellUnit) (bytes mask : Bytes) (new : CellUnit) : Type 0 where
   pub cells : (k : ℕ) → k < 9 → slice_index new.cells k ≡ bit_and (slice_index old.cells k) (bit_or (slice_index (code_word check_cells bytes) k) (bit_not w8 (slice_index mask k)))
   pub meant : new.meant ≡ bytes
   pub refuses : new.refuses ≡ old.refuses
 
 -- an erase: the cells that the mask has are set
-pub record ErasesByMask (old : CellUnit) (mask : List ℕ) (new : CellUnit) : Type 0 where
+pub record ErasesByMask (old : CellUnit) (mask : Bytes) (new : CellUnit) : Type 0 where
   pub cells : (k : ℕ) → k < 9 → slice_index new.cells k ≡ bit_or (slice_index old.cells k) (slice_index mask k)
   pub meant : new.meant ≡ old.meant
   pub refuses : new.refuses ≡ old.refuses

@@ -35,8 +35,8 @@ pub(crate) struct Follower {
 }
 
 impl Model for Follower {
-    ghost use Rattle.keyboard.specs.Value.{RunsOn};
-    ghost use Rattle.explanations.specs.Value.{FollowerValue};
+    ghost use Rattle.keyboard.specs.ties.Value.{RunsOn};
+    ghost use Rattle.explanations.specs.ties.Value.{FollowerValue};
 
     ghost Value = { FollowerValue };
 
@@ -46,7 +46,7 @@ impl Model for Follower {
 }
 
 impl Follower {
-    ghost use Rattle.keyboard.specs.Stands.{StandsFor};
+    ghost use Rattle.keyboard.specs.ties.Stands.{StandsFor};
 
     /// A keyboard as it starts on a flash with these bytes. `AllocError` where there was no memory for them, or for the
     /// keyboard.

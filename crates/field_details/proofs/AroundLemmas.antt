@@ -13,7 +13,8 @@ use Rattle.field_details.specs.declared.collection.Collection.{Collection as Gro
 use Rattle.field_details.specs.declared.detail.Detail.{Detail}
 use Rattle.field_details.specs.Collections.{open_now, collections, collection_count, without_last, innermost, declared_collection}
 use Rattle.field_details.specs.Details.{has_place, details, declared_detail}
-use Rattle.field_details.specs.Around.{all_around, around, inside_in, less_than, outer_in, height}
+use Rattle.field_details.specs.Around.{all_around, around, inside_in, less_than}
+use Rattle.field_details.specs.ties.Around.{outer_in, height}
 use Rattle.field_details.proofs.WalkLemmas.{count_is, open_more, open_fewer, open_same, collections_more, collections_same}
 
 -- ---- lists

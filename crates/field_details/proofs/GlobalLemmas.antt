@@ -13,7 +13,7 @@ use Rattle.descriptor_parse.specs.Globals.{before_push, in_force, pushes}
 use Rattle.descriptor_parse.proofs.GlobalLemmas.{in_force_pop, in_force_more, same_last}
 use Rattle.field_details.specs.declared.globals.GlobalStack.{GlobalStack}
 use Rattle.field_details.specs.Extents.{is_with}
-use Rattle.field_details.specs.Stands.{globals_with, globals_by, globals_of, saved_of, GlobalsStand}
+use Rattle.field_details.specs.ties.Stands.{globals_with, globals_by, globals_of, saved_of, GlobalsStand}
 
 -- ---- the prefixes that the parser of fields skips
 

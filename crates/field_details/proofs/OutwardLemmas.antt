@@ -7,8 +7,9 @@ use Rattle.descriptor_parse.specs.Items.{ItemValue}
 use Rattle.field_details.specs.declared.collection.Collection.{Collection as Group}
 use Rattle.field_details.specs.Collections.{collections}
 use Rattle.field_details.specs.Details.{details}
-use Rattle.field_details.specs.Around.{around, application, is_application, inside_in, outer_in, height}
-use Rattle.field_details.specs.Asked.{outwards, all_outwards, application_in}
+use Rattle.field_details.specs.Around.{around, application, is_application, inside_in}
+use Rattle.field_details.specs.ties.Around.{outer_in, height}
+use Rattle.field_details.specs.ties.Asked.{outwards, all_outwards, application_in}
 use Rattle.field_details.proofs.AroundLemmas.{IsChain, chain_around, lower}
 
 -- room for more of them changes nothing

@@ -14,10 +14,10 @@ use Rattle.descriptor_parse.specs.Globals.{report_size, report_count, report_id}
 use Rattle.descriptor_parse.specs.Fields.{report_bits, takes_bit}
 use Rattle.field_details.specs.declared.detail.Detail.{Detail}
 use Rattle.field_details.specs.Details.{declared_detail, details}
-use Rattle.field_details.specs.Stands.{end_of, end_of_some, end_in}
+use Rattle.field_details.specs.ties.Stands.{end_of, end_of_some, end_in}
 use Rattle.field_details.specs.declared.report.ReportFacts.{ReportFacts}
 use Rattle.field_details.specs.Reports.{is_of_report, facts}
-use Rattle.field_details.specs.Asked.{facts_in}
+use Rattle.field_details.specs.ties.Asked.{facts_in}
 
 -- one more at the end
 pub end_in_more : (kind : Kind) (id : ℕ) (told : List Detail) (last : Detail)

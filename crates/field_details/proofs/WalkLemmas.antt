@@ -18,14 +18,14 @@ use Rattle.descriptor_parse.specs.Globals.{unsigned, in_force}
 use Rattle.descriptor_parse.specs.Locals.{has_page, since_main, usage_number}
 use Rattle.descriptor_parse.specs.Fields.{takes_bit, report_bits}
 use Rattle.descriptor_parse.specs.Faults.{onto, all_items}
-use Rattle.field_details.specs.Asked.{AreShort}
+use Rattle.field_details.specs.ties.Asked.{AreShort}
 use Rattle.field_details.specs.declared.usage.Usage.{Usage as Written}
 use Rattle.field_details.specs.declared.usage.Usage.TheVariants.{Short, Whole}
 use Rattle.field_details.specs.declared.walk.Walk.{Walk}
 use Rattle.field_details.specs.declared.globals.Globals.{Globals}
 use Rattle.field_details.specs.Collections.{is_usage, first_usage, open_now, collections, collection_count, without_last, innermost, declared_collection}
 use Rattle.field_details.specs.Details.{details, declared_detail}
-use Rattle.field_details.specs.Stands.{WalkStands, GlobalsStand, usage_of, usage_on, globals_of, detail_by}
+use Rattle.field_details.specs.ties.Stands.{WalkStands, GlobalsStand, usage_of, usage_on, globals_of, detail_by}
 use Rattle.field_details.proofs.GlobalLemmas.{stand_silent, is_silent}
 use Rattle.field_details.proofs.ReportLemmas.{details_other}
 

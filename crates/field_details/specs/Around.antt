@@ -1,4 +1,4 @@
--- Believed: the collections around a data item, and the application that it belongs to. From outer_in on only ties code.
+-- Believed: the collections around a data item, and the application that it belongs to.
 use Rattle.std.specs.Prelude.{◌≡◌, ℕ, ◌+◌, ◌==◌, if◌then◌else◌, nat_lt, Bool, false, List, [], ◌∷◌, ◌++◌, reverse, find, slice_get, Option, Some, None, option_map, option_and_then, unwrap_or}
 use Rattle.descriptor_parse.specs.Items.{ItemValue}
 use Rattle.field_details.specs.declared.collection.Collection.{Collection}
@@ -37,11 +37,3 @@ inside_in told place = option_and_then (λ d. d.inside) (slice_get told place)
 -- the number right around one, where that is less
 abbrev pub less_than : ℕ → ℕ → Option ℕ
 less_than number outer = if nat_lt outer number then Some outer else None
-
-abbrev pub outer_in : List Collection → ℕ → Option ℕ
-outer_in groups number = option_and_then (less_than number) (option_and_then (λ c. c.outer) (slice_get groups number))
-
--- a number and one more, 0 for none: it falls from one to the next
-abbrev pub height : Option ℕ → ℕ
-height None = 0
-height (Some number) = number + 1

@@ -1,4 +1,5 @@
 -- Believed: the Global items that the parser of fields skips: physical extents, unit and unit exponent.
+use Rattle.shapes.specs.Shapes.{Bytes}
 use Rattle.std.specs.Prelude.{ℕ, ◌-◌, ◌%◌, ◌==◌, if◌then◌else◌, nat_lt, Bool, List, [], ◌∷◌, ℤ, pos, ◌-ℤ◌, int_lt}
 use Rattle.descriptor_parse.specs.Items.{ItemValue}
 use Rattle.descriptor_parse.specs.Globals.{unsigned, signed, in_force}
@@ -30,7 +31,7 @@ signed_digit digit = if nat_lt digit 8 then pos digit else pos digit -ℤ pos 16
 
 -- A power of ten is such a digit, 0 to Fh (6.2.2.7); other data, which the standard doesn't know, are the number that they
 -- make in two's complement.
-unfoldable pub power_of : List ℕ → ℤ
+unfoldable pub power_of : Bytes → ℤ
 power_of bytes = if nat_lt (unsigned bytes) 16 then signed_digit (unsigned bytes) else signed bytes
 
 abbrev pub unit_exponent : List ItemValue → ℤ

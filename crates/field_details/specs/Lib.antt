@@ -3,9 +3,8 @@ pub mod Extents
 pub mod Units
 pub mod Collections
 pub mod Details
-pub mod Stands
 pub mod AsFields
 pub mod Around
 pub mod Reports
 pub mod Names
-pub mod Asked
+pub mod ties

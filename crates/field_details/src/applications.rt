@@ -2,7 +2,7 @@
 
 ghost use Rattle.std.specs.Prelude.{◌≡◌, ◌<◌, ◌+◌, [], ◌∷◌, MatchOption, length};
 ghost use Rattle.std.specs.Iterator.{YieldsFirstBy, item_count};
-ghost use Rattle.field_details.specs.Asked.{left, belongs, group_view};
+ghost use Rattle.field_details.specs.ties.Asked.{left, belongs, group_view};
 
 use crate::collection::Collection;
 use crate::detail::Detail;
@@ -24,7 +24,7 @@ pub struct Applications<'a> {
 impl<'a> Model for Applications<'a> {
     ghost use Rattle.std.specs.Prelude.{ℕ, List};
     ghost use Rattle.field_details.specs.declared.collection.Collection.{Collection};
-    ghost use Rattle.field_details.specs.Asked.{left, belongs};
+    ghost use Rattle.field_details.specs.ties.Asked.{left, belongs};
 
     ghost Value = { List (ℕ × Collection) };
 

@@ -2,8 +2,9 @@
 
 ghost use Rattle.std.specs.Prelude.{◌≡◌, ◌≤◌, [], ◌∷◌, MatchOption, length, reverse, take, slice_get, option_and_then};
 ghost use Rattle.std.specs.Iterator.{YieldsFirst, item_count};
-ghost use Rattle.field_details.specs.Around.{is_application, less_than, inside_in, outer_in};
-ghost use Rattle.field_details.specs.Asked.{all_outwards, application_in};
+ghost use Rattle.field_details.specs.Around.{is_application, less_than, inside_in};
+ghost use Rattle.field_details.specs.ties.Around.{outer_in};
+ghost use Rattle.field_details.specs.ties.Asked.{all_outwards, application_in};
 
 use crate::collection::Collection;
 use crate::detail::Detail;
@@ -105,7 +106,7 @@ pub struct Around<'a> {
 
 impl<'a> Model for Around<'a> {
     ghost use Rattle.std.specs.Prelude.{ℕ, List, ◌≤◌, length, reverse, take};
-    ghost use Rattle.field_details.specs.Asked.{all_outwards};
+    ghost use Rattle.field_details.specs.ties.Asked.{all_outwards};
 
     ghost Value = { List ℕ };
 

@@ -6,7 +6,7 @@ ghost use Rattle.descriptor_parse.specs.Tags.{tag_of};
 ghost use Rattle.descriptor_parse.specs.declared.tag.Tag.{Tag};
 ghost use Rattle.descriptor_parse.specs.declared.tag.GlobalTag.{GlobalTag};
 ghost use Rattle.field_details.specs.Extents.{signed_digit, power_of};
-ghost use Rattle.field_details.specs.Stands.{GlobalsStand, detail_by, fills, max_under, maximum_of, globals_with, globals_by};
+ghost use Rattle.field_details.specs.ties.Stands.{GlobalsStand, detail_by, fills, max_under, maximum_of, globals_with, globals_by};
 
 use crate::detail::Detail;
 use crate::unit::signed_digit;

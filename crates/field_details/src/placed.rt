@@ -4,7 +4,7 @@ ghost use Rattle.std.specs.Prelude.{◌≡◌, ◌<◌, ◌≤◌, ◌+◌, [], 
 ghost use Rattle.std.specs.List.{list_any};
 ghost use Rattle.std.specs.Iterator.{YieldsFirstBy, item_count};
 ghost use Rattle.field_details.specs.Reports.{is_of_report, is_inside, has_inside};
-ghost use Rattle.field_details.specs.Asked.{application_in, placed_view, left, passes};
+ghost use Rattle.field_details.specs.ties.Asked.{application_in, placed_view, left, passes};
 
 use crate::around::application_of;
 use crate::collection::Collection;
@@ -50,7 +50,7 @@ pub struct PlacedFields<'a> {
 impl<'a> Model for PlacedFields<'a> {
     ghost use Rattle.std.specs.Prelude.{ℕ, List};
     ghost use Rattle.field_details.specs.declared.detail.Detail.{Detail};
-    ghost use Rattle.field_details.specs.Asked.{left, passes};
+    ghost use Rattle.field_details.specs.ties.Asked.{left, passes};
 
     ghost Value = { List (ℕ × Detail) };
 

@@ -3,9 +3,9 @@
 ghost use Rattle.std.specs.Prelude.{◌≡◌, ◌≤◌, ◌<◌, ◌+◌, ◌*◌, [], ◌∷◌, MatchOption, map};
 ghost use Rattle.std.specs.Iterator.{YieldsFirst, item_count};
 ghost use Rattle.descriptor_parse.specs.Tags.{same_kind};
-ghost use Rattle.field_details.specs.Stands.{end_in};
+ghost use Rattle.field_details.specs.ties.Stands.{end_in};
 ghost use Rattle.field_details.specs.Reports.{is_of_report, report_named};
-ghost use Rattle.field_details.specs.Asked.{left, passes, facts_in};
+ghost use Rattle.field_details.specs.ties.Asked.{left, passes, facts_in};
 ghost use Rattle.field_details.specs.declared.placed.Question.{Question};
 
 use crate::collection::Collection;
@@ -49,7 +49,7 @@ pub struct Reports<'a> {
 impl<'a> Model for Reports<'a> {
     ghost use Rattle.std.specs.Prelude.{List, map};
     ghost use Rattle.field_details.specs.declared.report.ReportFacts.{ReportFacts};
-    ghost use Rattle.field_details.specs.Asked.{facts_in};
+    ghost use Rattle.field_details.specs.ties.Asked.{facts_in};
 
     ghost Value = { List ReportFacts };
 

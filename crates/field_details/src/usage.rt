@@ -1,7 +1,7 @@
 //! A usage as it is written.
 
 ghost use Rattle.std.specs.Prelude.{◌≡◌, ◌≢◌, ◌≤◌, length};
-ghost use Rattle.field_details.specs.Stands.{usage_of, usage_on};
+ghost use Rattle.field_details.specs.ties.Stands.{usage_of, usage_on};
 
 use descriptor_parse::number::unsigned;
 

@@ -11,7 +11,7 @@ ghost use Rattle.descriptor_parse.specs.declared.tag.Tag.{Tag};
 ghost use Rattle.descriptor_parse.specs.declared.tag.MainTag.{MainTag};
 ghost use Rattle.field_details.specs.Collections.{innermost, declared_collection};
 ghost use Rattle.field_details.specs.Details.{declared_detail, details};
-ghost use Rattle.field_details.specs.Stands.{WalkStands, usage_on};
+ghost use Rattle.field_details.specs.ties.Stands.{WalkStands, usage_on};
 
 use crate::collection::Collection;
 use crate::detail::Detail;

@@ -1,6 +1,6 @@
 mod Writing
-mod NullLemmas
+pub mod NullLemmas
 mod Fractions
-mod Reading
+pub mod Reading
 mod Filling
 mod Listing

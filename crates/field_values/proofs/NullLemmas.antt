@@ -86,17 +86,15 @@ pick a b c x y z d e f = rw (d, e, f) refl
 pick_none : (a b c : Bool) (x y z : ℤ) → a ≡ false → b ≡ false → c ≡ false → None ≡ (if a then Some x else (if b then Some y else (if c then Some z else None)))
 pick_none a b c x y z d e f = rw (d, e, f) refl
 
-pub third_null : (f : Field) (above under : ℤ) → above ≡ f.max +ℤ pos 1 → under ≡ f.min -ℤ pos 1
-    → is_null f (pos 0) ≡ false → is_null f above ≡ false → is_null f under ≡ true → Some under ≡ null_of f
-third_null f above under e g a b c =
-    ap Some g ∙ pick (is_null f (pos 0)) (is_null f (f.max +ℤ pos 1)) (is_null f (f.min -ℤ pos 1)) (pos 0) (f.max +ℤ pos 1) (f.min -ℤ pos 1) a
-    (sym (ap (is_null f) e) ∙ b) (sym (ap (is_null f) g) ∙ c)
+pub third_null : (f : Field) (under : ℤ) → under ≡ f.min -ℤ pos 1
+    → is_null f (pos 0) ≡ false → is_null f (f.max +ℤ pos 1) ≡ false → is_null f (f.min -ℤ pos 1) ≡ true → Some under ≡ null_of f
+third_null f under e a b c =
+    ap Some e ∙ pick (is_null f (pos 0)) (is_null f (f.max +ℤ pos 1)) (is_null f (f.min -ℤ pos 1)) (pos 0) (f.max +ℤ pos 1) (f.min -ℤ pos 1) a b c
 
-pub no_null : (f : Field) (above under : ℤ) → above ≡ f.max +ℤ pos 1 → under ≡ f.min -ℤ pos 1
-    → is_null f (pos 0) ≡ false → is_null f above ≡ false → is_null f under ≡ false → None ≡ null_of f
-no_null f above under e g a b c =
-    pick_none (is_null f (pos 0)) (is_null f (f.max +ℤ pos 1)) (is_null f (f.min -ℤ pos 1)) (pos 0) (f.max +ℤ pos 1) (f.min -ℤ pos 1) a
-    (sym (ap (is_null f) e) ∙ b) (sym (ap (is_null f) g) ∙ c)
+pub no_null : (f : Field)
+    → is_null f (pos 0) ≡ false → is_null f (f.max +ℤ pos 1) ≡ false → is_null f (f.min -ℤ pos 1) ≡ false → None ≡ null_of f
+no_null f a b c =
+    pick_none (is_null f (pos 0)) (is_null f (f.max +ℤ pos 1)) (is_null f (f.min -ℤ pos 1)) (pos 0) (f.max +ℤ pos 1) (f.min -ℤ pos 1) a b c
 
 -- ---- where none of the three says it, none does
 
@@ -133,13 +131,15 @@ is_within_true : (f : Field) (v : ℤ) → is_within f v ≡ true → (f.min ≤
 is_within_true f v e = let (a, b) = both (not (int_lt v f.min)) (not (int_lt f.max v)) e in
     (not_below v f.min (undone (int_lt v f.min) a), not_below f.max v (undone (int_lt f.max v) b))
 
-pub never_null : (f : Field) (above under : ℤ) → above ≡ f.max +ℤ pos 1 → under ≡ f.min -ℤ pos 1
-    → is_null f (pos 0) ≡ false → is_null f above ≡ false → is_null f under ≡ false → (v : ℤ) → is_null f v ≡ false
-never_null f above under e g a b c v = elim (cases_Bool (is_null f v)) [
+pub never_null : (f : Field)
+    → is_null f (pos 0) ≡ false → is_null f (f.max +ℤ pos 1) ≡ false → is_null f (f.min -ℤ pos 1) ≡ false → (v : ℤ) → is_null f v ≡ false
+never_null f a b c v = elim (cases_Bool (is_null f v)) [
   | inr other ↦ other
   | inl said ↦ (
       let (out, held) = both (not (is_within f v)) (is_held f.min f.size v) said in
       let zero = zero_held f.min f.size in
+      let above = f.max +ℤ pos 1 in
+      let under = f.min -ℤ pos 1 in
       let (from, to) = is_within_true f (pos 0) (is_no_null (is_within f (pos 0)) (is_held f.min f.size (pos 0)) a zero) in
       elim (is_outside f v (undone (is_within f v) out)) [
         | inr high ↦ (let m = held_between f.min f.size (pos 0) v above zero held (omega (arith, ints)) (omega (arith, ints)) in

@@ -1,5 +1,6 @@
 -- Believed: which values the bits of a place hold, and which writes into one are refused (HID 1.11, 5.8 and 6.2.2.7).
-use Rattle.std.specs.Prelude.{ℕ, ◌+◌, ◌*◌, ◌^◌, if◌then◌else◌, nat_lt, not, ◌&&◌, Bool, List, length, ℤ, pos, ◌+ℤ◌, ◌-ℤ◌, int_lt, Option, Some, None}
+use Rattle.shapes.specs.Shapes.{Bytes}
+use Rattle.std.specs.Prelude.{ℕ, ◌+◌, ◌*◌, ◌^◌, if◌then◌else◌, nat_lt, not, ◌&&◌, Bool, length, ℤ, pos, ◌+ℤ◌, ◌-ℤ◌, int_lt, Option, Some, None}
 use Rattle.descriptor_parse.specs.declared.field.Field.{Field}
 use Rattle.field_values.specs.declared.place.PlaceError.{PlaceError}
 use Rattle.field_values.specs.declared.place.PlaceError.TheVariants.{NoPlace, Short, TooLarge, OutOfRange}
@@ -15,7 +16,7 @@ abbrev pub place_bit : Field → ℕ → ℕ
 place_bit field place = field.bit + field.size * place
 
 -- the bytes have all bits of a place
-abbrev pub has_bits : Field → List ℕ → ℕ → Bool
+abbrev pub has_bits : Field → Bytes → ℕ → Bool
 has_bits field bytes place = not (nat_lt (8 * length bytes) (place_bit field place + field.size))
 
 -- a value is within the logical extents, which are within themselves
@@ -23,7 +24,7 @@ abbrev pub is_within : Field → ℤ → Bool
 is_within field value = not (int_lt value field.min) && not (int_lt field.max value)
 
 -- why a value is not written into a place, if it is not: the first that holds
-abbrev pub refusal : Field → List ℕ → ℕ → ℤ → Option PlaceError
+abbrev pub refusal : Field → Bytes → ℕ → ℤ → Option PlaceError
 refusal field bytes place value =
     if not (nat_lt place field.count) then Some NoPlace else
     (if not (has_bits field bytes place) then Some Short else

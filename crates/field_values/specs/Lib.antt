@@ -2,6 +2,6 @@ pub mod Places
 pub mod Held
 pub mod Values
 pub mod Nulls
-pub mod Limits
 pub mod Physical
 pub mod Lists
+pub mod ties

@@ -1,5 +1,6 @@
 -- Believed: the values by which a place says that there is none, and which writes of them are refused (HID 1.11, 6.2.2.5).
-use Rattle.std.specs.Prelude.{ℕ, true, false, if◌then◌else◌, nat_lt, not, ◌&&◌, Bool, List, ℤ, pos, ◌+ℤ◌, ◌-ℤ◌, Option, Some, None}
+use Rattle.shapes.specs.Shapes.{Bytes}
+use Rattle.std.specs.Prelude.{ℕ, true, false, if◌then◌else◌, nat_lt, not, ◌&&◌, Bool, ℤ, pos, ◌+ℤ◌, ◌-ℤ◌, Option, Some, None}
 use Rattle.descriptor_parse.specs.declared.field.Field.{Field}
 use Rattle.field_values.specs.declared.place.PlaceError.{PlaceError}
 use Rattle.field_values.specs.declared.place.PlaceError.TheVariants.{NoPlace, Short, NoNull}
@@ -25,13 +26,13 @@ null_if true None = Some NoNull
 null_if true (Some value) = None
 
 -- why a null is not written into a place, if it is not: the first that holds
-abbrev pub null_refusal : Field → Bool → List ℕ → ℕ → Option PlaceError
+abbrev pub null_refusal : Field → Bool → Bytes → ℕ → Option PlaceError
 null_refusal field null_state bytes place =
     if not (nat_lt place field.count) then Some NoPlace else
     (if not (has_bits field bytes place) then Some Short else null_if (null_state && not field.array) (null_of field))
 
 -- why what is asked for is not written, if it is not
-abbrev pub asked_refusal : Field → Bool → List ℕ → ℕ → Asked → Option PlaceError
+abbrev pub asked_refusal : Field → Bool → Bytes → ℕ → Asked → Option PlaceError
 asked_refusal field null_state bytes place (Value value) = refusal field bytes place value
 asked_refusal field null_state bytes place Null = null_refusal field null_state bytes place
 

@@ -1,15 +1,24 @@
 -- Believed: what a value is in its unit (HID 1.11, 6.2.2.7).
-use Rattle.std.specs.Prelude.{◌≡◌, if◌then◌else◌, ℤ, pos, ◌+ℤ◌, ◌-ℤ◌, ◌*ℤ◌, ◌<ℤ◌, int_lt, unsigned_abs, Option, Some, None}
+use Rattle.std.specs.Prelude.{◌≡◌, ◌^◌, nat_lt, not, ◌&&◌, if◌then◌else◌, Bool, ℤ, pos, ◌+ℤ◌, ◌-ℤ◌, ◌*ℤ◌, ◌<ℤ◌, int_lt, unsigned_abs, Option, Some, None}
 use Rattle.std.specs.Int.{IsGcd}
 use Rattle.field_values.specs.declared.physical.Extents.{Extents}
 use Rattle.field_values.specs.declared.physical.NoPhysical.{NoPhysical}
-use Rattle.field_values.specs.declared.physical.NoPhysical.TheVariants.{EqualLimits, InvertedLimits}
+use Rattle.field_values.specs.declared.physical.NoPhysical.TheVariants.{EqualLimits, InvertedLimits, LargeExtents}
 
 -- The logical extents that are not rising span nothing.
 abbrev pub no_span : Extents → Option NoPhysical
 no_span logical =
     if int_lt logical.min logical.max then None else
     (if int_lt logical.max logical.min then Some InvertedLimits else Some EqualLimits)
+
+-- extents that items declare: numbers of 32 bits, signed or not
+abbrev pub are_of_items : Extents → Bool
+are_of_items extents = not (nat_lt (2 ^ 32) (unsigned_abs extents.min)) && not (nat_lt (2 ^ 32) (unsigned_abs extents.max))
+
+-- why a value has no physical one, if it has none: by its logical extents first
+abbrev pub no_physical : Extents → Extents → Option NoPhysical
+no_physical logical physical =
+    if int_lt logical.min logical.max then (if are_of_items physical then None else Some LargeExtents) else no_span logical
 
 -- The standard's resolution is (Logical Maximum - Logical Minimum) / (Physical Maximum - Physical Minimum), so many counts a
 -- unit. A value is (value - Logical Minimum) / resolution units above the Physical Minimum: the fraction

@@ -1,12 +1,11 @@
 //! Nulls: places that say that a control has no value.
 
-ghost use Rattle.std.specs.Prelude.{◌≡◌, ℕ, ℤ, ◌≤◌, length, false, ◌&&◌, not, Some, None, IfOk, IfErr, pos, ◌+ℤ◌, ◌-ℤ◌};
-ghost use Rattle.host_extract.specs.Fits.{FitsReading};
+ghost use Rattle.std.specs.Prelude.{◌≡◌, ℕ, ℤ, ◌≤◌, ◌-◌, ◌^◌, length, true, false, ◌&&◌, not, Some, None, IfOk, IfErr, pos, neg_ℤ, ◌+ℤ◌, ◌-ℤ◌, ◌<ℤ◌};
+ghost use Rattle.host_extract.specs.ties.Fits.{FitsReading};
 ghost use Rattle.host_extract.specs.Found.{value_at};
 ghost use Rattle.host_extract.specs.Numbers.{report_bit};
 ghost use Rattle.field_values.specs.Places.{IsOutside};
 ghost use Rattle.field_values.specs.Held.{place_bit};
-ghost use Rattle.field_values.specs.Limits.{FitsLimits};
 ghost use Rattle.field_values.specs.Nulls.{is_null, null_of, null_refusal, asked_refusal, asked_value};
 
 use crate::place::{PlaceError, has_bits, is_held, is_within, put_place, write_place};
@@ -34,7 +33,6 @@ pub fn set_place(
     asked: Asked,
 ) -> Result<(), PlaceError>
     requires fits { FitsReading field.now }
-    requires limits { FitsLimits field.now }
     ensures taken { IfOk result (λ _. asked_refusal field.now null_state bytes.old place asked ≡ None) }
     ensures refused { IfErr result (λ e. asked_refusal field.now null_state bytes.old place asked ≡ Some e) }
     ensures written { IfOk result (λ _. asked_value field.now asked ≡ Some (value_at field.now bytes.new place)) }
@@ -56,7 +54,6 @@ fn write_null(
     place: u16,
 ) -> Result<(), PlaceError>
     requires fits { FitsReading field.now }
-    requires limits { FitsLimits field.now }
     ensures taken { IfOk result (λ _. null_refusal field.now null_state bytes.old place ≡ None) }
     ensures refused { IfErr result (λ e. null_refusal field.now null_state bytes.old place ≡ Some e) }
     ensures written { IfOk result (λ _. null_of field.now ≡ Some (value_at field.now bytes.new place)) }
@@ -86,19 +83,36 @@ fn write_null(
 /// hold. It is 0, or else one over the greatest, or else one under the least.
 pub fn null_of(field: &Field) -> Option<i64>
     requires fits { FitsReading field.now }
-    requires limits { FitsLimits field.now }
     ensures null { result ≡ null_of field.now }
     ensures none { result ≡ None → (value : ℤ) → is_null field.now value ≡ false }
 {
     if is_null(field, 0) {
         Some(0)
-    } else if is_null(field, field.max + 1) {
+    } else if is_null_over(field) {
         Some(field.max + 1)
-    } else if is_null(field, field.min - 1) {
+    } else if is_null_under(field) {
         Some(field.min - 1)
     } else {
         None
     }
+}
+
+/// Whether one over the greatest value says that there is none.
+fn is_null_over(field: &Field) -> bool
+    requires { FitsReading field.now }
+    ensures same { result ≡ is_null field.now (field.now.max +ℤ pos 1) }
+    ensures counted { result ≡ true → field.now.max <ℤ pos (2 ^ 63 - 1) }
+{
+    field.max < i64::MAX && is_null(field, field.max + 1)
+}
+
+/// Whether one under the least value does.
+fn is_null_under(field: &Field) -> bool
+    requires { FitsReading field.now }
+    ensures same { result ≡ is_null field.now (field.now.min -ℤ pos 1) }
+    ensures counted { result ≡ true → neg_ℤ (pos (2 ^ 63)) <ℤ field.now.min }
+{
+    field.min > i64::MIN && is_null(field, field.min - 1)
 }
 
 /// Whether a value is outside the logical extents and the bits of a place hold it.

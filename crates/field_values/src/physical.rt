@@ -1,9 +1,9 @@
 //! What a value is in its unit, exactly.
 
-ghost use Rattle.std.specs.Prelude.{◌≡◌, ◌≤◌, ◌<◌, ◌^◌, ◌-ℤ◌, ◌+ℤ◌, ◌*ℤ◌, ◌<ℤ◌, pos, neg_ℤ, unsigned_abs, Some, None, IfOk, IfErr, if◌then◌else◌};
+ghost use Rattle.std.specs.Prelude.{◌≡◌, ◌≤◌, ◌<◌, ◌^◌, ◌-ℤ◌, ◌+ℤ◌, ◌*ℤ◌, ◌<ℤ◌, true, pos, neg_ℤ, unsigned_abs, Some, None, IfOk, IfErr, if◌then◌else◌};
 ghost use Rattle.std.specs.Int.{IsGcd};
-ghost use Rattle.field_values.specs.Limits.{FitsExtents};
-ghost use Rattle.field_values.specs.Physical.{IsPhysical, no_span};
+ghost use Rattle.field_values.specs.ties.Limits.{FitsExtents};
+ghost use Rattle.field_values.specs.Physical.{IsPhysical, are_of_items, no_physical};
 
 /// A least and a greatest value.
 #[derive(Clone, Copy, Debug, PartialEq, Eq)]
@@ -32,21 +32,22 @@ pub enum NoPhysical {
     EqualLimits,
     /// The Logical Minimum is over the Logical Maximum.
     InvertedLimits,
+    /// A physical extent is none that an item declares: a number of 32 bits, signed or not.
+    LargeExtents,
 }
 
 /// The physical value of a logical one: the line through the logical and the physical extents, also past their ends.
 ///
-/// The physical extents are numbers of 32 bits, as those of a descriptor. The errors: `EqualLimits` where the logical
-/// extents are equal, `InvertedLimits` where the minimum is over the maximum.
+/// The errors: `EqualLimits` where the logical extents are equal, `InvertedLimits` where the minimum is over the maximum,
+/// and then `LargeExtents` where a physical extent is no number of 32 bits; those of a descriptor all are.
 pub fn physical_value(
     logical: Extents,
     physical: Extents,
     exponent: i64,
     value: i64,
 ) -> Result<Physical, NoPhysical>
-    requires { FitsExtents physical }
-    ensures taken { IfOk result (λ _. no_span logical ≡ None) }
-    ensures refused { IfErr result (λ e. no_span logical ≡ Some e) }
+    ensures taken { IfOk result (λ _. no_physical logical physical ≡ None) }
+    ensures refused { IfErr result (λ e. no_physical logical physical ≡ Some e) }
     ensures exact { IfOk result (λ p. IsPhysical logical physical value p.numerator p.denominator) }
     ensures exponent { IfOk result (λ p. p.exponent ≡ exponent) }
 {
@@ -56,9 +57,23 @@ pub fn physical_value(
     if logical.min > logical.max {
         return Err(NoPhysical::InvertedLimits);
     }
+    if !are_of_items(physical) {
+        return Err(NoPhysical::LargeExtents);
+    }
     let numerator = on_line(logical, physical, value);
     Ok(reduced(numerator, logical.max.abs_diff(logical.min), exponent))
 }
+
+/// Whether extents are numbers that items declare.
+fn are_of_items(extents: Extents) -> bool
+    ensures same { result ≡ are_of_items extents }
+    ensures fits { result ≡ true → FitsExtents extents }
+{
+    extents.min.unsigned_abs() <= MOST && extents.max.unsigned_abs() <= MOST
+}
+
+/// How far from 0 a number of 32 bits may be, signed or not.
+const MOST: u64 = 1 << 32;
 
 /// The physical value times the logical span.
 fn on_line(logical: Extents, physical: Extents, value: i64) -> i128

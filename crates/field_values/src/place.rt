@@ -1,7 +1,7 @@
 //! Values into the places of a field.
 
 ghost use Rattle.std.specs.Prelude.{◌≡◌, ℕ, ◌+◌, ◌*◌, ◌<◌, ◌≤◌, ◌^◌, length, true, not, ◌&&◌, pos, ◌+ℤ◌, ◌-ℤ◌, ◌≤ℤ◌, int_lt, Some, None, IfOk, IfErr};
-ghost use Rattle.host_extract.specs.Fits.{FitsReading};
+ghost use Rattle.host_extract.specs.ties.Fits.{FitsReading};
 ghost use Rattle.host_extract.specs.Found.{value_at};
 ghost use Rattle.host_extract.specs.Numbers.{report_bit, number_at, value_under};
 ghost use Rattle.field_values.specs.Places.{IsOutside};

@@ -6,8 +6,7 @@ mod reading;
 mod writing;
 
 ghost use Rattle.std.specs.Prelude.{◌≡◌, true};
-ghost use Rattle.host_extract.specs.Fits.{FitsReading};
-ghost use Rattle.field_values.specs.Limits.{FitsLimits};
+ghost use Rattle.host_extract.specs.ties.Fits.{FitsReading};
 
 use descriptor_parse::{Field, Kind};
 use std::process::Abort;
@@ -76,11 +75,4 @@ fn is_readable(field: &Field) -> bool
         return false;
     };
     field.size <= 32 && field.bit.checked_add(bits).is_some()
-}
-
-/// Whether the logical extents are of 32 bits.
-fn is_limited(field: &Field) -> bool
-    ensures { result ≡ true → FitsLimits field.now }
-{
-    field.min.unsigned_abs() <= 0x1_0000_0000 && field.max.unsigned_abs() <= 0x1_0000_0000
 }

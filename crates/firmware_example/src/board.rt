@@ -1,7 +1,7 @@
 //! The board: a keyboard on its flash, and what calls it.
 
 ghost use Rattle.std.specs.Prelude.{◌≡◌};
-ghost use Rattle.keyboard.specs.Value.{RunsOn};
+ghost use Rattle.keyboard.specs.ties.Value.{RunsOn};
 
 use arrayvec::ArrayVec;
 use flash_model::NorFlash;

@@ -1,7 +1,8 @@
 -- Believed: an operation of a flash, by what it asks for.
-use Rattle.std.specs.Prelude.{ℕ, List}
+use Rattle.shapes.specs.Shapes.{Bytes}
+use Rattle.std.specs.Prelude.{ℕ}
 
 -- a slot of a page is programmed with eight bytes; or a page is erased
 pub data FlashOperation : Type 0 where
-  programs : (page slot : ℕ) (bytes : List ℕ) → FlashOperation
+  programs : (page slot : ℕ) (bytes : Bytes) → FlashOperation
   erases : (page : ℕ) → FlashOperation

@@ -1,9 +1,10 @@
 -- Believed: the bytes of a flash by pages and slots.
-use Rattle.std.specs.Prelude.{◌≡◌, ℕ, ◌+◌, ◌*◌, ◌/◌, ◌<◌, ◌≤◌, List, length, take, drop, slice_index}
+use Rattle.shapes.specs.Shapes.{Bytes}
+use Rattle.std.specs.Prelude.{◌≡◌, ℕ, ◌+◌, ◌*◌, ◌/◌, ◌<◌, ◌≤◌, length, take, drop, slice_index}
 use Rattle.flash_model.specs.declared.TheConstants.{PAGE_BYTES, SLOT_BYTES}
 
 -- pages, one after the other
-abbrev pub page_count : List ℕ → ℕ
+abbrev pub page_count : Bytes → ℕ
 page_count image = length image / PAGE_BYTES
 
 -- the first byte of a slot
@@ -11,11 +12,11 @@ abbrev pub place_of : ℕ → ℕ → ℕ
 place_of page slot = PAGE_BYTES * page + SLOT_BYTES * slot
 
 -- the bytes of a slot
-unfoldable pub slot_at : List ℕ → ℕ → ℕ → List ℕ
+unfoldable pub slot_at : Bytes → ℕ → ℕ → Bytes
 slot_at image page slot = take SLOT_BYTES (drop (place_of page slot) image)
 
 -- the bytes of 2 to 8 whole pages
-pub record IsImage (image : List ℕ) : Type 0 where
+pub record IsImage (image : Bytes) : Type 0 where
   pub whole : length image ≡ PAGE_BYTES * page_count image
   pub least : 2 ≤ page_count image
   pub most : page_count image ≤ 8

@@ -1,12 +1,13 @@
 -- Believed: what one operation makes of a simulated flash, by the mask that it is torn by, if one is armed.
-use Rattle.std.specs.Prelude.{◌≡◌, ℕ, ◌+◌, ◌%◌, ◌^◌, is_some, if◌then◌else◌, Option, Some, None, List}
+use Rattle.shapes.specs.Shapes.{Bytes}
+use Rattle.std.specs.Prelude.{◌≡◌, ℕ, ◌+◌, ◌%◌, ◌^◌, is_some, if◌then◌else◌, Option, Some, None}
 use Rattle.flash_model.specs.FlashOperation.{FlashOperation, programs, erases}
 use Rattle.flash_model.specs.Operations.{Programs, Erases}
 use Rattle.flash_model.specs.ByMask.{ProgramsByMask, ErasesByMask}
 use Rattle.flash_model.specs.Sim.{SimValue}
 
 -- nothing is armed: the whole operation; a mask is: the operation that is torn by it
-abbrev pub Outcome : List ℕ → FlashOperation → Option (List ℕ) → List ℕ → Type 0
+abbrev pub Outcome : Bytes → FlashOperation → Option Bytes → Bytes → Type 0
 Outcome old (programs page slot bytes) None new = Programs old page slot bytes new
 Outcome old (programs page slot bytes) (Some mask) new = ProgramsByMask old page slot bytes mask new
 Outcome old (erases page) None new = Erases old page new

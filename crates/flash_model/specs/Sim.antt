@@ -1,5 +1,6 @@
 -- Believed: what is known of a simulated flash.
-use Rattle.std.specs.Prelude.{ℕ, List, Option, Bool, nat_eq}
+use Rattle.shapes.specs.Shapes.{Bytes}
+use Rattle.std.specs.Prelude.{ℕ, Option, Bool, nat_eq}
 use Rattle.std.specs.Option.{option_eq}
 use Rattle.std.specs.Ordering.{on, eq_of_both}
 use Rattle.std.specs.Cmp.Lexicographic.{pointwise}
@@ -7,8 +8,8 @@ use Rattle.std.specs.Cmp.Lexicographic.{pointwise}
 -- a simulated flash: its bytes, the mask that the next operation is torn by, and how many operations were made and how
 -- many of them were torn
 pub record SimValue : Type 0 where
-  pub image : List ℕ
-  pub armed : Option (List ℕ)
+  pub image : Bytes
+  pub armed : Option Bytes
   pub operations : ℕ
   pub faults : ℕ
 

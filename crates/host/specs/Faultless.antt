@@ -1,4 +1,5 @@
 -- Believed: whether a text has a fault, as a test.
+use Rattle.shapes.specs.Shapes.{Bytes}
 use Rattle.std.specs.Prelude.{◌≡◌, ℕ, ◌==◌, nat_le, Bool, true, false, ◌&&◌, List, [], ◌∷◌, length, Option, Some, None, Result, Ok, Err}
 use Rattle.descriptor_parse.specs.declared.fault.ParseError.{ParseError}
 use Rattle.descriptor_parse.specs.declared.fault.ParseFault.{ParseFault}
@@ -18,5 +19,5 @@ all_clean before (Ok item ∷ more) = both (fault_at before item) (all_clean (it
 all_clean before (Err e ∷ more) = false
 
 -- a report descriptor without a fault
-unfoldable pub is_faultless : List ℕ → Bool
+unfoldable pub is_faultless : Bytes → Bool
 is_faultless text = all_clean [] (items_at 0 text) && (nat_le (length text) 4096 && open_collections (all_items text) == 0)

@@ -2,5 +2,4 @@ pub mod Calls
 pub mod Faultless
 pub mod Kept
 pub mod Reads
-pub mod Stands
-pub mod StandsFor
+pub mod ties

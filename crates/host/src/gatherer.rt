@@ -29,7 +29,7 @@ impl Host {
     ghost use Rattle.host.specs.Calls.{HostCall, was_set_up, got_packet, lost};
     ghost use Rattle.host.specs.Kept.{gathering};
     ghost use Rattle.host.specs.Reads.{Reads, text_by};
-    ghost use Rattle.host.specs.StandsFor.{StandsFor};
+    ghost use Rattle.host.specs.ties.StandsFor.{StandsFor};
 
     /// A host that keeps no descriptor.
     pub fn new(alloc: Global) -> Host

@@ -1,9 +1,10 @@
 -- Believed: how a host reads boot reports.
-use Rattle.std.specs.Prelude.{ℕ, List, [], ◌∷◌}
+use Rattle.shapes.specs.Shapes.{Bytes}
+use Rattle.std.specs.Prelude.{ℕ, [], ◌∷◌}
 
 -- The host's own descriptor of boot reports, 39 bytes (HID 1.11, appendix B.1): eight modifier bits, a byte of padding,
 -- and six places for usages 0 to A4h of the keyboard page.
-unfoldable pub boot_descriptor_bytes : List ℕ
+unfoldable pub boot_descriptor_bytes : Bytes
 boot_descriptor_bytes =
     0x05 ∷ 0x01 ∷ 0x09 ∷ 0x06 ∷ 0xA1 ∷ 0x01 ∷  -- Generic Desktop, Keyboard
     0x05 ∷ 0x07 ∷ 0x19 ∷ 0xE0 ∷ 0x29 ∷ 0xE7 ∷ 0x15 ∷ 0x00 ∷ 0x25 ∷ 0x01 ∷

@@ -1,13 +1,14 @@
 -- Believed: the numbers in the bits of a report (HID 1.11, 5.6 and 5.8).
-use Rattle.std.specs.Prelude.{ℕ, zero, suc, ◌+◌, ◌*◌, ◌/◌, ◌%◌, ◌^◌, if◌then◌else◌, nat_lt, not, ◌&&◌, List, slice_index, ℤ, pos, ◌-ℤ◌, int_lt}
+use Rattle.shapes.specs.Shapes.{Bytes}
+use Rattle.std.specs.Prelude.{ℕ, zero, suc, ◌+◌, ◌*◌, ◌/◌, ◌%◌, ◌^◌, if◌then◌else◌, nat_lt, not, ◌&&◌, slice_index, ℤ, pos, ◌-ℤ◌, int_lt}
 use Rattle.std.specs.Int.{bit_at}
 
 -- bit b of all bytes, counted from the least significant bit of the first
-abbrev pub report_bit : List ℕ → ℕ → ℕ
+abbrev pub report_bit : Bytes → ℕ → ℕ
 report_bit bytes b = bit_at (slice_index bytes (b / 8)) (b % 8)
 
 -- the number that so many bits make from one on, the least significant first
-unfoldable pub number_at : List ℕ → ℕ → ℕ → ℕ
+unfoldable pub number_at : Bytes → ℕ → ℕ → ℕ
 number_at bytes bit zero = 0
 number_at bytes bit (suc size) = report_bit bytes bit + 2 * number_at bytes (bit + 1) size
 

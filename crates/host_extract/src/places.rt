@@ -3,7 +3,7 @@
 ghost use Rattle.std.specs.Prelude.{◌≡◌, ◌<◌, ◌++◌, pos, true, false, OnOk};
 ghost use Rattle.descriptor_parse.specs.Descriptor.{usage_list};
 ghost use Rattle.host_extract.specs.Found.{named, in_array, readings_of, value_at};
-ghost use Rattle.host_extract.specs.Fits.{FitsReading};
+ghost use Rattle.host_extract.specs.ties.Fits.{FitsReading};
 
 use crate::number::{byte_or_number_at, number_at, value_under};
 use crate::reading::Found;

@@ -6,6 +6,7 @@ mod gathering;
 mod parsing;
 mod reading;
 
+use row_text::push_bytes;
 use std::process::Abort;
 
 /// The report descriptor that the keyboard serves, 99 bytes, but for its last byte C0, which ends a collection.
@@ -44,30 +45,11 @@ fn push_words(rt: &impl Abort, out: &mut Vec<u8>, words: &str) {
 }
 
 fn push_digits(rt: &impl Abort, out: &mut Vec<u8>, digits: &str) {
-    for pair in digits.as_bytes().chunks(2) {
-        push_byte(rt, out, byte_of(rt, pair));
-    }
+    push_bytes(out, digits).expect(rt, "hex digits");
 }
 
 fn push_byte(rt: &impl Abort, out: &mut Vec<u8>, byte: u8) {
     out.push(byte).ok().expect(rt, "memory");
-}
-
-fn byte_of(rt: &impl Abort, pair: &[u8]) -> u8 {
-    match pair {
-        [high, low] => digit(rt, *high)
-            .wrapping_mul(16)
-            .wrapping_add(digit(rt, *low)),
-        _ => panic!(rt; "half a byte"),
-    }
-}
-
-fn digit(rt: &impl Abort, letter: u8) -> u8 {
-    match letter {
-        b'0'..=b'9' => letter - b'0',
-        b'A'..=b'F' => letter - b'A' + 10,
-        _ => panic!(rt; "{letter} is no hex digit"),
-    }
 }
 
 /// A number that a row gives; `MAX` is the greatest one.

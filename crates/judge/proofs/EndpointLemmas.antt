@@ -20,7 +20,7 @@ use Rattle.control_ep.specs.Packets.{packet_at}
 use Rattle.control_ep.specs.Stage.{stage, is_empty_packet}
 use Rattle.control_ep.specs.Answers.{out_step, in_answer, in_effect, packet_or_stall, judged_answer, received_report, report_step}
 use Rattle.control_ep.specs.Moves.{begun}
-use Rattle.control_ep.specs.Stands as control_ep
+use Rattle.control_ep.specs.ties.Stands as control_ep
 use Rattle.control_ep.specs.Stands.{AllAnswered}
 use Rattle.keymap_store.specs.declared.store.Work.{Work}
 use Rattle.keymap_store.specs.declared.store.Work.TheVariants as Works
@@ -40,8 +40,9 @@ use Rattle.keyboard.specs.Feature.{command_in, yes, no, FeatureAnswer, CommandAn
 use Rattle.keyboard.specs.Lawful.{OutAnswer}
 use Rattle.keyboard.proofs.Served.{Serves, serves}
 use Rattle.keyboard.proofs.Standing.{ReceivedAs, received_as}
-use Rattle.judge.specs.Endpoint.{with_work}
-use Rattle.judge.specs.Judged.{Passes, IsEntry}
+use Rattle.judge.specs.ties.Endpoint.{with_work}
+use Rattle.judge.specs.Judged.{Passes}
+use Rattle.judge.specs.ties.Judged.{IsEntry}
 
 -- the answer to a feature report tells its verdict
 told_ack : (changing : Bool) (answer : EpAnswer) → answer ≡ Ack → answer ≡ judged_answer (verdict_told changing answer)

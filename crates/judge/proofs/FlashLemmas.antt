@@ -12,7 +12,8 @@ use Rattle.page_turnover.specs.Usable.{IsUsable}
 use Rattle.page_turnover.specs.Words.{IsBlank}
 use Rattle.page_turnover.specs.Operates.{Operates, programs, erases}
 use Rattle.page_turnover.proofs.Operating.{programmed_good, slot_is}
-use Rattle.judge.specs.Decides.{Decides, IsAnd, SameOutside, ProgramsAt, ProgramsSome, ErasesSome}
+use Rattle.judge.specs.Decides.{Decides}
+use Rattle.judge.specs.ties.Decides.{IsAnd, SameOutside, ProgramsAt, ProgramsSome, ErasesSome}
 
 -- a slot is before another, or after it, or the same
 apart : (p s page slot : ℕ) → s < 512 → slot < 512 → (p ≡ page → s ≡ slot → ⊥) → (place_of p s + 8 ≤ place_of page slot) ⊎ (place_of page slot + 8 ≤ place_of p s)

@@ -8,7 +8,7 @@ use Rattle.debounce.proofs.Counts.{debounced_run}
 use Rattle.debounce.proofs.Feeding.{down-none}
 use Rattle.layers.specs.Codes.{keys}
 use Rattle.layers.specs.Held.{HeldCall, Press, Release}
-use Rattle.layers.specs.HeldStands.{HeldValue, HeldStandsFor}
+use Rattle.layers.specs.ties.HeldStands.{HeldValue, HeldStandsFor}
 use Rattle.layers.specs.Usages.{key_usages, consumer_usages}
 use Rattle.reports.specs.declared.Protocol.{Protocol}
 use Rattle.reports.specs.declared.Input.{Input}
@@ -27,7 +27,8 @@ use Rattle.keyboard.specs.Calls as calls
 use Rattle.keyboard.specs.Calls.{Call, image_after, keymap}
 use Rattle.keyboard.specs.Effects.{protocol_after, effect_told}
 use Rattle.keyboard.specs.Keys.{with_effect, key_calls}
-use Rattle.judge.specs.Keys.{turns, called, KeysAre}
+use Rattle.judge.specs.Keys.{turns, called}
+use Rattle.judge.specs.ties.Keys.{KeysAre}
 use Rattle.judge.proofs.Splits.{before, before-is, nothing}
 use Rattle.judge.specs.declared.session.keys.Keys.{Keys}
 

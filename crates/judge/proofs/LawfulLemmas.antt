@@ -9,7 +9,8 @@ use Rattle.page_turnover.specs.Words.{words}
 use Rattle.keyboard.specs.Calls.{keymap}
 use Rattle.keymap_store.specs.Keymap.{SameEntries}
 use Rattle.keyboard.specs.Operated.{AddsRecord}
-use Rattle.judge.specs.Decides.{Decides, SameTable}
+use Rattle.judge.specs.Decides.{Decides}
+use Rattle.judge.specs.ties.Decides.{SameTable}
 
 entries_same : (m n : ℕ → ℕ → ℕ) (a b : List ℕ) → HasEntries m a → HasEntries n b → SameTable a b → SameEntries m n
 entries_same m n a b ha hb t =

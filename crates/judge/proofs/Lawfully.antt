@@ -50,7 +50,7 @@ step_makes start before command old work new w =
 
 work_passes : (start : List ℕ) (before : List Call) (works : Option Command) (work : WorkAnswer) (new : List ℕ) → WorkedOn start before works work new
     → WorkPasses works (image_after start before) work new × MakesNextOf start before works work new
-work_passes start before None work new w = (w, tt)
+work_passes start before None work new w = (w, w)
 work_passes start before (Some command) work new w =
     (step_passes start before command (image_after start before) work new w, step_makes start before command (image_after start before) work new w)
 

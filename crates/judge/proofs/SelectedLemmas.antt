@@ -19,7 +19,8 @@ use Rattle.keyboard.specs.Feature.{yes, no, FeatureAnswer, select_answer}
 use Rattle.keyboard.specs.Lawful.{OutAnswer}
 use Rattle.keyboard.proofs.Served.{Serves, serves}
 use Rattle.keyboard.proofs.Standing.{ReceivedAs, received_as}
-use Rattle.judge.specs.Judged.{Passes, IsEntry}
+use Rattle.judge.specs.Judged.{Passes}
+use Rattle.judge.specs.ties.Judged.{IsEntry}
 
 below : (a n : ℕ) → nat_lt a n ≡ true → a < n
 below a n e = grind (arith, nat_tests)

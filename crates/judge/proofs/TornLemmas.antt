@@ -7,8 +7,9 @@ use Rattle.std.proofs.lemmas.Nat.Bits.{bit_at_or, bit_at_and, bit_at-zero, same_
 use Rattle.flash_model.specs.Image.{slot_at, place_of}
 use Rattle.flash_model.specs.Operations.{MayProgram, MayErase}
 use Rattle.flash_model.specs.Torn.{ProgramMayLeave, EraseMayLeave}
-use Rattle.judge.specs.Decides.{Decides, SameOutside}
-use Rattle.judge.specs.Lists.{BitsWithin}
+use Rattle.judge.specs.Decides.{Decides}
+use Rattle.judge.specs.ties.Decides.{SameOutside}
+use Rattle.judge.specs.ties.Lists.{BitsWithin}
 use Rattle.judge.proofs.FlashLemmas.{others, other_pages}
 
 or_within : (less more : ℕ) → bit_or less more ≡ more → BitsWithin less more

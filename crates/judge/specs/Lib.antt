@@ -2,10 +2,13 @@ pub mod Records
 pub mod Decides
 pub mod Keys
 pub mod Commands
-pub mod Endpoint
 pub mod Judged
 pub mod Lists
 pub mod Making
 pub mod Steps
 pub mod Sessions
 pub mod Histories
+pub mod Counts
+pub mod Fetched
+pub mod Usages
+pub mod ties

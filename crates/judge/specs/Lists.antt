@@ -1,6 +1,5 @@
--- Believed where this crate is called: flash operations as those of the definitions, and a bit test.
-use Rattle.std.specs.Prelude.{ℕ, ◌≤◌, List, map}
-use Rattle.std.specs.Int.{bit_at}
+-- Believed where this crate is called: flash operations as those of the definitions.
+use Rattle.std.specs.Prelude.{List, map}
 use Rattle.page_turnover.specs.declared.operation.Operation as log
 use Rattle.page_turnover.specs.declared.operation.Operation.TheVariants as log_operations
 use Rattle.judge.specs.declared.session.torn.Operation.{Operation}
@@ -12,7 +11,3 @@ operation_in (Erase page) = log_operations.Erase page
 
 abbrev pub operations_in : List Operation → List log.Operation
 operations_in all = map operation_in all
-
--- each bit that is set in the first number is set in the second
-abbrev pub BitsWithin : ℕ → ℕ → Type 0
-BitsWithin less more = (i : ℕ) → bit_at less i ≤ bit_at more i

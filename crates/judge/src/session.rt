@@ -13,12 +13,16 @@
 //! answer by `StepPasses`. Which operation such a step makes the modules `operations`, `torn`, `making`
 //! and `steps` judge: `first_misstep` finds the first step that does not make the one that comes next in
 //! the list of its command, whole or torn, and none exactly where each does (`specs/Steps`), and
-//! `cut_leaves` tells exactly what a cut inside that operation may leave. Not judged are which bits a mask
-//! lets take effect, which no call tells, and what every other cut inside an operation would have left.
+//! `cut_leaves` tells exactly what a cut inside that operation may leave. Which bits a mask lets take
+//! effect no call tells, and so it is not judged here.
+//!
+//! `first_unlawful` finds the first call that was not answered as it had to be, and none exactly where the
+//! session is lawful: each call passes, and each step of the flash work is the one that comes next.
 //!
 //! The laws say that the definition of a legal restart refuses what it should.
 
-mod answers;
+mod answered;
+pub(crate) mod answers;
 pub mod commands;
 pub mod effects;
 pub mod endpoint;
@@ -33,9 +37,10 @@ mod operations;
 pub mod record;
 pub mod recorded;
 pub mod steps;
-mod torn;
+pub(crate) mod torn;
 pub mod work;
 
+pub use answered::{first_unlawful, is_answered};
 pub use commands::{Fate, Taken, accepted_of, working_of};
 pub use lawful::{first_wrong, passes};
 pub use recorded::Recorded;

@@ -5,8 +5,8 @@ use Rattle.world.specs.declared.event.Event.TheVariants as event
 use Rattle.world.specs.declared.event.Answer.{Answer}
 use Rattle.world.specs.declared.event.Answer.TheVariants.{Ack, Packet}
 use Rattle.world.specs.Kinds.{Step}
-use Rattle.world.specs.Stands.{StandsFor}
-use Rattle.world.specs.Value.{WorldValue}
+use Rattle.world.specs.ties.Stands.{StandsFor}
+use Rattle.world.specs.ties.Value.{WorldValue}
 use Rattle.kbsim.specs.Fetches.{get_report_descriptor, Gives, AllFull, Gathers, IsGathered, IsFetched, IsUnclosed, IsCutShort, IsUnfetched}
 use Rattle.kbsim.specs.Outputs.{GoesOn, Takes}
 use Rattle.kbsim.proofs.PacketLemmas.{few_full}

@@ -22,8 +22,9 @@ use Rattle.world.specs.Kinds.{Step}
 use Rattle.world.specs.History.{flash_after}
 use Rattle.world.proofs.Promising.{promise}
 use Rattle.world.proofs.Timing.{stays_in_time}
-use Rattle.world.specs.Stands.{StandsFor, NoneRefused, LongerHistory, Runs}
-use Rattle.world.specs.Value.{WorldValue}
+use Rattle.world.specs.Stands.{NoneRefused, LongerHistory, Runs}
+use Rattle.world.specs.ties.Stands.{StandsFor}
+use Rattle.world.specs.ties.Value.{WorldValue}
 use Rattle.keyboard.specs.Bounded.{most_steps}
 use Rattle.kbsim.proofs.WorkLemmas.{working_few}
 use Rattle.kbsim.specs.Outputs.{set_feature, set_report, AllWorking, IsFlashWork, ShowsStatus, IsRepeated, IsRefusedSet, IsTakenSet, LineRuns, Prints, GoesOn, Takes, IsPassed, IsRun, IsBegun}

@@ -10,7 +10,8 @@ use Rattle.control_ep.specs.Transfers.{Stage, Sending}
 use Rattle.control_ep.specs.Requests.{request_of, transfer_of}
 use Rattle.control_ep.specs.Calls.{EpCall, Setup as EpSetup, In as EpIn}
 use Rattle.control_ep.specs.Stage.{stage}
-use Rattle.control_ep.specs.Stands.{AllAnswered, StandsFor as EndpointStandsFor}
+use Rattle.control_ep.specs.Stands.{AllAnswered}
+use Rattle.control_ep.specs.ties.Stands.{StandsFor as EndpointStandsFor}
 use Rattle.control_ep.specs.Answers.{in_answer, in_effect, packet_or_stall}
 use Rattle.control_ep.specs.declared.answer.Effect.{Effect}
 use Rattle.control_ep.specs.declared.answer.Effect.TheVariants.{Nothing}
@@ -25,8 +26,8 @@ use Rattle.world.specs.declared.event.Answer.{Answer}
 use Rattle.world.specs.declared.event.Answer.TheVariants.{Packet}
 use Rattle.world.specs.Kinds.{Step, Kind, calls, kind_of, ep_told}
 use Rattle.world.specs.History.{Session, session, session_with}
-use Rattle.world.specs.Stands.{StandsFor}
-use Rattle.world.specs.Value.{WorldValue}
+use Rattle.world.specs.ties.Stands.{StandsFor}
+use Rattle.world.specs.ties.Value.{WorldValue}
 use Rattle.kbsim.specs.Fetches.{get_report_descriptor, AllFull}
 
 -- a packet of eight bytes has all of them from the bytes that are sent

@@ -1,4 +1,5 @@
 -- Believed: a whole transfer of the report descriptor (USB 2.0 section 8.5.3).
+use Rattle.shapes.specs.Shapes.{Bytes}
 use Rattle.std.specs.Prelude.{◌≡◌, ◌≢◌, ℕ, ◌+◌, ◌*◌, ◌<◌, ◌⊎◌, List, [], ◌∷◌, ◌++◌, length}
 use Rattle.world.specs.declared.event.Event.TheVariants as event
 use Rattle.world.specs.declared.event.Answer.{Answer}
@@ -6,11 +7,11 @@ use Rattle.world.specs.declared.event.Answer.TheVariants.{Ack, Packet}
 use Rattle.world.specs.Kinds.{Step}
 
 -- the SETUP packet that asks for 255 bytes of the report descriptor (HID 1.11 section 7.1.1)
-abbrev pub get_report_descriptor : List ℕ
+abbrev pub get_report_descriptor : Bytes
 get_report_descriptor = 0x81 ∷ 0x06 ∷ 0x00 ∷ 0x22 ∷ 0x00 ∷ 0x00 ∷ 0xFF ∷ 0x00 ∷ []
 
 -- an IN packet that was answered by these bytes
-abbrev pub Gives : List ℕ → Step → Type 0
+abbrev pub Gives : Bytes → Step → Type 0
 Gives packet step = (step.event ≡ event.InPacket) × (step.answer ≡ Packet (record { items = packet }))
 
 -- IN packets that were each answered by eight bytes
@@ -30,7 +31,7 @@ pub record IsGathered (count : ℕ) (steps : List Step) : Type 0 where
   pub last : Step
   pub full : List Step
   pub before : List Step
-  pub packet : List ℕ
+  pub packet : Bytes
   pub steps_are : steps ≡ last ∷ before
   pub gathers : Gathers full before
   pub gives : Gives packet last
@@ -65,7 +66,7 @@ pub record IsCutShort (answer : Answer) (steps : List Step) : Type 0 where
   pub steps_are : steps ≡ last ∷ before
   pub gathers : Gathers full before
   pub last_is : last.event ≡ event.InPacket
-  pub other : (packet : List ℕ) → last.answer ≢ Packet (record { items = packet })
+  pub other : (packet : Bytes) → last.answer ≢ Packet (record { items = packet })
   pub shows : answer ≡ last.answer
 
 abbrev pub IsUnfetched : Answer → List Step → Type 0

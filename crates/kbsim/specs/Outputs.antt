@@ -1,4 +1,5 @@
 -- Believed: what the lines of a script do to the device, and what they print.
+use Rattle.shapes.specs.Shapes.{Bytes}
 use Rattle.std.specs.Prelude.{◌≡◌, ◌≢◌, ℕ, ◌*◌, ◌<◌, ◌/◌, ◌%◌, ◌⊎◌, List, [], ◌∷◌, ◌++◌, length, replicate, take, None, false}
 use Rattle.std.specs.Int.NonZero.{non_zero_u16_get}
 use Rattle.std.specs.List.{All}
@@ -13,8 +14,9 @@ use Rattle.keymap_store.specs.declared.store.Work.TheVariants.{Working}
 use Rattle.world.specs.Kinds.{Step}
 use Rattle.world.specs.History.{flash_after}
 use Rattle.world.specs.Promise.{Promise}
-use Rattle.world.specs.Stands.{StandsFor, NoneRefused}
-use Rattle.world.specs.Value.{WorldValue}
+use Rattle.world.specs.Stands.{NoneRefused}
+use Rattle.world.specs.ties.Stands.{StandsFor}
+use Rattle.world.specs.ties.Value.{WorldValue}
 use Rattle.kbsim.specs.Actions.{IsEventOf}
 use Rattle.kbsim.specs.Fetches.{IsFetched, IsUnfetched}
 use Rattle.kbsim.specs.Prints.{printed_line}
@@ -26,11 +28,11 @@ use Rattle.script.specs.declared.statement.Statement.{Statement}
 use Rattle.script.specs.declared.statement.Statement.TheVariants as statement
 
 -- the SETUP packet of a feature report that carries a command
-abbrev pub set_feature : List ℕ
+abbrev pub set_feature : Bytes
 set_feature = 0x21 ∷ 0x09 ∷ 0x03 ∷ 0x03 ∷ 0x00 ∷ 0x00 ∷ 0x06 ∷ 0x00 ∷ []
 
 -- the feature report that sets an entry: its ID, the operation, layer, key, and the code, low byte first
-abbrev pub set_report : ℕ → ℕ → ℕ → List ℕ
+abbrev pub set_report : ℕ → ℕ → ℕ → Bytes
 set_report layer key code = 3 ∷ 1 ∷ layer ∷ key ∷ code % 256 ∷ code / 256 ∷ []
 
 -- steps of the flash work, newest first, that each needed more
@@ -102,14 +104,14 @@ LineRuns statement.Fetch steps outcome = FetchRuns steps outcome
 LineRuns _ steps (Fetched count) = ⊥
 
 -- the steps of lines that are run in order, newest first, and the text that they print, a line for each
-abbrev pub Prints : List Line → List Step → List ℕ → Type 0
+abbrev pub Prints : List Line → List Step → Bytes → Type 0
 Prints [] steps text = (steps ≡ []) × (text ≡ [])
 Prints (line ∷ more) steps text =
     (first later : List Step) × (outcome : Outcome) × (rest : List ℕ) × (steps ≡ later ++ first) × LineRuns line.statement first outcome
     × (text ≡ printed_line line.number outcome ++ rest) × Prints more later rest
 
 -- a flash that holds these bytes: nothing was operated, and nothing is armed
-abbrev pub holding : List ℕ → SimValue
+abbrev pub holding : Bytes → SimValue
 holding image = record { image = image; armed = None; operations = 0; faults = 0 }
 
 -- a flash as it comes: all bits are set
@@ -118,7 +120,7 @@ blank pages = holding (replicate (4096 * pages) 255)
 
 -- the lines print this text, and leave this flash: run on a device that started on the flash `start`, they made a history of
 -- which the promise holds, and in which the host was refused no memory
-pub record IsRun (start : SimValue) (lines : List Line) (text : List ℕ) (after : SimValue) : Type 0 where
+pub record IsRun (start : SimValue) (lines : List Line) (text : Bytes) (after : SimValue) : Type 0 where
   pub steps : List Step
   pub promise : Promise start steps
   pub none_refused : NoneRefused steps
@@ -126,13 +128,13 @@ pub record IsRun (start : SimValue) (lines : List Line) (text : List ℕ) (after
   pub leaves : after ≡ flash_after start steps
 
 -- a script that is run on this flash prints this text, and leaves the flash `after`
-pub record IsOutput (start : SimValue) (script text : List ℕ) (after : SimValue) : Type 0 where
+pub record IsOutput (start : SimValue) (script text : Bytes) (after : SimValue) : Type 0 where
   pub said : List Line
   pub sound : Script (page_count start.image) 1 (lines script) said
   pub run : IsRun start said text after
 
 -- the first lines of a sound script, and not all, print this text
-pub record IsBegun (start : SimValue) (script text : List ℕ) : Type 0 where
+pub record IsBegun (start : SimValue) (script text : Bytes) : Type 0 where
   pub said : List Line
   pub sound : Script (page_count start.image) 1 (lines script) said
   pub count : ℕ

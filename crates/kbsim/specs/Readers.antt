@@ -1,5 +1,6 @@
 -- Believed: why a script is not read, and what comes of reading an image.
-use Rattle.std.specs.Prelude.{ℕ, List, Option, IfSome, ⊤}
+use Rattle.shapes.specs.Shapes.{Bytes}
+use Rattle.std.specs.Prelude.{ℕ, Option, IfSome, ⊤}
 use Rattle.text_io.specs.declared.fault.ReadError.{ReadError}
 use Rattle.text_io.specs.declared.fault.ReadError.TheVariants as read
 use Rattle.flash_model.specs.Image.{IsImage}
@@ -17,7 +18,7 @@ abbrev pub largest : ℕ
 largest = 32768
 
 -- why there is no flash of an image, where its bytes are known
-abbrev pub IsImageFault : Option (List ℕ) → RunError → Type 0
+abbrev pub IsImageFault : Option Bytes → RunError → Type 0
 IsImageFault left error.Image = IfSome left (λ image. IsImage image → ⊥)
 IsImageFault left error.Input = ⊤
 IsImageFault left error.Memory = ⊤

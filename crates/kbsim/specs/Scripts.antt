@@ -1,4 +1,5 @@
 -- Believed: why a script is not run to its end.
+use Rattle.shapes.specs.Shapes.{Bytes}
 use Rattle.std.specs.Prelude.{ℕ, ◌<◌, ◌≤◌, ◌⊎◌, List, length, Option, IfSome, ⊤}
 use Rattle.std.specs.Str.Lines.{lines}
 use Rattle.text_io.specs.Readers.{longest}
@@ -8,13 +9,13 @@ use Rattle.kbsim.specs.declared.fault.RunError.{RunError}
 use Rattle.kbsim.specs.declared.fault.RunError.TheVariants as error
 
 -- a text is short enough, and each of its lines says something or nothing
-pub record IsSound (pages : ℕ) (text : List ℕ) : Type 0 where
+pub record IsSound (pages : ℕ) (text : Bytes) : Type 0 where
   pub said : List Line
   pub short : length text ≤ longest
   pub script : Script pages 1 (lines text) said
 
 -- why the run of a script ends early, where its text is known
-abbrev pub IsRunFault : ℕ → Option (List ℕ) → RunError → Type 0
+abbrev pub IsRunFault : ℕ → Option Bytes → RunError → Type 0
 IsRunFault pages text (error.Line number fault) = IfSome text (λ t. (length t ≤ longest) × IsFirstFault pages (lines t) number fault)
 IsRunFault pages text error.TooLong = IfSome text (λ t. longest < length t)
 IsRunFault pages text error.PageCount = (pages < 2) ⊎ (8 < pages)

@@ -8,7 +8,7 @@ ghost use Rattle.text_io.specs.Printers.{Prints, given, printed, printer_writer}
 ghost use Rattle.text_io.specs.Readers.{longest};
 ghost use Rattle.flash_model.specs.Image.{page_count};
 ghost use Rattle.flash_model.specs.Sim.{SimValue};
-ghost use Rattle.world.specs.Stands.{StandsFor};
+ghost use Rattle.world.specs.ties.Stands.{StandsFor};
 ghost use Rattle.kbsim.specs.Outputs.{set_report, blank, IsFlashWork, LineRuns, IsRepeated, IsRefusedSet, IsTakenSet, IsRun, IsOutput, IsBegun, GoesOn, Takes, IsPassed};
 ghost use Rattle.kbsim.specs.Prints.{fault_line};
 ghost use Rattle.kbsim.specs.Scripts.{IsEarly, IsSound, IsRunFault};

@@ -3,9 +3,9 @@ use Rattle.std.proofs.Common.{◌≡◌, ℕ, List, [], ◌∷◌, ◌++◌, map
 use Rattle.debounce.specs.declared.Scan.{Scan}
 use Rattle.debounce.specs.Scans.{set_keys}
 use Rattle.layers.specs.Held.{HeldCall}
-use Rattle.layers.specs.HeldStands.{HeldValue, with_names, HeldStandsFor}
+use Rattle.layers.specs.ties.HeldStands.{HeldValue, with_names, HeldStandsFor}
 use Rattle.debounce.specs.declared.debouncer.Edges.{Edges}
-use Rattle.key_reports.specs.Edges.{with_releases, with_presses, with_edges, Takes}
+use Rattle.key_reports.specs.ties.Edges.{with_releases, with_presses, with_edges, Takes}
 use Rattle.key_reports.proofs.Those.{reverse-more}
 
 -- `call` was made for each of these keys, in order

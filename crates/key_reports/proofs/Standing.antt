@@ -5,24 +5,24 @@ use Rattle.debounce.specs.declared.Scan.{Scan}
 use Rattle.debounce.specs.declared.debouncer.Edges.{Edges}
 use Rattle.debounce.specs.Scans.{has, set_keys}
 use Rattle.debounce.specs.Samples.{down}
-use Rattle.debounce.specs.Stands as debounce
+use Rattle.debounce.specs.ties.Stands as debounce
 use Rattle.layers.specs.Codes.{keys}
 use Rattle.layers.specs.Held.{HeldCall, any_below, code}
-use Rattle.layers.specs.HeldStands.{HeldValue, HeldStandsFor}
+use Rattle.layers.specs.ties.HeldStands.{HeldValue, HeldStandsFor}
 use Rattle.layers.specs.Usages.{UsageSets, has_key, has_consumer, key_usages, consumer_usages}
 use Rattle.reports.specs.declared.Protocol.{Protocol}
 use Rattle.reports.specs.declared.Input.{Input}
 use Rattle.reports.specs.declared.Input.TheVariants.{Boot, One, Two}
 use Rattle.reports.specs.Calls.{PollerCall, ticked}
-use Rattle.reports.specs.Kept as reports_kept
-use Rattle.reports.specs.Stands as reports
+use Rattle.reports.specs.ties.Kept as reports_kept
+use Rattle.reports.specs.ties.Stands as reports
 use Rattle.reports.specs.Wanted.{wanted, boot_bytes, bitmap_bytes, consumer_bytes}
 use Rattle.reports.specs.Poll.{poll_answer}
 use Rattle.key_reports.specs.Calls.{KeyCall, Scanned, Asked}
 use Rattle.key_reports.specs.Past.{scans_of, held_calls, poller_calls, those_below, presses, releases, keys_after, consumer_after, wanted_after, answer_after}
-use Rattle.key_reports.specs.Edges.{with_releases, with_presses, with_edges, Takes}
-use Rattle.key_reports.specs.Value.{KeysValue}
-use Rattle.key_reports.specs.Stands.{StandsFor}
+use Rattle.key_reports.specs.ties.Edges.{with_releases, with_presses, with_edges, Takes}
+use Rattle.key_reports.specs.ties.Value.{KeysValue}
+use Rattle.key_reports.specs.ties.Stands.{StandsFor}
 use Rattle.key_reports.proofs.Those.{those_below-same, those_below-none, those-keys}
 
 -- the wanted bytes by sets that are those of the held keys

@@ -1,4 +1,5 @@
 -- Believed: the code of a key, said of its latest press.
+use Rattle.shapes.specs.Shapes.{KeyCodes}
 use Rattle.std.specs.Prelude.{◌≡◌, ℕ, ◌<◌, ◌&&◌, ◌||◌, Bool, true, false, IsTrue, nat_lt, if◌then◌else◌, Option, Some, None, List, [], ◌∷◌, ◌++◌}
 use Rattle.debounce.specs.declared.Scan.{Scan}
 use Rattle.debounce.specs.Samples.{down}
@@ -29,7 +30,7 @@ abbrev pub is_elder : Scan → List Scan → ℕ → ℕ → Bool
 is_elder scan scans key other = down (scan ∷ scans) other && (down scans other || nat_lt other key)
 
 -- the codes of the elders at that scan
-abbrev pub elder_codes : Scan → List ℕ → Protocol → List KeyCall → ℕ → ℕ → Option ℕ
+abbrev pub elder_codes : Scan → KeyCodes → Protocol → List KeyCall → ℕ → ℕ → Option ℕ
 elder_codes scan keymap protocol past key other =
     if is_elder scan (scans_of past) key other then code_after (Scanned scan keymap protocol ∷ past) other else None
 
@@ -38,7 +39,7 @@ elder_codes scan keymap protocol past key other =
 pub record HasCode (past : List KeyCall) (key : ℕ) : Type 0 where
   pub later : List KeyCall
   pub scan : Scan
-  pub keymap : List ℕ
+  pub keymap : KeyCodes
   pub protocol : Protocol
   pub before : List KeyCall
   pub split : past ≡ later ++ Scanned scan keymap protocol ∷ before

@@ -2,6 +2,4 @@ pub mod Calls
 pub mod Past
 pub mod Codes
 pub mod Tables
-pub mod Value
-pub mod Stands
-pub mod Edges
+pub mod ties

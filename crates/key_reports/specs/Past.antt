@@ -1,5 +1,6 @@
 -- Believed: what the calls, newest first, come to: scans, presses and releases, the wanted bytes of the reports, the calls
 -- of the poller, and the answer of a poll.
+use Rattle.shapes.specs.Shapes.{Bytes}
 use Rattle.std.specs.Prelude.{ℕ, zero, suc, Bool, ◌&&◌, not, if◌then◌else◌, Option, List, [], ◌∷◌, ◌++◌, map}
 use Rattle.debounce.specs.declared.Scan.{Scan}
 use Rattle.debounce.specs.Samples.{down}
@@ -55,7 +56,7 @@ unfoldable pub consumer_after : List KeyCall → ℕ → Bool
 consumer_after past = consumer_usages (held_calls past)
 
 -- the bytes that each report has to have for these usages
-abbrev pub wanted_after : List KeyCall → Input → List ℕ
+abbrev pub wanted_after : List KeyCall → Input → Bytes
 wanted_after past = wanted (keys_after past) (consumer_after past)
 
 -- the calls of the poller: a scan is a tick, with the bytes of each report before the scan and after it
@@ -66,5 +67,5 @@ poller_calls (Scanned scan keymap protocol ∷ past) =
 poller_calls (Asked call ∷ past) = call ∷ poller_calls past
 
 -- what a poll in this protocol answers: the first report that waits, else that of the poll rule
-unfoldable pub answer_after : Protocol → List KeyCall → Option (List ℕ)
+unfoldable pub answer_after : Protocol → List KeyCall → Option Bytes
 answer_after protocol past = poll_answer protocol (wanted_after past) (poller_calls past)

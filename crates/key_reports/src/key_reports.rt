@@ -29,7 +29,7 @@ pub struct KeyReports {
 
 impl Model for KeyReports {
     ghost use Rattle.std.specs.Prelude.{◌≡◌, true};
-    ghost use Rattle.key_reports.specs.Value.{KeysValue};
+    ghost use Rattle.key_reports.specs.ties.Value.{KeysValue};
 
     ghost Value = { KeysValue };
 
@@ -39,7 +39,7 @@ impl Model for KeyReports {
 }
 
 impl KeyReports {
-    ghost use Rattle.key_reports.specs.Stands.{StandsFor};
+    ghost use Rattle.key_reports.specs.ties.Stands.{StandsFor};
 
     /// Every key up, and nothing sent. Takes the memory of the reports that wait, and is refused where
     /// there is none; no other call takes memory.

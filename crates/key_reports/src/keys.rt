@@ -1,11 +1,11 @@
 //! The held keys after the edges of a scan, and the bytes of the reports for them.
 
 ghost use Rattle.std.specs.Prelude.{◌≡◌, true, List};
-ghost use Rattle.layers.specs.HeldStands.{HeldStandsFor};
+ghost use Rattle.layers.specs.ties.HeldStands.{HeldStandsFor};
 ghost use Rattle.reports.specs.Calls.{PollerCall};
-ghost use Rattle.reports.specs.Stands.{StandsFor, IsMade, IsMadeFor};
+ghost use Rattle.reports.specs.ties.Stands.{StandsFor, IsMade, IsMadeFor};
 ghost use Rattle.key_reports.specs.Calls.{KeyCall};
-ghost use Rattle.key_reports.specs.Edges.{with_releases, with_presses, with_edges, Takes};
+ghost use Rattle.key_reports.specs.ties.Edges.{with_releases, with_presses, with_edges, Takes};
 ghost use Rattle.key_reports.specs.Past.{held_calls, wanted_after};
 
 use debounce::{Edges, Scan};

@@ -2,7 +2,7 @@
 use Rattle.std.proofs.Common.{◌≡◌, ℕ, ◌+◌, ◌-◌, ◌<◌, ◌≤◌, ◌==◌, not, Bool, true, false, Option, Some, None, is_none, List, [], ◌∷◌, length, get_or, take, drop, refl, arith, sym, ap, ◌∙◌}
 use Rattle.std.proofs.lemmas.Bool.{or_right, not-true, not-false, eqb-true, eqb-false}
 use Rattle.std.proofs.Math.Seq.{take-length}
-use Rattle.key_reports_tests.specs.Calls.{calls_of}
+use Rattle.key_reports_tests.specs.ties.Calls.{calls_of}
 use Rattle.layers.specs.Codes.{keys, activates}
 use Rattle.layers.specs.Held.{code, resolved, any_below, any_has, is_active, passes}
 use Rattle.layers.specs.Keymaps.{code_at}

@@ -14,7 +14,7 @@ use Rattle.layers.specs.Keymaps.{code_at}
 use Rattle.key_reports.specs.Calls.{KeyCall}
 use Rattle.key_reports.specs.Codes.{code_after}
 use Rattle.key_reports.specs.Past.{scans_of, held_calls, is_down}
-use Rattle.key_reports_tests.specs.Plain.{scanned, elders_of}
+use Rattle.key_reports_tests.specs.ties.Plain.{scanned, elders_of}
 use Rattle.key_reports.proofs.Pressed.{code-none, code-stays, code-pressed}
 
 -- the scans before the newest

@@ -9,8 +9,8 @@ use Rattle.keymap_store.specs.Cut.{KeymapAfter, recorded, as_before}
 use Rattle.keymap_store.proofs.Cutting.{cut_leaves}
 use Rattle.keyboard.specs.Calls.{Call, image_after}
 use Rattle.keyboard.specs.Restart.{RestartsLegally}
-use Rattle.keyboard.specs.Value.{KeyboardValue, at_work}
-use Rattle.keyboard.specs.Stands.{StandsFor}
+use Rattle.keyboard.specs.ties.Value.{KeyboardValue, at_work}
+use Rattle.keyboard.specs.ties.Stands.{StandsFor}
 use Rattle.keyboard.proofs.Restarting.{restarts_with, restarts_without}
 
 by_keymap : (start : List ℕ) (past : List Call) (keyboard : KeyboardValue) (operation : Operation) (image : List ℕ) → StandsFor start past keyboard

@@ -17,10 +17,10 @@ use Rattle.keymap_store.specs.Submits.{IsWorn, HasPlace, Submits}
 use Rattle.keymap_store.specs.Store.{working as working_in}
 use Rattle.keymap_store.specs.Left.{left, Needs}
 use Rattle.keymap_store.specs.Operations.{operations_of}
-use Rattle.keymap_store.specs.Rest.{rest_of}
+use Rattle.keymap_store.specs.ties.Rest.{rest_of}
 use Rattle.keymap_store.specs.Value.{StoreValue}
-use Rattle.key_reports.specs.Value.{KeysValue}
-use Rattle.key_reports.specs.Stands as key_reports
+use Rattle.key_reports.specs.ties.Value.{KeysValue}
+use Rattle.key_reports.specs.ties.Stands as key_reports
 use Rattle.control_ep.specs.declared.why.Why.{Why}
 use Rattle.control_ep.specs.declared.why.Why.TheVariants.{Unsound, Worn}
 use Rattle.control_ep.specs.declared.answer.EpAnswer.{EpAnswer}
@@ -32,7 +32,7 @@ use Rattle.control_ep.specs.declared.answer.Verdict.TheVariants.{Done, Working, 
 use Rattle.control_ep.specs.Transfers.{HostReport, LedsWithId, LedsAlone, FeatureData, Stage, Rest, Sending, Taking, Waiting, Status, Stalled}
 use Rattle.control_ep.specs.Calls.{EpCall, Out as EpOut, Judged}
 use Rattle.control_ep.specs.Answers.{out_step, received_report, report_step, closing_step, judged_answer, verdict_answer}
-use Rattle.control_ep.specs.Stands as control_ep
+use Rattle.control_ep.specs.ties.Stands as control_ep
 use Rattle.keyboard.specs.Calls.{Call, Out, setup_of, image_after, keymap}
 use Rattle.keyboard.specs.Effects.{Entry, SentReport, report_named, report_taken, sent_as, leds_in, entry_in_report, selected}
 use Rattle.keyboard.specs.Keys.{key_calls}
@@ -42,9 +42,9 @@ use Rattle.keyboard.specs.Commands.{accepts, command_in_report, working}
 use Rattle.keyboard.specs.Endpoint.{verdict_told, ep_calls, stage_after}
 use Rattle.keyboard.specs.Bounded.{most_steps, steps_since}
 use Rattle.keyboard.specs.Lawful.{IsAnswered, OutAnswer}
-use Rattle.keyboard.specs.Value.{KeyboardValue, RunsOn, at_work}
-use Rattle.keyboard.specs.Stands.{StandsFor}
-use Rattle.keyboard.specs.Private.{VerdictLeaves, refused, selects, commands, Judges, verdict_of}
+use Rattle.keyboard.specs.ties.Value.{KeyboardValue, RunsOn, at_work}
+use Rattle.keyboard.specs.ties.Stands.{StandsFor}
+use Rattle.keyboard.specs.ties.Private.{VerdictLeaves, refused, selects, commands, Judges, verdict_of}
 use Rattle.keyboard.proofs.Changing.{changes-some, changes-nothing}
 use Rattle.keyboard.proofs.Bounding.{steps_since-none, accepted_image-now, nothing_needed, none_works}
 use Rattle.keyboard.proofs.Served.{Serves, serves}

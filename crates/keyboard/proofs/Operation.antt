@@ -17,10 +17,11 @@ use Rattle.page_turnover.specs.declared.log.ActivePage.{ActivePage}
 use Rattle.page_turnover.specs.declared.operation.Operation.{Operation}
 use Rattle.page_turnover.specs.declared.operation.Operation.TheVariants.{Program, Erase}
 use Rattle.page_turnover.specs.Header.{header_word}
-use Rattle.page_turnover.specs.Log.{Describes}
-use Rattle.page_turnover.specs.Made.{CanMake}
+use Rattle.page_turnover.specs.ties.Log.{Describes}
+use Rattle.page_turnover.specs.ties.Made.{CanMake}
 use Rattle.page_turnover.specs.Next.{next_operation, append_operation, turn_operation, is_ready}
-use Rattle.page_turnover.specs.Turn.{UnderWay, Copying, TargetIs, IsGood, copied, copies as copies_in, target_page, next_seq}
+use Rattle.page_turnover.specs.Turn.{copied, copies as copies_in, target_page, next_seq}
+use Rattle.page_turnover.specs.ties.Turn.{UnderWay, Copying, TargetIs, IsGood}
 use Rattle.page_turnover.specs.Words.{word_of as words_of, words_up_to, IsBlank, HasRoom}
 use Rattle.page_turnover.specs.Value.{LogValue, Target, Unread, Holds, Task, Rest, Append, Wait, Copy, Seal}
 use Rattle.page_turnover.proofs.Blanks.{blank_of, is_blank-blank}
@@ -32,7 +33,8 @@ use Rattle.keymap_store.specs.declared.store.Job.{Job}
 use Rattle.keymap_store.specs.declared.store.Job.TheVariants.{Resting, Appending, Turning}
 use Rattle.keymap_store.specs.Left.{left_for}
 use Rattle.keymap_store.specs.Next.{all_copies, next_task, with_task, next_operation_of}
-use Rattle.keymap_store.specs.Store.{Mirrors, IsAppending, IsTurning, OffersBelow, working as working_in}
+use Rattle.keymap_store.specs.Store.{working as working_in}
+use Rattle.keymap_store.specs.ties.Store.{Mirrors, IsAppending, IsTurning, OffersBelow}
 use Rattle.keymap_store.specs.Value.{StoreValue}
 use Rattle.keymap_store.proofs.Keymaps.{entries_of-is_code}
 use Rattle.keymap_store.proofs.NextTasks.{copies_small}

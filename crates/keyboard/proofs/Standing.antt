@@ -9,8 +9,8 @@ use Rattle.reports.specs.Calls.{polled, was_reset}
 use Rattle.key_reports.specs.Calls.{Scanned as KeysScanned, Asked}
 use Rattle.key_reports.specs.Past.{answer_after}
 use Rattle.key_reports.specs.Tables.{table}
-use Rattle.key_reports.specs.Value.{KeysValue}
-use Rattle.key_reports.specs.Stands as key_reports
+use Rattle.key_reports.specs.ties.Value.{KeysValue}
+use Rattle.key_reports.specs.ties.Stands as key_reports
 use Rattle.control_ep.specs.declared.why.Why.{Why}
 use Rattle.control_ep.specs.declared.why.Why.TheVariants.{ShortData, LongData, UnknownReport}
 use Rattle.control_ep.specs.declared.answer.EpAnswer.{EpAnswer}
@@ -25,7 +25,7 @@ use Rattle.control_ep.specs.Calls.{EpCall, Setup, Out as EpOut, In as EpIn, Rese
 use Rattle.control_ep.specs.Packets.{packet_at}
 use Rattle.control_ep.specs.Stage.{is_empty_packet}
 use Rattle.control_ep.specs.Answers.{out_step, in_answer, in_effect, packet_or_stall, received_report, report_step, closing_step, has_id}
-use Rattle.control_ep.specs.Stands as control_ep
+use Rattle.control_ep.specs.ties.Stands as control_ep
 use Rattle.keymap_store.specs.Value.{StoreValue}
 use Rattle.keymap_store.specs.Store.{working as working_in}
 use Rattle.keyboard.specs.Calls.{Call, Scanned, SetUp, Out, In, Polled, BusReset, setup_of, image_after, keymap}
@@ -35,8 +35,8 @@ use Rattle.keyboard.specs.Commands.{accepts, command_in_report, working, working
 use Rattle.keyboard.specs.Endpoint.{view_after, with_out, ep_calls, stage_after}
 use Rattle.keyboard.specs.Bounded.{counted, steps_since, accepted_image}
 use Rattle.keyboard.specs.Lawful.{IsAnswered, OutAnswer}
-use Rattle.keyboard.specs.Value.{KeyboardValue}
-use Rattle.keyboard.specs.Stands.{StandsFor}
+use Rattle.keyboard.specs.ties.Value.{KeyboardValue}
+use Rattle.keyboard.specs.ties.Stands.{StandsFor}
 use Rattle.keyboard.proofs.Accepting.{EndsNone, accepted-same}
 use Rattle.keyboard.proofs.Bounding.{steps_since-same, accepted_image-same}
 use Rattle.keyboard.proofs.Served.{Serves, serves}

@@ -1,21 +1,22 @@
 -- A keyboard that starts.
 use Rattle.std.proofs.Common.{◌≡◌, ℕ, ◌+◌, Some, None, List, [], drop, refl}
 use Rattle.reports.specs.declared.Protocol.TheVariants.{Report}
-use Rattle.key_reports.specs.Value.{KeysValue}
-use Rattle.key_reports.specs.Stands as key_reports
+use Rattle.key_reports.specs.ties.Value.{KeysValue}
+use Rattle.key_reports.specs.ties.Stands as key_reports
 use Rattle.control_ep.specs.Transfers.{Stage}
-use Rattle.control_ep.specs.Stands as control_ep
+use Rattle.control_ep.specs.ties.Stands as control_ep
 use Rattle.keymap_store.specs.Value.{StoreValue}
-use Rattle.keymap_store.specs.Store.{Mirrors, working as working_in}
+use Rattle.keymap_store.specs.Store.{working as working_in}
+use Rattle.keymap_store.specs.ties.Store.{Mirrors}
 use Rattle.keymap_store.specs.Left.{left, Needs}
 use Rattle.keymap_store.specs.Operations.{operations_of}
-use Rattle.keymap_store.specs.Rest.{rest_of}
+use Rattle.keymap_store.specs.ties.Rest.{rest_of}
 use Rattle.keyboard.specs.Effects.{leds_after, selected, protocol_after}
 use Rattle.keyboard.specs.Keys.{key_calls}
 use Rattle.keyboard.specs.Commands.{accepted, working}
 use Rattle.keyboard.specs.Endpoint.{ep_calls}
 use Rattle.keyboard.specs.Bounded.{steps_since, accepted_image}
-use Rattle.keyboard.specs.Stands.{StandsFor}
+use Rattle.keyboard.specs.ties.Stands.{StandsFor}
 use Rattle.keyboard.proofs.Bounding.{nothing_left, nothing_needed, none_works}
 
 pub stands_first : (image : List ℕ) (ep : Stage) (keys : KeysValue) (store : StoreValue) (layer key : ℕ) → control_ep.StandsFor [] ep → key_reports.StandsFor [] keys → Mirrors image store → working_in store.job ≡ None → layer ≡ 0 → key ≡ 0

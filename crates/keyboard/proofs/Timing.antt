@@ -3,8 +3,8 @@ use Rattle.std.proofs.Common.{ℕ, ◌+◌, ◌≤◌, IsSome, List, arith}
 use Rattle.keymap_store.specs.Left.{left}
 use Rattle.keyboard.specs.Calls.{Call, image_after}
 use Rattle.keyboard.specs.Bounded.{steps_since, IsInTime}
-use Rattle.keyboard.specs.Value.{KeyboardValue, at_work}
-use Rattle.keyboard.specs.Stands.{StandsFor}
+use Rattle.keyboard.specs.ties.Value.{KeyboardValue, at_work}
+use Rattle.keyboard.specs.ties.Stands.{StandsFor}
 use Rattle.keyboard.proofs.Bounding.{needs_more}
 
 pub is_in_time : (start : List ℕ) (past : List Call) (keyboard : KeyboardValue) → StandsFor start past keyboard → IsInTime start past

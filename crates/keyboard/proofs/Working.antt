@@ -21,15 +21,16 @@ use Rattle.keymap_store.specs.Keymap.{SameEntries}
 use Rattle.keymap_store.specs.Left.{left, Needs}
 use Rattle.keymap_store.specs.Next.{next_operation_of}
 use Rattle.keymap_store.specs.Operations.{operations_of}
-use Rattle.keymap_store.specs.Rest.{rest_of}
-use Rattle.keymap_store.specs.Store.{Mirrors, working as working_in}
+use Rattle.keymap_store.specs.ties.Rest.{rest_of}
+use Rattle.keymap_store.specs.Store.{working as working_in}
+use Rattle.keymap_store.specs.ties.Store.{Mirrors}
 use Rattle.keymap_store.specs.Value.{StoreValue}
 use Rattle.keymap_store.specs.Works.{WorksAs, IsAppendedFor}
 use Rattle.keymap_store.proofs.Cutting.{cut_leaves}
 use Rattle.keymap_store.proofs.Ordering.{needs_all, needed_once, next_is_first}
 use Rattle.control_ep.specs.Calls.{Settle, Fail}
 use Rattle.control_ep.specs.Transfers.{Stage}
-use Rattle.control_ep.specs.Stands as control_ep
+use Rattle.control_ep.specs.ties.Stands as control_ep
 use Rattle.keyboard.specs.Calls.{Call, Worked, image_after, keymap, EachCall}
 use Rattle.keyboard.specs.Effects.{leds_after, selected, protocol_after}
 use Rattle.keyboard.specs.Keys.{key_calls}
@@ -38,11 +39,11 @@ use Rattle.keyboard.specs.Endpoint.{ep_calls}
 use Rattle.keyboard.specs.Bounded.{most_steps, steps_since, accepted_image}
 use Rattle.keyboard.specs.Operated.{Works, ComesTo, Advances, IsCutShort}
 use Rattle.keyboard.specs.Lawful.{WorkedOn, IsAnswered, MakesSuch}
-use Rattle.keyboard.specs.Private.{Operating}
+use Rattle.keyboard.specs.ties.Private.{Operating}
 use Rattle.keyboard.specs.Restart.{RestartsLegally, CutsLegally}
 use Rattle.keyboard.proofs.Restarting.{restarts_with, restarts_without}
-use Rattle.keyboard.specs.Value.{KeyboardValue, at_work}
-use Rattle.keyboard.specs.Stands.{StandsFor}
+use Rattle.keyboard.specs.ties.Value.{KeyboardValue, at_work}
+use Rattle.keyboard.specs.ties.Stands.{StandsFor}
 use Rattle.keyboard.proofs.Accepting.{ended_by-idle, ended_by-working}
 use Rattle.keyboard.proofs.Bounding.{needs_more, steps_since-more, nothing_left, accepted_image-same, nothing_needed, none_works}
 use Rattle.keyboard.proofs.Effects.{accepts-work}

@@ -1,4 +1,5 @@
 -- Believed: what the host was told is stored.
+use Rattle.shapes.specs.Shapes.{Bytes}
 use Rattle.std.specs.Prelude.{◌≡◌, ℕ, ◌<◌, Option, None, Some, List, [], ◌∷◌, ◌++◌}
 use Rattle.layers.specs.Codes.{layers, keys}
 use Rattle.layers.specs.Entries.{written}
@@ -48,7 +49,7 @@ pub record IsAcknowledgedInSession (past : List Call) (layer key code : ℕ) : T
   pub not_since : NoneAcceptedWrites (after ++ confirmation ∷ between) (packet ∷ before) layer key
 
 -- what the host was told is stored is what the flash says
-abbrev pub KeepsAcknowledged : List ℕ → List Call → Type 0
+abbrev pub KeepsAcknowledged : Bytes → List Call → Type 0
 KeepsAcknowledged start past =
     (layer key code : ℕ) → IsAcknowledgedInSession past layer key code → keymap (image_after start past) layer key ≡ code
 
@@ -68,7 +69,7 @@ pub record SettledAfter (earlier : List Accepted) (command : Command) (all : Lis
 
 -- of the commands accepted in a session, the one that was accepted on top of these calls is settled: it comes right after
 -- those that the calls before it accepted
-pub record IsSettled (start : List ℕ) (past before : List Call) (command : Command) : Type 0 where
+pub record IsSettled (start : Bytes) (past before : List Call) (command : Command) : Type 0 where
   pub since : List Call
   pub past_is : past ≡ since ++ before
   pub settled_at : SettledAfter (accepted_before start since before) command (accepted start past)

@@ -1,4 +1,5 @@
 -- Believed: how many steps of the flash work a command takes.
+use Rattle.shapes.specs.Shapes.{Bytes}
 use Rattle.std.specs.Prelude.{ℕ, suc, ◌≤◌, IsSome, Option, Some, None, List, [], ◌∷◌}
 use Rattle.layers.specs.declared.command.Command.{Command}
 use Rattle.keyboard.specs.Calls.{Call, Worked, image_after}
@@ -24,15 +25,15 @@ steps_since [] = 0
 steps_since (call ∷ before) = unless_accepted (accepts before call) (counted call (steps_since before))
 
 -- the image where a command is accepted, else the one that was noted before
-abbrev pub image_if : Option Command → List ℕ → List ℕ → List ℕ
+abbrev pub image_if : Option Command → Bytes → Bytes → Bytes
 image_if (Some command) image before = image
 image_if None image before = before
 
 -- the flash's image when the latest command was accepted
-unfoldable pub accepted_image : List ℕ → List Call → List ℕ
+unfoldable pub accepted_image : Bytes → List Call → Bytes
 accepted_image start [] = start
 accepted_image start (call ∷ before) = image_if (accepts before call) (image_after start before) (accepted_image start before)
 
 -- while a command works fewer steps than the most were made for it, so it is settled or failed by the last of them
-abbrev pub IsInTime : List ℕ → List Call → Type 0
+abbrev pub IsInTime : Bytes → List Call → Type 0
 IsInTime start past = IsSome (working start past) → suc (steps_since past) ≤ most_steps

@@ -1,4 +1,5 @@
 -- Believed: the commands of a session: which were accepted, in order, and what has become of each.
+use Rattle.shapes.specs.Shapes.{Bytes}
 use Rattle.std.specs.Prelude.{ℕ, Option, None, Some, List, [], ◌∷◌, ◌++◌, drop, map}
 use Rattle.std.specs.Option.{option_or, option_and_then}
 use Rattle.std.specs.Result.{result_ok}
@@ -15,7 +16,7 @@ pub record Accepted : Type 0 where
   pub fate : Fate
 
 -- the command in a report: in its bytes after the ID, if it is the feature report
-abbrev pub command_of : HostReport → List ℕ → Option Command
+abbrev pub command_of : HostReport → Bytes → Option Command
 command_of FeatureData bytes = result_ok (command_in (drop 1 bytes))
 command_of _ bytes = None
 
@@ -33,14 +34,14 @@ accepted_with entries after (Some command) = record { command = command; fate = 
 accepted_with entries after None = []
 
 -- the commands accepted in these calls, in order, each with what became of it by the calls `after` them, newest first
-abbrev pub accepted_before : List ℕ → List Call → List Call → List Accepted
+abbrev pub accepted_before : Bytes → List Call → List Call → List Accepted
 accepted_before start after [] = []
 accepted_before start after (call ∷ before) =
     accepted_before start (after ++ call ∷ []) before
     ++ accepted_with (keymap (image_after start before)) after (accepts before call)
 
 -- the commands accepted in a session, in order
-unfoldable pub accepted : List ℕ → List Call → List Accepted
+unfoldable pub accepted : Bytes → List Call → List Accepted
 accepted start past = accepted_before start [] past
 
 -- a command, where this became of it: that it works
@@ -64,7 +65,7 @@ working_of [] = None
 working_of (one ∷ later) = option_or (working_of later) (if_works one.fate one.command)
 
 -- the command that works after these calls, if one does: the keyboard is busy then
-unfoldable pub working : List ℕ → List Call → Option Command
+unfoldable pub working : Bytes → List Call → Option Command
 working start past = working_of (accepted start past)
 
 -- those that are settled, in order

@@ -1,5 +1,6 @@
 -- Believed: what the host has set: LEDs, the selected entry, the protocol and the idle values, read off the answers that
 -- were given and the SETUP packets that they belong to.
+use Rattle.shapes.specs.Shapes.{Bytes}
 use Rattle.std.specs.Prelude.{ℕ, ◌%◌, ◌/◌, ◌^◌, ◌==◌, ◌&&◌, if◌then◌else◌, Option, None, Some, unwrap_or, Result, Ok, List, [], ◌∷◌, slice_index}
 use Rattle.std.specs.Option.{option_map, option_and_then, option_map_or}
 use Rattle.reports.specs.declared.Protocol.{Protocol}
@@ -30,16 +31,16 @@ report_of_request request =
     if (request.kind == 0x21) && (request.code == 0x09) then report_of_value request.value else None
 
 -- the report that a SETUP packet names by SET_REPORT, if there is such a packet and it names one
-unfoldable pub report_named : Option (List ℕ) → Option HostReport
+unfoldable pub report_named : Option Bytes → Option HostReport
 report_named setup = option_and_then (λ bytes. report_of_request (request_of bytes)) setup
 
 -- a report that the host has sent: which one its SETUP packet named, and its bytes
 pub record SentReport : Type 0 where
   pub report : HostReport
-  pub bytes : List ℕ
+  pub bytes : Bytes
 
 -- a packet as a report
-abbrev pub sent_as : List ℕ → HostReport → SentReport
+abbrev pub sent_as : Bytes → HostReport → SentReport
 sent_as packet report = record { report = report; bytes = packet }
 
 -- the report that a call took: an OUT packet that was acknowledged, of a transfer that names a report
@@ -48,7 +49,7 @@ report_taken before (Out packet Ack) = option_map (sent_as packet) (report_named
 report_taken before _ = None
 
 -- the LEDs of a report, bits 0 to 4 (HUT page 08h), and none of a feature report
-abbrev pub leds_of : HostReport → List ℕ → Option ℕ
+abbrev pub leds_of : HostReport → Bytes → Option ℕ
 leds_of LedsWithId bytes = Some (slice_index bytes 1 % 2 ^ 5)
 leds_of LedsAlone bytes = Some (slice_index bytes 0 % 2 ^ 5)
 leds_of FeatureData bytes = None
@@ -69,7 +70,7 @@ pub record Entry : Type 0 where
   pub key : ℕ
 
 -- the entry that a feature report of operation 0 selects
-abbrev pub entry_of : HostReport → List ℕ → Option Entry
+abbrev pub entry_of : HostReport → Bytes → Option Entry
 entry_of FeatureData bytes =
     if slice_index bytes 1 == 0 then Some (record { layer = slice_index bytes 2; key = slice_index bytes 3 }) else None
 entry_of _ bytes = None
@@ -97,7 +98,7 @@ effect_of_request request =
     else Nothing)
 
 -- what a SETUP packet asks for by SET_IDLE or SET_PROTOCOL, if there is one
-unfoldable pub effect_asked : Option (List ℕ) → Effect
+unfoldable pub effect_asked : Option Bytes → Effect
 effect_asked setup = option_map_or (λ bytes. effect_of_request (request_of bytes)) setup Nothing
 
 -- what an answer to an IN packet brings about: the empty packet of its status stage ends a request without data

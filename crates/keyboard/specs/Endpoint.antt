@@ -1,4 +1,5 @@
 -- Believed: the calls of the control endpoint: what a SETUP packet is answered from, and the verdicts on feature reports.
+use Rattle.shapes.specs.Shapes.{Bytes}
 use Rattle.std.specs.Prelude.{ℕ, ◌%◌, ◌/◌, Bool, if◌then◌else◌, List, [], ◌∷◌}
 use Rattle.reports.specs.declared.Input.TheVariants.{Boot, One, Two}
 use Rattle.reports.specs.Poll.{idle_value}
@@ -22,12 +23,12 @@ use Rattle.keyboard.specs.Feature.{command_in}
 use Rattle.keyboard.specs.Fate.{changes_by}
 
 -- the feature report: its ID, 0, layer and key of an entry, and its code, low byte first
-abbrev pub feature_report : Entry → (ℕ → ℕ → ℕ) → List ℕ
+abbrev pub feature_report : Entry → (ℕ → ℕ → ℕ) → Bytes
 feature_report entry entries =
     3 ∷ 0 ∷ entry.layer ∷ entry.key ∷ entries entry.layer entry.key % 256 ∷ entries entry.layer entry.key / 256 ∷ []
 
 -- the keyboard as a SETUP packet finds it: what was set, the selected entry, and the bytes that each report has now
-unfoldable pub view_after : List ℕ → List Call → DeviceView
+unfoldable pub view_after : Bytes → List Call → DeviceView
 view_after start past = record {
   protocol = protocol_after past;
   idle_one = idle_value One (poller_calls (key_calls start past));
@@ -48,14 +49,14 @@ verdict_told changing (Stall why) = Refused why
 verdict_told changing _ = Busy
 
 -- an OUT packet, with the verdict on it where it was offered
-abbrev pub with_out : OutStep → List ℕ → (ℕ → ℕ → ℕ) → EpAnswer → List EpCall → List EpCall
+abbrev pub with_out : OutStep → Bytes → (ℕ → ℕ → ℕ) → EpAnswer → List EpCall → List EpCall
 with_out (Offer bytes) packet entries answer calls =
     Judged (verdict_told (changes_by entries (command_in bytes)) answer) answer ∷ EpOut packet (Offer bytes) ∷ calls
 with_out step packet entries answer calls = EpOut packet step ∷ calls
 
 -- the keyboard's calls as those of its control endpoint: a step of the flash work is one where it ends a command, and a
 -- scan or a poll is none
-unfoldable pub ep_calls : List ℕ → List Call → List EpCall
+unfoldable pub ep_calls : Bytes → List Call → List EpCall
 ep_calls start [] = []
 ep_calls start (SetUp bytes ∷ before) = Setup bytes (view_after start before) ∷ ep_calls start before
 ep_calls start (Out packet answer ∷ before) =
@@ -67,5 +68,5 @@ ep_calls start (BusReset ∷ before) = Reset ∷ ep_calls start before
 ep_calls start (_ ∷ before) = ep_calls start before
 
 -- the stage of the transfer
-abbrev pub stage_after : List ℕ → List Call → Stage
+abbrev pub stage_after : Bytes → List Call → Stage
 stage_after start past = stage (ep_calls start past)

@@ -1,5 +1,6 @@
 -- Believed: the feature report and the checks that it has to pass.
-use Rattle.std.specs.Prelude.{◌≡◌, ℕ, ◌+◌, ◌*◌, Bool, true, nat_lt, if◌then◌else◌, Result, Ok, Err, List, slice_index}
+use Rattle.shapes.specs.Shapes.{Bytes}
+use Rattle.std.specs.Prelude.{◌≡◌, ℕ, ◌+◌, ◌*◌, Bool, true, nat_lt, if◌then◌else◌, Result, Ok, Err, slice_index}
 use Rattle.layers.specs.Codes.{layers, keys}
 use Rattle.layers.specs.Commands.{command_read}
 use Rattle.layers.specs.Entries.{ChangesNothing}
@@ -15,7 +16,7 @@ use Rattle.keyboard.specs.Calls.{keymap}
 
 -- the command in a report's bytes after its ID: operation, layer, key, and the code, low byte first; or the first of
 -- these numbers that is none
-abbrev pub command_in : List ℕ → Result Command KeymapError
+abbrev pub command_in : Bytes → Result Command KeymapError
 command_in bytes =
     command_read (slice_index bytes 0) (slice_index bytes 1) (slice_index bytes 2) (slice_index bytes 3 + 256 * slice_index bytes 4)
 
@@ -25,7 +26,7 @@ pub data Where (p q r : Type 0) : Type 0 where
   no : (p → ⊥) → r → Where p q r
 
 -- the answer to a well-formed command on an image
-abbrev pub CommandAnswer : List ℕ → Command → EpAnswer → Type 0
+abbrev pub CommandAnswer : Bytes → Command → EpAnswer → Type 0
 CommandAnswer image command answer =
     Where (IsUsable image → ⊥) (answer ≡ Stall Unsound)
     (Where (ChangesNothing (keymap image) command) (answer ≡ Ack)
@@ -33,7 +34,7 @@ CommandAnswer image command answer =
     (answer ≡ Ack)))
 
 -- the answer to what was read as a command: the first number that is none is refused for its reason
-abbrev pub ReadAnswer : List ℕ → Result Command KeymapError → EpAnswer → Type 0
+abbrev pub ReadAnswer : Bytes → Result Command KeymapError → EpAnswer → Type 0
 ReadAnswer image (Err error) answer = answer ≡ Stall (reason_of error)
 ReadAnswer image (Ok command) answer = CommandAnswer image command answer
 
@@ -44,7 +45,7 @@ select_answer layer key =
 
 -- the answer to a feature report of the right length and ID: NAK while a command works; else the first check that it
 -- does not pass decides
-abbrev pub FeatureAnswer : List ℕ → Bool → List ℕ → EpAnswer → Type 0
+abbrev pub FeatureAnswer : Bytes → Bool → Bytes → EpAnswer → Type 0
 FeatureAnswer image busy bytes answer =
     Where (busy ≡ true) (answer ≡ Nak)
     (Where (slice_index bytes 0 ≡ 0) (answer ≡ select_answer (slice_index bytes 1) (slice_index bytes 2))

@@ -1,4 +1,5 @@
 -- Believed: where a header comes from.
+use Rattle.shapes.specs.Shapes.{Bytes}
 use Rattle.std.specs.Prelude.{◌≡◌, ℕ, ◌<◌, List, length, slice_get, Some}
 use Rattle.records.specs.declared.Slot.TheVariants.{Good}
 use Rattle.records.specs.Slots.{slot_of}
@@ -18,7 +19,7 @@ use Rattle.keyboard.specs.Operated.{HoldsFirst}
 
 -- the header of a page is the one that the step had to write: the operation that is next for the command at work programs it,
 -- where there is no room, into slot 0 of the page after the active one, which holds all copies; and no other slot is touched
-pub record IsOwnHeader (start : List ℕ) (before : List Call) (page : ℕ) (new : List ℕ) : Type 0 where
+pub record IsOwnHeader (start : Bytes) (before : List Call) (page : ℕ) (new : Bytes) : Type 0 where
   pub command : Command
   pub works_on : working start before ≡ Some command
   pub operation : slice_get (operations_of (accepted_image start before) command) (steps_since before) ≡ Some (Program page 0 (header_word 2 (next_seq (image_after start before))))
@@ -29,11 +30,11 @@ pub record IsOwnHeader (start : List ℕ) (before : List Call) (page : ℕ) (new
   pub only : OneSlot (image_after start before) page 0 new
 
 -- a header stood there before, with these very bytes, or it is the one that the step had to write
-pub data ComesBy (start : List ℕ) (before : List Call) (page : ℕ) (new : List ℕ) : Type 0 where
+pub data ComesBy (start : Bytes) (before : List Call) (page : ℕ) (new : Bytes) : Type 0 where
   stood : slot_at new page 0 ≡ slot_at (image_after start before) page 0 → ComesBy start before page new
   is_own : IsOwnHeader start before page new → ComesBy start before page new
 
 -- each header after a step came so
-abbrev pub OwnHeaders : List ℕ → List Call → List ℕ → Type 0
+abbrev pub OwnHeaders : Bytes → List Call → Bytes → Type 0
 OwnHeaders start before new =
     IsImage (image_after start before) → IsImage new → (page seq : ℕ) → page < page_count new → HasHeader new page seq → ComesBy start before page new

@@ -1,4 +1,5 @@
 -- Believed: the calls of the keys: scans with keymap and protocol of their moment, polls, and what the host sets of them.
+use Rattle.shapes.specs.Shapes.{Bytes}
 use Rattle.std.specs.Prelude.{ℕ, List, [], ◌∷◌}
 use Rattle.control_ep.specs.declared.answer.Effect.{Effect}
 use Rattle.control_ep.specs.declared.answer.Effect.TheVariants.{Nothing, Idle, SetProtocol}
@@ -16,7 +17,7 @@ with_effect (SetProtocol chosen) calls = Asked forgot ∷ calls
 
 -- the keyboard's calls as those of its keys: an IN packet is one where it has an effect, and a SETUP packet, an OUT packet
 -- or a step of the flash work is none
-unfoldable pub key_calls : List ℕ → List Call → List KeyCall
+unfoldable pub key_calls : Bytes → List Call → List KeyCall
 key_calls start [] = []
 key_calls start (Scanned scan ∷ before) =
     KeysScanned scan (table (keymap (image_after start before))) (protocol_after before) ∷ key_calls start before

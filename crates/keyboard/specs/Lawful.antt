@@ -1,4 +1,5 @@
 -- Believed: what each call is answered, by the calls before it.
+use Rattle.shapes.specs.Shapes.{Bytes}
 use Rattle.std.specs.Prelude.{◌≡◌, ℕ, Bool, is_some, Option, None, Some, List}
 use Rattle.layers.specs.declared.command.Command.{Command}
 use Rattle.page_turnover.specs.declared.operation.Operation.{Operation}
@@ -20,18 +21,18 @@ use Rattle.keyboard.specs.Operated.{Works}
 
 -- the answer to an OUT packet, by what it comes to in its stage: the endpoint's own; that LEDs are taken; or the one that
 -- the checks of a feature report give, by this image and by whether the keyboard is busy with a command
-abbrev pub OutAnswer : OutStep → List ℕ → Bool → EpAnswer → Type 0
+abbrev pub OutAnswer : OutStep → Bytes → Bool → EpAnswer → Type 0
 OutAnswer (Answered answered) image busy answer = answer ≡ answered
 OutAnswer (Leds leds) image busy answer = answer ≡ Ack
 OutAnswer (Offer bytes) image busy answer = FeatureAnswer image busy bytes answer
 
 -- a step of the flash work. Where no command works nothing is operated
-abbrev pub WorkedOn : List ℕ → List Call → Option Command → WorkAnswer → List ℕ → Type 0
+abbrev pub WorkedOn : Bytes → List Call → Option Command → WorkAnswer → Bytes → Type 0
 WorkedOn start before None work new = (work ≡ Idle) × (new ≡ image_after start before)
 WorkedOn start before (Some command) work new = Works start before command (image_after start before) work new
 
 -- the answer of a call
-abbrev pub IsAnswered : List ℕ → List Call → Call → Type 0
+abbrev pub IsAnswered : Bytes → List Call → Call → Type 0
 IsAnswered start before (Scanned scan) = Unit {0}
 IsAnswered start before (SetUp bytes) = Unit {0}
 IsAnswered start before (Out packet answer) =
@@ -42,11 +43,11 @@ IsAnswered start before (Worked work image) = WorkedOn start before (working sta
 IsAnswered start before BusReset = Unit {0}
 
 -- each call of a session was answered so
-abbrev pub IsLawful : List ℕ → List Call → Type 0
+abbrev pub IsLawful : Bytes → List Call → Type 0
 IsLawful start past = EachCall IsAnswered start past
 
 -- a step of the flash work while a command works, and this holds of the operation that it makes
-pub record MakesSuch (start : List ℕ) (before : List Call) (work : WorkAnswer) (new : List ℕ) (such : Operation → Type 0) : Type 0 where
+pub record MakesSuch (start : Bytes) (before : List Call) (work : WorkAnswer) (new : Bytes) (such : Operation → Type 0) : Type 0 where
   pub command : Command
   pub works_on : working start before ≡ Some command
   pub step : Works start before command (image_after start before) work new

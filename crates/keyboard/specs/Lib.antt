@@ -12,8 +12,5 @@ pub mod Restart
 pub mod Lawful
 pub mod Acknowledged
 pub mod Sound
-pub mod Value
-pub mod Stands
 pub mod Turnovers
-pub mod Private
-pub mod Shown
+pub mod ties

@@ -1,4 +1,5 @@
 -- Believed: what a step of the flash work makes of the flash while a command works: one operation, whole or torn.
+use Rattle.shapes.specs.Shapes.{Bytes}
 use Rattle.std.specs.Prelude.{◌≡◌, ◌⊎◌, ℕ, suc, ◌+◌, ◌^◌, ◌<◌, ◌≤◌, List, [], ◌∷◌, ◌++◌, length, slice_get, slice_index, Some}
 use Rattle.records.specs.declared.Slot.TheVariants.{Free, Good}
 use Rattle.records.specs.Slots.{slot_of}
@@ -25,13 +26,13 @@ use Rattle.keyboard.specs.Calls.{Call, keymap}
 use Rattle.keyboard.specs.Bounded.{steps_since, accepted_image}
 
 -- the operation loses nothing: a word of 32 bits goes into a Free slot, or a page that is not the active one is erased
-abbrev pub LosesNothing : List ℕ → Operation → Type 0
+abbrev pub LosesNothing : Bytes → Operation → Type 0
 LosesNothing old (Program page slot word) =
     (page < page_count old) × (slot < 512) × (word < 2 ^ 32) × (slot_of (slot_at old page slot) ≡ Free)
 LosesNothing old (Erase page) = (page < page_count old) × ((seq : ℕ) → active old ≡ Some (page, seq) → ⊥)
 
 -- there is room in the active page, and the operation programs the command's record into its tail slot
-pub record IsRecord (command : Command) (old : List ℕ) (operation : Operation) : Type 0 where
+pub record IsRecord (command : Command) (old : Bytes) (operation : Operation) : Type 0 where
   pub room : HasRoom old
   pub page : ℕ
   pub tail : ℕ
@@ -40,7 +41,7 @@ pub record IsRecord (command : Command) (old : List ℕ) (operation : Operation)
 
 -- the page after the active one holds the first n of the words that set the entries that differ from the default, one a slot
 -- from slot 1 on, and its other slots are Free
-pub record HoldsFirst (old : List ℕ) (n : ℕ) : Type 0 where
+pub record HoldsFirst (old : Bytes) (n : ℕ) : Type 0 where
   pub header : slot_of (slot_at old (target_page old) 0) ≡ Free
   pub copied : (k : ℕ) → k < n → slot_of (slot_at old (target_page old) (k + 1)) ≡ Good (slice_index (all_copies (keymap old)) k)
   pub rest : FreeFrom old (target_page old) (n + 1)
@@ -48,7 +49,7 @@ pub record HoldsFirst (old : List ℕ) (n : ℕ) : Type 0 where
 -- the operation is one of a turn, on the page after the active one: the page is erased, where it is not blank; of the words
 -- that set the entries that differ from the default, the one at n is copied to slot n + 1, where the page holds those before
 -- it; or the header with the next sequence number goes to slot 0, where the page holds them all
-pub data IsOfTurn (old : List ℕ) (operation : Operation) : Type 0 where
+pub data IsOfTurn (old : Bytes) (operation : Operation) : Type 0 where
   erases : operation ≡ Erase (target_page old) → (IsBlank old (target_page old) → ⊥) → IsOfTurn old operation
   copies : (n : ℕ) → n < length (all_copies (keymap old))
       → operation ≡ Program (target_page old) (n + 1) (slice_index (all_copies (keymap old)) n) → HoldsFirst old n → IsOfTurn old operation
@@ -56,12 +57,12 @@ pub data IsOfTurn (old : List ℕ) (operation : Operation) : Type 0 where
       → IsOfTurn old operation
 
 -- the command's record is the last one of the log now, and the keymap is changed by the command
-pub record AddsRecord (command : Command) (old new : List ℕ) : Type 0 where
+pub record AddsRecord (command : Command) (old new : Bytes) : Type 0 where
   pub record_is : words new ≡ words old ++ word_of command ∷ []
   pub entries : SameEntries (keymap new) (changed (keymap old) (command ∷ []))
 
 -- what a step may come to: the command's record is there, or the keymap is as before
-abbrev pub ComesTo : Command → List ℕ → WorkAnswer → List ℕ → Type 0
+abbrev pub ComesTo : Command → Bytes → WorkAnswer → Bytes → Type 0
 ComesTo command old Settled new = AddsRecord command old new
 ComesTo command old Idle new = ⊥
 ComesTo command old _ new = SameEntries (keymap new) (keymap old)
@@ -69,7 +70,7 @@ ComesTo command old _ new = SameEntries (keymap new) (keymap old)
 -- the operations of a command's steps are, in order, those of the list that the flash and the command gave when it was accepted,
 -- and it needs as many steps as the list is long. The operation of the last one is its record, and each before is one of a
 -- turn, which is made where there is no room; a step that fails leaves words and active page as they were
-pub record Advances (accepted_at : List ℕ) (made : ℕ) (command : Command) (old : List ℕ) (operation : Operation) (work : WorkAnswer) (new : List ℕ) : Type 0 where
+pub record Advances (accepted_at : List ℕ) (made : ℕ) (command : Command) (old : Bytes) (operation : Operation) (work : WorkAnswer) (new : Bytes) : Type 0 where
   pub needed : ℕ
   pub needed_is : needed ≡ length (operations_of accepted_at command)
   pub within : suc made ≤ needed
@@ -83,12 +84,12 @@ pub record Advances (accepted_at : List ℕ) (made : ℕ) (command : Command) (o
 
 -- what the operation may have left where it was cut short: slots 0 are sound, and the keymap is as before, or changed by
 -- the command
-abbrev pub IsCutShort : Command → List ℕ → List ℕ → Type 0
+abbrev pub IsCutShort : Command → Bytes → Bytes → Type 0
 IsCutShort command old cut =
     IsUsable cut × (SameEntries (keymap cut) (keymap old) ⊎ SameEntries (keymap cut) (changed (keymap old) (command ∷ [])))
 
 -- a step of the flash work while a command works: one operation, what it leaves, and how it is answered
-pub record Works (start : List ℕ) (before : List Call) (command : Command) (old : List ℕ) (work : WorkAnswer) (new : List ℕ) : Type 0 where
+pub record Works (start : Bytes) (before : List Call) (command : Command) (old : Bytes) (work : WorkAnswer) (new : Bytes) : Type 0 where
   pub operation : Operation
   -- before it, all slots 0 are sound
   pub usable : IsUsable old
@@ -102,4 +103,4 @@ pub record Works (start : List ℕ) (before : List Call) (command : Command) (ol
   pub sound : IsUsable new
   pub wears : Wears old new
   -- whatever the power had left of it, if it had been cut inside the operation
-  pub cut : (image : List ℕ) → IsImage image → MayMake old operation image → IsCutShort command old image
+  pub cut : (image : Bytes) → IsImage image → MayMake old operation image → IsCutShort command old image

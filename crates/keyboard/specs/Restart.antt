@@ -1,4 +1,5 @@
 -- Believed: what a restart may find of the keymap.
+use Rattle.shapes.specs.Shapes.{Bytes}
 use Rattle.std.specs.Prelude.{◌≡◌, ℕ, Some, List, [], ◌∷◌, ◌++◌}
 use Rattle.flash_model.specs.Image.{IsImage}
 use Rattle.layers.specs.Entries.{changed}
@@ -28,14 +29,14 @@ pub record LegalRestart (entries : ℕ → ℕ → ℕ) (session : List Accepted
   pub changed_by : SameEntries next (changed entries (commands_of kept))
 
 -- a restart on this image, after these calls, is legal
-abbrev pub RestartsLegally : List ℕ → List Call → List ℕ → Type 0
+abbrev pub RestartsLegally : Bytes → List Call → Bytes → Type 0
 RestartsLegally start past image = LegalRestart (keymap start) (accepted start past) (keymap image)
 
 -- a step of the flash work made an operation for the command that works, and by the calls before it a restart is legal on
 -- each image that this operation might have left, had the power been cut inside it, and on the image that it left
-pub record CutsLegally (start : List ℕ) (past : List Call) (work : Work) (new : List ℕ) : Type 0 where
+pub record CutsLegally (start : Bytes) (past : List Call) (work : Work) (new : Bytes) : Type 0 where
   pub command : Command
   pub is_working : working start past ≡ Some command
   pub works : Works start past command (image_after start past) work new
-  pub legal : (cut : List ℕ) → IsImage cut → MayMake (image_after start past) works.operation cut → RestartsLegally start past cut
+  pub legal : (cut : Bytes) → IsImage cut → MayMake (image_after start past) works.operation cut → RestartsLegally start past cut
   pub left : RestartsLegally start past new

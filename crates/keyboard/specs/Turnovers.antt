@@ -1,4 +1,5 @@
 -- Believed: how far apart the turnovers of a session are.
+use Rattle.shapes.specs.Shapes.{Bytes}
 use Rattle.std.specs.Prelude.{ℕ, suc, List, [], ◌∷◌, ◌++◌}
 use Rattle.keymap_store.specs.declared.store.Work.{Work}
 use Rattle.keymap_store.specs.declared.store.Work.TheVariants.{Idle}
@@ -17,7 +18,7 @@ operations (Worked work image ∷ before) = with_step work (operations before)
 operations (_ ∷ before) = operations before
 
 -- none of these calls, newest first, on top of a past made another page the active one
-abbrev pub NoneTurnsOver : List ℕ → List Call → List Call → Type 0
+abbrev pub NoneTurnsOver : Bytes → List Call → List Call → Type 0
 NoneTurnsOver start [] past = Unit {0}
 NoneTurnsOver start (Worked work image ∷ before) past =
     (TurnsOver (image_after start (before ++ past)) image → ⊥) × NoneTurnsOver start before past

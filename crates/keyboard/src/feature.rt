@@ -2,7 +2,7 @@
 
 ghost use Rattle.std.specs.Prelude.{◌≡◌, ◌+◌, ◌*◌, slice_index};
 ghost use Rattle.keyboard.specs.Feature.{command_in};
-ghost use Rattle.keyboard.specs.Private.{verdict_of};
+ghost use Rattle.keyboard.specs.ties.Private.{verdict_of};
 
 use control_ep::{Verdict, Why};
 use keymap_store::{SubmitRefusal, Taken};

@@ -18,7 +18,7 @@ ghost use Rattle.keyboard.specs.Commands.{accepted, settled_of};
 ghost use Rattle.keyboard.specs.Keys.{key_calls};
 ghost use Rattle.keyboard.specs.Feature.{command_in, select_answer};
 ghost use Rattle.keyboard.specs.Endpoint.{verdict_told, stage_after};
-ghost use Rattle.keyboard.specs.Private.{Judges};
+ghost use Rattle.keyboard.specs.ties.Private.{Judges};
 ghost use Rattle.keyboard.specs.Restart.{CutsLegally};
 ghost use Rattle.keyboard.specs.Lawful.{IsAnswered, MakesSuch};
 
@@ -47,7 +47,7 @@ pub struct Keyboard {
 }
 
 impl Model for Keyboard {
-    ghost use Rattle.keyboard.specs.Value.{KeyboardValue};
+    ghost use Rattle.keyboard.specs.ties.Value.{KeyboardValue};
 
     ghost Value = { KeyboardValue };
 
@@ -55,8 +55,8 @@ impl Model for Keyboard {
 }
 
 impl Keyboard {
-    ghost use Rattle.keyboard.specs.Value.{RunsOn, at_work};
-    ghost use Rattle.keyboard.specs.Stands.{StandsFor};
+    ghost use Rattle.keyboard.specs.ties.Value.{RunsOn, at_work};
+    ghost use Rattle.keyboard.specs.ties.Stands.{StandsFor};
 
     /// A keyboard as it starts on a flash, whose keymap it reads: report protocol, no LED on, every key
     /// up, nothing sent, entry (0, 0) selected, and no transfer. `AllocError` where there was no room for

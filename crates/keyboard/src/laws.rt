@@ -24,9 +24,9 @@ ghost use Rattle.keyboard.specs.Lawful.{IsAnswered, IsLawful};
 ghost use Rattle.keyboard.specs.Operated.{Works, HoldsFirst};
 ghost use Rattle.keyboard.specs.Restart.{RestartsLegally};
 ghost use Rattle.keyboard.specs.Sound.{KeepsSound};
-ghost use Rattle.keyboard.specs.Stands.{StandsFor};
+ghost use Rattle.keyboard.specs.ties.Stands.{StandsFor};
 ghost use Rattle.keyboard.specs.Turnovers.{operations, NoneTurnsOver};
-ghost use Rattle.keyboard.specs.Value.{KeyboardValue};
+ghost use Rattle.keyboard.specs.ties.Value.{KeyboardValue};
 
 /// The keymap is that of the start changed by the settled commands, in order.
 pub fn keymap_is_of_settled()

@@ -16,8 +16,8 @@ pub struct Room {
 // No report waits in it: its keys stand for no call.
 impl Model for Room {
     ghost use Rattle.std.specs.Prelude.{[]};
-    ghost use Rattle.key_reports.specs.Value.{KeysValue};
-    ghost use Rattle.key_reports.specs.Stands.{StandsFor};
+    ghost use Rattle.key_reports.specs.ties.Value.{KeysValue};
+    ghost use Rattle.key_reports.specs.ties.Stands.{StandsFor};
 
     ghost Value = { KeysValue };
 
@@ -27,7 +27,7 @@ impl Model for Room {
 }
 
 impl Room {
-    ghost use Rattle.key_reports.specs.Stands.{StandsFor};
+    ghost use Rattle.key_reports.specs.ties.Stands.{StandsFor};
 
     /// Takes the room of one keyboard. `AllocError` where there is no memory for it.
     pub fn take(alloc: Global) -> Result<Room, AllocError> {

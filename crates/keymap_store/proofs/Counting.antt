@@ -8,7 +8,8 @@ use Rattle.page_turnover.specs.declared.log.stepping.Step.{Step}
 use Rattle.page_turnover.specs.declared.log.stepping.Step.TheVariants.{Moved, Committed}
 use Rattle.page_turnover.specs.Value.{LogValue, Target, Unread, Holds, Task, Rest, Append, Wait, Copy, Seal}
 use Rattle.page_turnover.specs.Words.{HasRoom, IsBlank}
-use Rattle.page_turnover.specs.Turn.{UnderWay, copies, copied, target_page}
+use Rattle.page_turnover.specs.Turn.{copies, copied, target_page}
+use Rattle.page_turnover.specs.ties.Turn.{UnderWay}
 use Rattle.page_turnover.specs.Steps.{IsReady, StepsFor, Steps, Keeps, EndsAs}
 use Rattle.page_turnover.proofs.Endings.{waiting_count}
 use Rattle.page_turnover.proofs.Blanks.{is_blank-blank, is_blank-used}
@@ -18,7 +19,7 @@ use Rattle.keymap_store.specs.declared.store.Job.TheVariants.{Resting, Appending
 use Rattle.keymap_store.specs.Keymap.{entries_of}
 use Rattle.keymap_store.specs.Value.{StoreValue}
 use Rattle.keymap_store.proofs.Keymaps.{entries_of-keeps}
-use Rattle.keymap_store.specs.Store.{Mirrors, OffersBelow}
+use Rattle.keymap_store.specs.ties.Store.{Mirrors, OffersBelow}
 use Rattle.keymap_store.specs.Left.{differing_below, differing, erases_left, turn_left, target_of, left_for, left, Needs}
 
 differing_below-zero : (entries : ℕ → ℕ → ℕ) → differing_below entries zero ≡ 0

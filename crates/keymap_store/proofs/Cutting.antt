@@ -14,11 +14,12 @@ use Rattle.page_turnover.specs.declared.log.ActivePage.{ActivePage}
 use Rattle.page_turnover.specs.declared.operation.Operation.{Operation}
 use Rattle.page_turnover.specs.declared.operation.Operation.TheVariants.{Program, Erase}
 use Rattle.page_turnover.specs.Value.{LogValue, Target, Task, Rest, Append, Wait, Copy, Seal}
-use Rattle.page_turnover.specs.Log.{Describes}
+use Rattle.page_turnover.specs.ties.Log.{Describes}
 use Rattle.page_turnover.specs.Active.{active, format}
 use Rattle.page_turnover.specs.Blank.{is_blank}
 use Rattle.page_turnover.specs.Words.{HasRoom}
-use Rattle.page_turnover.specs.Turn.{UnderWay, Copying, copied, copies, target_page}
+use Rattle.page_turnover.specs.Turn.{copied, copies, target_page}
+use Rattle.page_turnover.specs.ties.Turn.{UnderWay, Copying}
 use Rattle.page_turnover.specs.Next.{next_operation, append_operation, is_ready, MayMake, ReadsBack}
 use Rattle.page_turnover.specs.Steps.{Keeps, CommitsWord, CommitsTurn}
 use Rattle.page_turnover.specs.Leaves.{Leaves, IsEffect}
@@ -30,7 +31,7 @@ use Rattle.keymap_store.specs.declared.store.Job.{Job}
 use Rattle.keymap_store.specs.declared.store.Job.TheVariants.{Resting, Appending, Turning}
 use Rattle.keymap_store.specs.Value.{StoreValue}
 use Rattle.keymap_store.specs.Keymap.{entries_of, SameEntries}
-use Rattle.keymap_store.specs.Store.{Mirrors, IsAppending, IsTurning, OffersBelow}
+use Rattle.keymap_store.specs.ties.Store.{Mirrors, IsAppending, IsTurning, OffersBelow}
 use Rattle.keymap_store.specs.Next.{all_copies, next_task, with_task, next_operation_of}
 use Rattle.keymap_store.specs.Turnovers.{Wears, over, spares, fills}
 use Rattle.keymap_store.specs.Cut.{recorded, as_before, CutLeaves}

@@ -8,7 +8,7 @@ use Rattle.flash_model.specs.Operations.{OneSlot, OnePage}
 use Rattle.page_turnover.specs.declared.log.stepping.Step.{Step}
 use Rattle.page_turnover.specs.declared.log.stepping.Step.TheVariants.{Idle, Moved, Committed, Failed}
 use Rattle.page_turnover.specs.Value.{LogValue, Task, Rest, Append, Wait, Copy, Seal}
-use Rattle.page_turnover.specs.Log.{Describes}
+use Rattle.page_turnover.specs.ties.Log.{Describes}
 use Rattle.page_turnover.specs.Active.{active, format}
 use Rattle.page_turnover.specs.Words.{IsTail, IsActiveTail, HasRoom}
 use Rattle.page_turnover.specs.Turn.{target_page}

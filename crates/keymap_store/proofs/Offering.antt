@@ -7,19 +7,21 @@ use Rattle.layers.specs.Keymaps.{HasEntries}
 use Rattle.layers.proofs.Copying.{AreCopies-start, AreCopies-next, AreCopies-end, AreCopies-length}
 use Rattle.page_turnover.specs.declared.log.stepping.Step.{Step}
 use Rattle.page_turnover.specs.declared.log.stepping.Step.TheVariants.{Moved}
-use Rattle.page_turnover.specs.Log.{Describes}
+use Rattle.page_turnover.specs.ties.Log.{Describes}
 use Rattle.page_turnover.specs.Words.{HasRoom}
 use Rattle.page_turnover.specs.Value.{LogValue, Unread, Holds, Task, Rest, Append, Wait, Copy, Seal}
-use Rattle.page_turnover.specs.Turn.{UnderWay, IsWaiting, IsPending, copies, offered, copied, with_copy, with_seal, target_page, next_seq}
+use Rattle.page_turnover.specs.Turn.{IsWaiting, IsPending, copies, offered, copied, with_copy, with_seal, target_page, next_seq}
+use Rattle.page_turnover.specs.ties.Turn.{UnderWay}
 use Rattle.page_turnover.specs.Steps.{StepsFor, Steps, Moves, Commits, EndsAs}
 use Rattle.page_turnover.proofs.WordLists.{words_none}
 use Rattle.page_turnover.proofs.Endings.{waiting_count}
 use Rattle.keymap_store.specs.declared.store.Job.{Job}
 use Rattle.keymap_store.specs.declared.store.Job.TheVariants.{Resting, Appending, Turning}
 use Rattle.keymap_store.specs.Keymap.{entries_of}
-use Rattle.keymap_store.specs.Store.{OffersBelow, JobIs, working}
+use Rattle.keymap_store.specs.Store.{working}
+use Rattle.keymap_store.specs.ties.Store.{OffersBelow, JobIs}
 use Rattle.keymap_store.specs.Next.{all_copies, next_task, with_task}
-use Rattle.keymap_store.specs.Offers.{CanOfferIfWaiting, IsOffered}
+use Rattle.keymap_store.specs.ties.Offers.{CanOfferIfWaiting, IsOffered}
 use Rattle.keymap_store.proofs.NextTasks.{IsAfter, copy_after, no_copy_after, next_task-copy, next_task-seal}
 use Rattle.keymap_store.proofs.Keymaps.{keymap_copied}
 

@@ -8,7 +8,7 @@ use Rattle.page_turnover.specs.declared.operation.Operation.{Operation}
 use Rattle.page_turnover.specs.declared.log.stepping.Step.{Step}
 use Rattle.page_turnover.specs.declared.log.stepping.Step.TheVariants as Steps
 use Rattle.page_turnover.specs.Value.{LogValue, Task, Rest, Append, Wait, Copy, Seal}
-use Rattle.page_turnover.specs.Log.{Describes}
+use Rattle.page_turnover.specs.ties.Log.{Describes}
 use Rattle.page_turnover.specs.Words.{HasRoom}
 use Rattle.page_turnover.specs.Turn.{IsPending, target_page}
 use Rattle.page_turnover.specs.Next.{next_operation, append_operation}
@@ -19,8 +19,8 @@ use Rattle.keymap_store.specs.declared.store.Work.{Work}
 use Rattle.keymap_store.specs.declared.store.Work.TheVariants.{Idle, Working, Settled, Failed}
 use Rattle.keymap_store.specs.Value.{StoreValue}
 use Rattle.keymap_store.specs.Keymap.{entries_of}
-use Rattle.keymap_store.specs.Store.{Mirrors, OffersBelow}
-use Rattle.keymap_store.specs.Offers.{IsOffered}
+use Rattle.keymap_store.specs.ties.Store.{Mirrors, OffersBelow}
+use Rattle.keymap_store.specs.ties.Offers.{IsOffered}
 use Rattle.keymap_store.specs.Next.{next_operation_of}
 use Rattle.keymap_store.specs.Turnovers.{stays, turns, Wears, over, spares, fills}
 use Rattle.keymap_store.specs.Works.{WritesAs, IsPlacedAt, IsTornAt}

@@ -10,10 +10,12 @@ use Rattle.flash_model.specs.Operations.{OnePage}
 use Rattle.page_turnover.specs.declared.log.stepping.Step.{Step}
 use Rattle.page_turnover.specs.declared.log.stepping.Step.TheVariants.{Moved, Committed, Failed}
 use Rattle.page_turnover.specs.Value.{LogValue, Unread, Task, Rest, Append, Wait, Copy, Seal}
-use Rattle.page_turnover.specs.Log.{Describes, HasTailRoom}
+use Rattle.page_turnover.specs.Log.{HasTailRoom}
+use Rattle.page_turnover.specs.ties.Log.{Describes}
 use Rattle.page_turnover.specs.Words.{HasRoom}
 use Rattle.page_turnover.specs.Usable.{IsUsable}
-use Rattle.page_turnover.specs.Turn.{UnderWay, target_page, copies}
+use Rattle.page_turnover.specs.Turn.{target_page, copies}
+use Rattle.page_turnover.specs.ties.Turn.{UnderWay}
 use Rattle.page_turnover.specs.Steps.{Appends, StepsFor, Keeps, CommitsWord, Commits, EndsAs, Moves}
 use Rattle.page_turnover.proofs.Describing.{tail_room, held_active}
 use Rattle.page_turnover.proofs.Effects.{committed_rests}
@@ -21,8 +23,8 @@ use Rattle.keymap_store.specs.declared.store.Job.{Job}
 use Rattle.keymap_store.specs.declared.store.Job.TheVariants.{Resting, Appending, Turning}
 use Rattle.keymap_store.specs.Value.{StoreValue}
 use Rattle.keymap_store.specs.Keymap.{entries_of}
-use Rattle.keymap_store.specs.Store.{Mirrors, JobIs, IsAppending, IsTurning, OffersBelow}
-use Rattle.keymap_store.specs.Offers.{CanOfferIfWaiting}
+use Rattle.keymap_store.specs.ties.Store.{Mirrors, JobIs, IsAppending, IsTurning, OffersBelow}
+use Rattle.keymap_store.specs.ties.Offers.{CanOfferIfWaiting}
 use Rattle.keymap_store.specs.Turnovers.{Prepares, TurnsOver}
 use Rattle.keymap_store.specs.Works.{IsPlacedAt}
 use Rattle.keymap_store.proofs.Keymaps.{entries_of-keeps, keymap_recorded, keymap_kept}

@@ -1,12 +1,13 @@
 -- Believed: the keymap of an image.
-use Rattle.std.specs.Prelude.{◌≡◌, ℕ, ◌<◌, List, unwrap_or}
+use Rattle.shapes.specs.Shapes.{Bytes}
+use Rattle.std.specs.Prelude.{◌≡◌, ℕ, ◌<◌, unwrap_or}
 use Rattle.layers.specs.Codes.{layers, keys}
 use Rattle.layers.specs.Entries.{entry_in}
 use Rattle.page_turnover.specs.Active.{format}
 use Rattle.page_turnover.specs.Words.{words}
 
 -- the words of the active page, read by the format of that page; without an active page there are none
-unfoldable pub entries_of : List ℕ → ℕ → ℕ → ℕ
+unfoldable pub entries_of : Bytes → ℕ → ℕ → ℕ
 entries_of image = entry_in (unwrap_or (format image) 2) (words image)
 
 -- the two keymaps have the same entries

@@ -1,12 +1,11 @@
 pub mod Keymap
-pub mod Value
 pub mod Store
 pub mod Submits
 pub mod Next
-pub mod Offers
 pub mod Turnovers
 pub mod Works
 pub mod Left
 pub mod Operations
-pub mod Rest
 pub mod Cut
+pub mod Value
+pub mod ties

@@ -1,5 +1,6 @@
 -- Believed: the flash operation that a store makes next.
-use Rattle.std.specs.Prelude.{ℕ, List, Option, length, slice_index, nat_lt, if◌then◌else◌}
+use Rattle.shapes.specs.Shapes.{Bytes, SlotWords}
+use Rattle.std.specs.Prelude.{ℕ, Option, length, slice_index, nat_lt, if◌then◌else◌}
 use Rattle.layers.specs.Copies.{copies_below, places}
 use Rattle.page_turnover.specs.declared.operation.Operation.{Operation}
 use Rattle.page_turnover.specs.Value.{LogValue, Task, Wait, Copy, Seal}
@@ -9,7 +10,7 @@ use Rattle.keymap_store.specs.Keymap.{entries_of}
 use Rattle.keymap_store.specs.Value.{StoreValue}
 
 -- the words that a turn copies: those that set the entries that differ from the default, by rising place
-abbrev pub all_copies : (ℕ → ℕ → ℕ) → List ℕ
+abbrev pub all_copies : (ℕ → ℕ → ℕ) → SlotWords
 all_copies entries = copies_below entries places
 
 -- a turn that waits gets the copy after those that it has made, and its seal after the last one
@@ -24,5 +25,5 @@ abbrev pub with_task : LogValue → Task → LogValue
 with_task log task = record log { task = task }
 
 -- the operation that `work` makes, if any
-abbrev pub next_operation_of : List ℕ → StoreValue → Option Operation
+abbrev pub next_operation_of : Bytes → StoreValue → Option Operation
 next_operation_of image store = next_operation image (with_task store.log (next_task (entries_of image) store.log.task))

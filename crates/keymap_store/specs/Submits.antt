@@ -1,5 +1,6 @@
 -- Believed: when a command is taken, and why it is refused.
-use Rattle.std.specs.Prelude.{◌≡◌, ◌-◌, ◌^◌, ◌⊎◌, ℕ, List, None, Some, Result, Ok, Err, IsSome}
+use Rattle.shapes.specs.Shapes.{Bytes}
+use Rattle.std.specs.Prelude.{◌≡◌, ◌-◌, ◌^◌, ◌⊎◌, ℕ, None, Some, Result, Ok, Err, IsSome}
 use Rattle.layers.specs.declared.command.Command.{Command}
 use Rattle.layers.specs.Entries.{ChangesSome, ChangesNothing}
 use Rattle.page_turnover.specs.Active.{active}
@@ -15,22 +16,22 @@ use Rattle.keymap_store.specs.Keymap.{entries_of}
 use Rattle.keymap_store.specs.Store.{working}
 
 -- no command works, and all slots 0 are sound
-pub record MayWrite (image : List ℕ) (job : Job) : Type 0 where
+pub record MayWrite (image : Bytes) (job : Job) : Type 0 where
   pub idle : working job ≡ None
   pub usable : IsUsable image
 
 -- no room, and the active page has the last sequence number
-pub record IsWorn (image : List ℕ) : Type 0 where
+pub record IsWorn (image : Bytes) : Type 0 where
   pub page : ℕ
   pub last : active image ≡ Some (page, 2 ^ 28 - 1)
   pub full : HasRoom image → ⊥
 
 -- room, or a turn that makes it
-abbrev pub HasPlace : List ℕ → Type 0
+abbrev pub HasPlace : Bytes → Type 0
 HasPlace image = HasRoom image ⊎ ((HasRoom image → ⊥) × CanTurn image)
 
 -- when each answer to a command comes
-abbrev pub Submits : List ℕ → Job → Command → Result Taken SubmitRefusal → Type 0
+abbrev pub Submits : Bytes → Job → Command → Result Taken SubmitRefusal → Type 0
 Submits image job command (Err Busy) = IsSome (working job)
 Submits image job command (Err Unsound) = (working job ≡ None) × (IsUsable image → ⊥)
 Submits image job command (Ok Settled) = MayWrite image job × ChangesNothing (entries_of image) command

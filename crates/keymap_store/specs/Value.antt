@@ -1,10 +1,11 @@
--- Only ties code to its definitions: the parts of a store.
-use Rattle.std.specs.Prelude.{ℕ, List}
+-- Believed where this crate is called: the parts of a store.
+use Rattle.shapes.specs.Shapes.{KeyCodes}
+use Rattle.std.specs.Prelude.{ℕ}
 use Rattle.page_turnover.specs.Value.{LogValue}
 use Rattle.keymap_store.specs.declared.store.Job.{Job}
 
 -- what a store holds: the log, the keymap, and what is under way
 pub record StoreValue : Type 0 where
   pub log : LogValue
-  pub keymap : List ℕ
+  pub keymap : KeyCodes
   pub job : Job

@@ -1,5 +1,6 @@
 -- Believed: what the answers of `work` mean.
-use Rattle.std.specs.Prelude.{◌≡◌, ◌≢◌, ◌+◌, ◌≤◌, ◌↔◌, ℕ, List, [], ◌∷◌, ◌++◌, Option, None, Some, IsSome}
+use Rattle.shapes.specs.Shapes.{Bytes}
+use Rattle.std.specs.Prelude.{◌≡◌, ◌≢◌, ◌+◌, ◌≤◌, ◌↔◌, ℕ, [], ◌∷◌, ◌++◌, Option, None, Some, IsSome}
 use Rattle.layers.specs.declared.command.Command.{Command}
 use Rattle.layers.specs.Commands.{word_of}
 use Rattle.layers.specs.Entries.{changed}
@@ -18,7 +19,8 @@ use Rattle.keymap_store.specs.declared.store.Job.TheVariants.{Resting, Appending
 use Rattle.keymap_store.specs.declared.store.Work.{Work}
 use Rattle.keymap_store.specs.declared.store.Work.TheVariants.{Idle, Working, Settled, Failed}
 use Rattle.keymap_store.specs.Value.{StoreValue}
-use Rattle.keymap_store.specs.Store.{Mirrors, working}
+use Rattle.keymap_store.specs.Store.{working}
+use Rattle.keymap_store.specs.ties.Store.{Mirrors}
 use Rattle.keymap_store.specs.Next.{next_operation_of}
 use Rattle.keymap_store.specs.Turnovers.{Turns, Wears}
 
@@ -42,45 +44,45 @@ pub record Fails (before after : StoreValue) : Type 0 where
   pub same_keymap : after.keymap ≡ before.keymap
 
 -- no command works, and nothing changes
-pub record Idles (old : List ℕ) (before : StoreValue) (new : List ℕ) (after : StoreValue) : Type 0 where
+pub record Idles (old : Bytes) (before : StoreValue) (new : Bytes) (after : StoreValue) : Type 0 where
   pub none : working before.job ≡ None
   pub same_image : new ≡ old
   pub same_store : after ≡ before
 
 -- what each answer means for the command and the keymap
-abbrev pub WorksAs : List ℕ → StoreValue → Work → List ℕ → StoreValue → Type 0
+abbrev pub WorksAs : Bytes → StoreValue → Work → Bytes → StoreValue → Type 0
 WorksAs old before Idle new after = Idles old before new after
 WorksAs old before Working new after = WorksOn before after
 WorksAs old before Settled new after = Settles before after
 WorksAs old before Failed new after = Fails before after
 
 -- the record of the command that worked is the last word
-abbrev pub IsAppendedFor : List ℕ → Option Command → List ℕ → Type 0
+abbrev pub IsAppendedFor : Bytes → Option Command → Bytes → Type 0
 IsAppendedFor old None new = ⊥
 IsAppendedFor old (Some command) new = words new ≡ words old ++ word_of command ∷ []
 
 -- that is so of the command that this job is for
-abbrev pub IsAppended : List ℕ → Job → List ℕ → Type 0
+abbrev pub IsAppended : Bytes → Job → Bytes → Type 0
 IsAppended old job new = IsAppendedFor old (working job) new
 
 -- the record is programmed into the tail slot of the active page
-pub record IsPlacedAt (old : List ℕ) (command : Command) (new : List ℕ) : Type 0 where
+pub record IsPlacedAt (old : Bytes) (command : Command) (new : Bytes) : Type 0 where
   pub page : ℕ
   pub tail : ℕ
   pub place : IsActiveTail old page tail
   pub programs : Programs old page tail (encoded (word_of command)) new
 
 -- the record of the command that worked is programmed so
-abbrev pub IsPlacedFor : List ℕ → Option Command → List ℕ → Type 0
+abbrev pub IsPlacedFor : Bytes → Option Command → Bytes → Type 0
 IsPlacedFor old None new = ⊥
 IsPlacedFor old (Some command) new = IsPlacedAt old command new
 
 -- that is so of the command that this job is for
-abbrev pub IsPlaced : List ℕ → Job → List ℕ → Type 0
+abbrev pub IsPlaced : Bytes → Job → Bytes → Type 0
 IsPlaced old job new = IsPlacedFor old (working job) new
 
 -- the record's program was torn, and the slot does not read as the record
-pub record IsTornAt (old : List ℕ) (command : Command) (new : List ℕ) : Type 0 where
+pub record IsTornAt (old : Bytes) (command : Command) (new : Bytes) : Type 0 where
   pub page : ℕ
   pub tail : ℕ
   pub place : IsActiveTail old page tail
@@ -88,14 +90,14 @@ pub record IsTornAt (old : List ℕ) (command : Command) (new : List ℕ) : Type
   pub unread : slot_of (slot_at new page tail) ≡ Good (word_of command) → ⊥
 
 -- a fault where the command had room leaves its record torn; one in a turn leaves all pages but the target
-abbrev pub FailsFor : List ℕ → Job → List ℕ → Type 0
+abbrev pub FailsFor : Bytes → Job → Bytes → Type 0
 FailsFor old Resting new = ⊥
 FailsFor old (Appending command) new = IsTornAt old command new
 FailsFor old (Turning command from) new = OnePage old (target_page old) new
 
 -- what each answer says of the flash: a step of a turn, the record as the last word in the tail slot, or a fault after which
 -- words, format and active page are as before; and what the operation does to the active page
-pub record WritesAs (old : List ℕ) (job : Job) (work : Work) (new : List ℕ) : Type 0 where
+pub record WritesAs (old : Bytes) (job : Job) (work : Work) (new : Bytes) : Type 0 where
   pub turns : work ≡ Working → Turns old new
   pub appended : work ≡ Settled → IsAppended old job new
   pub placed : work ≡ Settled → IsPlaced old job new
@@ -104,7 +106,7 @@ pub record WritesAs (old : List ℕ) (job : Job) (work : Work) (new : List ℕ) 
   pub wears : work ≢ Idle → Wears old new
 
 -- what a call of `work` leaves of the flash and of the store
-pub record WorkLeaves (old : List ℕ) (before : StoreValue) (work : Work) (new : List ℕ) (after : StoreValue) : Type 0 where
+pub record WorkLeaves (old : Bytes) (before : StoreValue) (work : Work) (new : Bytes) (after : StoreValue) : Type 0 where
   -- the keymap is that of the flash's image again
   pub mirrors : Mirrors new after
   -- what the answer means for the command and the keymap

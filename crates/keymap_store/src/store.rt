@@ -7,10 +7,10 @@ ghost use Rattle.layers.specs.Formats.{command_in};
 ghost use Rattle.layers.specs.Keymaps.{HasEntries, StandsFor};
 ghost use Rattle.page_turnover.specs.Turn.{IsPending};
 ghost use Rattle.page_turnover.specs.Usable.{IsUsable};
-ghost use Rattle.page_turnover.specs.Log.{Describes};
+ghost use Rattle.page_turnover.specs.ties.Log.{Describes};
 ghost use Rattle.keymap_store.specs.Keymap.{entries_of};
-ghost use Rattle.keymap_store.specs.Store.{OffersBelow};
-ghost use Rattle.keymap_store.specs.Offers.{CanOfferIfWaiting, IsOffered};
+ghost use Rattle.keymap_store.specs.ties.Store.{OffersBelow};
+ghost use Rattle.keymap_store.specs.ties.Offers.{CanOfferIfWaiting, IsOffered};
 ghost use Rattle.keymap_store.specs.Left.{target_of};
 ghost use Rattle.keymap_store.specs.declared.store.Job.{Job};
 ghost use Rattle.keymap_store.specs.declared.store.Taken.{Taken};
@@ -86,13 +86,14 @@ impl Model for Store {
 }
 
 impl Store {
-    ghost use Rattle.keymap_store.specs.Store.{Mirrors, working};
+    ghost use Rattle.keymap_store.specs.Store.{working};
+    ghost use Rattle.keymap_store.specs.ties.Store.{Mirrors};
     ghost use Rattle.keymap_store.specs.Submits.{Submits};
     ghost use Rattle.keymap_store.specs.Next.{next_operation_of};
     ghost use Rattle.keymap_store.specs.Works.{WorkLeaves, CountsDown};
     ghost use Rattle.keymap_store.specs.Left.{left, Needs};
     ghost use Rattle.keymap_store.specs.Operations.{operations_of};
-    ghost use Rattle.keymap_store.specs.Rest.{rest_of, TakesFirst};
+    ghost use Rattle.keymap_store.specs.ties.Rest.{rest_of, TakesFirst};
     ghost use Rattle.page_turnover.specs.declared.operation.Operation.{Operation};
     ghost use Rattle.page_turnover.specs.Next.{on_flash};
     ghost use Rattle.page_turnover.specs.Steps.{CountsAs};

@@ -6,7 +6,7 @@ use Rattle.std.proofs.lemmas.List.{get_or_default, get_or-set_same, get_or-set_o
 use Rattle.layers.specs.Codes.{keys, none, transparent, activates}
 use Rattle.layers.specs.Keymaps.{code_at}
 use Rattle.layers.specs.Held.{any_below, passes, any_has, is_active, counts, resolved, code, HeldCall, Press, Release}
-use Rattle.layers.specs.HeldStands.{HeldValue, kept, with_names, HeldStandsFor, Puts}
+use Rattle.layers.specs.ties.HeldStands.{HeldValue, kept, with_names, HeldStandsFor, Puts}
 use Rattle.layers.specs.Usages.{has_bit, IsNext, PassesNoneFrom}
 use Rattle.layers.specs.Resolved.{SomeHas, IsHighest, IsTransparent}
 

@@ -1,4 +1,5 @@
 -- Believed: the entries that differ from the default, by rising place, and the words that set them.
+use Rattle.shapes.specs.Shapes.{SlotWords}
 use Rattle.std.specs.Prelude.{◌≡◌, ◌≢◌, ℕ, zero, suc, ◌*◌, ◌/◌, ◌%◌, ◌<◌, ◌≤◌, ◌==◌, if◌then◌else◌, IsTrue, List, [], ◌∷◌, ◌++◌}
 use Rattle.layers.specs.Codes.{layers, keys, is_code, default_at}
 use Rattle.layers.specs.Commands.{word_of}
@@ -30,7 +31,7 @@ pub record IsDefaultFrom (entries : ℕ → ℕ → ℕ) (from : ℕ) : Type 0 w
   pub each : (place : ℕ) → from ≤ place → place < places → entry_at entries place ≡ default_at place
 
 -- the words that set the entries below a place that differ from the default, by rising place
-unfoldable pub copies_below : (ℕ → ℕ → ℕ) → ℕ → List ℕ
+unfoldable pub copies_below : (ℕ → ℕ → ℕ) → ℕ → SlotWords
 copies_below entries zero = []
 copies_below entries (suc place) =
     if entry_at entries place == default_at place then copies_below entries place

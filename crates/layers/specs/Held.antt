@@ -1,4 +1,5 @@
 -- Believed: the keys that are held, and the codes that they have, looked up in what was pressed and released.
+use Rattle.shapes.specs.Shapes.{KeyCodes}
 use Rattle.std.specs.Prelude.{ℕ, zero, suc, ◌==◌, ◌&&◌, ◌||◌, not, Bool, false, if◌then◌else◌, Option, Some, None, is_none, List, [], ◌∷◌}
 use Rattle.std.specs.List.{find}
 use Rattle.layers.specs.Codes.{keys, none, transparent, activates}
@@ -6,7 +7,7 @@ use Rattle.layers.specs.Keymaps.{code_at}
 
 -- a press, with the keymap at that time, and a release
 pub data HeldCall : Type 0 where
-  Press : (keymap : List ℕ) (key : ℕ) → HeldCall
+  Press : (keymap : KeyCodes) (key : ℕ) → HeldCall
   Release : (key : ℕ) → HeldCall
 
 -- some number below this one passes

@@ -1,4 +1,5 @@
 -- Believed: a keymap as the list of its codes, layer by layer.
+use Rattle.shapes.specs.Shapes.{KeyCodes}
 use Rattle.std.specs.Prelude.{◌≡◌, ℕ, ◌+◌, ◌*◌, ◌<◌, List, length, slice_index}
 use Rattle.layers.specs.Codes.{layers, keys}
 use Rattle.layers.specs.Entries.{entry_in}
@@ -8,14 +9,14 @@ abbrev pub place_of : ℕ → ℕ → ℕ
 place_of layer key = keys * layer + key
 
 -- the code of a key on a layer
-abbrev pub code_at : List ℕ → ℕ → ℕ → ℕ
+abbrev pub code_at : KeyCodes → ℕ → ℕ → ℕ
 code_at keymap layer key = slice_index keymap (place_of layer key)
 
 -- a keymap has these entries, for each layer and key
-pub record HasEntries (entries : ℕ → ℕ → ℕ) (keymap : List ℕ) : Type 0 where
+pub record HasEntries (entries : ℕ → ℕ → ℕ) (keymap : KeyCodes) : Type 0 where
   pub whole : length keymap ≡ layers * keys
   pub each : (layer key : ℕ) → layer < layers → key < keys → code_at keymap layer key ≡ entries layer key
 
 -- a keymap stands for the words of a page of this format
-abbrev pub StandsFor : ℕ → List ℕ → List ℕ → Type 0
+abbrev pub StandsFor : ℕ → List ℕ → KeyCodes → Type 0
 StandsFor format words keymap = HasEntries (entry_in format words) keymap

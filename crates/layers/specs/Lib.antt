@@ -6,5 +6,5 @@ pub mod Keymaps
 pub mod Copies
 pub mod Held
 pub mod Usages
-pub mod HeldStands
 pub mod Resolved
+pub mod ties

@@ -1,4 +1,5 @@
 -- Believed: the usages of the keys that are held, as sets.
+use Rattle.shapes.specs.Shapes.{Bytes}
 use Rattle.std.specs.Prelude.{◌≡◌, ℕ, ◌/◌, ◌%◌, ◌<◌, ◌≤◌, ◌==◌, Bool, true, false, List, slice_index}
 use Rattle.std.specs.Int.{bit_at}
 use Rattle.layers.specs.Codes.{names_key_usage, names_consumer}
@@ -20,7 +21,7 @@ pub record UsageSets : Type 0 where
   pub occupied : List ℕ
 
 -- the bit of a number is set in cells of so many bits each
-abbrev pub has_bit : ℕ → List ℕ → ℕ → Bool
+abbrev pub has_bit : ℕ → Bytes → ℕ → Bool
 has_bit size cells number = bit_at (slice_index cells (number / size)) (number % size) == 1
 
 -- a usage of page 07h is in the set

@@ -3,7 +3,7 @@
 ghost use Rattle.std.specs.Prelude.{◌≡◌, ◌<◌, ◌≤◌, ◌||◌, ℕ, Bool, true, false, Option, List, [], ◌∷◌, length, is_some, slice_index_or, if◌then◌else◌};
 ghost use Rattle.layers.specs.Codes.{keys, transparent, activates};
 ghost use Rattle.layers.specs.Held.{is_active, resolved, code, active, HeldCall, Press, Release};
-ghost use Rattle.layers.specs.HeldStands.{kept, HeldStandsFor, AreNamed, AreActive, with_names, Puts};
+ghost use Rattle.layers.specs.ties.HeldStands.{kept, HeldStandsFor, AreNamed, AreActive, with_names, Puts};
 ghost use Rattle.layers.specs.Keymaps.{code_at};
 ghost use Rattle.layers.specs.Usages.{has_key, has_consumer, key_usages, consumer_usages};
 
@@ -32,7 +32,7 @@ pub struct Held {
 
 impl Model for Held {
     ghost use Rattle.std.specs.Prelude.{◌≡◌, true, length};
-    ghost use Rattle.layers.specs.HeldStands.{HeldValue, AreNamed, kept};
+    ghost use Rattle.layers.specs.ties.HeldStands.{HeldValue, AreNamed, kept};
 
     ghost Value = { HeldValue };
 

@@ -15,9 +15,10 @@ use Rattle.page_turnover.specs.declared.log.stepping.Step.TheVariants.{Moved, Co
 use Rattle.page_turnover.specs.Words.{words_up_to}
 use Rattle.page_turnover.specs.Usable.{IsUsable}
 use Rattle.page_turnover.specs.Value.{LogValue}
-use Rattle.page_turnover.specs.Turn.{target_page, next_seq, HoldsCopies, Turning, Copying, copied, copies, offered}
+use Rattle.page_turnover.specs.Turn.{target_page, next_seq, copied, copies, offered}
+use Rattle.page_turnover.specs.ties.Turn.{HoldsCopies, Turning, Copying}
 use Rattle.page_turnover.specs.Steps.{ErasesTarget, Copies, StepsFor, EndsAs, Moves, Commits, CommitsTurn, IsReady}
-use Rattle.page_turnover.specs.Log.{Describes}
+use Rattle.page_turnover.specs.ties.Log.{Describes}
 use Rattle.page_turnover.proofs.WordLists.{words_none}
 use Rattle.page_turnover.proofs.Operating.{Appended, Headed, usable_same}
 use Rattle.page_turnover.proofs.Turns.{target_inside, ready_holds, words_of_copies, count_of_copies}

@@ -20,9 +20,10 @@ use Rattle.page_turnover.specs.Active.{active}
 use Rattle.page_turnover.specs.Words.{words_up_to, IsBlank}
 use Rattle.page_turnover.specs.Usable.{IsUsable, IsFirstUnsound}
 use Rattle.page_turnover.specs.Value.{LogValue}
-use Rattle.page_turnover.specs.Turn.{target_page, next_seq, HoldsCopies, Turning, Copying, UnderWay, TargetIs, copied, copies, IsGood, IsPending}
+use Rattle.page_turnover.specs.Turn.{target_page, next_seq, copied, copies, IsPending}
+use Rattle.page_turnover.specs.ties.Turn.{HoldsCopies, Turning, Copying, UnderWay, TargetIs, IsGood}
 use Rattle.page_turnover.specs.Steps.{Appends, ErasesTarget, Copies, Seals, Steps, StepsFor, IsReady, EndsAs}
-use Rattle.page_turnover.specs.Log.{Describes, IsHeld}
+use Rattle.page_turnover.specs.ties.Log.{Describes, IsHeld}
 use Rattle.page_turnover.proofs.WordLists.{words_same, up_to_more}
 use Rattle.page_turnover.proofs.Describing.{held_active, tail_of_room}
 use Rattle.page_turnover.proofs.Operating.{Appended, appended, Headed, headed, usable_same, programmed_good}

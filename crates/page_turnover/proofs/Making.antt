@@ -8,7 +8,7 @@ use Rattle.page_turnover.specs.declared.operation.Operation.{Operation}
 use Rattle.page_turnover.specs.declared.operation.Operation.TheVariants.{Program, Erase}
 use Rattle.page_turnover.specs.Words.{IsBlank}
 use Rattle.page_turnover.specs.Next.{Makes, ReadsBack}
-use Rattle.page_turnover.specs.Made.{CanMake, IsMade}
+use Rattle.page_turnover.specs.ties.Made.{CanMake, IsMade}
 use Rattle.page_turnover.proofs.Operating.{programmed_good}
 use Rattle.page_turnover.proofs.Torn.{program_whole, erase_whole}
 use Rattle.page_turnover.proofs.Kept.{erased_free}

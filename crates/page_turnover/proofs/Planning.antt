@@ -9,11 +9,12 @@ use Rattle.page_turnover.specs.declared.operation.Operation.TheVariants.{Program
 use Rattle.page_turnover.specs.Value.{LogValue, Target, Unread, Holds, Task, Rest, Append, Wait, Copy, Seal}
 use Rattle.page_turnover.specs.Header.{header_word}
 use Rattle.page_turnover.specs.Words.{IsBlank}
-use Rattle.page_turnover.specs.Turn.{target_page, next_seq, copied, Appending, Copying, Turning, HoldsCopies}
-use Rattle.page_turnover.specs.Log.{Describes}
+use Rattle.page_turnover.specs.Turn.{target_page, next_seq, copied}
+use Rattle.page_turnover.specs.ties.Turn.{Appending, Copying, Turning, HoldsCopies}
+use Rattle.page_turnover.specs.ties.Log.{Describes}
 use Rattle.page_turnover.specs.Next.{next_operation, operation_for, append_operation, turn_operation, is_ready}
 use Rattle.page_turnover.specs.Steps.{IsReady, EndsAs, StepsFor}
-use Rattle.page_turnover.specs.Made.{CanMake, Plans}
+use Rattle.page_turnover.specs.ties.Made.{CanMake, Plans}
 use Rattle.page_turnover.proofs.Blanks.{is_blank-blank, is_blank-used, blank_of}
 use Rattle.page_turnover.proofs.Headers.{header_word-small}
 use Rattle.page_turnover.proofs.Describing.{held_active, held_inside, room_of_none}

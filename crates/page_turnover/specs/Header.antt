@@ -1,5 +1,6 @@
 -- Believed: the headers of pages.
-use Rattle.std.specs.Prelude.{◌≡◌, ℕ, ◌+◌, ◌*◌, ◌/◌, ◌%◌, ◌^◌, ◌<◌, ◌==◌, ◌||◌, ◌⊎◌, if◌then◌else◌, List, Option, Some, None}
+use Rattle.shapes.specs.Shapes.{Bytes}
+use Rattle.std.specs.Prelude.{◌≡◌, ℕ, ◌+◌, ◌*◌, ◌/◌, ◌%◌, ◌^◌, ◌<◌, ◌==◌, ◌||◌, ◌⊎◌, if◌then◌else◌, Option, Some, None}
 use Rattle.records.specs.declared.Slot.{Slot}
 use Rattle.records.specs.declared.Slot.TheVariants.{Free, Good, Spoiled}
 use Rattle.records.specs.Slots.{slot_of}
@@ -14,7 +15,7 @@ unfoldable pub header_word : ℕ → ℕ → ℕ
 header_word format seq = format * 2 ^ 28 + seq
 
 -- slot 0 of a page is Good with a header of this sequence number, of either format
-pub record HasHeader (image : List ℕ) (page seq : ℕ) : Type 0 where
+pub record HasHeader (image : Bytes) (page seq : ℕ) : Type 0 where
   pub format : ℕ
   pub known : IsFormat format
   pub bits : seq < 2 ^ 28

@@ -1,5 +1,6 @@
 -- Believed: what the operation that is next leaves, whole or torn: by a fault, or by a cut before anything is read back.
-use Rattle.std.specs.Prelude.{ℕ, List}
+use Rattle.shapes.specs.Shapes.{Bytes}
+use Rattle.std.specs.Prelude.{ℕ}
 use Rattle.page_turnover.specs.declared.operation.Operation.{Operation}
 use Rattle.page_turnover.specs.declared.operation.Operation.TheVariants.{Program, Erase}
 use Rattle.page_turnover.specs.Header.{HasHeader}
@@ -10,7 +11,7 @@ use Rattle.page_turnover.specs.Operates.{MayOperate, FillsAtMostOne}
 use Rattle.page_turnover.specs.Steps.{Keeps, CommitsWord, CommitsTurn}
 
 -- what an operation does whose target reads as intended: a record and a header commit, an erase and a copy change no word
-abbrev pub IsEffect : List ℕ → Task → Operation → List ℕ → Type 0
+abbrev pub IsEffect : Bytes → Task → Operation → Bytes → Type 0
 IsEffect old (Append word) operation new = CommitsWord old word new
 IsEffect old (Copy target word) operation new = Keeps old new
 IsEffect old (Seal target) (Program page slot word) new = CommitsTurn old (Seal target) new
@@ -18,12 +19,12 @@ IsEffect old (Seal target) (Erase page) new = Keeps old new
 IsEffect old _ operation new = ⊥
 
 -- an erase makes no header that its page did not have
-abbrev pub MakesNoHeader : List ℕ → Operation → List ℕ → Type 0
+abbrev pub MakesNoHeader : Bytes → Operation → Bytes → Type 0
 MakesNoHeader old (Program page slot word) new = Unit {0}
 MakesNoHeader old (Erase page) new = (p s : ℕ) → HasHeader new p s → HasHeader old p s
 
 -- all that is said of what the operation leaves
-pub record Leaves (old : List ℕ) (log : LogValue) (operation : Operation) (new : List ℕ) : Type 0 where
+pub record Leaves (old : Bytes) (log : LogValue) (operation : Operation) (new : Bytes) : Type 0 where
   pub operates : MayOperate old new
   pub usable : IsUsable new
   pub fills : FillsAtMostOne old new

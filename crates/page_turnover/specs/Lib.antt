@@ -9,7 +9,6 @@ pub mod Turn
 pub mod Next
 pub mod Steps
 pub mod Refusal
-pub mod Made
-pub mod Blocks
 pub mod Operates
 pub mod Leaves
+pub mod ties

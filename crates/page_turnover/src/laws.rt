@@ -5,7 +5,7 @@ ghost use Rattle.flash_model.specs.Image.{IsImage};
 ghost use Rattle.page_turnover.specs.Active.{IsActive, NoneActive, HasFormat, active, format};
 ghost use Rattle.page_turnover.specs.declared.operation.Operation.{Operation};
 ghost use Rattle.page_turnover.specs.Value.{LogValue};
-ghost use Rattle.page_turnover.specs.Log.{Describes};
+ghost use Rattle.page_turnover.specs.ties.Log.{Describes};
 ghost use Rattle.page_turnover.specs.Next.{next_operation, MayMake};
 ghost use Rattle.page_turnover.specs.Leaves.{Leaves};
 

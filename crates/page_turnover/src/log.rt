@@ -5,7 +5,7 @@ ghost use Rattle.page_turnover.specs.Active.{active, format};
 ghost use Rattle.page_turnover.specs.Words.{words, HasRoom, IsTail};
 ghost use Rattle.page_turnover.specs.Usable.{IsUsable, IsFirstUnsound};
 ghost use Rattle.page_turnover.specs.Value.{Rest};
-ghost use Rattle.page_turnover.specs.Log.{IsHeld};
+ghost use Rattle.page_turnover.specs.ties.Log.{IsHeld};
 
 mod stepping;
 mod turning;
@@ -80,7 +80,8 @@ pub struct Log {
 }
 
 impl Model for Log {
-    ghost use Rattle.page_turnover.specs.Value.{LogValue, task_value};
+    ghost use Rattle.page_turnover.specs.Value.{LogValue};
+    ghost use Rattle.page_turnover.specs.ties.Value.{task_value};
 
     ghost Value = { LogValue };
 
@@ -88,7 +89,8 @@ impl Model for Log {
 }
 
 impl Log {
-    ghost use Rattle.page_turnover.specs.Log.{Describes, HasTailRoom};
+    ghost use Rattle.page_turnover.specs.Log.{HasTailRoom};
+    ghost use Rattle.page_turnover.specs.ties.Log.{Describes};
 
     /// Reads the log of a flash, and changes nothing.
     pub fn mount<F: NorFlash>(flash: &F) -> Log

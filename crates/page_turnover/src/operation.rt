@@ -3,7 +3,7 @@
 ghost use Rattle.std.specs.Prelude.{◌≡◌, ◌+◌, ◌%◌, ◌^◌, ◌<◌, ◌↔◌, IsTrue, true};
 ghost use Rattle.flash_model.specs.Image.{page_count, slot_at, IsImage};
 ghost use Rattle.records.specs.Slots.{slot_of};
-ghost use Rattle.page_turnover.specs.Made.{CanMake, IsMade, RaisesFaults};
+ghost use Rattle.page_turnover.specs.ties.Made.{CanMake, IsMade, RaisesFaults};
 ghost use Rattle.page_turnover.specs.Next.{on_flash};
 
 use crate::reading::is_blank;

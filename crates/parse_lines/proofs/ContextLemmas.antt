@@ -18,7 +18,7 @@ use Rattle.descriptor_parse.specs.Faults.{shows}
 use Rattle.descriptor_parse.proofs.GlobalLemmas.{in_force_pop, in_force_more, same_last}
 use Rattle.parse_lines.specs.declared.context.Context.{Context}
 use Rattle.parse_lines.specs.declared.context.Globals.{Globals}
-use Rattle.parse_lines.specs.Contexts.{globals_of, saved_of, ContextStands, IsClean}
+use Rattle.parse_lines.specs.ties.Contexts.{globals_of, saved_of, ContextStands, IsClean}
 
 pub stand_new : (context : Context) → context.globals ≡ record { page = 0; negative = false } → context.saved.items ≡ [] → context.depth ≡ 0
     → ContextStands [] context

@@ -10,7 +10,7 @@ use Rattle.descriptor_parse.specs.declared.fault.ParseFault.{ParseFault}
 use Rattle.descriptor_parse.specs.Items.{ItemValue, data_size, item_size, front_item, first_items, items_at}
 use Rattle.descriptor_parse.specs.Faults.{HasFault, IsFaultAmong}
 use Rattle.parse_lines.specs.declared.context.Context.{Context}
-use Rattle.parse_lines.specs.Contexts.{ContextStands, IsClean, NoneBefore}
+use Rattle.parse_lines.specs.ties.Contexts.{ContextStands, IsClean, NoneBefore}
 use Rattle.parse_lines.specs.Listings.{end_lines, fault_item_line, has_come, item_lines, item_text, line, lines_after}
 
 -- a short item has four bytes of data at most

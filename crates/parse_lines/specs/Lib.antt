@@ -1,9 +1,8 @@
-pub mod Contexts
 pub mod Described
 pub mod HexTexts
 pub mod Listings
 pub mod Names
 pub mod Prints
 pub mod Texts
-pub mod Values
 pub mod Words
+pub mod ties

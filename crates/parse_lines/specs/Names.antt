@@ -1,8 +1,9 @@
 -- Believed: names of the HID Usage Tables (HUT sections 3, 4, 11, 15 and 16) and of HID 1.11. A list without letters says
 -- that none is known.
-use Rattle.std.specs.Prelude.{ℕ, ◌==◌, if◌then◌else◌, List, [], codes}
+use Rattle.shapes.specs.Shapes.{Bytes}
+use Rattle.std.specs.Prelude.{ℕ, ◌==◌, if◌then◌else◌, [], codes}
 
-abbrev pub page_name : ℕ → List ℕ
+abbrev pub page_name : ℕ → Bytes
 page_name n =
     if n == 0x01 then codes "Generic Desktop" else (if n == 0x02 then codes "Simulation Controls" else (
     if n == 0x05 then codes "Game Controls" else (if n == 0x06 then codes "Generic Device Controls" else (
@@ -13,7 +14,7 @@ page_name n =
     if n == 0x84 then codes "Power" else (if n == 0x85 then codes "Battery System" else [])))))))))))))
 
 -- the Generic Desktop page, 01h
-abbrev pub desktop_name : ℕ → List ℕ
+abbrev pub desktop_name : ℕ → Bytes
 desktop_name n =
     if n == 0x01 then codes "Pointer" else (if n == 0x02 then codes "Mouse" else (
     if n == 0x04 then codes "Joystick" else (if n == 0x05 then codes "Gamepad" else (
@@ -28,14 +29,14 @@ desktop_name n =
     if n == 0x82 then codes "System Sleep" else (if n == 0x83 then codes "System Wake Up" else [])))))))))))))))))))))
 
 -- the LED page, 08h
-abbrev pub led_name : ℕ → List ℕ
+abbrev pub led_name : ℕ → Bytes
 led_name n =
     if n == 0x01 then codes "Num Lock" else (if n == 0x02 then codes "Caps Lock" else (
     if n == 0x03 then codes "Scroll Lock" else (if n == 0x04 then codes "Compose" else (
     if n == 0x05 then codes "Kana" else []))))
 
 -- the Consumer page, 0Ch
-abbrev pub consumer_name : ℕ → List ℕ
+abbrev pub consumer_name : ℕ → Bytes
 consumer_name n =
     if n == 0x01 then codes "Consumer Control" else (if n == 0x30 then codes "Power" else (
     if n == 0xB5 then codes "Scan Next Track" else (if n == 0xB6 then codes "Scan Previous Track" else (
@@ -47,7 +48,7 @@ consumer_name n =
     if n == 0x238 then codes "AC Pan" else []))))))))))))))
 
 -- the Digitizers page, 0Dh
-abbrev pub digitizer_name : ℕ → List ℕ
+abbrev pub digitizer_name : ℕ → Bytes
 digitizer_name n =
     if n == 0x01 then codes "Digitizer" else (if n == 0x02 then codes "Pen" else (
     if n == 0x04 then codes "Touch Screen" else (if n == 0x05 then codes "Touch Pad" else (
@@ -62,13 +63,13 @@ digitizer_name n =
     if n == 0x56 then codes "Scan Time" else []))))))))))))))))))))
 
 -- a usage, by its page and its number on that page
-abbrev pub usage_name : ℕ → ℕ → List ℕ
+abbrev pub usage_name : ℕ → ℕ → Bytes
 usage_name page n =
     if page == 0x01 then desktop_name n else (if page == 0x08 then led_name n else (
     if page == 0x0C then consumer_name n else (if page == 0x0D then digitizer_name n else [])))
 
 -- what a collection is (HID 1.11, 6.2.2.6)
-abbrev pub collection_name : ℕ → List ℕ
+abbrev pub collection_name : ℕ → Bytes
 collection_name n =
     if n == 0x00 then codes "Physical" else (if n == 0x01 then codes "Application" else (
     if n == 0x02 then codes "Logical" else (if n == 0x03 then codes "Report" else (
@@ -76,7 +77,7 @@ collection_name n =
     if n == 0x06 then codes "Usage Modifier" else []))))))
 
 -- the items that fields don't depend on, by the prefix without the two bits of the size, shifted down (6.2.2.7 and 6.2.2.8)
-abbrev pub other_name : ℕ → List ℕ
+abbrev pub other_name : ℕ → Bytes
 other_name q =
     if q == 0x0D then codes "Physical Minimum" else (if q == 0x11 then codes "Physical Maximum" else (
     if q == 0x15 then codes "Unit Exponent" else (if q == 0x19 then codes "Unit" else (

@@ -8,7 +8,7 @@ ghost use Rattle.descriptor_parse.specs.Globals.{signed};
 ghost use Rattle.descriptor_parse.specs.declared.tag.Tag.{Tag};
 ghost use Rattle.descriptor_parse.specs.declared.tag.MainTag.{MainTag};
 ghost use Rattle.descriptor_parse.specs.declared.tag.GlobalTag.{GlobalTag};
-ghost use Rattle.parse_lines.specs.Contexts.{ContextStands, IsClean};
+ghost use Rattle.parse_lines.specs.ties.Contexts.{ContextStands, IsClean};
 ghost use Rattle.parse_lines.specs.Listings.{indent};
 
 use arrayvec::ArrayVec;

@@ -2,7 +2,7 @@
 
 ghost use Rattle.std.specs.Prelude.{◌≡◌, ◌-◌, ◌*◌, ◌++◌, Some, codes};
 ghost use Rattle.parse_lines.specs.Listings.{columns, fault_words, line, mark, offset_gap, spaced_hex, spaces};
-ghost use Rattle.parse_lines.specs.Values.{columns_text, told_text};
+ghost use Rattle.parse_lines.specs.ties.Values.{columns_text, told_text};
 
 use crate::words::Words;
 use descriptor_parse::ParseFault;

@@ -8,11 +8,11 @@ ghost use Rattle.descriptor_parse.specs.declared.fault.ParseError.{ParseError};
 ghost use Rattle.descriptor_parse.specs.Faults.{IsFaultless};
 ghost use Rattle.descriptor_parse.specs.Items.{ItemValue};
 ghost use Rattle.descriptor_parse.specs.ItemViews.{item_view};
-ghost use Rattle.parse_lines.specs.Contexts.{ContextStands, IsBeforeItems, NoneBefore};
+ghost use Rattle.parse_lines.specs.ties.Contexts.{ContextStands, IsBeforeItems, NoneBefore};
 ghost use Rattle.parse_lines.specs.HexTexts.{SaysBytes};
 ghost use Rattle.parse_lines.specs.Listings.{IsListing, IsRefusedListing, bare_fault_line, end_lines, fault_item_line, has_come, head_bytes, item_lines, item_text, refused_lines};
 ghost use Rattle.parse_lines.specs.Texts.{IsSound, IsTextFault, IsRefusal};
-ghost use Rattle.parse_lines.specs.Values.{told_text};
+ghost use Rattle.parse_lines.specs.ties.Values.{told_text};
 
 use crate::LinesError;
 use crate::context::Context;

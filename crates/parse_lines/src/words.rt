@@ -4,7 +4,7 @@ ghost use Rattle.std.specs.Prelude.{◌≡◌, ◌≢◌, ◌≤◌, ◌<◌, �
 ghost use Rattle.descriptor_parse.specs.Tags.{tag_of};
 ghost use Rattle.descriptor_parse.specs.Globals.{unsigned, signed};
 ghost use Rattle.parse_lines.specs.Words.{data_name, is_input, main_words, global_words, local_words, usage_words, page_words, named, number, exponent, other_words, short_words, hex_number, flags_text, rare_flags, has_bit};
-ghost use Rattle.parse_lines.specs.Values.{said, value_text, words_text};
+ghost use Rattle.parse_lines.specs.ties.Values.{said, value_text, words_text};
 
 use crate::names::{collection_name, other_name, page_name, usage_name};
 use descriptor_parse::number::{signed, unsigned};

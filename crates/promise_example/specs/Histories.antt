@@ -1,4 +1,5 @@
 -- Believed: histories that break the promise, newest step first, on a flash without a page, or on one of one or two pages.
+use Rattle.shapes.specs.Shapes.{Bytes}
 use Rattle.std.specs.Prelude.{ℕ, zero, suc, None, false, List, [], ◌∷◌, ◌++◌, replicate}
 use Rattle.flash_model.specs.Sim.{SimValue}
 use Rattle.records.specs.Slots.{encoded}
@@ -12,7 +13,7 @@ use Rattle.world.specs.declared.event.Event.TheVariants.{Scan, Setup, OutPacket,
 use Rattle.world.specs.Kinds.{Step}
 
 -- a flash with these bytes, of which nothing else has happened
-abbrev pub with_image : List ℕ → SimValue
+abbrev pub with_image : Bytes → SimValue
 with_image image = record { image = image; armed = None; operations = 0; faults = 0 }
 
 -- a flash without a page: each entry is the default
@@ -28,10 +29,10 @@ abbrev pub scan_is_refused : List Step
 scan_is_refused = step (Scan (record { rows = replicate 6 0 })) Nak ∷ []
 
 -- a command that sets entry 0 0 to 0005h is accepted
-abbrev pub set_feature : List ℕ
+abbrev pub set_feature : Bytes
 set_feature = 0x21 ∷ 0x09 ∷ 0x03 ∷ 0x03 ∷ 0x00 ∷ 0x00 ∷ 0x06 ∷ 0x00 ∷ []
 
-abbrev pub set_report : List ℕ
+abbrev pub set_report : Bytes
 set_report = 3 ∷ 1 ∷ 0 ∷ 0 ∷ 5 ∷ 0 ∷ []
 
 abbrev pub one_accepted : List Step
@@ -71,7 +72,7 @@ abbrev pub sent_unasked : List Step
 sent_unasked = step Poll (Sent (record { items = 1 ∷ replicate 22 0 }) Unread) ∷ []
 
 -- the host asks for the report descriptor
-abbrev pub get_descriptor : List ℕ
+abbrev pub get_descriptor : Bytes
 get_descriptor = 0x81 ∷ 0x06 ∷ 0x00 ∷ 0x22 ∷ 0x00 ∷ 0x00 ∷ 0x63 ∷ 0x00 ∷ []
 
 abbrev pub descriptor_asked : List Step
@@ -86,11 +87,11 @@ abbrev pub fetched_nothing : List Step
 fetched_nothing = repeated 13 (step InPacket (Packet (record { items = [] }))) descriptor_asked
 
 -- a page whose header has this sequence number, and nothing else
-abbrev pub page : ℕ → List ℕ
+abbrev pub page : ℕ → Bytes
 page seq = encoded (header_word 2 seq) ++ replicate 4088 255
 
 -- a step of the flash work that leaves these bytes
-abbrev pub leaves : List ℕ → Step
+abbrev pub leaves : Bytes → Step
 leaves image = record { event = Work; answer = Worked Idle; flash = with_image image; refused = false }
 
 -- a header is committed, and another by the next step

@@ -6,7 +6,7 @@ use Rattle.std.proofs.lemmas.Nat.{pow-add}
 use Rattle.std.proofs.lemmas.Bool.{cases_lt}
 use Rattle.std.proofs.lemmas.Bool.Decides.{nat_tests}
 use Rattle.std.proofs.lemmas.Nat.Bits.{bit_at-zero, bit_at-trailing_zeros, bit_at-lt, bit_at_above, bit_at_or, bit_at_cat_low, bit_at_cat_high}
-use Rattle.reports.specs.Next.{IsNext, NonePasses}
+use Rattle.reports.specs.ties.Next.{IsNext, NonePasses}
 
 bit_at_shr : (n k i : ℕ) → bit_at (n / 2 ^ k) i ≡ bit_at n (k + i)
 bit_at_shr n k i = rw (div-div-eq-div-mul n (2 ^ k) (2 ^ i), ← pow-add 2 k i) refl

@@ -6,9 +6,9 @@ use Rattle.reports.specs.declared.Protocol.TheVariants as protocol
 use Rattle.reports.specs.declared.Input.{Input}
 use Rattle.reports.specs.declared.Input.TheVariants.{Boot, One, Two}
 use Rattle.reports.specs.Calls.{PollerCall, polled}
-use Rattle.reports.specs.Kept.{Kept, SentValue}
+use Rattle.reports.specs.ties.Kept.{Kept, SentValue}
 use Rattle.reports.specs.Queue.{queue}
-use Rattle.reports.specs.Stands.{SentStandsFor, RuleStandsFor, AreMade, IsMade, IsMadeFor, SameMade}
+use Rattle.reports.specs.ties.Stands.{SentStandsFor, RuleStandsFor, AreMade, IsMade, IsMadeFor, SameMade}
 use Rattle.reports.specs.Wanted.{wanted}
 use Rattle.reports.proofs.Waiting.{queue-poll}
 

@@ -9,8 +9,8 @@ use Rattle.reports.specs.declared.Input.TheVariants.{Boot, One, Two}
 use Rattle.reports.specs.Calls.{PollerCall, ticked, polled, idle_set, forgot, was_reset}
 use Rattle.reports.specs.Poll.{is_report, is_for, last_bytes, age, sent_last, idle_value, rule_answer, poll_answer}
 use Rattle.reports.specs.Queue.{queue}
-use Rattle.reports.specs.Kept.{Kept, SentValue}
-use Rattle.reports.specs.Stands.{SentStandsFor, RuleStandsFor, NothingSent, StandsFor}
+use Rattle.reports.specs.ties.Kept.{Kept, SentValue}
+use Rattle.reports.specs.ties.Stands.{SentStandsFor, RuleStandsFor, NothingSent, StandsFor}
 use Rattle.reports.specs.Wanted.{wanted}
 use Rattle.reports.proofs.Waiting.{queue-none, queue-forgot, queue-reset}
 

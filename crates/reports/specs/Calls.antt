@@ -1,5 +1,6 @@
 -- Believed: the calls of a poller.
-use Rattle.std.specs.Prelude.{ℕ, Bool, true, false, List, Option}
+use Rattle.shapes.specs.Shapes.{Bytes}
+use Rattle.std.specs.Prelude.{ℕ, Bool, true, false, Option}
 use Rattle.reports.specs.declared.Protocol.{Protocol}
 use Rattle.reports.specs.declared.IdleId.{IdleId}
 use Rattle.reports.specs.declared.Input.{Input}
@@ -7,9 +8,9 @@ use Rattle.reports.specs.declared.Input.{Input}
 -- a call of a poller
 pub data PollerCall : Type 0 where
   -- a scan in this protocol, with the bytes that each report has to have before it and now
-  ticked : (protocol : Protocol) → (before now : Input → List ℕ) → PollerCall
+  ticked : (protocol : Protocol) → (before now : Input → Bytes) → PollerCall
   -- a poll in this protocol, with the bytes that it answered, if any
-  polled : (protocol : Protocol) → (answer : Option (List ℕ)) → PollerCall
+  polled : (protocol : Protocol) → (answer : Option Bytes) → PollerCall
   -- an idle value is set by a request of this ID
   idle_set : (id : IdleId) → (duration : ℕ) → PollerCall
   -- what was sent and what waits is forgotten

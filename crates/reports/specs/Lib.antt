@@ -5,7 +5,5 @@ pub mod Queue
 pub mod Poll
 pub mod Answers
 pub mod LookBack
-pub mod Kept
-pub mod Stands
-pub mod Next
 pub mod Plain
+pub mod ties

@@ -1,4 +1,5 @@
 -- Believed where this crate is called: the latest poll that sent a report, said of a past that is cut there, newest first.
+use Rattle.shapes.specs.Shapes.{Bytes}
 use Rattle.std.specs.Prelude.{◌≡◌, ℕ, false, List, None, All, count_by}
 use Rattle.reports.specs.declared.Input.{Input}
 use Rattle.reports.specs.Calls.{PollerCall, forgets, is_tick}
@@ -14,6 +15,6 @@ abbrev pub scans : List PollerCall → ℕ
 scans calls = count_by is_tick calls
 
 -- what counts as sent last of a report, and how many scans ago
-pub record Last (report : Input) (past : List PollerCall) (bytes : List ℕ) (ago : ℕ) : Type 0 where
+pub record Last (report : Input) (past : List PollerCall) (bytes : Bytes) (ago : ℕ) : Type 0 where
   pub bytes_are : last_bytes report past ≡ bytes
   pub age_is : age report past ≡ ago

@@ -1,5 +1,6 @@
--- Believed where this crate is called: what the calls and bytes of the plain program stand for; from_last only ties code.
-use Rattle.std.specs.Prelude.{ℕ, ◌-◌, nat_lt, if◌then◌else◌, List, length, slice_get, Option, None}
+-- Believed where this crate is called: what the calls and bytes of the plain program stand for.
+use Rattle.shapes.specs.Shapes.{Bytes}
+use Rattle.std.specs.Prelude.{ℕ, ◌-◌}
 use Rattle.std.specs.Option.{option_map}
 use Rattle.reports.specs.declared.Input.{Input}
 use Rattle.reports.specs.declared.Input.TheVariants.{Boot, One, Two}
@@ -9,7 +10,7 @@ use Rattle.reports.specs.declared.plain.Wanted.{Wanted}
 use Rattle.reports.specs.Calls.{PollerCall, ticked, polled, idle_set, forgot, was_reset}
 
 -- the bytes of one of the three reports
-abbrev pub bytes_in : Wanted → Input → List ℕ
+abbrev pub bytes_in : Wanted → Input → Bytes
 bytes_in wanted Boot = wanted.boot
 bytes_in wanted One = wanted.one
 bytes_in wanted Two = wanted.two
@@ -21,7 +22,3 @@ call_of (call.Polled protocol answer) = polled protocol (option_map (λ r. r.ite
 call_of (call.IdleSet which duration) = idle_set which duration
 call_of call.Forgot = forgot
 call_of call.WasReset = was_reset
-
--- the item of a list before its last `back` ones, if there is one
-abbrev pub from_last : List (List ℕ) → ℕ → Option (List ℕ)
-from_last items back = if nat_lt back (length items) then slice_get items (length items - back - 1) else None

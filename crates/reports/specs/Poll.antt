@@ -1,4 +1,5 @@
 -- Believed: what a poll answers, by a look back over the poller's calls, newest first.
+use Rattle.shapes.specs.Shapes.{Bytes}
 use Rattle.std.specs.Prelude.{ℕ, ◌+◌, ◌*◌, ◌==◌, Bool, true, false, ◌&&◌, ◌||◌, not, List, [], ◌∷◌, length, Option, Some, None, is_some, unwrap_or, slice_get, if◌then◌else◌, nat_le}
 use Rattle.std.specs.Option.{option_map, option_or}
 use Rattle.std.specs.Str.{bytes_eq}
@@ -19,16 +20,16 @@ size_of One = 23
 size_of Two = 9
 
 -- whether these bytes are this report: no two reports have the same length
-abbrev pub is_report : Input → List ℕ → Bool
+abbrev pub is_report : Input → Bytes → Bool
 is_report report bytes = length bytes == size_of report
 
 -- the bytes of this report that the call answered
-abbrev pub sent_by : Input → PollerCall → Option (List ℕ)
+abbrev pub sent_by : Input → PollerCall → Option Bytes
 sent_by report (polled protocol (Some bytes)) = if is_report report bytes then Some bytes else None
 sent_by report _ = None
 
 -- the last bytes sent of a report; those without usages if none were
-unfoldable pub last_bytes : Input → List PollerCall → List ℕ
+unfoldable pub last_bytes : Input → List PollerCall → Bytes
 last_bytes report [] = wanted (λ _. false) (λ _. false) report
 last_bytes report (call ∷ past) =
     if forgets call then wanted (λ _. false) (λ _. false) report
@@ -75,7 +76,7 @@ idle_value report (idle_set which duration ∷ past) =
 idle_value report (_ ∷ past) = idle_value report past
 
 -- its wanted bytes are not the last ones
-abbrev pub is_changed : (Input → List ℕ) → List PollerCall → Input → Bool
+abbrev pub is_changed : (Input → Bytes) → List PollerCall → Input → Bool
 is_changed bytes past report = not (bytes_eq (bytes report) (last_bytes report past))
 
 -- its idle value is not 0, and as many milliseconds went by: a tick is one, the value's unit is four
@@ -91,7 +92,7 @@ one_of_two test (Some Two) = if test One then Some One else (if test Two then So
 one_of_two test None = if test One then Some One else (if test Two then Some Two else None)
 
 -- the report that a poll sends: a changed one, else an elapsed one
-abbrev pub chosen : Protocol → (Input → List ℕ) → List PollerCall → Option Input
+abbrev pub chosen : Protocol → (Input → Bytes) → List PollerCall → Option Input
 chosen protocol.Boot bytes past =
     if is_changed bytes past Boot || is_elapsed past Boot then Some Boot else None
 chosen protocol.Report bytes past =
@@ -100,9 +101,9 @@ chosen protocol.Report bytes past =
     else one_of_two (is_elapsed past) (sent_last past)
 
 -- the bytes of that report
-unfoldable pub rule_answer : Protocol → (Input → List ℕ) → List PollerCall → Option (List ℕ)
+unfoldable pub rule_answer : Protocol → (Input → Bytes) → List PollerCall → Option Bytes
 rule_answer protocol bytes past = option_map bytes (chosen protocol bytes past)
 
 -- the answer of a poll that wants these bytes of each report: the first report that waits, else the poll rule's
-unfoldable pub poll_answer : Protocol → (Input → List ℕ) → List PollerCall → Option (List ℕ)
+unfoldable pub poll_answer : Protocol → (Input → Bytes) → List PollerCall → Option Bytes
 poll_answer protocol bytes past = option_or (slice_get (queue past) 0) (rule_answer protocol bytes past)

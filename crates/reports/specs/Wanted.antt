@@ -1,5 +1,6 @@
 -- Believed: the bytes of each report for a set of usages. A set is a test: `keys u` says that usage u of page 07h is in it,
 -- `consumer u` that usage u of page 0Ch is.
+use Rattle.shapes.specs.Shapes.{Bytes, UsageList}
 use Rattle.std.specs.Prelude.{ℕ, zero, suc, ◌+◌, ◌-◌, ◌*◌, ◌/◌, ◌%◌, ◌^◌, Bool, ◌&&◌, List, [], ◌∷◌, ◌++◌, length, take, replicate, if◌then◌else◌, nat_le, nat_lt}
 use Rattle.reports.specs.declared.Input.{Input}
 use Rattle.reports.specs.declared.Input.TheVariants.{Boot, One, Two}
@@ -19,7 +20,7 @@ unfoldable pub byte_of : (ℕ → Bool) → ℕ
 byte_of test = number_of test 8
 
 -- `count` bytes, bits counted through all of them from the least significant one
-unfoldable pub bytes_of : (ℕ → Bool) → ℕ → List ℕ
+unfoldable pub bytes_of : (ℕ → Bool) → ℕ → Bytes
 bytes_of test zero = []
 bytes_of test (suc n) = bytes_of test n ++ byte_of (λ i. test (8 * n + i)) ∷ []
 
@@ -33,12 +34,12 @@ listed keys = members keys 4 161
 
 -- the six places of a boot report: these usages and then zeros, or six times ErrorRollOver where they
 -- are more
-abbrev pub places_of : List ℕ → List ℕ
+abbrev pub places_of : UsageList → List ℕ
 places_of usages =
     if nat_le (length usages) 6 then usages ++ replicate (6 - length usages) 0 else replicate 6 1
 
 -- the boot keyboard's input report (HID 1.11 appendix B.1)
-unfoldable pub boot_bytes : (ℕ → Bool) → List ℕ
+unfoldable pub boot_bytes : (ℕ → Bool) → Bytes
 boot_bytes keys = modifiers_of keys ∷ 0 ∷ places_of (listed keys)
 
 -- bits 0 to 7 are the modifiers, bits 8 to 168 the usages 04h to A4h
@@ -46,7 +47,7 @@ abbrev pub bitmap_bit : (ℕ → Bool) → ℕ → Bool
 bitmap_bit keys b = if nat_lt b 8 then keys (224 + b) else nat_lt b 169 && keys (b - 8 + 4)
 
 -- the input report of ID 1
-unfoldable pub bitmap_bytes : (ℕ → Bool) → List ℕ
+unfoldable pub bitmap_bytes : (ℕ → Bool) → Bytes
 bitmap_bytes keys = 1 ∷ bytes_of (bitmap_bit keys) 22
 
 -- the usages 001h to 3FFh, rising
@@ -59,15 +60,15 @@ words_of [] = []
 words_of (n ∷ ns) = n % 256 ∷ n / 256 ∷ words_of ns
 
 -- four places: these usages and then zeros
-abbrev pub padded : List ℕ → List ℕ
+abbrev pub padded : UsageList → List ℕ
 padded usages = usages ++ replicate (4 - length usages) 0
 
 -- the input report of ID 2: the usages, or the four least of more
-unfoldable pub consumer_bytes : (ℕ → Bool) → List ℕ
+unfoldable pub consumer_bytes : (ℕ → Bool) → Bytes
 consumer_bytes consumer = 2 ∷ words_of (padded (take 4 (consumer_listed consumer)))
 
 -- the bytes that an input report has for these usages
-abbrev pub wanted : (ℕ → Bool) → (ℕ → Bool) → Input → List ℕ
+abbrev pub wanted : (ℕ → Bool) → (ℕ → Bool) → Input → Bytes
 wanted keys consumer Boot = boot_bytes keys
 wanted keys consumer One = bitmap_bytes keys
 wanted keys consumer Two = consumer_bytes consumer

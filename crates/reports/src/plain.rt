@@ -9,7 +9,8 @@ ghost use Rattle.reports.specs.Wanted as wanted;
 ghost use Rattle.reports.specs.Calls as calls;
 ghost use Rattle.reports.specs.Queue as queue;
 ghost use Rattle.reports.specs.Poll as poll;
-ghost use Rattle.reports.specs.Plain.{call_of, bytes_in, from_last};
+ghost use Rattle.reports.specs.Plain.{call_of, bytes_in};
+ghost use Rattle.reports.specs.ties.Plain.{from_last};
 
 use crate::{IdleId, Input, Protocol, Report};
 

@@ -49,7 +49,7 @@ pub struct Poller {
 }
 
 impl Model for Poller {
-    ghost use Rattle.reports.specs.Kept.{Kept};
+    ghost use Rattle.reports.specs.ties.Kept.{Kept};
 
     ghost Value = { Kept };
 
@@ -66,7 +66,7 @@ impl Model for Poller {
 }
 
 impl Poller {
-    ghost use Rattle.reports.specs.Stands.{StandsFor, RuleStandsFor, NothingSent, IsMade, IsMadeFor, SameMade};
+    ghost use Rattle.reports.specs.ties.Stands.{StandsFor, RuleStandsFor, NothingSent, IsMade, IsMadeFor, SameMade};
     ghost use Rattle.reports.specs.Answers.{idle_input};
 
     /// Nothing sent and nothing waiting, and the idle values 125 (500 ms) for ID 1 and 0 (no repeats)

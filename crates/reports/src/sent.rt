@@ -20,7 +20,7 @@ pub(crate) struct Sent<const N: usize> {
 impl<const N: usize> Model for Sent<N> {
     ghost use Rattle.std.specs.Prelude.{◌≡◌, not, length};
     ghost use Rattle.std.specs.Str.{bytes_eq};
-    ghost use Rattle.reports.specs.Kept.{SentValue};
+    ghost use Rattle.reports.specs.ties.Kept.{SentValue};
 
     ghost Value = { SentValue };
 

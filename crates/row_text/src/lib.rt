@@ -1,16 +1,28 @@
-//! Texts of rows, a line each, and what runs them (`rows`); numbers, bytes, keys and slots, as the rows of tests write them,
-//! and numbers that look random.
+//! Texts of rows, a line each, and what runs them (`rows`); numbers, bytes, keys and slots, as the rows of tests write them
+//! (`slots`); what is drawn by numbers that look random (`random`), and a reader that fails (`reader`).
 //!
-//! Nothing is kept, and nothing is promised but an answer: what is read wrong fails the test that reads it. The tests of
-//! the device and of the judges call it.
+//! Nothing is kept, and nothing is promised but an answer: what is read wrong fails the test that reads it. The crates of
+//! tests call it, and nothing else does.
 #![tactic(auto)]
 
+mod random;
+mod reader;
 mod rows;
+mod slots;
 #[cfg(test)]
 mod tests;
 
 use arrayvec::ArrayVec;
-pub use rows::{Row, RunsRows, first_wrong, first_wrong_of_each};
+pub use random::{Numbers, drawn, next, push_drawn};
+pub use reader::FailingReader;
+pub use rows::{Row, RunsRows, add_rows, first_wrong, first_wrong_of_each};
+pub use slots::{full_word, good, placed, put_slot};
+use std::str;
+
+/// The text of these bytes.
+pub fn text_of(bytes: &[u8]) -> &str {
+    str::from_utf8(bytes).unwrap_or("bytes that are no text")
+}
 
 /// A decimal number, below 65,536.
 pub fn number(text: &str) -> Option<u16> {
@@ -46,23 +58,32 @@ pub fn eight(text: &str) -> Option<[u8; 8]> {
     Some(u64::from_str_radix(text, 16).ok()?.to_be_bytes())
 }
 
+/// The byte of two hex digits.
+fn byte_of(pair: &[u8]) -> Option<u8> {
+    let [high, low] = pair else {
+        return None;
+    };
+    let high = (*high as char).to_digit(16)?;
+    let low = (*low as char).to_digit(16)?;
+    u8::try_from(high.wrapping_mul(16) | low).ok()
+}
+
 /// At most `N` bytes of two hex digits each; `-`, or no text, stands for none.
 pub fn bytes<const N: usize>(text: &str) -> Option<ArrayVec<u8, N>> {
     let mut found = ArrayVec::new();
-    let mut high = None;
     let digits = if text == "-" { "" } else { text };
-    for c in digits.chars() {
-        let low = c.to_digit(16)?;
-        match high {
-            None => high = Some(low),
-            Some(first) => {
-                let byte = u8::try_from(first.wrapping_mul(16) | low).ok()?;
-                found.try_push(byte).ok()?;
-                high = None;
-            }
-        }
+    for pair in digits.as_bytes().chunks(2) {
+        found.try_push(byte_of(pair)?).ok()?;
     }
-    if high.is_some() { None } else { Some(found) }
+    Some(found)
+}
+
+/// Adds the bytes of two hex digits each; `None` where the text has others, or memory is refused.
+pub fn push_bytes(to: &mut Vec<u8>, digits: &str) -> Option<()> {
+    for pair in digits.as_bytes().chunks(2) {
+        to.push(byte_of(pair)?).ok()?;
+    }
+    Some(())
 }
 
 /// The rows of a scan with these keys pressed; `-`, or no text, stands for none.
@@ -78,15 +99,4 @@ pub fn pressed(keys: &str) -> Option<[u16; 6]> {
         rows[row] |= 1 << (key % 16);
     }
     Some(rows)
-}
-
-/// The bytes of a slot that holds a word: the word beside its complement.
-pub fn good(word: u32) -> [u8; 8] {
-    let [a, b, c, d] = word.to_le_bytes();
-    [a, b, c, d, !a, !b, !c, !d]
-}
-
-/// A number that looks random, from the one before it.
-pub fn next(random: u32) -> u32 {
-    random.wrapping_mul(1_664_525).wrapping_add(1_013_904_223)
 }

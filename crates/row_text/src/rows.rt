@@ -1,5 +1,7 @@
 //! Texts of rows, and what runs them.
 
+use std::alloc::Global;
+
 /// A row: its line, what it asks, and the answer that it wants behind ` = `, empty where it wants none.
 #[derive(Clone, Copy, Debug, PartialEq, Eq)]
 pub struct Row<'a> {
@@ -97,4 +99,26 @@ where
         }
     }
     None
+}
+
+/// Adds rows to a script, and what they print to what is expected. A row is `LINE = ANSWER`, or `LINE` alone where it
+/// prints nothing; the answer comes after the line's number. `None` where memory is refused.
+pub fn add_rows(
+    alloc: Global,
+    script: &mut String,
+    expected: &mut String,
+    rows: &str,
+) -> Option<()> {
+    let mut number = 0u32;
+    for row in rows.lines() {
+        number = number.wrapping_add(1);
+        let (line, answer) = row.split_once(" = ").unwrap_or((row, ""));
+        script.push_str(line).ok()?;
+        script.push_str("\n").ok()?;
+        if !answer.is_empty() {
+            let printed = format!(in alloc; "{number} {answer}\n").ok()?;
+            expected.push_str(printed.as_str()).ok()?;
+        }
+    }
+    Some(())
 }

@@ -1,6 +1,9 @@
 //! Which lines are rows, and which rows are found wrong.
 
-use super::{Row, RunsRows, first_wrong, first_wrong_of_each};
+use super::{
+    Numbers, Row, RunsRows, first_wrong, first_wrong_of_each, placed, push_bytes, push_drawn,
+    put_slot,
+};
 use std::process::Abort;
 
 /// A number: `add N`, `count = N`; `next = N` adds one first.
@@ -123,4 +126,72 @@ fn each_answer_has_a_call_of_its_own(rt: HostRuntime) {
         "next = 1, 3, 3",
         Some(("next = 1, 3, 3", Some(Some(2)))),
     );
+}
+
+/// Compares bytes that were added with those that are to be.
+fn expect_bytes(rt: &impl Abort, found: &[u8], wanted: &[u8]) {
+    assert_eq!(rt; found, wanted);
+}
+
+#[test]
+fn bytes_are_two_digits_each(rt: HostRuntime) {
+    let mut all = Vec::new(rt.alloc());
+    assert_eq!(rt; push_bytes(&mut all, "00ffA4"), Some(()));
+    assert_eq!(rt; push_bytes(&mut all, ""), Some(()));
+    expect_bytes(&rt, all.as_slice(), &[0x00, 0xFF, 0xA4]);
+    for text in ["0", "0g", "+5", "00 1"] {
+        assert_eq!(rt; push_bytes(&mut all, text), None, "{text}");
+        assert!(rt; super::bytes::<4>(text).is_none(), "{text}");
+    }
+    let few = super::bytes::<2>("05fe").unwrap_or_default();
+    expect_bytes(&rt, few.as_slice(), &[0x05, 0xFE]);
+    assert!(rt; super::bytes::<2>("000000").is_none());
+}
+
+#[test]
+fn slots_are_named_and_written(rt: HostRuntime) {
+    let slot = [0, 1, 2, 3, 4, 5, 6, 7];
+    assert_eq!(rt; placed("1 511 0001020304050607"), Some((1, 511, slot)));
+    assert_eq!(rt; placed("1 0001020304050607"), None);
+    let mut image = [0xFF; 24];
+    assert!(rt; put_slot(&mut image, 0, 1, slot));
+    assert!(rt; !put_slot(&mut image, 0, 3, slot));
+    expect_bytes(&rt, &image[..8], &[0xFF; 8]);
+    expect_bytes(&rt, &image[8..16], &slot);
+    expect_bytes(&rt, &image[16..], &[0xFF; 8]);
+}
+
+/// Compares the word of a slot of a full page.
+fn expect_word(rt: &impl Abort, slot: u32, wanted: u32) {
+    assert_eq!(rt; super::full_word(slot), wanted, "slot {slot}");
+}
+
+#[test]
+fn a_full_page_sets_each_entry(rt: HostRuntime) {
+    for (slot, word) in [
+        (1, 0x1000_0000),
+        (96, 0x105F_0000),
+        (97, 0x1100_0000),
+        (384, 0x135F_0000),
+        (385, 0x1000_0005),
+        (386, 0x1000_0000),
+        (511, 0x1000_0005),
+    ] {
+        expect_word(&rt, slot, word);
+    }
+}
+
+#[test]
+fn one_of_some_bytes_is_drawn(rt: HostRuntime) {
+    let mut numbers = Numbers(1);
+    let mut all = Vec::new(rt.alloc());
+    for _ in 0..40 {
+        let pushed = push_drawn(&mut numbers, &mut all, "A1 0F,1E,2D");
+        assert_eq!(rt; pushed, Some(()));
+    }
+    for byte in [0x0F, 0x1E, 0x2D] {
+        assert!(rt; all.contains(&byte), "{byte} is never drawn");
+    }
+    assert_eq!(rt; (all.len(), all.first().copied()), (80, Some(0xA1)));
+    assert_eq!(rt; push_drawn(&mut numbers, &mut all, "x,y"), None);
 }

@@ -1,6 +1,6 @@
 -- Believed: what is wrong with a line, by the words that it has.
 use Rattle.std.specs.Prelude.{◌≡◌, ◌≢◌, ℕ, List, length}
-use Rattle.script.specs.Statements.{Kind, IsOfKind, Number, Count, Bytes, MaskBytes, Takes, spelling}
+use Rattle.script.specs.Statements.{Kind, IsOfKind, Number, Count, HexBytes, MaskBytes, Takes, spelling}
 use Rattle.script.specs.declared.complaint.Complaint.{Complaint}
 use Rattle.script.specs.declared.complaint.Complaint.TheVariants as complaint
 use Rattle.script.specs.declared.complaint.Wanted.{Wanted}
@@ -16,10 +16,10 @@ kind_of pages wanted.Slot = Number 512
 kind_of pages wanted.Scans = Count
 kind_of pages wanted.LayerByte = Number 256
 kind_of pages wanted.KeyByte = Number 256
-kind_of pages wanted.SetupPacket = Bytes 8 8
-kind_of pages wanted.Packet = Bytes 1 8
+kind_of pages wanted.SetupPacket = HexBytes 8 8
+kind_of pages wanted.Packet = HexBytes 1 8
 kind_of pages wanted.Mask = MaskBytes
-kind_of pages wanted.Code = Bytes 2 2
+kind_of pages wanted.Code = HexBytes 2 2
 
 -- what is complained of is so: no line begins with the word, so many words may not follow, or the word is not what is wanted
 abbrev pub IsSo : ℕ → Complaint → Type 0

@@ -1,5 +1,6 @@
--- Believed: the lines of a script: what each one says, and which fault it has; Reads only ties code.
-use Rattle.std.specs.Prelude.{◌≡◌, ◌≢◌, ℕ, ◌<◌, ◌≤◌, ◌⊎◌, List, [], ◌∷◌, length, map, codes, ◌+◌, ◌*◌, Result, MatchResult}
+-- Believed: the lines of a script: what each one says, and which fault it has.
+use Rattle.shapes.specs.Shapes.{Bytes}
+use Rattle.std.specs.Prelude.{◌≡◌, ◌≢◌, ℕ, ◌<◌, ◌≤◌, ◌⊎◌, List, [], ◌∷◌, length, map, codes, ◌+◌, ◌*◌}
 use Rattle.std.specs.Int.NonZero.{non_zero_u16_get}
 use Rattle.script.specs.Keys.{WritesScan}
 use Rattle.script.specs.Masks.{IsMaskWord}
@@ -13,7 +14,7 @@ use Rattle.script.specs.declared.statement.Statement.{Statement}
 use Rattle.script.specs.declared.statement.Statement.TheVariants as statement
 
 -- the first word of a line
-abbrev pub spelling : Keyword → List ℕ
+abbrev pub spelling : Keyword → Bytes
 spelling keyword.Scan = codes "scan"
 spelling keyword.Scans = codes "scans"
 spelling keyword.Poll = codes "poll"
@@ -38,34 +39,34 @@ pub data Kind : Type 0 where
   -- a number of scans
   Count : Kind
   -- this many bytes in hex, at least and at most
-  Bytes : ℕ → ℕ → Kind
+  HexBytes : ℕ → ℕ → Kind
   -- a mask
   MaskBytes : Kind
 
-abbrev pub IsOfKind : Kind → List ℕ → Type 0
+abbrev pub IsOfKind : Kind → Bytes → Type 0
 IsOfKind (Number bound) word = IsNumberBelow bound word
 IsOfKind Count word = IsCount word
-IsOfKind (Bytes least most) word = IsHexOf least most word
+IsOfKind (HexBytes least most) word = IsHexOf least most word
 IsOfKind MaskBytes word = IsMaskWord word
 
 abbrev pub fault_of : Kind → LineFault
 fault_of (Number bound) = BadNumber
 fault_of Count = BadNumber
-fault_of (Bytes least most) = BadHex
+fault_of (HexBytes least most) = BadHex
 fault_of MaskBytes = BadHex
 
 -- one number of a key for each of these words
-abbrev pub key_kinds : List (List ℕ) → List Kind
+abbrev pub key_kinds : List Bytes → List Kind
 key_kinds words = map (λ _. Number 96) words
 
 -- what each of the words after a first word is to be, on a flash of so many pages
-abbrev pub kinds : ℕ → Keyword → List (List ℕ) → List Kind
+abbrev pub kinds : ℕ → Keyword → List Bytes → List Kind
 kinds pages keyword.Scan arguments = key_kinds arguments
 kinds pages keyword.Scans [] = []
 kinds pages keyword.Scans (count ∷ keys) = Count ∷ key_kinds keys
 kinds pages keyword.Poll arguments = []
-kinds pages keyword.Setup arguments = Bytes 8 8 ∷ []
-kinds pages keyword.Out arguments = Bytes 1 8 ∷ []
+kinds pages keyword.Setup arguments = HexBytes 8 8 ∷ []
+kinds pages keyword.Out arguments = HexBytes 1 8 ∷ []
 kinds pages keyword.In arguments = []
 kinds pages keyword.Work arguments = []
 kinds pages keyword.WorkFault arguments = MaskBytes ∷ []
@@ -75,37 +76,37 @@ kinds pages keyword.Reset arguments = []
 kinds pages keyword.Entry arguments = Number 4 ∷ Number 96 ∷ []
 kinds pages keyword.Slot arguments = Number pages ∷ Number 512 ∷ []
 kinds pages keyword.Leds arguments = []
-kinds pages keyword.Set arguments = Number 256 ∷ Number 256 ∷ Bytes 2 2 ∷ []
+kinds pages keyword.Set arguments = Number 256 ∷ Number 256 ∷ HexBytes 2 2 ∷ []
 kinds pages keyword.Fetch arguments = []
 
 -- how many words may follow: one for each kind, but `out` may stand alone too, and a scan names up to 96 keys
-abbrev pub Takes : Keyword → List (List ℕ) → Type 0
+abbrev pub Takes : Keyword → List Bytes → Type 0
 Takes keyword.Out arguments = length arguments ≤ 1
 Takes keyword.Scan arguments = length arguments ≤ 96
 Takes keyword.Scans arguments = (1 ≤ length arguments) × (length arguments ≤ 97)
 Takes k arguments = length arguments ≡ length (kinds 0 k arguments)
 
 -- the first word that is not of its kind gives this fault
-abbrev pub FirstBad : List Kind → List (List ℕ) → LineFault → Type 0
+abbrev pub FirstBad : List Kind → List Bytes → LineFault → Type 0
 FirstBad [] words fault = ⊥
 FirstBad (k ∷ ks) [] fault = ⊥
 FirstBad (k ∷ ks) (w ∷ ws) fault = (¬ (IsOfKind k w) × (fault ≡ fault_of k)) ⊎ (IsOfKind k w × FirstBad ks ws fault)
 
 -- the fault of a line with a known first word
-abbrev pub IsArgumentFault : ℕ → Keyword → List (List ℕ) → LineFault → Type 0
+abbrev pub IsArgumentFault : ℕ → Keyword → List Bytes → LineFault → Type 0
 IsArgumentFault pages k arguments UnknownWord = ⊥
 IsArgumentFault pages k arguments WrongWords = ¬ (Takes k arguments)
 IsArgumentFault pages k arguments BadNumber = Takes k arguments × FirstBad (kinds pages k arguments) arguments BadNumber
 IsArgumentFault pages k arguments BadHex = Takes k arguments × FirstBad (kinds pages k arguments) arguments BadHex
 
 -- the fault of a line: its first word, the number of its words, and then each word from the left
-abbrev pub IsFault : ℕ → List (List ℕ) → LineFault → Type 0
+abbrev pub IsFault : ℕ → List Bytes → LineFault → Type 0
 IsFault pages [] fault = ⊥
 IsFault pages (name ∷ arguments) UnknownWord = (k : Keyword) → spelling k ≢ name
 IsFault pages (name ∷ arguments) fault = (k : Keyword) × (spelling k ≡ name) × IsArgumentFault pages k arguments fault
 
 -- the words that say a statement
-abbrev pub Says : ℕ → Statement → List (List ℕ) → Type 0
+abbrev pub Says : ℕ → Statement → List Bytes → Type 0
 Says pages (statement.One (action.Scan scan)) words =
     (ks : List (List ℕ)) × (words ≡ codes "scan" ∷ ks) × (length ks ≤ 96) × WritesScan ks scan
 Says pages (statement.One action.Poll) words = words ≡ codes "poll" ∷ []
@@ -131,7 +132,3 @@ Says pages (statement.One action.Leds) words = words ≡ codes "leds" ∷ []
 Says pages (statement.Set layer key code) words =
     (l k c : List ℕ) × (words ≡ codes "set" ∷ l ∷ k ∷ c ∷ []) × WritesNumber l layer × WritesNumber k key × ((high low : ℕ) × WritesBytes c (high ∷ low ∷ []) × (code ≡ 256 * high + low))
 Says pages statement.Fetch words = words ≡ codes "fetch" ∷ []
-
--- what comes of reading the words after a first word
-abbrev pub Reads : ℕ → Keyword → List (List ℕ) → Result Statement LineFault → Type 0
-Reads pages k arguments result = MatchResult result (λ s. Says pages s (spelling k ∷ arguments)) (λ f. IsArgumentFault pages k arguments f)

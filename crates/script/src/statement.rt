@@ -1,7 +1,8 @@
 //! What a line of a script says.
 
 ghost use Rattle.std.specs.Prelude.{◌≡◌, ◌≢◌, ◌≤◌, ◌↔◌, ℕ, MatchOption, IfOk, IfErr, IsTrue, []};
-ghost use Rattle.script.specs.Statements.{spelling, Takes, Reads, IsFault, Says};
+ghost use Rattle.script.specs.Statements.{spelling, Takes, IsFault, Says};
+ghost use Rattle.script.specs.ties.Statements.{Reads};
 ghost use Rattle.script.specs.Words.{words};
 
 use crate::LineFault;

@@ -1,5 +1,6 @@
 -- Believed: what is said of a line of a script.
-use Rattle.std.specs.Prelude.{ℕ, ◌-◌, List, ◌++◌, codes}
+use Rattle.shapes.specs.Shapes.{Bytes}
+use Rattle.std.specs.Prelude.{ℕ, ◌-◌, ◌++◌, codes}
 use Rattle.std.specs.Fmt.{decimal}
 use Rattle.script.specs.declared.complaint.Wanted.{Wanted}
 use Rattle.script.specs.declared.complaint.Wanted.TheVariants as wanted
@@ -7,7 +8,7 @@ use Rattle.script.specs.declared.statement.Keyword.{Keyword}
 use Rattle.script.specs.declared.statement.Keyword.TheVariants as keyword
 
 -- what may follow the first word of a line
-abbrev pub taken : Keyword → List ℕ
+abbrev pub taken : Keyword → Bytes
 taken keyword.Scan = codes "up to 96 keys"
 taken keyword.Scans = codes "a number of scans and up to 96 keys"
 taken keyword.Setup = codes "one word, a packet of 8 bytes"
@@ -26,7 +27,7 @@ taken keyword.Leds = codes "no word"
 taken keyword.Fetch = codes "no word"
 
 -- what one is called of those that are wanted
-abbrev pub noun : Wanted → List ℕ
+abbrev pub noun : Wanted → Bytes
 noun wanted.Key = codes "key"
 noun wanted.Layer = codes "layer"
 noun wanted.Page = codes "page"
@@ -40,7 +41,7 @@ noun wanted.Mask = codes "mask"
 noun wanted.Code = codes "code"
 
 -- all that are wanted, on a flash of so many pages
-abbrev pub all_of : ℕ → Wanted → List ℕ
+abbrev pub all_of : ℕ → Wanted → Bytes
 all_of pages wanted.Key = codes "keys are 0 to 95"
 all_of pages wanted.Layer = codes "layers are 0 to 3"
 all_of pages wanted.Page = codes "pages are 0 to " ++ decimal (pages - 1)

@@ -1,5 +1,6 @@
 -- Believed: a session on an empty flash: a host fetches the report descriptor, a key is pressed and released, and a poll is
 -- answered the press, which waited.
+use Rattle.shapes.specs.Shapes.{Bytes}
 use Rattle.std.specs.Prelude.{ℕ, true, List, [], ◌∷◌, take, drop, replicate}
 use Rattle.descriptor_build.specs.Served.{report_bytes}
 use Rattle.control_ep.specs.declared.answer.EpAnswer.TheVariants.{Packet}
@@ -7,11 +8,11 @@ use Rattle.host.specs.Calls.{HostCall, was_set_up, got_packet}
 use Rattle.keyboard.specs.Calls.{Call, Scanned, SetUp, In}
 
 -- GET_DESCRIPTOR of 99 bytes of the report descriptor
-abbrev pub get_descriptor : List ℕ
+abbrev pub get_descriptor : Bytes
 get_descriptor = 0x81 ∷ 0x06 ∷ 0x00 ∷ 0x22 ∷ 0x00 ∷ 0x00 ∷ 0x63 ∷ 0x00 ∷ []
 
 -- the eight bytes of the report descriptor from a place on, or as many as are left
-abbrev pub piece : ℕ → List ℕ
+abbrev pub piece : ℕ → Bytes
 piece from = take 8 (drop from report_bytes)
 
 -- the keyboard answers an IN packet by them

@@ -1,4 +1,5 @@
 -- Believed: a fetch of the report descriptor that came through.
+use Rattle.shapes.specs.Shapes.{Bytes}
 use Rattle.std.specs.Prelude.{◌≡◌, ℕ, ◌≤◌, true, List, [], ◌∷◌, ◌++◌, length}
 use Rattle.std.specs.Int.{div_ceil}
 use Rattle.host.specs.Calls.{HostCall, was_set_up, got_packet}
@@ -19,7 +20,7 @@ text_packets = div_ceil text_length 8
 pub record IsFetched (told host : List HostCall) : Type 0 where
   pub later : List HostCall
   pub packets : List HostCall
-  pub setup : List ℕ
+  pub setup : Bytes
   pub before : List HostCall
   pub split : host ≡ later ++ (packets ++ (was_set_up setup ∷ before ++ told))
   pub asks : asks_for_report setup ≡ true

@@ -1,4 +1,5 @@
 -- Believed: what a host hears of a session, and the descriptor that it then keeps.
+use Rattle.shapes.specs.Shapes.{Bytes}
 use Rattle.std.specs.Prelude.{◌≡◌, ℕ, Bool, Option, None, Some, List, [], ◌∷◌}
 use Rattle.descriptor_build.specs.Served.{report_bytes}
 use Rattle.control_ep.specs.declared.answer.EpAnswer.TheVariants.{Packet}
@@ -27,7 +28,7 @@ pub data Hears (told : List HostCall) : List Call → List HostCall → Type 0 w
       → Hears told (call ∷ before) (with_heard (heard call memory) earlier)
 
 -- no text is kept, or the keyboard's report descriptor
-pub data NoneOrServed (text : Option (List ℕ)) : Type 0 where
+pub data NoneOrServed (text : Option Bytes) : Type 0 where
   none_kept : text ≡ None → NoneOrServed text
   served_kept : text ≡ Some report_bytes → NoneOrServed text
 

@@ -1,4 +1,5 @@
 -- Believed: what a host reads in a report that a poll was answered.
+use Rattle.shapes.specs.Shapes.{Bytes}
 use Rattle.std.specs.Prelude.{◌≡◌, ℕ, None, IsSome, List}
 use Rattle.reports.specs.declared.Protocol.TheVariants.{Report}
 use Rattle.key_reports.specs.Past.{keys_after, consumer_after}
@@ -15,13 +16,13 @@ use Rattle.session_law.specs.Sent.{IsWantedAt}
 
 -- the usages are those that the codes of the debounced keys name, as far as the report has room for them, at the moment that
 -- the report is of
-pub record NamesWanted (start : List ℕ) (past : List Call) (bytes usages : List ℕ) : Type 0 where
+pub record NamesWanted (start : Bytes) (past : List Call) (bytes usages : Bytes) : Type 0 where
   pub sent : IsWantedAt start past bytes
   pub usages_are : usages ≡ wanted_usages (keys_after (key_calls start sent.moment)) (consumer_after (key_calls start sent.moment)) sent.input
 
 -- A report is unread only where report protocol is in force and no descriptor is kept. Otherwise memory was refused, or its
 -- usages are read.
-abbrev pub IsReadAs : List ℕ → List Call → List HostCall → List ℕ → Reading → Type 0
+abbrev pub IsReadAs : Bytes → List Call → List HostCall → Bytes → Reading → Type 0
 IsReadAs start past host bytes Unread = (protocol_after past ≡ Report) × (kept host ≡ None)
 IsReadAs start past host bytes NoMemory = IsSome (text_by (protocol_after past) host)
 IsReadAs start past host bytes (Usages usages) = IsSome (text_by (protocol_after past) host) × NamesWanted start past bytes usages

@@ -1,4 +1,5 @@
 -- Believed: what a poll of endpoint 1 is answered, said of the moment that it is of.
+use Rattle.shapes.specs.Shapes.{Bytes}
 use Rattle.std.specs.Prelude.{◌≡◌, ℕ, Some, List, Contains}
 use Rattle.reports.specs.declared.Input.{Input}
 use Rattle.reports.specs.Queue.{reports_of}
@@ -11,7 +12,7 @@ use Rattle.session_law.specs.Due.{due}
 
 -- bytes are those of the report that is due, one of the protocol in force, for the usages that the codes of the debounced
 -- keys name at the moment that it is of
-pub record IsWantedAt (start : List ℕ) (past : List Call) (bytes : List ℕ) : Type 0 where
+pub record IsWantedAt (start : Bytes) (past : List Call) (bytes : Bytes) : Type 0 where
   pub moment : List Call
   pub input : Input
   pub is_due : due start past ≡ Some (record { moment = moment; input = input })

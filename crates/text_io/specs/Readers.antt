@@ -1,5 +1,6 @@
 -- Believed where this crate is called: what comes of reading a whole text.
-use Rattle.std.specs.Prelude.{ℕ, ◌<◌, List, length, Option, IfSome, ⊤}
+use Rattle.shapes.specs.Shapes.{Bytes}
+use Rattle.std.specs.Prelude.{ℕ, ◌<◌, length, Option, IfSome, ⊤}
 use Rattle.text_io.specs.declared.fault.ReadError.{ReadError}
 use Rattle.text_io.specs.declared.fault.ReadError.TheVariants as error
 
@@ -9,7 +10,7 @@ longest = 1048576
 
 -- why the text of a reader was not read, of which at most so many bytes were wanted; by what the reader has left, where that
 -- is known: TooLong only where it is more
-abbrev pub IsReadError : ℕ → Option (List ℕ) → ReadError → Type 0
+abbrev pub IsReadError : ℕ → Option Bytes → ReadError → Type 0
 IsReadError most left error.TooLong = IfSome left (λ all. most < length all)
 IsReadError most left error.Input = ⊤
 IsReadError most left error.Memory = ⊤

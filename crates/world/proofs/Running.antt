@@ -8,9 +8,10 @@ use Rattle.world.specs.declared.event.Answer.{Answer}
 use Rattle.world.specs.declared.event.Told.{Told}
 use Rattle.world.specs.Kinds.{Step}
 use Rattle.world.specs.Promise.{Promise}
-use Rattle.world.specs.Value.{WorldValue}
-use Rattle.world.specs.Stands.{StandsFor, NoneRefused, EndsAfter, no_room, host_refused, LongerHistory}
-use Rattle.world.specs.Private.{Takes, Went}
+use Rattle.world.specs.ties.Value.{WorldValue}
+use Rattle.world.specs.Stands.{NoneRefused, EndsAfter, no_room, host_refused, LongerHistory}
+use Rattle.world.specs.ties.Stands.{StandsFor}
+use Rattle.world.specs.ties.Private.{Takes, Went}
 use Rattle.world.proofs.Promising.{promise}
 
 -- the first n events were taken, and the host was refused no memory in them

@@ -9,11 +9,11 @@ use Rattle.keymap_store.specs.declared.store.Work.{Work as WorkAnswer}
 use Rattle.keymap_store.specs.declared.store.Work.TheVariants.{Idle, Working, Settled, Failed}
 use Rattle.host.specs.declared.gatherer.Host.{Host}
 use Rattle.host.specs.Calls.{HostCall, lost}
-use Rattle.host.specs.StandsFor as host_stands
+use Rattle.host.specs.ties.StandsFor as host_stands
 use Rattle.keyboard.specs.Calls.{Call, Out, In, Worked as KeyboardWorked, image_after, keymap}
 use Rattle.keyboard.specs.Lawful as keyboard
-use Rattle.keyboard.specs.Stands as keyboard_stands
-use Rattle.keyboard.specs.Value.{KeyboardValue}
+use Rattle.keyboard.specs.ties.Stands as keyboard_stands
+use Rattle.keyboard.specs.ties.Value.{KeyboardValue}
 use Rattle.world.specs.declared.event.Event.{Event}
 use Rattle.world.specs.declared.event.Event.TheVariants.{OutPacket, InPacket, Work, WorkFault, CutInWork, Entry}
 use Rattle.world.specs.declared.event.Answer.{Answer}
@@ -23,8 +23,8 @@ use Rattle.world.specs.Kinds.{Step, Kind, starts, calls, looks, kind_of, as_answ
 use Rattle.session_law.specs.Heard.{heard, with_heard}
 use Rattle.world.specs.History.{Session, session_with, session, heard_in, host_calls, flash_after}
 use Rattle.world.specs.Lawful.{Answered, MayRefuse, MakesOn, OperatedAs, WorksIn}
-use Rattle.world.specs.Stands.{StandsFor}
-use Rattle.world.specs.Value.{WorldValue}
+use Rattle.world.specs.ties.Stands.{StandsFor}
+use Rattle.world.specs.ties.Value.{WorldValue}
 use Rattle.world.proofs.Here.{here, by_endpoint}
 
 -- a step of any kind

@@ -1,5 +1,6 @@
 -- Believed: what has happened: the flash at the start, and steps, newest first; the session that they end in, as its
 -- keyboard has seen it; and what the host has heard.
+use Rattle.shapes.specs.Shapes.{Bytes}
 use Rattle.std.specs.Prelude.{ℕ, Bool, not, Option, None, Some, List, [], ◌∷◌}
 use Rattle.flash_model.specs.Sim.{SimValue}
 use Rattle.keyboard.specs.Calls.{Call}
@@ -13,7 +14,7 @@ flash_after start [] = start
 flash_after start (step ∷ before) = step.flash
 
 -- its bytes
-abbrev pub image_after : SimValue → List Step → List ℕ
+abbrev pub image_after : SimValue → List Step → Bytes
 image_after start past = (flash_after start past).image
 
 -- a session is what comes after a start, up to the next one: the image that the keyboard started on, and its calls since,
@@ -23,7 +24,7 @@ pub record Session : Type 0 where
   pub past : List Call
 
 -- the session after a step of this kind, which leaves this image: a start begins one, and a look changes nothing
-abbrev pub session_with : Kind → List ℕ → Session → Session
+abbrev pub session_with : Kind → Bytes → Session → Session
 session_with starts image before = record { first = image; past = [] }
 session_with (calls call) image before = record { first = before.first; past = call ∷ before.past }
 session_with looks image before = before

@@ -1,6 +1,7 @@
 -- Believed: what kind each step is. The look-backs over a history ask for the kind, so that a new event has to be placed
 -- here alone.
-use Rattle.std.specs.Prelude.{ℕ, Bool, Option, None, Some, List}
+use Rattle.shapes.specs.Shapes.{Bytes}
+use Rattle.std.specs.Prelude.{ℕ, Bool, Option, None, Some}
 use Rattle.flash_model.specs.Sim.{SimValue}
 use Rattle.control_ep.specs.declared.answer.EpAnswer.{EpAnswer}
 use Rattle.control_ep.specs.declared.answer.EpAnswer.TheVariants as ep
@@ -35,7 +36,7 @@ ep_told (Stall why) = ep.Stall why
 ep_told _ = ep.Nak
 
 -- the bytes of a report that was sent, if one was
-abbrev pub bytes_told : Answer → Option (List ℕ)
+abbrev pub bytes_told : Answer → Option Bytes
 bytes_told (Sent bytes reading) = Some bytes.items
 bytes_told _ = None
 
@@ -54,7 +55,7 @@ pub data Kind : Type 0 where
   looks : Kind
 
 -- the kind of an event with its answer and the flash's image after it
-abbrev pub kind_of : Event → Answer → List ℕ → Kind
+abbrev pub kind_of : Event → Answer → Bytes → Kind
 kind_of (Scan scan) answer image = calls (Scanned scan)
 kind_of (Setup bytes) answer image = calls (SetUp bytes)
 kind_of (OutPacket packet) answer image = calls (Out packet.items (ep_told answer))

@@ -1,4 +1,5 @@
 -- Believed: what may come of each event, by what came before it.
+use Rattle.shapes.specs.Shapes.{Bytes}
 use Rattle.std.specs.Prelude.{◌≡◌, ℕ, ◌<◌, Bool, true, false, IsSome, Option, None, Some, List, [], ◌∷◌}
 use Rattle.flash_model.specs.Image.{page_count, slot_at}
 use Rattle.flash_model.specs.Operated.{IsOperated}
@@ -42,7 +43,7 @@ is_no_memory _ = false
 
 -- what a poll is answered: NAK, or the report and what the host reads in it, in the protocol in force and by what it has
 -- heard. The reading is NoMemory exactly where a growth was refused
-abbrev pub IsSent : Protocol → List HostCall → Option (List ℕ) → Answer → Bool → Type 0
+abbrev pub IsSent : Protocol → List HostCall → Option Bytes → Answer → Bool → Type 0
 IsSent protocol heard None answer refused = (answer ≡ Nak) × (refused ≡ false)
 IsSent protocol heard (Some bytes) answer refused =
     (reading : Reading) × (answer ≡ Sent (record { items = bytes }) reading) × Reads (text_by protocol heard) bytes reading
@@ -67,7 +68,7 @@ pub record WorksIn (now : Session) (old armed : SimValue) (work : WorkAnswer) (n
   pub operated : OperatedAs now old armed work new
 
 -- the bytes of a slot, or that there is none
-abbrev pub SlotAnswer : List ℕ → ℕ → ℕ → Answer → Type 0
+abbrev pub SlotAnswer : Bytes → ℕ → ℕ → Answer → Type 0
 SlotAnswer image page slot answer =
     Where ((page < page_count image) × (slot < 512)) (answer ≡ SlotIs (slot_at image page slot)) (answer ≡ NoSlot)
 

@@ -12,6 +12,5 @@ pub mod Readings
 pub mod Restart
 pub mod Sound
 pub mod Stands
-pub mod Value
 pub mod Wear
-pub mod Private
+pub mod ties

@@ -1,4 +1,5 @@
 -- Believed: the moments that the reports of a session are of.
+use Rattle.shapes.specs.Shapes.{Bytes}
 use Rattle.std.specs.Prelude.{◌≡◌, ◌≢◌, ℕ, Some, List, ◌∷◌, ◌++◌}
 use Rattle.flash_model.specs.Sim.{SimValue}
 use Rattle.host.specs.declared.reading.Reading.{Reading}
@@ -10,16 +11,16 @@ use Rattle.world.specs.Kinds.{Step}
 use Rattle.world.specs.History.{session}
 
 -- the report that was wanted, and the calls of the session up to its moment
-abbrev pub report_of : {first : List ℕ} {past : List Call} {bytes : List ℕ} → IsWantedAt first past bytes → Due
+abbrev pub report_of : {first : Bytes} {past : List Call} {bytes : Bytes} → IsWantedAt first past bytes → Due
 report_of sent = record { moment = sent.moment; input = sent.input }
 
 -- the bytes are those of a report as it was wanted at its moment. Of each report that a poll of the session sent before, it
 -- is of the same moment or a later one, and it is another one
-pub record SendsOnward (first : List ℕ) (past : List Call) (bytes : List ℕ) : Type 0 where
+pub record SendsOnward (first : List ℕ) (past : List Call) (bytes : Bytes) : Type 0 where
   pub sent : IsWantedAt first past bytes
-  pub onward : (since before : List Call) (earlier : List ℕ) (was : IsWantedAt first before earlier) → past ≡ since ++ Polled (Some earlier) ∷ before
+  pub onward : (since before : List Call) (earlier : Bytes) (was : IsWantedAt first before earlier) → past ≡ since ++ Polled (Some earlier) ∷ before
       → (between : List Call) × (sent.moment ≡ between ++ was.moment)
-  pub once : (since before : List Call) (earlier : List ℕ) (was : IsWantedAt first before earlier) → past ≡ since ++ Polled (Some earlier) ∷ before
+  pub once : (since before : List Call) (earlier : Bytes) (was : IsWantedAt first before earlier) → past ≡ since ++ Polled (Some earlier) ∷ before
       → report_of sent ≢ report_of was
 
 -- from one start to the next the moments of the reports that polls send do not go back, and no report is sent twice

@@ -1,4 +1,5 @@
 -- Believed: in which order the flash operations of a command come, and where headers come from.
+use Rattle.shapes.specs.Shapes.{Bytes}
 use Rattle.std.specs.Prelude.{◌≡◌, ℕ, suc, ◌<◌, Option, None, Some, List, length, slice_get}
 use Rattle.flash_model.specs.Operated.{IsOperated}
 use Rattle.flash_model.specs.Sim.{SimValue}
@@ -36,7 +37,7 @@ operations_in now command = operations_of (accepted_image now.first now.past) co
 
 -- how the operation with so many before it in a list ends: what reads as intended goes on to the next one, and settles the command
 -- after the last; any other fails it
-pub record EndsBy (operations : List Operation) (made : ℕ) (operation : Operation) (image : List ℕ) (answer : Answer) : Type 0 where
+pub record EndsBy (operations : List Operation) (made : ℕ) (operation : Operation) (image : Bytes) (answer : Answer) : Type 0 where
   pub goes_on : ReadsBack operation image → suc made < length operations → answer ≡ Worked Working
   pub settles : ReadsBack operation image → suc made ≡ length operations → answer ≡ Worked Settled
   pub fails : (ReadsBack operation image → ⊥) → answer ≡ Worked Failed

@@ -1,22 +1,12 @@
--- Believed: how a run goes on from a history, and how it ends. StandsFor only ties code: the world stands for a history.
+-- Believed: how a run goes on from a history, and how it ends.
 use Rattle.std.specs.Prelude.{◌≡◌, ◌<◌, ◌≤◌, ◌-◌, ℕ, Vec, vec_len, vec_capacity, Bool, true, false, List, [], ◌∷◌, ◌++◌, map, reverse, length, take}
 use Rattle.flash_model.specs.Sim.{SimValue}
-use Rattle.keyboard.specs.Stands as keyboard_stands
-use Rattle.host.specs.StandsFor as host_stands
 use Rattle.world.specs.declared.event.Event.{Event}
 use Rattle.world.specs.declared.event.Answer.{Answer}
 use Rattle.world.specs.Kinds.{Step}
-use Rattle.world.specs.History.{session, host_calls, flash_after}
-use Rattle.world.specs.Lawful.{IsLawful}
-use Rattle.world.specs.Value.{WorldValue}
-
--- the keyboard stands for the session's calls on the session's first image, the host for what it has heard, and the flash is
--- the one after these steps; each event so far was answered as it had to be
-pub record StandsFor (start : SimValue) (past : List Step) (world : WorldValue) : Type 0 where
-  pub keyboard : keyboard_stands.StandsFor (session start past).first (session start past).past world.keyboard
-  pub host : host_stands.StandsFor (host_calls past) world.host
-  pub flash : world.flash ≡ flash_after start past
-  pub answered : IsLawful start past
+use Rattle.world.specs.History.{flash_after}
+use Rattle.world.specs.ties.Value.{WorldValue}
+use Rattle.world.specs.ties.Stands.{StandsFor}
 
 -- how many more answers there is room for, before memory is asked for again
 abbrev pub room_for : {X Z : Type 0} → Vec X Z → ℕ

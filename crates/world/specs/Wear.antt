@@ -1,4 +1,5 @@
 -- Believed: how often pages are turned over.
+use Rattle.shapes.specs.Shapes.{Bytes}
 use Rattle.std.specs.Prelude.{◌≡◌, ◌≢◌, ℕ, suc, List, [], ◌∷◌, ◌++◌}
 use Rattle.flash_model.specs.Operations.{OneSlot}
 use Rattle.flash_model.specs.Sim.{SimValue}
@@ -8,11 +9,11 @@ use Rattle.world.specs.Kinds.{Step}
 use Rattle.world.specs.History.{image_after}
 
 -- a header is committed: another page becomes the active one, or another sequence number counts
-abbrev pub CommitsHeader : List ℕ → List ℕ → Type 0
+abbrev pub CommitsHeader : Bytes → Bytes → Type 0
 CommitsHeader old new = active new ≢ active old
 
 -- something is written to the tail slot of the active page, be it torn, and to no other slot of the flash
-pub record WritesTail (old new : List ℕ) : Type 0 where
+pub record WritesTail (old new : Bytes) : Type 0 where
   pub page : ℕ
   pub tail : ℕ
   pub place : IsActiveTail old page tail

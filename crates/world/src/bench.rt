@@ -3,7 +3,7 @@
 ghost use Rattle.std.specs.Prelude.{◌≡◌, None, Some};
 ghost use Rattle.std.specs.Option.{option_map};
 ghost use Rattle.flash_model.specs.Operated.{IsOperated};
-ghost use Rattle.world.specs.Flash.{torn_by};
+ghost use Rattle.world.specs.ties.Flash.{torn_by};
 
 use flash_model::{FlashFault, Mask, NorFlash, SLOT_BYTES, SimFlash};
 

@@ -1,11 +1,11 @@
 //! The keyboard with its host and its flash, and the events that they take.
 
 ghost use Rattle.std.specs.Prelude.{◌≡◌, ◌+◌, ◌≤◌, ℕ, List, [], ◌∷◌, None, Some, length, vec_len, is_ok, not, false, IfOk, OnOk};
-ghost use Rattle.host.specs.StandsFor as host_stands;
+ghost use Rattle.host.specs.ties.StandsFor as host_stands;
 ghost use Rattle.host.specs.Calls.{HostCall, lost};
 ghost use Rattle.keyboard.specs.Calls.{In};
-ghost use Rattle.keyboard.specs.Stands as keyboard_stands;
-ghost use Rattle.keyboard.specs.Value.{RunsOn};
+ghost use Rattle.keyboard.specs.ties.Stands as keyboard_stands;
+ghost use Rattle.keyboard.specs.ties.Value.{RunsOn};
 ghost use Rattle.world.specs.declared.event.Answer.TheVariants.{Restarted};
 ghost use Rattle.flash_model.specs.Sim.{SimValue};
 ghost use Rattle.world.specs.declared.event.Event.TheVariants.{Scan as ScanEvent, Setup, OutPacket, InPacket, Poll, Work as WorkEvent, WorkFault, Cut, CutInWork, BusReset, Entry, SlotAt, Leds};
@@ -35,8 +35,8 @@ pub struct World {
 
 impl Model for World {
     ghost use Rattle.std.specs.Prelude.{◌≡◌, None};
-    ghost use Rattle.keyboard.specs.Value.{RunsOn};
-    ghost use Rattle.world.specs.Value.{WorldValue};
+    ghost use Rattle.keyboard.specs.ties.Value.{RunsOn};
+    ghost use Rattle.world.specs.ties.Value.{WorldValue};
 
     ghost Value = { WorldValue };
 
@@ -46,11 +46,12 @@ impl Model for World {
 }
 
 impl World {
-    ghost use Rattle.host.specs.StandsFor as host_stands;
+    ghost use Rattle.host.specs.ties.StandsFor as host_stands;
     ghost use Rattle.world.specs.History.{host_calls};
     ghost use Rattle.world.specs.Promise.{Promise};
-    ghost use Rattle.world.specs.Stands.{StandsFor, Runs, room_for};
-    ghost use Rattle.world.specs.Private.{Takes, Went};
+    ghost use Rattle.world.specs.Stands.{Runs, room_for};
+    ghost use Rattle.world.specs.ties.Stands.{StandsFor};
+    ghost use Rattle.world.specs.ties.Private.{Takes, Went};
 
     /// The keyboard as it starts on a flash, whose keymap it reads, and a host that keeps no
     /// descriptor. `AllocError` where there was no memory for the reports that wait; the flash is then

@@ -241,6 +241,26 @@ pub extern "C" fn hidr_reports_of(
 }
 
 #[unsafe(no_mangle)]
+pub extern "C" fn hidr_applications_of(
+    reader: u64,
+    kind: u8,
+    id: u8,
+    into: Outputs<u32>,
+    room: usize,
+    count: Output<usize>,
+) -> Status {
+    told(|| {
+        let (count, into) = (count.place()?, into.places(room)?);
+        of_reader(reader, |reader| {
+            let (told, id) = (reader.details(), id.into());
+            let kind = kind_of(kind).filter(|kind| told.report(*kind, id).next().is_some()).ok_or(Status::Absent)?;
+            count.put(into.put_all(told.applications_of(kind, id).map(|(found, _)| place(Some(found)))));
+            Ok(())
+        })
+    })
+}
+
+#[unsafe(no_mangle)]
 pub extern "C" fn hidr_report_details(
     reader: u64,
     kind: u8,

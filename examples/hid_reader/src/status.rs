@@ -100,6 +100,7 @@ impl From<NoPhysical> for Status {
         match why {
             NoPhysical::EqualLimits => Status::EqualLimits,
             NoPhysical::InvertedLimits => Status::InvertedLimits,
+            NoPhysical::LargeExtents => Status::TooLarge,
         }
     }
 }

@@ -67,7 +67,8 @@ static hidr_status g6(uint64_t r, struct outputs *to) { return hidr_decimal(r, 0
 static hidr_status g7(uint64_t r, struct outputs *to) {
     return hidr_write(r, 0, 0, &EAST, 1, NULL, 0, to->bytes, 8, &to->count, &to->rest);
 }
-static with_reader *const CALLS[] = {f0, f1, f2, f3, f4, f5, f6, f7, f8, f9, g0, g1, g2, g3, g4, g5, g6, g7};
+static hidr_status g8(uint64_t r, struct outputs *to) { return hidr_applications_of(r, 0, 0, to->numbers, 2, &to->count); }
+static with_reader *const CALLS[] = {f0, f1, f2, f3, f4, f5, f6, f7, f8, f9, g0, g1, g2, g3, g4, g5, g6, g7, g8};
 #define CALL_COUNT (sizeof CALLS / sizeof CALLS[0])
 
 static void each_answers(uint64_t handle, hidr_status status) {
@@ -143,6 +144,8 @@ static void null_pointers(hidr_reader r) {
     ANSWERS(HIDR_NULL, hidr_applications(r, NULL, SIZE_MAX, &to.count));
     ANSWERS(HIDR_NULL, hidr_reports(r, NULL, 1, &to.count));
     ANSWERS(HIDR_NULL, hidr_reports_of(r, 0, NULL, 1, &to.count));
+    ANSWERS(HIDR_NULL, hidr_applications_of(r, 0, 0, NULL, 1, &to.count));
+    ANSWERS(HIDR_NULL, hidr_applications_of(r, 0, 0, to.numbers, 1, NULL));
     ANSWERS(HIDR_NULL, hidr_report_details(r, 0, 0, NULL, 1, &to.count));
     ANSWERS(HIDR_NULL, hidr_namings(NULL, 1, 0, 0, to.ranges, SIZE_MAX, &to.count));
     ANSWERS(HIDR_NULL, hidr_unit_exponents(r, 0, NULL));
@@ -193,6 +196,9 @@ static void what_is_absent(hidr_reader r) {
     ANSWERS(HIDR_ABSENT, hidr_collection_at(r, 1, &to.collection));
     ANSWERS(HIDR_ABSENT, hidr_around(r, 8, to.numbers, 2, &to.count));
     ANSWERS(HIDR_ABSENT, hidr_reports_of(r, 1, to.reports, 2, &to.count));
+    ANSWERS(HIDR_ABSENT, hidr_applications_of(r, 0, 1, to.numbers, 2, &to.count));
+    ANSWERS(HIDR_ABSENT, hidr_applications_of(r, 2, 0, to.numbers, 2, &to.count));
+    ANSWERS(HIDR_ABSENT, hidr_applications_of(r, 3, 0, to.numbers, 2, &to.count));
     ANSWERS(HIDR_ABSENT, hidr_report_details(r, 0, 1, to.numbers, 2, &to.count));
     ANSWERS(HIDR_ABSENT, hidr_report_details(r, 3, 0, to.numbers, 2, &to.count));
     ANSWERS(HIDR_ABSENT, hidr_namings(TEXT, sizeof TEXT, 25, 2, to.ranges, 2, &to.count));
@@ -235,6 +241,10 @@ static void what_is_told(hidr_reader r) {
     FILL(to);
     ANSWERS(HIDR_OK, hidr_report_details(r, 0, 0, to.numbers, 1, &to.count));
     CHECK(to.count == 7 && to.numbers[0] == 0);
+    UNTOUCHED(to.numbers[1]);
+    FILL(to);
+    ANSWERS(HIDR_OK, hidr_applications_of(r, 1, 0, to.numbers, 2, &to.count));
+    CHECK(to.count == 1 && to.numbers[0] == 0);
     UNTOUCHED(to.numbers[1]);
     ANSWERS(HIDR_OK, hidr_read(r, 0, REPORT, 7, to.values, 1, &to.count, &to.rest));
     CHECK(to.count == 9 && to.rest == 1 && to.values[0].raw == 3 && to.values[0].usage == 0x00010039 &&

@@ -53,23 +53,15 @@ static void print_collections(void) {
     }
 }
 
-/* The applications that have a report, of all of them. */
-static void print_applications(const hidr_report *report, const uint32_t *applications, size_t count) {
-    static hidr_report reports[MOST];
-    const char *before = "";
-    for (size_t number = 0; number < count; number++) {
-        size_t its, at = 0;
-        ANSWERS(HIDR_OK, hidr_reports_of(reader, applications[number], reports, MOST, &its));
-        while (at < its && (reports[at].kind != report->kind || reports[at].id != report->id))
-            at++;
-        if (at < its) {
-            printf("%s%" PRIu32, before, applications[number]);
-            before = ",";
-        }
-    }
+static void print_applications(const hidr_report *report) {
+    static uint32_t applications[MOST];
+    size_t count;
+    ANSWERS(HIDR_OK, hidr_applications_of(reader, report->kind, report->id, applications, MOST, &count));
+    for (size_t at = 0; at < count; at++)
+        printf("%s%" PRIu32, at > 0 ? "," : "", applications[at]);
 }
 
-static void print_report(const hidr_report *report, const uint32_t *applications, size_t count) {
+static void print_report(const hidr_report *report) {
     static uint32_t places[MOST];
     size_t bytes, items;
     ANSWERS(HIDR_OK, hidr_report_length(reader, report->kind, report->id, &bytes));
@@ -80,7 +72,7 @@ static void print_report(const hidr_report *report, const uint32_t *applications
     for (size_t at = 0; at < items; at++)
         printf("%s%" PRIu32, at > 0 ? "," : "", places[at]);
     printf(" ");
-    print_applications(report, applications, count);
+    print_applications(report);
     printf(";");
 }
 
@@ -115,7 +107,7 @@ static void print_reports(void) {
     }
     ANSWERS(HIDR_OK, hidr_reports(reader, reports, MOST, &its));
     for (size_t at = 0; at < its; at++)
-        print_report(&reports[at], applications, count < MOST ? count : MOST);
+        print_report(&reports[at]);
     print_places("padding", HIDR_CONSTANT);
     print_places("data", 0);
 }

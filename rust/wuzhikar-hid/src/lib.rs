@@ -158,7 +158,7 @@
 //!
 //! **Exported from a proved source: what a descriptor declares.** The fields of [`Details`], its collections, its calls, the
 //! bits, extents and units of a [`Detail`], and what [`namings`] gives are in the hidden module `parts`, the text of crates that are proved
-//! in Rattle (Rust with contracts), as is how [`Reader::write`] writes a value into the bits of a place, and as are the fields
+//! in Rattle (Rust with contracts), as is all that [`Reader::write`] does, and as are the fields
 //! and their usages of `wuzhikar-reader`. **All else is written by hand:
 //! tested, not proved**; it is compared with a program in another language over some ten thousand descriptors.
 //! Any bytes may come: nothing panics on them. Where a call says nothing of memory, it takes memory as std does.

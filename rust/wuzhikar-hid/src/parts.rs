@@ -5,3 +5,4 @@
 
 pub mod field_details;
 pub mod field_values;
+pub mod report_write;

@@ -3,10 +3,10 @@
 ghost use Rattle.std.specs.Prelude.{◌≡◌, ◌/◌, ◌<◌, length};
 ghost use Rattle.ecc_sim.specs.Sim.{unit_at};
 
-use super::next;
 use ecc_flash::{EccFlash, UNIT_BYTES};
 use ecc_sim::{CellMask, SimEccFlash};
 use flash_model::FlashFault;
+use row_text::drawn;
 use std::marker::Model;
 
 /// A flash of cells. One operation in eight is torn, by a mask over the cells that looks random, and told or not.
@@ -35,7 +35,7 @@ impl TornCells {
     fn arm(&mut self)
         ensures { self.new.units ≡ self.old.units }
     {
-        let kind = next(&mut self.random);
+        let kind = drawn(&mut self.random);
         if kind % 8 == 0 {
             let mask = mask(&mut self.random);
             self.cells.tell(kind % 16 == 0);
@@ -79,10 +79,10 @@ impl EccFlash for TornCells {
 const MASK: usize = 64;
 
 fn mask(random: &mut u32) -> CellMask {
-    let kind = next(random);
+    let kind = drawn(random);
     let mut mask = CellMask::new();
     for _ in 0..MASK {
-        let _pushed = mask.try_push(mask_byte(kind, next(random)));
+        let _pushed = mask.try_push(mask_byte(kind, drawn(random)));
     }
     mask
 }

@@ -3,12 +3,12 @@
 ghost use Rattle.std.specs.Prelude.{◌≡◌, ◌/◌, ◌<◌, length};
 ghost use Rattle.ecc_sim.specs.Chosen.{told_unit, chosen_at};
 
-use super::next;
 use arrayvec::ArrayVec;
 use ecc_flash::{EccFlash, UNIT_BYTES};
 use ecc_sim::chosen::CHOICES;
 use ecc_sim::{Choice, ChosenEccFlash, Outcome};
 use flash_model::FlashFault;
+use row_text::drawn;
 use std::marker::Model;
 
 /// A flash of units. In one operation of eight they read as choices say that look random.
@@ -76,7 +76,7 @@ impl EccFlash for ToldUnits {
 /// Seven choices, or none: each operation is then whole.
 fn choices(random: &mut u32) -> ArrayVec<Choice, CHOICES> {
     let mut choices = ArrayVec::new();
-    if next(random) % 8 == 0 {
+    if drawn(random) % 8 == 0 {
         for _ in 0..7 {
             let _pushed = choices.try_push(choice(random));
         }
@@ -85,9 +85,9 @@ fn choices(random: &mut u32) -> ArrayVec<Choice, CHOICES> {
 }
 
 fn choice(random: &mut u32) -> Choice {
-    let kind = next(random);
+    let kind = drawn(random);
     Choice {
-        outcome: outcome(kind, next(random), next(random)),
+        outcome: outcome(kind, drawn(random), drawn(random)),
         fault: kind & 8 == 0,
     }
 }

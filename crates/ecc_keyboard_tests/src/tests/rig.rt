@@ -33,7 +33,7 @@ pub struct Rig<F: EccFlash + Drop> {
 impl<F: EccFlash + Drop> Model for Rig<F> {
     ghost use Rattle.std.specs.Prelude.{ℕ, List};
     ghost use Rattle.ecc_flash.specs.Paired.{image_of};
-    ghost use Rattle.keyboard.specs.Value.{RunsOn};
+    ghost use Rattle.keyboard.specs.ties.Value.{RunsOn};
 
     ghost Value = { List ℕ };
 

@@ -2,13 +2,12 @@
 
 use super::cells::TornCells;
 use super::choices::ToldUnits;
-use super::next;
 use super::rig::{Counts, Rig};
 use ecc_flash::{EccFlash, PairedFlash};
 use ecc_sim::{ChosenEccFlash, SimEccFlash};
 use flash_model::NorFlash;
 use keyboard::Scan;
-use row_text::good;
+use row_text::{drawn, full_word, good};
 use std::alloc::Global;
 use std::process::Abort;
 use std::test::Fail;
@@ -28,7 +27,7 @@ const GET_FEATURE: [u8; 8] = [0xA1, 0x01, 0x03, 0x03, 0x00, 0x00, 0x06, 0x00];
 
 /// Makes a call, or two of them for a command. Commands and the flash work come more often than the others.
 fn call<F: EccFlash + Drop>(rig: &mut Rig<F>, alloc: Global, state: &mut u32) -> Result<(), Fail> {
-    match next(state) % 16 {
+    match drawn(state) % 16 {
         0..=3 => {
             rig.setup(SET_FEATURE)?;
             rig.out(command(state))
@@ -44,7 +43,7 @@ fn call<F: EccFlash + Drop>(rig: &mut Rig<F>, alloc: Global, state: &mut u32) ->
 
 /// A feature report: mostly it sets one of eight keys, else it resets one, or all, or selects one.
 fn command(state: &mut u32) -> [u8; 6] {
-    let [a, b, c, _] = next(state).to_le_bytes();
+    let [a, b, c, _] = drawn(state).to_le_bytes();
     match a % 32 {
         0 => [0x03, 0x00, b % 5, c % 128, 0, 0],
         1 => [0x03, 0x02, b % 5, 0, 0, 0],
@@ -55,7 +54,7 @@ fn command(state: &mut u32) -> [u8; 6] {
 
 /// A scan of some of six keys.
 fn scan(state: &mut u32) -> Scan {
-    let [a, _, _, _] = next(state).to_le_bytes();
+    let [a, _, _, _] = drawn(state).to_le_bytes();
     Scan {
         rows: [u16::from(a % 64), 0, 0, 0, 0, 0],
     }
@@ -85,7 +84,7 @@ fn session<F: EccFlash + Drop>(
 ) -> Result<Rig<F>, Fail> {
     let mut then = rig;
     let wrong = calls(&mut then, alloc, state)?;
-    let (then, right) = then.cut_in_work(alloc, next(state) % 3)?;
+    let (then, right) = then.cut_in_work(alloc, drawn(state) % 3)?;
     expect_right(rt, wrong, right);
     Ok(then)
 }
@@ -116,9 +115,9 @@ fn program<F: NorFlash>(flash: &mut F, page: usize, slot: usize, word: u32) {
 /// Fills a page but for a few slots, so that it is turned over soon.
 fn fill<F: NorFlash>(flash: &mut F, state: &mut u32) {
     program(flash, 0, 0, 0x2000_0001);
-    let [few, _, _, _] = next(state).to_le_bytes();
+    let [few, _, _, _] = drawn(state).to_le_bytes();
     for slot in 1..512 - usize::from(few % 64) {
-        let [a, b, _, _] = next(state).to_le_bytes();
+        let [a, b, _, _] = drawn(state).to_le_bytes();
         let word = u32::from(b % 8) << 16 | u32::from(a % 64);
         program(flash, 0, slot, 0x1000_0000 | word);
     }
@@ -128,20 +127,20 @@ fn fill<F: NorFlash>(flash: &mut F, state: &mut u32) {
 fn torn_cells(alloc: Global, state: &mut u32) -> Result<PairedFlash<TornCells>, Fail> {
     let mut cells = SimEccFlash::new(alloc, 2)?;
     for _ in 0..2 {
-        let unit = next(state) as usize % 1024;
+        let unit = drawn(state) as usize % 1024;
         if cells.pages() > 1 {
             cells.refuse(1, unit);
         }
     }
     let mut flash = PairedFlash::format(cells)?;
     fill(&mut flash, state);
-    Ok(PairedFlash::mount(TornCells::new(flash.into_flash(), next(state))))
+    Ok(PairedFlash::mount(TornCells::new(flash.into_flash(), drawn(state))))
 }
 
 fn told_units(alloc: Global, state: &mut u32) -> Result<PairedFlash<ToldUnits>, Fail> {
     let mut flash = PairedFlash::format(ChosenEccFlash::new(alloc, 3)?)?;
     fill(&mut flash, state);
-    Ok(PairedFlash::mount(ToldUnits::new(flash.into_flash(), next(state))))
+    Ok(PairedFlash::mount(ToldUnits::new(flash.into_flash(), drawn(state))))
 }
 
 /// What was reached: commands that were settled, that failed, steps of turnovers, and cuts inside an operation.
@@ -181,13 +180,8 @@ fn sessions_on_units_that_read_as_they_are_told(rt: HostRuntime) -> Result<(), F
 fn all_set(alloc: Global) -> Result<PairedFlash<SimEccFlash>, Fail> {
     let mut flash = PairedFlash::format(SimEccFlash::new(alloc, 2)?)?;
     program(&mut flash, 0, 0, 0x1000_0001);
-    for number in 0..511u32 {
-        let word = if number < 384 {
-            number / 96 << 24 | number % 96 << 16
-        } else {
-            (number + 1) % 2 * 5
-        };
-        program(&mut flash, 0, number as usize + 1, 0x1000_0000 | word);
+    for slot in 1..512u32 {
+        program(&mut flash, 0, slot as usize, full_word(slot));
     }
     program(&mut flash, 1, 9, 0x1000_0000);
     Ok(flash)

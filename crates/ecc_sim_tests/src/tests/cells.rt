@@ -12,7 +12,7 @@
 use ecc_flash::EccFlash;
 use ecc_flash::reading::is_blank;
 use ecc_sim::{CellMask, EccFlashError, SimEccFlash};
-use row_text::{RunsRows, byte, eight, first_wrong, number, two};
+use row_text::{RunsRows, byte, eight, first_wrong, number, placed, two};
 use std::alloc::Global;
 use std::process::Abort;
 
@@ -87,9 +87,8 @@ fn place(text: &str) -> Option<(usize, usize)> {
 }
 
 fn program(flash: &mut SimEccFlash, text: &str) -> Option<Told> {
-    let (at, bytes) = text.rsplit_once(' ')?;
-    let (page, unit) = place(at)?;
-    programmed(flash, page, unit, eight(bytes)?)
+    let (page, unit, bytes) = placed(text)?;
+    programmed(flash, page, unit, bytes)
 }
 
 /// Programs a unit that reads as blank.

@@ -2,9 +2,10 @@
 
 use super::asked::check_asked;
 use super::plain::{application, around, collection, detail, items_of};
-use super::{byte_of, push_byte};
+use super::push_byte;
 use descriptor_parse::Item;
 use field_details::{Collection, Detail, Details, details_of};
+use row_text::{Numbers, push_drawn};
 use std::alloc::Global;
 use std::process::Abort;
 
@@ -77,22 +78,7 @@ fn same_number(rt: &impl Abort, told: usize, wanted: usize, text: &[u8]) {
     assert_eq!(rt; told, wanted, "of {text:?}");
 }
 
-/// Numbers that look random, the same in each run.
-#[derive(Drop)]
-struct Numbers(u32);
-
-impl Numbers {
-    fn next(&mut self) -> u32 {
-        self.0 = self.0.wrapping_mul(1_664_525).wrapping_add(1_013_904_223);
-        self.0 / 65536
-    }
-
-    fn byte(&mut self) -> u8 {
-        (self.next() % 256) as u8
-    }
-}
-
-/// Items that often go well with others, one or two a row: of the bytes that commas part one is taken, and `*` is any byte.
+/// Items that often go well with others, one or two a row (`push_drawn`).
 const ITEMS: &str = "\
 79,89,99,39,49,59 01,02,07
 7A,8A,9A,3A,4A,5A 01,02 00,01
@@ -135,20 +121,8 @@ FE 01 09 *
 
 /// Adds the items of a row.
 fn push_item(rt: &impl Abort, numbers: &mut Numbers, text: &mut Vec<u8>) {
-    let row = numbers.next() as usize % 38;
-    for choices in ITEMS.lines().nth(row).expect(rt, "a row").split(' ') {
-        push_byte(rt, text, one_of(rt, numbers, choices));
-    }
-}
-
-fn one_of(rt: &impl Abort, numbers: &mut Numbers, choices: &str) -> u8 {
-    let count = choices.split(',').count().max(1);
-    let place = numbers.next() as usize % count;
-    let choice = choices.split(',').nth(place).expect(rt, "a choice");
-    if choice == "*" {
-        return numbers.byte();
-    }
-    byte_of(rt, choice.as_bytes())
+    let row = ITEMS.lines().nth(numbers.next() as usize % 38);
+    push_drawn(numbers, text, row.expect(rt, "a row")).expect(rt, "bytes");
 }
 
 #[test]

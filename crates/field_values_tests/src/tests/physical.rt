@@ -1,19 +1,9 @@
 //! Physical values.
 
-ghost use Rattle.std.specs.Prelude.{◌≡◌, true};
-ghost use Rattle.field_values.specs.Limits.{FitsExtents};
-
 use super::{number, same, two};
 use field_values::{Extents, physical_value};
 use std::alloc::Global;
 use std::process::Abort;
-
-/// Whether extents are of 32 bits.
-fn is_limited(extents: Extents) -> bool
-    ensures { result ≡ true → FitsExtents extents }
-{
-    extents.min.unsigned_abs() <= 0x1_0000_0000 && extents.max.unsigned_abs() <= 0x1_0000_0000
-}
 
 /// `LOGICAL MINIMUM MAXIMUM, PHYSICAL MINIMUM MAXIMUM, EXPONENT, VALUE = NUMERATOR/DENOMINATOR eEXPONENT`, or the refusal.
 fn check_physical(rt: &impl Abort, alloc: Global, row: &str) {
@@ -41,9 +31,6 @@ fn told(
     exponent: i64,
     value: i64,
 ) -> String {
-    if !is_limited(physical) {
-        panic!(rt; "the extents are too large");
-    }
     let told = match physical_value(logical, physical, exponent, value) {
         Ok(p) => format!(in alloc; "{}/{} e{}", p.numerator, p.denominator, p.exponent),
         Err(error) => format!(in alloc; "{error:?}"),
@@ -75,4 +62,10 @@ const ROWS: &str = "\
 -2147483648 2147483647 2147483647 -2147483648 0 -2147483648 = 2147483647/1 e0
 0 1 -4294967296 4294967296 0 9223372036854775807 = 79228162514264337580659048448/1 e0
 5 5 0 1 0 5 = EqualLimits
-6 5 0 1 0 5 = InvertedLimits";
+6 5 0 1 0 5 = InvertedLimits
+0 1 -4294967297 0 0 1 = LargeExtents
+0 1 0 4294967297 0 1 = LargeExtents
+0 1 -9223372036854775808 9223372036854775807 0 1 = LargeExtents
+5 5 0 9223372036854775807 0 5 = EqualLimits
+6 5 -9223372036854775808 1 0 5 = InvertedLimits
+-9223372036854775808 9223372036854775807 -4294967296 4294967296 0 9223372036854775807 = 4294967296/1 e0";

@@ -1,6 +1,6 @@
 //! Values and nulls into the bits of bytes.
 
-use super::{field_of, is_limited, is_readable, number, same, two, value};
+use super::{field_of, is_readable, number, same, two, value};
 use descriptor_parse::Field;
 use field_values::{Asked, set_place};
 use row_text::bytes;
@@ -61,7 +61,7 @@ fn written(
     asked: Asked,
 ) -> String {
     let mut report = bytes::<16>(report).expect(rt, "bytes");
-    if !is_readable(field) || !is_limited(field) {
+    if !is_readable(field) {
         panic!(rt; "no such field");
     }
     let done = set_place(field, null_state, &mut report, place, asked);
@@ -93,7 +93,10 @@ const WRITTEN: &str = "\
 8 -127 127 0 0 < 05 <- null = 80
 8 -128 126 0 0 < 05 <- null = 7F
 32 -2147483648 2147483646 0 0 < 00000000 <- null = FFFFFF7F
-32 -2147483647 2147483647 0 0 < 00000000 <- null = 00000080";
+32 -2147483647 2147483647 0 0 < 00000000 <- null = 00000080
+8 -9223372036854775808 5 0 0 < 00 <- null = 06
+8 3 9223372036854775807 0 0 < 05 <- null = 00
+8 9223372036854775807 -9223372036854775808 0 0 < 05 <- null = 00";
 
 #[test]
 fn refusals_in_order(rt: HostRuntime) {
@@ -110,6 +113,8 @@ const REFUSED: &str = "\
 8 0 255 0 0 < 00 <- null = NoNull
 32 -2147483648 2147483647 0 0 < 00000000 <- null = NoNull
 1 0 1 0 0 < 00 <- null = NoNull
+8 0 9223372036854775807 0 0 < 00 <- null = NoNull
+8 -9223372036854775808 9223372036854775807 0 0 < 00 <- null = NoNull
 8 0 10 0 0 < 00 <- 256 = TooLarge
 8 0 10 0 0 < 00 <- -1 = TooLarge
 8 0 10 0 0 < 00 <- 11 = OutOfRange

@@ -10,6 +10,7 @@ use descriptor_parse::{Descriptor, Field, Kind, ParseError, Parser, parse};
 use descriptor_plain::{
     Plain, PlainField, cut, field_usages, fields, first_fault, has_report_id, report_bits,
 };
+use row_text::Numbers;
 use std::alloc::Global;
 use std::process::Abort;
 
@@ -55,17 +56,6 @@ fn feed_pieces(parser: &mut Parser, text: &[u8]) -> Result<(), ParseError> {
         rest = more;
     }
     Ok(())
-}
-
-/// Numbers that look random, the same in each run.
-#[derive(Drop)]
-struct Numbers(u32);
-
-impl Numbers {
-    fn next(&mut self) -> u32 {
-        self.0 = self.0.wrapping_mul(1_664_525).wrapping_add(1_013_904_223);
-        self.0 / 65536
-    }
 }
 
 /// Compares a descriptor with the items of its text.

@@ -7,7 +7,7 @@ ghost use Rattle.control_ep.specs.Answers.{in_answer, in_effect, out_step};
 ghost use Rattle.control_ep.specs.Calls as calls;
 ghost use Rattle.control_ep.specs.Moves.{begun};
 ghost use Rattle.control_ep.specs.Stage.{stage};
-ghost use Rattle.control_ep.specs.Stands.{StandsFor};
+ghost use Rattle.control_ep.specs.ties.Stands.{StandsFor};
 ghost use Rattle.control_ep.specs.declared.answer.EpAnswer.{EpAnswer};
 ghost use Rattle.control_ep.specs.declared.answer.Effect.{Effect};
 ghost use Rattle.keyboard.specs.Calls.{EachCall, keymap};
@@ -16,8 +16,9 @@ ghost use Rattle.keyboard.specs.Endpoint.{feature_report, view_after, verdict_to
 ghost use Rattle.keyboard.specs.Fate.{changes_by};
 ghost use Rattle.keyboard.specs.Feature as feature;
 ghost use Rattle.keyboard.specs.Lawful.{OutAnswer};
-ghost use Rattle.judge.specs.Endpoint.{with_work};
-ghost use Rattle.judge.specs.Judged.{Passes, IsEntry};
+ghost use Rattle.judge.specs.ties.Endpoint.{with_work};
+ghost use Rattle.judge.specs.Judged.{Passes};
+ghost use Rattle.judge.specs.ties.Judged.{IsEntry};
 ghost use Rattle.judge.specs.Records.{calls_of, entry_of};
 
 use crate::session::commands::{changes, command_in};

@@ -7,11 +7,12 @@ ghost use Rattle.records.specs.Slots.{slot_of, encoded};
 ghost use Rattle.records.specs.declared.Slot.{Slot};
 ghost use Rattle.page_turnover.specs.Active.{active};
 ghost use Rattle.page_turnover.specs.Words.{words, IsBlank};
-ghost use Rattle.page_turnover.specs.Log.{Describes};
+ghost use Rattle.page_turnover.specs.ties.Log.{Describes};
 ghost use Rattle.page_turnover.specs.Usable.{IsUsable};
 ghost use Rattle.page_turnover.specs.Operates.{Operates};
 ghost use Rattle.keymap_store.specs.Submits.{IsWorn};
-ghost use Rattle.judge.specs.Decides.{Decides, IsAnd, SameOutside, ProgramsAt, ProgramsOn, ProgramsSome, ErasesAt, ErasesSome};
+ghost use Rattle.judge.specs.Decides.{Decides};
+ghost use Rattle.judge.specs.ties.Decides.{IsAnd, SameOutside, ProgramsAt, ProgramsOn, ProgramsSome, ErasesAt, ErasesSome};
 
 use flash_model::{NorFlash, SimFlash};
 use page_turnover::Log;

@@ -5,7 +5,7 @@ ghost use Rattle.std.specs.Option.{option_map, option_copied};
 ghost use Rattle.debounce.specs.Samples.{run_of, samples, down};
 ghost use Rattle.layers.specs.Codes.{keys};
 ghost use Rattle.layers.specs.Held.{HeldCall, Press, Release};
-ghost use Rattle.layers.specs.HeldStands.{HeldStandsFor};
+ghost use Rattle.layers.specs.ties.HeldStands.{HeldStandsFor};
 ghost use Rattle.layers.specs.Keymaps.{HasEntries};
 ghost use Rattle.layers.specs.Usages.{key_usages, consumer_usages};
 ghost use Rattle.reports.specs.Plain.{call_of, bytes_in};
@@ -18,7 +18,8 @@ ghost use Rattle.keyboard.specs.Calls.{image_after};
 ghost use Rattle.keyboard.specs.Effects.{protocol_after};
 ghost use Rattle.keyboard.specs.Keys.{with_effect, key_calls};
 ghost use Rattle.judge.specs.Decides.{Decides};
-ghost use Rattle.judge.specs.Keys.{turns, called, KeysAre};
+ghost use Rattle.judge.specs.Keys.{turns, called};
+ghost use Rattle.judge.specs.ties.Keys.{KeysAre};
 ghost use Rattle.judge.specs.Records.{calls_of};
 
 use crate::session::answers::is_sent;

@@ -6,7 +6,8 @@ ghost use Rattle.page_turnover.specs.Words.{words};
 ghost use Rattle.keyboard.specs.Calls.{keymap};
 ghost use Rattle.keyboard.specs.Operated.{AddsRecord};
 ghost use Rattle.keymap_store.specs.Keymap.{SameEntries};
-ghost use Rattle.judge.specs.Decides.{Decides, SameTable};
+ghost use Rattle.judge.specs.Decides.{Decides};
+ghost use Rattle.judge.specs.ties.Decides.{SameTable};
 
 use crate::session::answers::both;
 use crate::session::flash::words_of;

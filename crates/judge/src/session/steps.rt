@@ -15,6 +15,7 @@ ghost use Rattle.judge.specs.Making as making;
 ghost use Rattle.judge.specs.Records.{call_of, calls_of};
 ghost use Rattle.judge.specs.Steps as steps;
 
+use crate::session::answers::both;
 use crate::session::commands::{accepted_by, working_of};
 use crate::session::flash::same_image;
 use crate::session::keys::flash_after;
@@ -22,6 +23,7 @@ use crate::session::making::{cut_listed, makes_listed};
 use crate::session::operations::operations_of;
 use crate::session::recorded::Recorded;
 use crate::session::torn::Operation;
+use crate::session::work::is_idle;
 use flash_model::SimFlash;
 use keyboard::Work;
 use layers::Command;
@@ -55,9 +57,9 @@ pub fn first_misstep(
 }
 
 /// Whether a call after these calls, the newest first, is the step that comes next, if it is a step of
-/// the flash work while a command works: it makes the command's next operation, whole or torn, and is
-/// answered by whether that reads as intended and is the last. `AllocError` where there was no memory
-/// for the commands, the words or the operations.
+/// the flash work: while a command works it makes the command's next operation, whole or torn, and is
+/// answered by whether that reads as intended and is the last; where none works it is idle, and leaves
+/// the flash. `AllocError` where there was no memory for the commands, the words or the operations.
 pub fn is_next_step(
     alloc: Global,
     start: &SimFlash,
@@ -75,7 +77,7 @@ pub fn is_next_step(
     }
 }
 
-/// Whether a step makes the next operation of the command that works, if one does.
+/// Whether a step makes the next operation of the command that works; where none does it makes none.
 fn makes_next_of(
     alloc: Global,
     start: &SimFlash,
@@ -87,7 +89,7 @@ fn makes_next_of(
     ensures { IfOk result (λ makes. Decides makes (steps.MakesNextOf start.now.image (calls_of before.now) works.now work new.now.image)) }
 {
     match works {
-        None => Ok(true),
+        None => Ok(both(is_idle(work), same_image(flash_after(start, before), new))),
         Some(command) => makes_next(alloc, start, before, command, work, new),
     }
 }
@@ -206,7 +208,7 @@ pub(crate) fn steps_since(past: &[Recorded]) -> usize
 
 /// The flash when the latest command was accepted.
 #[tactic(auto, unfolding(keyboard::specs::Bounded::accepted_image))]
-fn accepted_flash<'a>(start: &'a SimFlash, past: &'a [Recorded]) -> &'a SimFlash
+pub(crate) fn accepted_flash<'a>(start: &'a SimFlash, past: &'a [Recorded]) -> &'a SimFlash
     ensures { result.now.image ≡ accepted_image start.now.image (calls_of past.now) }
 {
     match past {

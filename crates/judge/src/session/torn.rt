@@ -9,7 +9,8 @@ ghost use Rattle.records.specs.declared.Slot.{Slot};
 ghost use Rattle.page_turnover.specs.Next.{Makes, MayMake, ReadsBack};
 ghost use Rattle.keyboard.specs.Operated.{LosesNothing};
 ghost use Rattle.judge.specs.Decides.{Decides};
-ghost use Rattle.judge.specs.Lists.{operation_in, BitsWithin};
+ghost use Rattle.judge.specs.Lists.{operation_in};
+ghost use Rattle.judge.specs.ties.Lists.{BitsWithin};
 
 use crate::session::flash::{is_active, is_blank, is_erased, is_free, is_programmed, same_outside};
 use flash_model::{NorFlash, SimFlash};

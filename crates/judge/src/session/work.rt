@@ -30,7 +30,8 @@ pub fn work_passes(
     }
 }
 
-fn is_idle(work: Work) -> bool
+/// Whether a step had nothing to do.
+pub(crate) fn is_idle(work: Work) -> bool
     ensures { Decides result (work ≡ Work.Idle) }
 {
     match work {

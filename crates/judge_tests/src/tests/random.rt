@@ -4,12 +4,7 @@ use super::text::mask_of;
 use arrayvec::ArrayVec;
 use flash_model::Mask;
 use keyboard::Scan;
-
-/// The next number of a fixed sequence.
-pub fn next(state: &mut u32) -> u32 {
-    *state = row_text::next(*state);
-    *state >> 8
-}
+use row_text::drawn;
 
 /// SETUP packets that are served, those of commands more often than others.
 const SERVED: [[u8; 8]; 24] = [
@@ -41,7 +36,7 @@ const SERVED: [[u8; 8]; 24] = [
 
 /// A SETUP packet: mostly one that is served, else nearly one, or any.
 pub fn setup(state: &mut u32) -> [u8; 8] {
-    let [a, b, c, _] = next(state).to_le_bytes();
+    let [a, b, c, _] = drawn(state).to_le_bytes();
     let mut setup = served(a);
     match b % 16 {
         0 => setup[usize::from(c % 8)] = b / 16,
@@ -58,7 +53,7 @@ fn served(number: u8) -> [u8; 8] {
 
 /// An OUT packet: mostly a feature report whose command sets one of eight keys, else LEDs, or any.
 pub fn packet(state: &mut u32) -> ArrayVec<u8, 8> {
-    let [a, b, c, _] = next(state).to_le_bytes();
+    let [a, b, c, _] = drawn(state).to_le_bytes();
     let mut packet = ArrayVec::from([0x03, 0x01, b % 2, b / 2 % 4, c % 16, 0x00, 0x00, 0x00]);
     let mut length = 6;
     match a % 32 {
@@ -82,7 +77,7 @@ pub fn packet(state: &mut u32) -> ArrayVec<u8, 8> {
 
 /// A scan of some of nine keys, two of which are modifiers by default.
 pub fn scan(state: &mut u32) -> Scan {
-    let held = next(state);
+    let held = drawn(state);
     let [_, low, high, _] = held.to_le_bytes();
     let rows = match held % 8 {
         // Seven keys and more.
@@ -102,7 +97,7 @@ pub fn scan(state: &mut u32) -> Scan {
 
 /// A mask: of all bits, of none, or of some, of up to eight bytes.
 pub fn mask(state: &mut u32) -> Option<Mask> {
-    let [a, b, c, _] = next(state).to_le_bytes();
+    let [a, b, c, _] = drawn(state).to_le_bytes();
     match a % 8 {
         0 => mask_of(&[0xFF]),
         1 => mask_of(&[0x00]),

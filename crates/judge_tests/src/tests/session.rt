@@ -3,9 +3,9 @@
 use super::text::mask_of;
 use arrayvec::ArrayVec;
 use flash_model::{Mask, NorFlash, SimFlash};
-use judge::session::{Recorded, cut_leaves, first_misstep, first_wrong};
+use judge::session::{Recorded, cut_leaves, first_misstep, first_unlawful, first_wrong};
 use keyboard::{EpAnswer, Keyboard, Report, Scan, Work};
-use row_text::good;
+use row_text::{good, put_slot};
 use std::alloc::{AllocError, Global};
 use std::marker::Model;
 use std::process::Abort;
@@ -29,7 +29,7 @@ pub struct Rig {
 
 impl Model for Rig {
     ghost use Rattle.std.specs.Prelude.{ℕ, List};
-    ghost use Rattle.keyboard.specs.Value.{RunsOn};
+    ghost use Rattle.keyboard.specs.ties.Value.{RunsOn};
 
     ghost Value = { List ℕ };
 
@@ -71,13 +71,17 @@ impl Rig {
         Ok(right)
     }
 
-    /// The first call that does not pass, or the first step of the flash work that is not the next one.
+    /// The first call that does not pass, or the first step of the flash work that is not the next one;
+    /// else the first that was not answered as it had to be, and there is none.
     pub fn judged(&self, alloc: Global) -> Result<Option<usize>, Fail> {
         let past = self.past.as_slice();
         if let Some(index) = first_wrong(alloc, &self.start, past)? {
             return Ok(Some(index));
         }
-        let found = first_misstep(alloc, &self.start, past)?;
+        if let Some(index) = first_misstep(alloc, &self.start, past)? {
+            return Ok(Some(index));
+        }
+        let found = first_unlawful(alloc, &self.start, past)?;
         Ok(found)
     }
 
@@ -170,12 +174,7 @@ fn slots_of(
         image.extend_from_slice(&[0xff; 4096])?;
     }
     for (page, slot, new) in slots {
-        let from = page.wrapping_mul(512).wrapping_add(*slot).wrapping_mul(8);
-        for k in 0..8 {
-            if let Some(byte) = image.get_mut(from.wrapping_add(k)) {
-                *byte = new[k];
-            }
-        }
+        put_slot(image.as_mut_slice(), *page, *slot, *new);
     }
     let flash = SimFlash::from_image(image)?;
     Ok(flash)

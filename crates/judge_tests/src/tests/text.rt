@@ -2,7 +2,7 @@
 
 use control_ep::Why;
 use flash_model::{Mask, SimFlash};
-use row_text::{eight, two};
+use row_text::{placed, put_slot};
 use std::alloc::Global;
 use std::test::Fail;
 
@@ -37,22 +37,11 @@ fn with_slot(alloc: Global, flash: &SimFlash, slot: &str) -> Result<SimFlash, Fa
     let mut image = Vec::new(alloc);
     image.extend_from_slice(flash.image())?;
     if !slot.is_empty() {
-        let (from, new) = slot_of(slot).ok_or("a slot")?;
-        for k in 0..8 {
-            let place = image
-                .get_mut(from.wrapping_add(k))
-                .ok_or("a place of the flash")?;
-            *place = new[k];
+        let (page, number, new) = placed(slot).ok_or("a slot")?;
+        if !put_slot(image.as_mut_slice(), page, number, new) {
+            None.ok_or("a place of the flash")?
         }
     }
     let changed = SimFlash::from_image(image)?;
     Ok(changed)
-}
-
-/// Where a slot begins, and its bytes: page, number and 16 hex digits.
-fn slot_of(text: &str) -> Option<(usize, [u8; 8])> {
-    let (place, new) = text.rsplit_once(' ')?;
-    let (page, number) = two(place)?;
-    let from = usize::from(page) * 4096 + usize::from(number) * 8;
-    Some((from, eight(new)?))
 }

@@ -4,28 +4,6 @@ use arrayvec::ArrayVec;
 use std::io;
 use std::io::{ErrorKind, Read, Write};
 
-/// Gives a text in pieces of at most five bytes, and fails at one of its reads.
-#[derive(Drop)]
-pub(super) struct FailingReader<'a> {
-    pub(super) text: &'a [u8],
-    pub(super) reads_left: usize,
-    pub(super) kind: ErrorKind,
-}
-
-impl Read for FailingReader<'_> {
-    fn read(&mut self, buf: &mut [u8]) -> io::Result<usize> {
-        if self.reads_left == 0 {
-            return Err(io::Error::from(self.kind));
-        }
-        self.reads_left -= 1;
-        let count = self.text.len().min(buf.len()).min(5);
-        let (front, rest) = self.text.split_at(count);
-        buf[..count].copy_from_slice(front);
-        self.text = rest;
-        Ok(count)
-    }
-}
-
 /// One byte so many times, at most so many in a read, and then a failure if `fails`.
 #[derive(Drop)]
 pub(super) struct Repeated {

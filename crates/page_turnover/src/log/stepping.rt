@@ -4,9 +4,10 @@ ghost use Rattle.std.specs.Prelude.{◌≡◌, ◌≢◌, ◌↔◌, ◌+◌, �
 ghost use Rattle.flash_model.specs.Image.{page_count};
 ghost use Rattle.page_turnover.specs.Words.{IsBlank};
 ghost use Rattle.page_turnover.specs.Usable.{IsUsable};
-ghost use Rattle.page_turnover.specs.Value.{Rest, Append, Copy, Seal, Unread, target_value};
+ghost use Rattle.page_turnover.specs.Value.{Rest, Append, Copy, Seal, Unread};
+ghost use Rattle.page_turnover.specs.ties.Value.{target_value};
 ghost use Rattle.page_turnover.specs.Turn.{target_page, copied};
-ghost use Rattle.page_turnover.specs.Made.{IsPassedOver};
+ghost use Rattle.page_turnover.specs.ties.Made.{IsPassedOver};
 
 use super::{ActivePage, Log, Target, Task};
 use crate::header::{FORMAT, header};
@@ -39,10 +40,11 @@ pub struct Plan {
 }
 
 impl Log {
-    ghost use Rattle.page_turnover.specs.Log.{Describes, HasTailRoom};
+    ghost use Rattle.page_turnover.specs.Log.{HasTailRoom};
+    ghost use Rattle.page_turnover.specs.ties.Log.{Describes};
     ghost use Rattle.page_turnover.specs.Next.{next_operation, on_flash};
     ghost use Rattle.page_turnover.specs.Operates.{Operates, MayOperate, FillsAtMostOne};
-    ghost use Rattle.page_turnover.specs.Made.{Plans};
+    ghost use Rattle.page_turnover.specs.ties.Made.{Plans};
     ghost use Rattle.page_turnover.specs.Steps.{EndsAs, AttemptsNext, CountsAs, Moves, Commits};
 
     /// Makes the one operation that is pending, or none where nothing is.

@@ -18,7 +18,8 @@ pub enum TurnRefusal {
 }
 
 impl Log {
-    ghost use Rattle.page_turnover.specs.Log.{Describes, HasTailRoom};
+    ghost use Rattle.page_turnover.specs.Log.{HasTailRoom};
+    ghost use Rattle.page_turnover.specs.ties.Log.{Describes};
     ghost use Rattle.page_turnover.specs.Refusal.{MayTurn, Refuses};
 
     /// Takes a word to append; the next step programs it.

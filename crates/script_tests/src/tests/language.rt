@@ -1,6 +1,7 @@
 //! The language of scripts: what each line says, and the first fault of a text.
 
 use super::same;
+use row_text::add_rows;
 use script::{Action, Line, Statement, read_lines};
 use std::alloc::{AllocError, Global};
 use std::process::Abort;
@@ -44,28 +45,6 @@ workfault --|Line { line: 1, fault: BadHex }|
 cutwork 0g|Line { line: 1, fault: BadHex }|
 workfault|Line { line: 1, fault: WrongWords }|
 cutwork 00 00|Line { line: 1, fault: WrongWords }";
-
-/// Adds rows to a script, and what they say to what is expected. A row is `LINE = SAID`, or `LINE` alone where it says
-/// nothing; what it says comes after the line's number.
-fn add_rows(
-    alloc: Global,
-    script: &mut String,
-    expected: &mut String,
-    rows: &str,
-) -> Result<(), AllocError> {
-    let mut number = 0u32;
-    for row in rows.lines() {
-        number = number.wrapping_add(1);
-        let (line, said) = row.split_once(" = ").unwrap_or((row, ""));
-        script.push_str(line)?;
-        script.push_str("\n")?;
-        if !said.is_empty() {
-            let line = format!(in alloc; "{number} {said}\n")?;
-            expected.push_str(line.as_str())?;
-        }
-    }
-    Ok(())
-}
 
 /// Adds a line's number and what it says to a text.
 fn push_line(alloc: Global, text: &mut String, line: &Line<'_>) -> Result<(), AllocError> {
@@ -120,7 +99,7 @@ fn says<R: AllocGlobal + Abort>(rt: &R, script: &str, expected: &str) -> Result<
 fn each_line(rt: HostRuntime) -> Result<(), Fail> {
     let mut script = String::new(rt.alloc());
     let mut expected = String::new(rt.alloc());
-    add_rows(rt.alloc(), &mut script, &mut expected, EACH_LINE)?;
+    add_rows(rt.alloc(), &mut script, &mut expected, EACH_LINE).ok_or("memory")?;
     says(&rt, script.as_str(), expected.as_str())?;
     // The last line needs no end.
     says(&rt, "leds\nfetch", "1 One(Leds)\n2 Fetch\n")?;

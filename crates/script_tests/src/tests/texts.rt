@@ -4,33 +4,13 @@
 mod lengths;
 
 use super::{same, text_of};
+use row_text::FailingReader;
 use std::alloc::{AllocError, Global};
 use std::io;
-use std::io::{ErrorKind, Read, Write};
+use std::io::{ErrorKind, Write};
 use std::process::Abort;
 use std::test::Fail;
 use text_io::{HexDigits, HexWord, Printer, ReadError, WriteError, read_whole};
-
-/// Gives a text in pieces of at most five bytes, and is interrupted when no read is left.
-#[derive(Drop)]
-struct Fives<'a> {
-    text: &'a [u8],
-    reads_left: usize,
-}
-
-impl Read for Fives<'_> {
-    fn read(&mut self, buf: &mut [u8]) -> io::Result<usize> {
-        if self.reads_left == 0 {
-            return Err(io::Error::from(ErrorKind::Interrupted));
-        }
-        self.reads_left -= 1;
-        let count = self.text.len().min(buf.len()).min(5);
-        let (front, rest) = self.text.split_at(count);
-        buf[..count].copy_from_slice(front);
-        self.text = rest;
-        Ok(count)
-    }
-}
 
 /// What is read of a text, or why it is not.
 fn told(read: &Result<Vec<u8>, ReadError>) -> &str {
@@ -45,7 +25,7 @@ fn told(read: &Result<Vec<u8>, ReadError>) -> &str {
 /// Reads from this reader up to so many bytes, and compares what is told and what the reader has left.
 fn reads<R: AllocGlobal + Abort>(
     rt: &R,
-    reader: &mut Fives<'_>,
+    reader: &mut FailingReader<'_>,
     most: usize,
     expected: &str,
     left: &str,
@@ -78,9 +58,10 @@ fn texts_up_to_a_limit(rt: HostRuntime) {
         let (pieces, rest) = rest.split_once('|').unwrap_or((rest, ""));
         let (most, rest) = rest.split_once('|').unwrap_or((rest, ""));
         let (expected, left) = rest.split_once('|').unwrap_or(("no row", ""));
-        let mut reader = Fives {
+        let mut reader = FailingReader {
             text: text.as_bytes(),
             reads_left: number(&rt, pieces),
+            kind: ErrorKind::Interrupted,
         };
         reads(&rt, &mut reader, number(&rt, most), expected, left);
     }

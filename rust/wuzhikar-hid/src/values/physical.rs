@@ -12,6 +12,7 @@ impl fmt::Display for NoPhysical {
         f.write_str(match self {
             NoPhysical::EqualLimits => "the logical extents are equal",
             NoPhysical::InvertedLimits => "the Logical Minimum is over the Logical Maximum",
+            NoPhysical::LargeExtents => "a physical extent is no number of 32 bits",
         })
     }
 }

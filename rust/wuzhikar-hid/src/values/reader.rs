@@ -52,6 +52,8 @@ pub struct Reader {
     kept: Vec<Kept>,
     /// The place of each field in `Details::fields`.
     places: Vec<usize>,
+    /// Whether each field has Null State, by its place in `Descriptor::fields`.
+    null_states: Vec<bool>,
     reports: Vec<KeptReport>,
     /// The places of the reports in `reports` by kind and ID, one that is not there where there is no such report.
     by_id: Vec<u16>,
@@ -91,12 +93,14 @@ impl Reader {
     pub fn new(text: &[u8]) -> Result<Reader, ReaderError> {
         let descriptor = parse(text)?;
         let details = details(text).map_err(|_| ReaderError::Memory)?;
-        let (mut kept, mut places) = (Vec::new(), Vec::new());
+        let (mut kept, mut places, mut null_states) = (Vec::new(), Vec::new(), Vec::new());
         kept.try_reserve_exact(descriptor.fields().len()).map_err(|_| ReaderError::Memory)?;
         places.try_reserve_exact(descriptor.fields().len()).map_err(|_| ReaderError::Memory)?;
+        null_states.try_reserve_exact(descriptor.fields().len()).map_err(|_| ReaderError::Memory)?;
         for ((number, field), placed) in descriptor.fields().iter().enumerate().zip(details.data_fields()) {
             let has_null = !field.array && placed.detail.has_null_state();
             places.push(placed.place);
+            null_states.push(has_null);
             kept.push(Kept { field: *field, number, detail: placed.place, has_null });
         }
         kept.sort_unstable_by_key(|kept| (kept.field.kind as u8, kept.field.id, kept.number));
@@ -119,7 +123,7 @@ impl Reader {
         }
         let by_id = by_id(&reports)?;
         let uses_ids = descriptor.uses_ids();
-        Ok(Reader { descriptor, details, kept, places, reports, by_id, spots, uses_ids })
+        Ok(Reader { descriptor, details, kept, places, null_states, reports, by_id, spots, uses_ids })
     }
 
     /// The descriptor.
@@ -168,14 +172,14 @@ impl Reader {
         }
     }
 
+    /// Whether each field has Null State, by its place in `Descriptor::fields`.
+    pub(super) fn null_states(&self) -> &[bool] {
+        &self.null_states
+    }
+
     #[inline(always)]
     pub(super) fn uses_ids(&self) -> bool {
         self.uses_ids
-    }
-
-    /// A field with its usages.
-    pub(super) fn usages(&self, kept: &Kept) -> FieldUsages<'_> {
-        self.field_usages(kept.number)
     }
 
     /// The field with this place in `Descriptor::fields`, with its usages.

@@ -1,7 +1,7 @@
 use Rattle.std.proofs.Common.{Option, sym, subst}
 use Rattle.descriptor_parse.specs.declared.fault.ParseError.{ParseError}
 use Rattle.descriptor_plain.specs.Views.{items_of, item_of}
-use Rattle.descriptor_plain.specs.Least.{IsLeast, IsShown}
+use Rattle.descriptor_plain.specs.ties.Least.{IsLeast, IsShown}
 use Rattle.descriptor_plain.proofs.Splits.{items_split, before}
 use Rattle.descriptor_plain.proofs.LeastLemmas.{least_more}
 use Rattle.descriptor_plain.proofs.first.+least_shown.Goals as goal

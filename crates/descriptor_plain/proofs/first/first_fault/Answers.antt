@@ -2,7 +2,7 @@ use Rattle.std.proofs.Common.{Option, MatchOption, sym, ap, ◌∙◌, subst, re
 use Rattle.descriptor_parse.specs.declared.fault.ParseError.{ParseError}
 use Rattle.descriptor_parse.specs.Faults.{IsFaultless, IsFirstFault}
 use Rattle.descriptor_plain.specs.Views.{items_of}
-use Rattle.descriptor_plain.specs.Least.{lesser}
+use Rattle.descriptor_plain.specs.ties.Least.{lesser}
 use Rattle.descriptor_plain.proofs.LeastLemmas.{first_of_text}
 use Rattle.descriptor_plain.proofs.first.first_fault.Goals as goal
 

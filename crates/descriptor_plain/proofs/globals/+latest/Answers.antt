@@ -1,7 +1,7 @@
 use Rattle.std.proofs.Common.{inl, inr, sym, ◌∙◌, ap}
-use Rattle.descriptor_plain.specs.Known.{is_known}
+use Rattle.descriptor_plain.specs.ties.Known.{is_known}
 use Rattle.descriptor_plain.specs.Views.{items_of, item_of}
-use Rattle.descriptor_plain.specs.Waiting.{is_global}
+use Rattle.descriptor_plain.specs.ties.Waiting.{is_global}
 use Rattle.descriptor_plain.proofs.Splits.{no_items, items_split, before}
 use Rattle.descriptor_plain.proofs.Popped.{Passes, latest_none, latest_older, latest_here, known_global}
 use Rattle.descriptor_plain.proofs.globals.+latest.Goals as goal

@@ -2,7 +2,7 @@ use Rattle.std.proofs.Common.{sym, ◌∙◌, ap}
 use Rattle.descriptor_parse.specs.declared.tag.Tag.{Tag}
 use Rattle.descriptor_parse.specs.Tags.{tag}
 use Rattle.descriptor_plain.specs.Views.{items_of, item_of}
-use Rattle.descriptor_plain.specs.Waiting.{left_after}
+use Rattle.descriptor_plain.specs.ties.Waiting.{left_after}
 use Rattle.descriptor_plain.proofs.Splits.{no_items, items_split, before}
 use Rattle.descriptor_plain.proofs.Popped.{count_none, count_step}
 use Rattle.descriptor_plain.proofs.globals.+pushes.Goals as goal

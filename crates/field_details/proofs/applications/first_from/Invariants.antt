@@ -1,5 +1,5 @@
 use Rattle.std.proofs.Common.{◌≡◌, ◌-◌, length}
-use Rattle.field_details.specs.Asked.{left, belongs}
+use Rattle.field_details.specs.ties.Asked.{left, belongs}
 use Rattle.field_details.proofs.applications.first_from.Given as goal
 
 -- none that is asked for is passed

@@ -1,7 +1,8 @@
 use Rattle.std.proofs.Common.{◌≡◌}
 use Rattle.std.specs.Prelude.{find}
-use Rattle.field_details.specs.Around.{height, is_application}
-use Rattle.field_details.specs.Asked.{all_outwards, application_in}
+use Rattle.field_details.specs.Around.{is_application}
+use Rattle.field_details.specs.ties.Around.{height}
+use Rattle.field_details.specs.ties.Asked.{all_outwards, application_in}
 use Rattle.field_details.proofs.around.application_of.Given as goal
 
 -- no Application collection is passed

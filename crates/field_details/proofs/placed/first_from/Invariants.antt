@@ -1,5 +1,5 @@
 use Rattle.std.proofs.Common.{◌≡◌, ◌-◌, length}
-use Rattle.field_details.specs.Asked.{left, passes}
+use Rattle.field_details.specs.ties.Asked.{left, passes}
 use Rattle.field_details.proofs.placed.first_from.Given as goal
 
 -- none that is asked for is passed

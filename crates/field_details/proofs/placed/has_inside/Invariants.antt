@@ -2,7 +2,7 @@ use Rattle.std.proofs.Common.{◌≡◌, ◌-◌, length}
 use Rattle.std.specs.Prelude.{◌&&◌, drop}
 use Rattle.std.specs.List.{list_any}
 use Rattle.field_details.specs.Reports.{numbered, is_of_report, is_inside, has_inside}
-use Rattle.field_details.specs.Asked.{application_in}
+use Rattle.field_details.specs.ties.Asked.{application_in}
 use Rattle.field_details.proofs.placed.has_inside.Given as goal
 
 -- those that are passed are of other reports or applications

@@ -1,5 +1,5 @@
 use Rattle.std.proofs.Common.{◌≡◌, length}
-use Rattle.field_details.specs.Stands.{end_in}
+use Rattle.field_details.specs.ties.Stands.{end_in}
 use Rattle.field_details.proofs.report.end_of_report.Given as goal
 
 -- those behind are of other reports

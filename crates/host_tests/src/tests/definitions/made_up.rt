@@ -1,16 +1,10 @@
 //! `parse` beside the definitions, over texts that are made up, and over the served text.
 
-use super::{Numbers, bytes, check, push_byte};
-use crate::tests::byte_of;
+use super::{bytes, check, push_byte};
 use descriptor_parse::parse;
+use row_text::{Numbers, push_drawn};
 use std::alloc::Global;
 use std::process::Abort;
-
-impl Numbers {
-    fn byte(&mut self) -> u8 {
-        (self.next() % 256) as u8
-    }
-}
 
 #[test]
 fn random_bytes(rt: HostRuntime) {
@@ -30,7 +24,7 @@ fn of_random_bytes(rt: &impl Abort, alloc: Global, numbers: &mut Numbers, len: u
     check(rt, alloc, &text);
 }
 
-/// Items that often go well with others, one or two a row: of the bytes that commas part one is taken, and `*` is any byte.
+/// Items that often go well with others, one or two a row (`push_drawn`).
 const ITEMS: &str = "\
 75 00,01,03,08,08,20,21
 95 00,01,02,06
@@ -51,29 +45,8 @@ FE 01 09 *
 
 /// Adds the items of a row.
 fn push_item(rt: &impl Abort, numbers: &mut Numbers, text: &mut Vec<u8>) {
-    let row = numbers.next() as usize % 16;
-    for choices in ITEMS.lines().nth(row).expect(rt, "a row").split(' ') {
-        push_byte(rt, text, one_of(rt, numbers, choices));
-    }
-}
-
-fn one_of(rt: &impl Abort, numbers: &mut Numbers, choices: &str) -> u8 {
-    if choices == "*" {
-        return numbers.byte();
-    }
-    let count = choices.split(',').count();
-    if count < 2 {
-        return byte_of(rt, choices.as_bytes());
-    }
-    let place = numbers.next() as usize % count;
-    byte_of(
-        rt,
-        choices
-            .split(',')
-            .nth(place)
-            .expect(rt, "a choice")
-            .as_bytes(),
-    )
+    let row = ITEMS.lines().nth(numbers.next() as usize % 16);
+    push_drawn(numbers, text, row.expect(rt, "a row")).expect(rt, "bytes");
 }
 
 #[test]

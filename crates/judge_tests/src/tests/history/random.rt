@@ -2,10 +2,10 @@
 
 ghost use Rattle.std.specs.Prelude.{◌<◌};
 
-use super::super::random::{mask, next, packet, scan, setup};
+use super::super::random::{mask, packet, scan, setup};
 use super::*;
 use layers::{KeyNo, LayerNo};
-use row_text::good;
+use row_text::{drawn, good};
 use world::{Reading, Work};
 
 /// How many events each test takes, how many lists of them a history has, and how many histories there
@@ -26,17 +26,17 @@ fn ins(events: &mut Vec<Event>, count: u32) -> Result<(), Fail> {
 
 /// A fetch of the report descriptor, of any length, and mostly to its end.
 fn fetch(events: &mut Vec<Event>, state: &mut u32) -> Result<(), Fail> {
-    let length = match next(state) % 4 {
-        0 => (next(state) % 301) as u16,
+    let length = match drawn(state) % 4 {
+        0 => (drawn(state) % 301) as u16,
         1 => 104,
         _ => 99,
     };
     let [low, high] = length.to_le_bytes();
     events.push(Event::Setup([0x81, 6, 0, 0x22, 0, 0, low, high]))?;
     let whole = u32::from(length.min(99)) / 8 + 1;
-    match next(state) % 4 {
+    match drawn(state) % 4 {
         0 => {
-            let count = next(state) % 16;
+            let count = drawn(state) % 16;
             ins(events, count)
         }
         1 => {
@@ -50,13 +50,13 @@ fn fetch(events: &mut Vec<Event>, state: &mut u32) -> Result<(), Fail> {
 
 /// Some steps of the flash work.
 fn works(events: &mut Vec<Event>, state: &mut u32) -> Result<(), Fail> {
-    let count = match next(state) % 8 {
+    let count = match drawn(state) % 8 {
         0 => 0,
         1 => 14,
         few => few / 2 + 1,
     };
     for _ in 0..count {
-        match next(state) % 16 {
+        match drawn(state) % 16 {
             0 | 1 => events.push(Event::WorkFault(mask(state).ok_or("a mask")?))?,
             2 => events.push(Event::CutInWork(mask(state).ok_or("a mask")?))?,
             3 => events.push(Event::InPacket)?,
@@ -77,7 +77,7 @@ fn command(events: &mut Vec<Event>, state: &mut u32) -> Result<(), Fail> {
 
 /// LEDs of either protocol, and a look at them.
 fn leds(events: &mut Vec<Event>, state: &mut u32) -> Result<(), Fail> {
-    let [a, b, _, _] = next(state).to_le_bytes();
+    let [a, b, _, _] = drawn(state).to_le_bytes();
     let mut packet = ArrayVec::from([0x01, b, 0, 0, 0, 0, 0, 0]);
     if a % 4 == 0 {
         events.push(Event::Setup([0x21, 9, 0, 2, 0, 0, 1, 0]))?;
@@ -94,7 +94,7 @@ fn leds(events: &mut Vec<Event>, state: &mut u32) -> Result<(), Fail> {
 /// A transfer without data, or a read.
 fn request(events: &mut Vec<Event>, state: &mut u32) -> Result<(), Fail> {
     events.push(Event::Setup(setup(state)))?;
-    let count = next(state) % 4;
+    let count = drawn(state) % 4;
     ins(events, count)?;
     if count == 3 {
         events.push(Event::OutPacket(ArrayVec::new()))?;
@@ -104,19 +104,19 @@ fn request(events: &mut Vec<Event>, state: &mut u32) -> Result<(), Fail> {
 
 /// A protocol is chosen.
 fn protocol(events: &mut Vec<Event>, state: &mut u32) -> Result<(), Fail> {
-    let chosen = (next(state) % 2) as u8;
+    let chosen = (drawn(state) % 2) as u8;
     events.push(Event::Setup([0x21, 0x0B, chosen, 0, 0, 0, 0, 0]))?;
     ins(events, 1)
 }
 
 /// Keys that bounce, and are debounced after it, mostly; then polls.
 fn keys(events: &mut Vec<Event>, state: &mut u32) -> Result<(), Fail> {
-    let bounces = next(state) % 3;
+    let bounces = drawn(state) % 3;
     for _ in 0..bounces {
         events.push(Event::Scan(scan(state)))?;
     }
     let settled = scan(state);
-    let times = next(state) % 3 + 4;
+    let times = drawn(state) % 3 + 4;
     for _ in 0..times {
         events.push(Event::Scan(settled))?;
     }
@@ -124,7 +124,7 @@ fn keys(events: &mut Vec<Event>, state: &mut u32) -> Result<(), Fail> {
 }
 
 fn polls(events: &mut Vec<Event>, state: &mut u32) -> Result<(), Fail> {
-    let count = next(state) % 3 + 1;
+    let count = drawn(state) % 3 + 1;
     for _ in 0..count {
         events.push(Event::Poll)?;
     }
@@ -133,7 +133,7 @@ fn polls(events: &mut Vec<Event>, state: &mut u32) -> Result<(), Fail> {
 
 /// A look at an entry, or at a slot.
 fn look(events: &mut Vec<Event>, state: &mut u32) -> Result<(), Fail> {
-    let [a, b, c, _] = next(state).to_le_bytes();
+    let [a, b, c, _] = drawn(state).to_le_bytes();
     events.push(Event::SlotAt {
         page: a % 9,
         slot: u16::from(b) * 2 + u16::from(c % 2),
@@ -146,7 +146,7 @@ fn look(events: &mut Vec<Event>, state: &mut u32) -> Result<(), Fail> {
 
 /// A packet that belongs to nothing.
 fn stray(events: &mut Vec<Event>, state: &mut u32) -> Result<(), Fail> {
-    events.push(match next(state) % 4 {
+    events.push(match drawn(state) % 4 {
         0 => Event::OutPacket(packet(state)),
         1 => Event::Setup(setup(state)),
         2 => Event::InPacket,
@@ -157,7 +157,7 @@ fn stray(events: &mut Vec<Event>, state: &mut u32) -> Result<(), Fail> {
 
 /// Appends some events that belong together.
 fn add(events: &mut Vec<Event>, state: &mut u32) -> Result<(), Fail> {
-    match next(state) % 32 {
+    match drawn(state) % 32 {
         0 | 1 => fetch(events, state),
         2..=8 => command(events, state),
         9 | 10 => leds(events, state),
@@ -186,7 +186,7 @@ fn add(events: &mut Vec<Event>, state: &mut u32) -> Result<(), Fail> {
 /// A list of events: what belongs together may be cut by the end of the list before.
 fn list(alloc: Global, state: &mut u32) -> Result<Vec<Event>, Fail> {
     let mut events = Vec::new(alloc);
-    let bursts = next(state) % 3;
+    let bursts = drawn(state) % 3;
     for _ in 0..bursts + 1 {
         add(&mut events, state)?;
     }
@@ -195,7 +195,7 @@ fn list(alloc: Global, state: &mut u32) -> Result<Vec<Event>, Fail> {
 
 /// The bytes of a slot of a flash of this kind.
 fn slot_bytes(state: &mut u32, kind: u32, page: usize, slot: usize) -> [u8; 8] {
-    let [a, b, c, _] = next(state).to_le_bytes();
+    let [a, b, c, _] = drawn(state).to_le_bytes();
     let records = 506 - usize::from(c % 2);
     match kind {
         // A page that is nearly full, of format 2 or 1, and blank ones.
@@ -217,7 +217,7 @@ fn slot_bytes(state: &mut u32, kind: u32, page: usize, slot: usize) -> [u8; 8] {
 
 /// The bytes of a flash of so many pages: of some kind, or blank.
 fn image(alloc: Global, state: &mut u32, pages: usize) -> Result<Vec<u8>, Fail> {
-    let kind = next(state) % 10;
+    let kind = drawn(state) % 10;
     let mut bytes = Vec::new(alloc);
     for page in 0..pages {
         for slot in 0..512 {
@@ -231,7 +231,7 @@ fn image(alloc: Global, state: &mut u32, pages: usize) -> Result<Vec<u8>, Fail> 
 fn begin(alloc: Global, state: &mut u32, pages: usize) -> Result<Rig, Fail> {
     let image = image(alloc, state, pages)?;
     let armed = mask(state).ok_or("a mask")?;
-    let mask = if next(state) % 4 == 0 {
+    let mask = if drawn(state) % 4 == 0 {
         Some(armed.as_slice())
     } else {
         None

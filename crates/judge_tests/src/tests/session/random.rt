@@ -1,8 +1,8 @@
 //! Many short sessions with calls of every kind: each call is judged right.
 
-use super::super::random::{mask, next, packet, scan, setup};
+use super::super::random::{mask, packet, scan, setup};
 use super::*;
-use row_text::good;
+use row_text::{drawn, good};
 
 /// How many flashes of so many pages there are, how many sessions each has, and how many calls a session.
 const FLASHES: u32 = 20;
@@ -13,7 +13,7 @@ const CALLS: u32 = 25;
 
 /// Makes a call. Commands and the flash work come more often than the others.
 fn call(rig: &mut Rig, alloc: Global, state: &mut u32) -> Result<(), Fail> {
-    match next(state) % 32 {
+    match drawn(state) % 32 {
         0..=4 => rig.setup(setup(state)),
         5..=10 => rig.out(packet(state).as_slice()),
         11..=17 => rig.in_packet(),
@@ -84,7 +84,7 @@ fn session(rig: &mut Rig, alloc: Global, state: &mut u32) -> Result<Option<u32>,
     for _ in 0..8 {
         rig.setup([0x21, 0x09, 0x03, 0x03, 0x00, 0x00, 0x06, 0x00])?;
         rig.out(packet(state).as_slice())?;
-        if next(state) % 8 == 0 {
+        if drawn(state) % 8 == 0 {
             rig.work(alloc, mask(state).ok_or("a mask")?.as_slice())?;
         } else {
             rig.work(alloc, &[])?;
@@ -94,7 +94,7 @@ fn session(rig: &mut Rig, alloc: Global, state: &mut u32) -> Result<Option<u32>,
         }
     }
     let right = rig.judged(alloc)?.is_none();
-    if next(state) % 2 == 0 {
+    if drawn(state) % 2 == 0 {
         rig.cut(alloc)?;
         return Ok(if right { Some(made) } else { None });
     }
@@ -114,7 +114,7 @@ fn some_flash(alloc: Global, number: u32, state: &mut u32) -> Result<SimFlash, F
         };
         slots.push((0, 0, good(header)))?;
         for slot in 1..505usize {
-            let [a, b, _, _] = next(state).to_le_bytes();
+            let [a, b, _, _] = drawn(state).to_le_bytes();
             let word = u32::from(b % 8) << 16 | u32::from(a % 64);
             slots.push((0, slot, good(0x1000_0000 | word)))?;
         }

@@ -1,9 +1,9 @@
 //! Each step of a command's flash work, torn with each of some masks, by a fault and by a cut.
 
-use super::super::random::next;
 use super::super::text::with_slots;
 use super::*;
 use judge::session::{cut_leaves, is_next_step, passes};
+use row_text::{drawn, full_word};
 
 /// Masks of one byte.
 const MASKS: [u8; 7] = [0x00, 0x01, 0x0f, 0x55, 0xaa, 0xfe, 0xff];
@@ -25,7 +25,7 @@ fn mask(number: usize, state: &mut u32) -> Option<Mask> {
     };
     let mut mask = Mask::new();
     for _ in 0..count {
-        let [_, byte, _, _] = next(state).to_le_bytes();
+        let [_, byte, _, _] = drawn(state).to_le_bytes();
         mask.try_push(byte).ok()?;
     }
     Some(mask)
@@ -164,12 +164,8 @@ fn each_step_of_the_longest_turnover_is_torn(rt: HostRuntime) -> Result<(), Fail
 fn all_set(alloc: Global) -> Result<SimFlash, Fail> {
     let mut slots = Vec::new(alloc);
     slots.push((0, 0, good(0x1000_0001)))?;
-    for number in 0..511usize {
-        let word = match u32::try_from(number) {
-            Ok(place) if number < 384 => place / 96 << 24 | place % 96 << 16,
-            _ => if number % 2 == 0 { 5 } else { 0 },
-        };
-        slots.push((0, number.wrapping_add(1), good(0x1000_0000 | word)))?;
+    for slot in 1..512u32 {
+        slots.push((0, slot as usize, good(full_word(slot))))?;
     }
     slots.push((1, 9, [0; 8]))?;
     slots_of(alloc, 2, slots.as_slice())

@@ -1,7 +1,7 @@
 use Rattle.std.proofs.Common.{◌≡◌, [], take}
 use Rattle.flash_model.specs.Sim.{SimValue}
 use Rattle.text_io.specs.Printers.{printed, printer_writer}
-use Rattle.world.specs.Stands.{StandsFor}
+use Rattle.world.specs.ties.Stands.{StandsFor}
 use Rattle.kbsim.proofs.OutputLemmas.{RunSoFar}
 use Rattle.kbsim.proofs.run.run_each.Given as goal
 

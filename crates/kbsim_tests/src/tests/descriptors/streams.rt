@@ -1,11 +1,10 @@
 //! Readers and writers that fail, and the longest text.
 
 use super::{refused, same, so_ended, text_of};
-use crate::tests::streams::{
-    FailingReader, FailingWriter, KINDS, NeverFlushed, Repeated, before_it_fails,
-};
+use crate::tests::streams::{FailingWriter, KINDS, NeverFlushed, Repeated, before_it_fails};
 use descriptor_parse::ParseFault;
 use parse_lines::{LinesError, describe, items_text, parse_text};
+use row_text::FailingReader;
 use std::io::ErrorKind;
 use std::process::Abort;
 

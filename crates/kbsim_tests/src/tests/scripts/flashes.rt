@@ -3,7 +3,7 @@
 use super::{end_of, same, so_ended, text_of};
 use arrayvec::ArrayVec;
 use kbsim::{SimFlash, blank_flash, run_on};
-use std::alloc::{AllocError, Global};
+use row_text::add_rows;
 use std::process::Abort;
 use std::test::Fail;
 
@@ -26,28 +26,6 @@ work = settled
 in = data -
 entry 0 0 = 0005";
 
-/// Adds rows to a script, and what they print to what is expected. A row is `LINE = ANSWER`, or `LINE` alone where it
-/// prints nothing; the answer comes after the line's number.
-fn add_rows(
-    alloc: Global,
-    script: &mut String,
-    expected: &mut String,
-    rows: &str,
-) -> Result<(), AllocError> {
-    let mut number = 0u32;
-    for row in rows.lines() {
-        number = number.wrapping_add(1);
-        let (line, answer) = row.split_once(" = ").unwrap_or((row, ""));
-        script.push_str(line)?;
-        script.push_str("\n")?;
-        if !answer.is_empty() {
-            let printed = format!(in alloc; "{number} {answer}\n")?;
-            expected.push_str(printed.as_str())?;
-        }
-    }
-    Ok(())
-}
-
 /// Runs a script on a flash, and compares how it ends and all that it prints.
 fn prints_on<R: AllocGlobal + Abort>(rt: &R, flash: SimFlash, script: &str, expected: &str) {
     let mut reader = script.as_bytes();
@@ -66,7 +44,7 @@ fn on_a_flash_that_is_armed(rt: HostRuntime) -> Result<(), Fail> {
         flash.fault_next(mask);
         let mut script = String::new(rt.alloc());
         let mut expected = String::new(rt.alloc());
-        add_rows(rt.alloc(), &mut script, &mut expected, rows)?;
+        add_rows(rt.alloc(), &mut script, &mut expected, rows).ok_or("memory")?;
         prints_on(&rt, flash, script.as_str(), expected.as_str());
     }
     Ok(())

@@ -208,7 +208,7 @@ in";
 
 /// A number that looks random, after another.
 fn next(number: &mut u32) -> usize {
-    *number = number.wrapping_mul(1_664_525).wrapping_add(1_013_904_223);
+    *number = row_text::next(*number);
     (*number >> 16) as usize
 }
 

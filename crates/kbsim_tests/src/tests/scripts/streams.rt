@@ -1,10 +1,9 @@
 //! Readers and writers that fail, and the longest script.
 
 use super::{end_of, prints, same, so_ended, text_of};
-use crate::tests::streams::{
-    FailingReader, FailingWriter, KINDS, NeverFlushed, Repeated, before_it_fails,
-};
+use crate::tests::streams::{FailingWriter, KINDS, NeverFlushed, Repeated, before_it_fails};
 use kbsim::{LineFault, RunError, blank_flash, print_fault, run_on, run_script};
+use row_text::FailingReader;
 use std::alloc::Global;
 use std::io::{ErrorKind, Read, Write};
 use std::process::Abort;

@@ -1,4 +1,4 @@
-use Rattle.key_reports.specs.Edges.{with_edges}
+use Rattle.key_reports.specs.ties.Edges.{with_edges}
 use Rattle.key_reports.proofs.Edges.{takes_edges, takes_named}
 use Rattle.key_reports.proofs.keys.take_edges.Goals as goal
 

@@ -1,7 +1,7 @@
 //! The code of a key by its definition, slowly: for comparison with the table of held keys.
 
 ghost use Rattle.std.specs.Prelude.{◌≡◌, ◌<◌, length};
-ghost use Rattle.key_reports_tests.specs.Calls.{calls_of};
+ghost use Rattle.key_reports_tests.specs.ties.Calls.{calls_of};
 ghost use Rattle.layers.specs.Codes.{activates};
 ghost use Rattle.layers.specs.Held.{code, is_active, resolved};
 ghost use Rattle.layers.specs.Keymaps.{code_at};

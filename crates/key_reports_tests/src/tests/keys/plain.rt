@@ -8,7 +8,7 @@ ghost use Rattle.layers.specs.Held.{is_active, resolved};
 ghost use Rattle.layers.specs.Keymaps.{code_at};
 ghost use Rattle.key_reports.specs.Codes.{code_after};
 ghost use Rattle.key_reports.specs.Past.{scans_of, is_down};
-ghost use Rattle.key_reports_tests.specs.Plain.{scanned, elders_of};
+ghost use Rattle.key_reports_tests.specs.ties.Plain.{scanned, elders_of};
 
 use super::super::keymaps::plain_held::activates;
 use debounce::Scan;

@@ -134,7 +134,7 @@ fn answers_each_packet_of_a_read(rt: HostRuntime) {
 
 /// A number that looks random, from the one before it.
 fn next(seed: &mut u32) -> u8 {
-    *seed = seed.wrapping_mul(1_664_525).wrapping_add(1_013_904_223);
+    *seed = row_text::next(*seed);
     let [top, ..] = seed.to_be_bytes();
     top
 }

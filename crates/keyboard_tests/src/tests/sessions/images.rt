@@ -3,7 +3,7 @@
 
 use super::session;
 use flash_model::SimFlash;
-use row_text::{eight, number};
+use row_text::{full_word, good, placed, put_slot};
 use std::process::Abort;
 
 /// What the first page holds beside the slots that are given.
@@ -14,31 +14,15 @@ enum Page {
     Full,
 }
 
-/// Writes the bytes of a slot.
-fn put(image: &mut [u8], page: usize, slot: usize, bytes: &[u8]) {
-    let first = page.wrapping_mul(4096).wrapping_add(slot.wrapping_mul(8));
-    let end = image.len();
-    let Some(place) = image.get_mut(first..end) else {
-        return;
-    };
-    for (to, from) in place.iter_mut().zip(bytes) {
-        *to = *from;
-    }
-}
-
-/// Writes a slot of a line: its page, its number, its bytes. `None` where the line can't be read.
-fn put_line(image: &mut [u8], line: &str) -> Option<()> {
-    let (page, rest) = line.split_once(' ')?;
-    let (slot, bytes) = rest.split_once(' ')?;
-    let (page, slot) = (usize::from(number(page)?), usize::from(number(slot)?));
-    put(image, page, slot, &eight(bytes)?);
-    Some(())
+/// Writes a slot of a line: its page, its number, its bytes; whether the image has it, if the line is one.
+fn put_line(image: &mut [u8], line: &str) -> Option<bool> {
+    let (page, slot, bytes) = placed(line)?;
+    Some(put_slot(image, page, slot, bytes))
 }
 
 fn put_all(rt: &impl Abort, image: &mut [u8], slots: &str) {
     for line in slots.lines() {
-        let written = put_line(image, line.trim());
-        assert_eq!(rt; written, Some(()), "{line}");
+        assert!(rt; put_line(image, line.trim()) == Some(true), "{line}");
     }
 }
 
@@ -159,24 +143,10 @@ fn a_cut_in_a_turn_keeps_the_keymap(rt: HostRuntime) {
     }
 }
 
-/// The word of a slot of a full page: each entry is 0000, and then entry (0, 0) is 0005 and 0000 in turn.
-fn word_of(slot: u32) -> u32 {
-    let place = slot.wrapping_sub(1);
-    let entry = if place < 384 {
-        (place / 96)
-            .wrapping_mul(0x0100_0000)
-            .wrapping_add((place % 96).wrapping_mul(0x0001_0000))
-    } else {
-        (slot % 2).wrapping_mul(5)
-    };
-    entry.wrapping_add(0x1000_0000)
-}
-
 /// A page of format 1 that is full but for its header.
 fn fill_page(image: &mut [u8]) {
     for slot in 1..512u32 {
-        let [a, b, c, d] = word_of(slot).to_le_bytes();
-        put(image, 0, slot as usize, &[a, b, c, d, !a, !b, !c, !d]);
+        put_slot(image, 0, slot as usize, good(full_word(slot)));
     }
 }
 

@@ -18,7 +18,7 @@ pub struct Rig {
 
 impl Model for Rig {
     ghost use Rattle.std.specs.Prelude.{ℕ, List};
-    ghost use Rattle.keyboard.specs.Value.{RunsOn};
+    ghost use Rattle.keyboard.specs.ties.Value.{RunsOn};
 
     ghost Value = { List ℕ };
 

@@ -43,7 +43,7 @@ pub struct Bench {
 
 impl Model for Bench {
     ghost use Rattle.std.specs.Prelude.{ℕ, List};
-    ghost use Rattle.page_turnover.specs.Log.{Describes};
+    ghost use Rattle.page_turnover.specs.ties.Log.{Describes};
 
     ghost Value = { List ℕ };
 

@@ -43,7 +43,7 @@ pub struct Device {
 
 impl Model for Device {
     ghost use Rattle.std.specs.Prelude.{ℕ, List};
-    ghost use Rattle.keymap_store.specs.Store.{Mirrors};
+    ghost use Rattle.keymap_store.specs.ties.Store.{Mirrors};
 
     ghost Value = { List ℕ };
 

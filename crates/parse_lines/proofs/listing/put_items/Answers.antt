@@ -1,6 +1,6 @@
 use Rattle.std.proofs.Common.{◌≡◌, ◌∷◌, Ok, Err, ap, sym, ◌∙◌, refl}
 use Rattle.descriptor_parse.specs.ItemViews.{item_view, result_view}
-use Rattle.parse_lines.specs.Values.{told_text}
+use Rattle.parse_lines.specs.ties.Values.{told_text}
 use Rattle.parse_lines.proofs.PrintLemmas.{on_ok}
 use Rattle.parse_lines.proofs.WalkLemmas.{walked_none, walked_more, ended_at_fault, ended_at_cut, ended_at_end}
 use Rattle.parse_lines.proofs.listing.put_items.Goals as goal

@@ -1,7 +1,9 @@
 //! Texts of each length around the multiples of the buffers, which are of 4,096 bytes, and the longest ones.
 
-use super::{Fives, same, text_of, told};
+use super::{same, text_of, told};
+use row_text::FailingReader;
 use std::alloc::{AllocError, Global};
+use std::io::ErrorKind;
 use std::process::Abort;
 use std::test::Fail;
 use text_io::{Printer, ReadError, WriteError, read_text, read_whole};
@@ -26,9 +28,10 @@ fn reads_length<R: AllocGlobal + Abort>(rt: &R, length: usize) -> Result<(), Fai
     for (most, wanted) in [(length, whole), (length.wrapping_sub(1), "too long")] {
         let read = read_whole(rt.alloc(), &mut text.as_slice(), most);
         same(rt, told(&read), wanted, "a text that is given at once");
-        let mut fives = Fives {
+        let mut fives = FailingReader {
             text: text.as_slice(),
             reads_left: usize::MAX,
+            kind: ErrorKind::Interrupted,
         };
         let read = read_whole(rt.alloc(), &mut fives, most);
         same(rt, told(&read), wanted, "a text in pieces of five bytes");

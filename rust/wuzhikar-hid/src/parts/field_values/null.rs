@@ -61,13 +61,23 @@ fn write_null(
 pub fn null_of(field: &Field) -> Option<i64> {
     if is_null(field, 0) {
         Some(0)
-    } else if is_null(field, field.max + 1) {
+    } else if is_null_over(field) {
         Some(field.max + 1)
-    } else if is_null(field, field.min - 1) {
+    } else if is_null_under(field) {
         Some(field.min - 1)
     } else {
         None
     }
+}
+
+/// Whether one over the greatest value says that there is none.
+fn is_null_over(field: &Field) -> bool {
+    field.max < i64::MAX && is_null(field, field.max + 1)
+}
+
+/// Whether one under the least value does.
+fn is_null_under(field: &Field) -> bool {
+    field.min > i64::MIN && is_null(field, field.min - 1)
 }
 
 /// Whether a value is outside the logical extents and the bits of a place hold it.

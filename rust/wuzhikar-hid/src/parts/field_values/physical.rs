@@ -28,12 +28,14 @@ pub enum NoPhysical {
     EqualLimits,
     /// The Logical Minimum is over the Logical Maximum.
     InvertedLimits,
+    /// A physical extent is none that an item declares: a number of 32 bits, signed or not.
+    LargeExtents,
 }
 
 /// The physical value of a logical one: the line through the logical and the physical extents, also past their ends.
 ///
-/// The physical extents are numbers of 32 bits, as those of a descriptor. The errors: `EqualLimits` where the logical
-/// extents are equal, `InvertedLimits` where the minimum is over the maximum.
+/// The errors: `EqualLimits` where the logical extents are equal, `InvertedLimits` where the minimum is over the maximum,
+/// and then `LargeExtents` where a physical extent is no number of 32 bits; those of a descriptor all are.
 pub fn physical_value(
     logical: Extents,
     physical: Extents,
@@ -46,9 +48,20 @@ pub fn physical_value(
     if logical.min > logical.max {
         return Err(NoPhysical::InvertedLimits);
     }
+    if !are_of_items(physical) {
+        return Err(NoPhysical::LargeExtents);
+    }
     let numerator = on_line(logical, physical, value);
     Ok(reduced(numerator, logical.max.abs_diff(logical.min), exponent))
 }
+
+/// Whether extents are numbers that items declare.
+fn are_of_items(extents: Extents) -> bool {
+    extents.min.unsigned_abs() <= MOST && extents.max.unsigned_abs() <= MOST
+}
+
+/// How far from 0 a number of 32 bits may be, signed or not.
+const MOST: u64 = 1 << 32;
 
 /// The physical value times the logical span.
 fn on_line(logical: Extents, physical: Extents, value: i64) -> i128 {

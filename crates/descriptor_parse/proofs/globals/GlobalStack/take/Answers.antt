@@ -1,6 +1,6 @@
 use Rattle.std.proofs.Common.{refl, ap, sym, ◌∙◌}
 use Rattle.descriptor_parse.specs.declared.tag.Tag.TheVariants.{Global}
-use Rattle.descriptor_parse.specs.GlobalsStand.{globals_with}
+use Rattle.descriptor_parse.specs.ties.GlobalsStand.{globals_with}
 use Rattle.descriptor_parse.proofs.GlobalLemmas.{stand_push, stand_set, not_push, not_pop}
 use Rattle.descriptor_parse.proofs.globals.GlobalStack.take.Goals as goal
 

@@ -1,5 +1,5 @@
 use Rattle.std.proofs.Common.{refl, ap}
-use Rattle.descriptor_parse.specs.Linked.{ends_of}
+use Rattle.descriptor_parse.specs.ties.Linked.{ends_of}
 use Rattle.descriptor_parse.proofs.ReportLemmas.{stand_new}
 use Rattle.descriptor_parse.proofs.reports.Reports.new.Goals as goal
 

@@ -1,6 +1,6 @@
 use Rattle.std.proofs.Common.{ap, ◌∙◌, sym}
-use Rattle.descriptor_parse.specs.StateStands.{fault_of_main}
-use Rattle.descriptor_parse.specs.LocalsStand.{fault_of_local}
+use Rattle.descriptor_parse.specs.ties.StateStands.{fault_of_main}
+use Rattle.descriptor_parse.specs.ties.LocalsStand.{fault_of_local}
 use Rattle.descriptor_parse.proofs.StateLemmas.{judged_main, judged_global, judged_local, judged_skipped, long_skipped}
 use Rattle.descriptor_parse.proofs.state.State.judge.Goals as goal
 

@@ -3,7 +3,7 @@ use Rattle.std.proofs.lemmas.Result.{on_ok_weaker}
 use Rattle.descriptor_parse.specs.declared.tag.Tag.TheVariants.{Local}
 use Rattle.descriptor_parse.specs.Items.{ItemValue}
 use Rattle.descriptor_parse.specs.ItemViews.{item_view}
-use Rattle.descriptor_parse.specs.StateStands.{StateStands, Takes}
+use Rattle.descriptor_parse.specs.ties.StateStands.{StateStands, Takes}
 use Rattle.descriptor_parse.proofs.StateLemmas.{stand_skipped, judged_skipped, not_long}
 use Rattle.descriptor_parse.proofs.state.State.step.Goals as goal
 

@@ -1,6 +1,6 @@
 use Rattle.std.proofs.Common.{ap, sym, ◌∙◌}
 use Rattle.descriptor_parse.specs.Globals.{unsigned}
-use Rattle.descriptor_parse.specs.StateStands.{fault_of_global}
+use Rattle.descriptor_parse.specs.ties.StateStands.{fault_of_global}
 use Rattle.descriptor_parse.proofs.StateLemmas.{judged_global, wants_global}
 use Rattle.descriptor_parse.proofs.FaultLemmas.{refused_for, refused_memory}
 use Rattle.descriptor_parse.proofs.state.State.step_global.Goals as goal

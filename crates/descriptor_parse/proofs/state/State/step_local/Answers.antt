@@ -1,5 +1,5 @@
 use Rattle.std.proofs.Common.{refl, ap, sym, ◌∙◌}
-use Rattle.descriptor_parse.specs.LocalsStand.{fault_of_local}
+use Rattle.descriptor_parse.specs.ties.LocalsStand.{fault_of_local}
 use Rattle.descriptor_parse.proofs.GlobalLemmas.{stand_other, is_global}
 use Rattle.descriptor_parse.proofs.ReportLemmas.{stand_neutral, is_neutral}
 use Rattle.descriptor_parse.proofs.StateLemmas.{judged_local, stand_plain, local_no_collection, wants_local}

@@ -1,5 +1,5 @@
 use Rattle.std.proofs.Common.{ap, sym, ◌∙◌}
-use Rattle.descriptor_parse.specs.StateStands.{fault_of_main}
+use Rattle.descriptor_parse.specs.ties.StateStands.{fault_of_main}
 use Rattle.descriptor_parse.proofs.StateLemmas.{judged_main, wants_main}
 use Rattle.descriptor_parse.proofs.FaultLemmas.{refused_for, refused_memory}
 use Rattle.descriptor_parse.proofs.state.State.step_main.Goals as goal

@@ -1,6 +1,6 @@
 use Rattle.std.proofs.Common.{refl, ap, ◌∙◌, sym, ◌≡◌, None}
 use Rattle.descriptor_parse.specs.Globals.{unsigned}
-use Rattle.descriptor_parse.specs.StateStands.{fault_of_global}
+use Rattle.descriptor_parse.specs.ties.StateStands.{fault_of_global}
 use Rattle.descriptor_parse.proofs.LocalLemmas.{stand_silent, is_silent}
 use Rattle.descriptor_parse.proofs.StateLemmas.{judged_global, stand_plain, global_no_collection, push_left, small_id}
 use Rattle.descriptor_parse.proofs.state.State.take_global.Goals as goal

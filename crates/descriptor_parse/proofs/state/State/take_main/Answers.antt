@@ -6,7 +6,7 @@ use Rattle.descriptor_parse.specs.Globals.{unsigned}
 use Rattle.descriptor_parse.specs.Items.{ItemValue}
 use Rattle.descriptor_parse.specs.Tags.{tag}
 use Rattle.descriptor_parse.specs.Faults.{fault_at}
-use Rattle.descriptor_parse.specs.StateStands.{StateStands, fault_of_main}
+use Rattle.descriptor_parse.specs.ties.StateStands.{StateStands, fault_of_main}
 use Rattle.descriptor_parse.proofs.StateLemmas.{judged_main, fits_data, room_for_collection, collection_left}
 use Rattle.descriptor_parse.proofs.state.State.take_main.Goals as goal
 

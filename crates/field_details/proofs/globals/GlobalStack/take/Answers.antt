@@ -1,7 +1,7 @@
 use Rattle.std.proofs.Common.{refl, ap, sym, ◌∙◌}
 use Rattle.descriptor_parse.specs.declared.tag.Tag.TheVariants.{Global}
 use Rattle.descriptor_parse.proofs.GlobalLemmas.{not_push, not_pop}
-use Rattle.field_details.specs.Stands.{globals_with}
+use Rattle.field_details.specs.ties.Stands.{globals_with}
 use Rattle.field_details.proofs.GlobalLemmas.{stand_push, stand_set}
 use Rattle.field_details.proofs.globals.GlobalStack.take.Goals as goal
 

@@ -1,5 +1,5 @@
 use Rattle.std.proofs.Common.{refl, ap, sym, ◌∙◌, ◌-◌, ◌%◌}
-use Rattle.field_details.specs.Stands.{globals_by}
+use Rattle.field_details.specs.ties.Stands.{globals_by}
 use Rattle.field_details.proofs.GlobalLemmas.{stand_skipped}
 use Rattle.field_details.proofs.globals.GlobalStack.take_skipped.Goals as goal
 

@@ -1,5 +1,6 @@
 use Rattle.std.proofs.Common.{ℕ, List}
-use Rattle.field_details.specs.Around.{inside_in, height}
+use Rattle.field_details.specs.Around.{inside_in}
+use Rattle.field_details.specs.ties.Around.{height}
 use Rattle.field_details.proofs.AroundLemmas.{IsChain, IsLeft}
 use Rattle.field_details.proofs.told.Details.around.Given as goal
 

@@ -1,5 +1,5 @@
 use Rattle.std.proofs.Common.{ap, ◌∙◌, sym}
-use Rattle.field_details.specs.Stands.{detail_by, end_in}
+use Rattle.field_details.specs.ties.Stands.{detail_by, end_in}
 use Rattle.field_details.specs.Collections.{innermost}
 use Rattle.field_details.proofs.ReportLemmas.{told_bits}
 use Rattle.field_details.proofs.WalkLemmas.{detail_is}

@@ -1,6 +1,6 @@
 use Rattle.std.proofs.Common.{◌≡◌, refl, ◌++◌, ◌∷◌, [], ◌∙◌, ap, sym, true, false}
 use Rattle.descriptor_parse.specs.Fields.{takes_bit}
-use Rattle.field_details.specs.Stands.{fills}
+use Rattle.field_details.specs.ties.Stands.{fills}
 use Rattle.field_details.proofs.WalkLemmas.{stand_placed, stand_empty}
 use Rattle.field_details.proofs.walk.Walk.take_data.Goals as goal
 

@@ -2,7 +2,7 @@ use Rattle.std.proofs.Common.{◌≡◌, false, Option, None, Some, Result, Ok, 
 use Rattle.std.specs.Prelude.{IsErr, is_ok}
 use Rattle.host.specs.declared.gathering.Gathering.{Gathering}
 use Rattle.host.specs.Kept.{Fetch, gathering, kept}
-use Rattle.host.specs.Stands.{Gathers, GathersSome, Becomes}
+use Rattle.host.specs.ties.Stands.{Gathers, GathersSome, Becomes}
 use Rattle.host.proofs.CallLemmas.{after-none, after-refused, after-part, after-text, after-nothing}
 use Rattle.host.proofs.gatherer.Host.packet.Goals as goal
 

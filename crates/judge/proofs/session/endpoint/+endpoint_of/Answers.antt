@@ -8,7 +8,8 @@ use Rattle.keyboard.specs.Calls.{Call, EachCall}
 use Rattle.keyboard.specs.Commands.{working}
 use Rattle.keyboard.specs.Effects.{selected, effect_told}
 use Rattle.keyboard.specs.Endpoint.{view_after, ep_calls, stage_after}
-use Rattle.judge.specs.Judged.{Passes, IsEntry}
+use Rattle.judge.specs.Judged.{Passes}
+use Rattle.judge.specs.ties.Judged.{IsEntry}
 use Rattle.judge.specs.Records.{calls_of}
 use Rattle.judge.proofs.Splits.{before, no_calls, calls_are, if_ok}
 use Rattle.judge.proofs.EndpointLemmas.{stands, effect_is, stage-none, stage-scanned, stage-polled, stage-reset, stage-setup, ep_calls-in, ep_calls-out, ep_calls-work}

@@ -8,7 +8,7 @@ use Rattle.keyboard.specs.Calls.{image_after, keymap}
 use Rattle.keyboard.specs.Effects.{Entry, selected}
 use Rattle.keyboard.specs.Endpoint.{feature_report}
 use Rattle.keyboard.specs.Keys.{key_calls}
-use Rattle.judge.specs.Judged.{IsEntry}
+use Rattle.judge.specs.ties.Judged.{IsEntry}
 use Rattle.judge.specs.Records.{calls_of, entry_of}
 use Rattle.judge.proofs.KeyLemmas.{wanted-now}
 use Rattle.judge.proofs.EndpointLemmas.{view_is}

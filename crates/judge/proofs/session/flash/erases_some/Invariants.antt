@@ -1,5 +1,5 @@
 use Rattle.std.proofs.Common.{ℕ, ◌<◌}
-use Rattle.judge.specs.Decides.{ErasesAt}
+use Rattle.judge.specs.ties.Decides.{ErasesAt}
 use Rattle.judge.proofs.session.flash.erases_some.Given as goal
 
 abbrev pub invariant-loop-page : goal.invariant-loop-page

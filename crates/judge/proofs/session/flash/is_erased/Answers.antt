@@ -1,6 +1,6 @@
 use Rattle.std.proofs.Common.{◌<◌, ◌*◌, List, ℕ, subst, sym, arith}
 use Rattle.flash_model.specs.Image.{page_count}
-use Rattle.judge.specs.Decides.{SameOutside}
+use Rattle.judge.specs.ties.Decides.{SameOutside}
 use Rattle.judge.proofs.FlashLemmas.{outside_page, erases_decided, as_many_pages}
 use Rattle.judge.proofs.session.flash.is_erased.Goals as goal
 

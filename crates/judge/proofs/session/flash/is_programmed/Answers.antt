@@ -1,7 +1,8 @@
 use Rattle.std.proofs.Common.{◌≡◌, ◌+◌, ◌*◌, ℕ, List, length, sym, ap, ◌∙◌, subst}
 use Rattle.flash_model.specs.Image.{slot_at}
 use Rattle.records.specs.Slots.{encoded}
-use Rattle.judge.specs.Decides.{Decides, IsAnd, SameOutside}
+use Rattle.judge.specs.Decides.{Decides}
+use Rattle.judge.specs.ties.Decides.{IsAnd, SameOutside}
 use Rattle.judge.proofs.FlashLemmas.{outside, programs_decided}
 use Rattle.judge.proofs.session.flash.is_programmed.Goals as goal
 

@@ -1,5 +1,5 @@
 use Rattle.std.proofs.Common.{ℕ, ◌<◌}
-use Rattle.judge.specs.Decides.{ProgramsAt}
+use Rattle.judge.specs.ties.Decides.{ProgramsAt}
 use Rattle.judge.proofs.session.flash.programs_on.Given as goal
 
 abbrev pub invariant-loop-slot : goal.invariant-loop-slot

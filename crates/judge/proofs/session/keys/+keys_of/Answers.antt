@@ -6,7 +6,7 @@ use Rattle.keyboard.specs.Calls.{image_after, keymap}
 use Rattle.keyboard.specs.Effects.{protocol_after, effect_told}
 use Rattle.keyboard.specs.Keys.{key_calls, with_effect}
 use Rattle.key_reports.specs.Calls.{KeyCall}
-use Rattle.judge.specs.Keys.{KeysAre}
+use Rattle.judge.specs.ties.Keys.{KeysAre}
 use Rattle.judge.specs.Records.{calls_of}
 use Rattle.judge.proofs.Splits.{before, no_calls, calls_are}
 use Rattle.judge.proofs.KeyLemmas.{kept_for, key_calls-none, key_calls-scanned, key_calls-polled, key_calls-in, key_calls-reset, key_calls-setup, key_calls-out, key_calls-worked}

@@ -1,6 +1,6 @@
 use Rattle.std.proofs.Common.{List}
 use Rattle.layers.specs.Held.{HeldCall, Press}
-use Rattle.layers.specs.HeldStands.{HeldStandsFor}
+use Rattle.layers.specs.ties.HeldStands.{HeldStandsFor}
 use Rattle.judge.specs.Keys.{turns, called}
 use Rattle.judge.proofs.session.keys.press_all.Given as goal
 

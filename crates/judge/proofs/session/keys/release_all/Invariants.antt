@@ -1,6 +1,6 @@
 use Rattle.std.proofs.Common.{List}
 use Rattle.layers.specs.Held.{HeldCall, Release}
-use Rattle.layers.specs.HeldStands.{HeldStandsFor}
+use Rattle.layers.specs.ties.HeldStands.{HeldStandsFor}
 use Rattle.judge.specs.Keys.{turns, called}
 use Rattle.judge.proofs.session.keys.release_all.Given as goal
 

@@ -1,12 +1,13 @@
 use Rattle.std.proofs.Common.{◌∷◌, ℕ, List, subst}
 use Rattle.layers.specs.Codes.{keys}
 use Rattle.layers.specs.Held.{Press, Release}
-use Rattle.layers.specs.HeldStands.{HeldStandsFor}
+use Rattle.layers.specs.ties.HeldStands.{HeldStandsFor}
 use Rattle.reports.specs.Plain.{bytes_in}
 use Rattle.key_reports.specs.Calls.{Scanned}
 use Rattle.key_reports.specs.Past.{held_calls}
 use Rattle.key_reports.proofs.Tabled.{table-alone}
-use Rattle.judge.specs.Keys.{turns, called, KeysAre}
+use Rattle.judge.specs.Keys.{turns, called}
+use Rattle.judge.specs.ties.Keys.{KeysAre}
 use Rattle.judge.proofs.KeyLemmas.{keys-scanned}
 use Rattle.judge.proofs.session.keys.scanned.Goals as goal
 

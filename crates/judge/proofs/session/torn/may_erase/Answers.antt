@@ -1,5 +1,5 @@
 use Rattle.std.proofs.Common.{◌*◌, ℕ, List, subst, sym, arith}
-use Rattle.judge.specs.Decides.{SameOutside}
+use Rattle.judge.specs.ties.Decides.{SameOutside}
 use Rattle.judge.proofs.FlashLemmas.{outside_one_page}
 use Rattle.judge.proofs.TornLemmas.{may_erase_all}
 use Rattle.judge.proofs.session.torn.may_erase.Goals as goal

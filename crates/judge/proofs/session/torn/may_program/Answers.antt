@@ -2,7 +2,8 @@ use Rattle.std.proofs.Common.{◌+◌, ◌*◌, ℕ, List, subst, sym}
 use Rattle.flash_model.specs.Image.{slot_at}
 use Rattle.flash_model.specs.Torn.{ProgramMayLeave}
 use Rattle.records.specs.Slots.{encoded}
-use Rattle.judge.specs.Decides.{Decides, SameOutside}
+use Rattle.judge.specs.Decides.{Decides}
+use Rattle.judge.specs.ties.Decides.{SameOutside}
 use Rattle.judge.proofs.FlashLemmas.{outside_slot}
 use Rattle.judge.proofs.TornLemmas.{may_program_decided}
 use Rattle.judge.proofs.session.torn.may_program.Goals as goal

@@ -1,5 +1,5 @@
 use Rattle.std.proofs.Common.{ℕ, ◌<◌, get_or}
-use Rattle.judge.specs.Lists.{BitsWithin}
+use Rattle.judge.specs.ties.Lists.{BitsWithin}
 use Rattle.judge.proofs.session.torn.only_sets.Given as goal
 
 abbrev pub invariant-loop-k : goal.invariant-loop-k

@@ -2,7 +2,7 @@ use Rattle.std.proofs.Common.{refl, ap, ◌∙◌, ◌∷◌}
 use Rattle.control_ep.specs.declared.answer.OutStep.TheVariants.{Offer}
 use Rattle.keyboard.specs.Calls.{image_after}
 use Rattle.keyboard.specs.Endpoint.{ep_calls}
-use Rattle.keyboard.specs.Value.{KeyboardValue}
+use Rattle.keyboard.specs.ties.Value.{KeyboardValue}
 use Rattle.keyboard.proofs.Standing.{stands_answered, stands_leds}
 use Rattle.keyboard.proofs.Offering.{stands_offered, offer_told, told_answer, told_ep}
 use Rattle.keyboard.proofs.keyboard.Keyboard.answer_out.Goals as goal

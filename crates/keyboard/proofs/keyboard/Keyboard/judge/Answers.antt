@@ -1,5 +1,5 @@
 use Rattle.std.proofs.Common.{sym, ap, ◌∙◌}
-use Rattle.keyboard.specs.Value.{KeyboardValue, at_work}
+use Rattle.keyboard.specs.ties.Value.{KeyboardValue, at_work}
 use Rattle.keyboard.proofs.keyboard.Keyboard.judge.Goals as goal
 
 pub returns-in-Ok : goal.returns-in-Ok

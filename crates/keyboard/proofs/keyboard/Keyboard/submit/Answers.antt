@@ -1,7 +1,7 @@
 use Rattle.std.proofs.Common.{ap, sym, subst, ◌∙◌}
-use Rattle.keymap_store.specs.Store.{Mirrors}
+use Rattle.keymap_store.specs.ties.Store.{Mirrors}
 use Rattle.keymap_store.specs.Submits.{Submits}
-use Rattle.keyboard.specs.Value.{KeyboardValue}
+use Rattle.keyboard.specs.ties.Value.{KeyboardValue}
 use Rattle.keyboard.proofs.Offering.{judged_submitted}
 use Rattle.keyboard.proofs.keyboard.Keyboard.submit.Goals as goal
 

@@ -1,5 +1,5 @@
 use Rattle.std.proofs.Common.{rules, ◌≡◌, true, false, is_some, sym, ◌∙◌}
-use Rattle.layers.specs.HeldStands.{HeldStandsFor, kept}
+use Rattle.layers.specs.ties.HeldStands.{HeldStandsFor, kept}
 use Rattle.layers.proofs.HeldKeys.{stands_named, stands_put, stands_pressed_again}
 use Rattle.layers.proofs.held.Held.press.Goals as goal
 

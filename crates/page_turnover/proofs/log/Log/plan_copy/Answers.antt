@@ -1,4 +1,4 @@
-use Rattle.page_turnover.specs.Value.{target_value}
+use Rattle.page_turnover.specs.ties.Value.{target_value}
 use Rattle.page_turnover.proofs.Planning.{copy_plan, copy_erase_plan}
 use Rattle.page_turnover.proofs.log.Log.plan_copy.Goals as goal
 

@@ -1,6 +1,6 @@
 use Rattle.std.proofs.Common.{◌≡◌}
 use Rattle.page_turnover.specs.Turn.{next_seq}
-use Rattle.page_turnover.specs.Value.{target_value}
+use Rattle.page_turnover.specs.ties.Value.{target_value}
 use Rattle.page_turnover.proofs.Endings.{seq_is, seq_small, under_way}
 use Rattle.page_turnover.proofs.Planning.{seal_plan, seal_erase_plan}
 use Rattle.page_turnover.proofs.log.Log.plan_seal.Goals as goal

@@ -3,9 +3,9 @@ use Rattle.std.specs.Str.{bytes_eq}
 use Rattle.reports.specs.declared.Input.{Input}
 use Rattle.reports.specs.declared.Input.TheVariants.{One, Two}
 use Rattle.reports.specs.Calls.{PollerCall}
-use Rattle.reports.specs.Kept.{SentValue}
+use Rattle.reports.specs.ties.Kept.{SentValue}
 use Rattle.reports.specs.Poll.{is_changed}
-use Rattle.reports.specs.Stands.{SentStandsFor}
+use Rattle.reports.specs.ties.Stands.{SentStandsFor}
 use Rattle.reports.proofs.Due.{rule_answer-report, never_boot}
 use Rattle.reports.proofs.poller.Poller.due_report.Goals as goal
 

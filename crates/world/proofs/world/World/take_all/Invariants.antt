@@ -1,7 +1,7 @@
 use Rattle.std.proofs.Common.{List, vec_len, vec_capacity, ◌≡◌, ◌≤◌, ◌+◌}
 use Rattle.flash_model.specs.Sim.{SimValue}
 use Rattle.world.specs.Kinds.{Step}
-use Rattle.world.specs.Stands.{StandsFor}
+use Rattle.world.specs.ties.Stands.{StandsFor}
 use Rattle.world.proofs.Running.{Going}
 use Rattle.world.proofs.world.World.take_all.Given as goal
 

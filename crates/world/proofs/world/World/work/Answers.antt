@@ -1,7 +1,7 @@
 use Rattle.std.proofs.Common.{◌≡◌, ◌∙◌, ap, sym, Option}
 use Rattle.std.specs.Option.{option_map}
 use Rattle.flash_model.specs.Sim.{SimValue}
-use Rattle.world.specs.Flash.{torn_by}
+use Rattle.world.specs.ties.Flash.{torn_by}
 use Rattle.world.specs.History.{session}
 use Rattle.world.proofs.Standing.{same_flash, on_bench, works_in, worked}
 use Rattle.world.proofs.world.World.work.Goals as goal

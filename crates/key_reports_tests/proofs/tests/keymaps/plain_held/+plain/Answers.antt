@@ -1,5 +1,5 @@
 use Rattle.std.proofs.Common.{◌≡◌, ℕ, Option, ◌<◌, arith, sym, ◌∙◌}
-use Rattle.key_reports_tests.specs.Calls.{calls_of}
+use Rattle.key_reports_tests.specs.ties.Calls.{calls_of}
 use Rattle.layers.specs.Codes.{activates}
 use Rattle.layers.specs.Held.{code}
 use Rattle.layers.specs.Keymaps.{code_at}

@@ -1,5 +1,5 @@
 use Rattle.std.proofs.Common.{◌∙◌}
-use Rattle.key_reports_tests.specs.Plain.{scanned}
+use Rattle.key_reports_tests.specs.ties.Plain.{scanned}
 use Rattle.key_reports_tests.proofs.PlainScans.{scans-split, down-empty, down-run, down-short}
 use Rattle.key_reports_tests.proofs.tests.keys.plain.+is_down.Goals as goal
 

@@ -3,7 +3,7 @@ use Rattle.layers.specs.Codes.{activates, keys}
 use Rattle.layers.specs.Keymaps.{code_at}
 use Rattle.layers.proofs.HeldKeys.{any_below-zero, counts-true, resolved-found, resolved-none}
 use Rattle.key_reports_tests.proofs.PlainCodes.{any_below-asked_some, any_below-asked_none, is_active-asked}
-use Rattle.key_reports_tests.specs.Plain.{scanned, elders_of}
+use Rattle.key_reports_tests.specs.ties.Plain.{scanned, elders_of}
 use Rattle.key_reports.proofs.Pressed.{code-none}
 use Rattle.key_reports_tests.proofs.PlainScans.{scans-split, code-empty, code-same, code-new, elder-up, elder-older, elder-lesser}
 use Rattle.key_reports_tests.proofs.tests.keys.plain.+plain.Goals as goal

@@ -2,7 +2,7 @@ use Rattle.std.proofs.Common.{◌≡◌, ◌<◌, ◌≤◌, length, ℕ, ◌+�
 use Rattle.layers.specs.Codes.{activates}
 use Rattle.layers.specs.Held.{any_below, passes, counts}
 use Rattle.layers.specs.Keymaps.{code_at}
-use Rattle.key_reports_tests.specs.Plain.{scanned, elders_of}
+use Rattle.key_reports_tests.specs.ties.Plain.{scanned, elders_of}
 use Rattle.key_reports_tests.proofs.tests.keys.plain.+plain.Given as goal
 
 abbrev pub decreases-code : goal.decreases-code

@@ -1,0 +1,11 @@
+-- Only ties code to its definitions: a host stands for its calls.
+use Rattle.std.specs.Prelude.{List}
+use Rattle.host.specs.declared.gatherer.Host.{Host}
+use Rattle.host.specs.Calls.{HostCall}
+use Rattle.host.specs.Kept.{gathering, kept}
+use Rattle.host.specs.ties.Stands.{GathersSome, Keeps}
+
+-- A host stands for its calls, newest first.
+pub record StandsFor (past : List HostCall) (host : Host) : Type 0 where
+  pub gathering : GathersSome (gathering past) host.gathering
+  pub kept : Keeps (kept past) host.kept

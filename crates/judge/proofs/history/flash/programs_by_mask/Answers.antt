@@ -1,0 +1,29 @@
+use Rattle.std.proofs.Common.{◌+◌, ◌*◌, ℕ, List, subst, sym}
+use Rattle.flash_model.specs.Image.{slot_at}
+use Rattle.records.specs.Slots.{encoded}
+use Rattle.judge.specs.Decides.{Decides}
+use Rattle.judge.specs.ties.Decides.{SameOutside}
+use Rattle.judge.specs.ties.Lists.{ClearsByMask}
+use Rattle.judge.proofs.FlashLemmas.{outside_slot}
+use Rattle.judge.proofs.MaskLemmas.{clears_decided}
+use Rattle.judge.proofs.history.flash.programs_by_mask.Goals as goal
+
+pub returns-then-not-same_outside : goal.returns-then-not-same_outside
+returns-then-not-same_outside c = λ p.
+    c.if-not-same_outside.ensures
+    (subst (λ (image : List ℕ). SameOutside image c.image-2.result.now (4096 * c.args.page + 8 * c.args.slot) 8) (sym c.image.ensures)
+    (subst (λ (image : List ℕ). SameOutside c.args.old.now.image image (4096 * c.args.page + 8 * c.args.slot) 8) (sym c.image-2.ensures)
+    (outside_slot c.args.old.now.image c.args.new.now.image c.args.page c.args.slot c.requires.in_page p.rest)))
+
+pub returns : goal.returns
+returns c =
+    let old : List ℕ = c.args.old.now.image in
+    let new : List ℕ = c.args.new.now.image in
+    let mask : List ℕ = c.args.mask.now in
+    let clears = c.clears_by_mask.result in
+    clears_decided clears old new c.args.page c.args.slot (encoded c.args.word) mask c.requires.same_length c.requires.in_page
+    (subst (λ (image : List ℕ). SameOutside image new (4096 * c.args.page + 8 * c.args.slot) 8) c.image.ensures
+    (subst (λ (image : List ℕ). SameOutside c.image.result.now image (4096 * c.args.page + 8 * c.args.slot) 8) c.image-2.ensures c.if-not-same_outside.ensures))
+    (subst (λ (x : List ℕ). Decides clears (ClearsByMask x (encoded c.args.word) mask (slot_at new c.args.page c.args.slot))) c.read_slot.ensures
+    (subst (λ (x : List ℕ). Decides clears (ClearsByMask c.read_slot.result x mask (slot_at new c.args.page c.args.slot))) c.encode.ensures
+    (subst (λ (x : List ℕ). Decides clears (ClearsByMask c.read_slot.result c.encode.result mask x)) c.read_slot-2.ensures c.clears_by_mask.ensures)))

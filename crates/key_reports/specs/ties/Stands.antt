@@ -1,0 +1,16 @@
+-- Only ties code to its definitions: what is kept stands for a past. It holds of new keys, and each call keeps it.
+use Rattle.std.specs.Prelude.{List}
+use Rattle.debounce.specs.ties.Stands as debounce
+use Rattle.layers.specs.ties.HeldStands.{HeldStandsFor}
+use Rattle.reports.specs.ties.Stands as reports
+use Rattle.key_reports.specs.Calls.{KeyCall}
+use Rattle.key_reports.specs.Past.{scans_of, held_calls, poller_calls, wanted_after}
+use Rattle.key_reports.specs.ties.Value.{KeysValue}
+
+-- what is kept stands for these calls, newest first: each part stands for its own among them, and the bytes that were
+-- made last are those that the reports have after them
+pub record StandsFor (past : List KeyCall) (value : KeysValue) : Type 0 where
+  pub debouncer : debounce.StandsFor (scans_of past) value.debouncer
+  pub held : HeldStandsFor (held_calls past) value.held
+  pub poller : reports.StandsFor (poller_calls past) value.poller
+  pub made : reports.IsMade (wanted_after past) value.poller

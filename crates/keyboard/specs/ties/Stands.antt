@@ -1,0 +1,36 @@
+-- Only ties code to its definitions: a keyboard stands for the calls of its session, newest first, on its first image.
+use Rattle.shapes.specs.Shapes.{Bytes}
+use Rattle.std.specs.Prelude.{◌≡◌, ◌+◌, ◌≤◌, ℕ, IsSome, Some, List, drop}
+use Rattle.layers.specs.declared.command.Command.{Command}
+use Rattle.control_ep.specs.ties.Stands as control_ep
+use Rattle.key_reports.specs.ties.Stands as key_reports
+use Rattle.keymap_store.specs.Left.{left, Needs}
+use Rattle.keymap_store.specs.Operations.{operations_of}
+use Rattle.keymap_store.specs.ties.Rest.{rest_of}
+use Rattle.keyboard.specs.Calls.{Call, image_after}
+use Rattle.keyboard.specs.Effects.{leds_after, selected, protocol_after}
+use Rattle.keyboard.specs.Keys.{key_calls}
+use Rattle.keyboard.specs.Endpoint.{ep_calls}
+use Rattle.keyboard.specs.Commands.{working}
+use Rattle.keyboard.specs.Bounded.{most_steps, steps_since, accepted_image}
+use Rattle.keyboard.specs.Lawful.{IsLawful}
+use Rattle.keyboard.specs.ties.Value.{KeyboardValue, RunsOn, at_work}
+
+-- a clause for each field: each part stands for its own calls among them
+pub record PartsStandFor (start : Bytes) (past : List Call) (keyboard : KeyboardValue) : Type 0 where
+  pub ep : control_ep.StandsFor (ep_calls start past) keyboard.ep
+  pub keys : key_reports.StandsFor (key_calls start past) keyboard.keys
+  pub store : RunsOn (image_after start past) keyboard
+  pub works : at_work keyboard ≡ working start past
+  pub protocol : keyboard.protocol ≡ protocol_after past
+  pub leds : keyboard.leds ≡ leds_after past
+  pub layer : keyboard.layer ≡ (selected past).layer
+  pub key : keyboard.key ≡ (selected past).key
+  pub few : IsSome (at_work keyboard) → left (image_after start past) keyboard.store + steps_since past ≤ most_steps
+  pub needs : IsSome (at_work keyboard) → Needs (accepted_image start past) (left (image_after start past) keyboard.store + steps_since past)
+  pub order : (command : Command) → at_work keyboard ≡ Some command → drop (steps_since past) (operations_of (accepted_image start past) command) ≡ rest_of (image_after start past) keyboard.store
+
+-- and each call so far was answered as it had to be
+pub record StandsFor (start : Bytes) (past : List Call) (keyboard : KeyboardValue) : Type 0 where
+  pub now : PartsStandFor start past keyboard
+  pub answered : IsLawful start past

@@ -1,0 +1,46 @@
+-- Only ties code to its definitions: what the private parts of a step owe each other; what a step promises is in Steps.
+use Rattle.shapes.specs.Shapes.{Bytes}
+use Rattle.std.specs.Prelude.{◌≡◌, ◌≢◌, ℕ, ◌+◌, ◌%◌, ◌^◌, ◌<◌, ◌⊎◌, Bool, true, false, Some}
+use Rattle.records.specs.declared.Slot.TheVariants.{Free}
+use Rattle.records.specs.Slots.{slot_of}
+use Rattle.flash_model.specs.Image.{IsImage, page_count, slot_at}
+use Rattle.page_turnover.specs.declared.log.ActivePage.{ActivePage}
+use Rattle.page_turnover.specs.declared.log.stepping.Plan.{Plan}
+use Rattle.page_turnover.specs.declared.log.stepping.Step.TheVariants.{Idle, Failed}
+use Rattle.page_turnover.specs.declared.operation.Operation.{Operation}
+use Rattle.page_turnover.specs.declared.operation.Operation.TheVariants.{Program, Erase}
+use Rattle.page_turnover.specs.Value.{LogValue}
+use Rattle.page_turnover.specs.ties.Value.{task_value}
+use Rattle.page_turnover.specs.Next.{next_operation, Makes, MayMake, ReadsBack}
+use Rattle.page_turnover.specs.Steps.{EndsAs}
+
+-- an operation is within the flash, and programs only a Free slot
+abbrev pub CanMake : Bytes → Operation → Type 0
+CanMake image (Program page slot word) = (page < page_count image) × (slot < 512) × (word < 2 ^ 32) × (slot_of (slot_at image page slot) ≡ Free)
+CanMake image (Erase page) = page < page_count image
+
+-- whole and read as intended, or torn and read otherwise
+abbrev pub IsMade : Bytes → Operation → Bool → Bytes → Type 0
+IsMade old operation true new = Makes old operation new × ReadsBack operation new
+IsMade old operation false new = MayMake old operation new × (ReadsBack operation new → ⊥)
+
+-- a fault is counted, also where the operation reads as intended
+abbrev pub RaisesFaults : Bool → ℕ → ℕ → Type 0
+RaisesFaults true faults after = (after ≡ faults) ⊎ (after ≡ (faults + 1) % 2 ^ 64)
+RaisesFaults false faults after = after ≡ (faults + 1) % 2 ^ 64
+
+-- the operation that is next, and how the step ends that makes it whole
+pub record Plans (old : Bytes) (log : LogValue) (plan : Plan) : Type 0 where
+  pub next : next_operation old log ≡ Some plan.operation
+  pub not_idle : plan.step ≢ Idle
+  pub not_failed : plan.step ≢ Failed
+  pub ends : (new : Bytes) → IsImage new → Makes old plan.operation new → EndsAs old log plan.step new (record { active = plan.active; unsound = log.unsound; task = task_value plan.task })
+
+-- the active page after a fault: a tail slot that is no longer Free is used up
+pub record IsPassedOver (image : Bytes) (before after : ActivePage) : Type 0 where
+  pub page_is : after.page ≡ before.page
+  pub seq_is : after.seq ≡ before.seq
+  pub format_is : after.format ≡ before.format
+  pub free : before.tail < 512 → slot_of (slot_at image before.page before.tail) ≡ Free → after.tail ≡ before.tail
+  pub used : before.tail < 512 → (slot_of (slot_at image before.page before.tail) ≡ Free → ⊥) → after.tail ≡ before.tail + 1
+  pub full : (before.tail < 512 → ⊥) → after.tail ≡ before.tail

@@ -1,0 +1,12 @@
+pub mod Firsts
+pub mod Fields
+pub mod Controls
+pub mod Unused
+pub mod Puts
+pub mod Arrays
+pub mod Settings
+pub mod Begins
+pub mod Written
+pub mod Untouched
+pub mod Held
+pub mod ties

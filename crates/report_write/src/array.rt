@@ -1,0 +1,206 @@
+//! Usages of Arrays that are set.
+
+ghost use Rattle.std.specs.Prelude.{◌≡◌, ◌*◌, ◌<◌, ◌&&◌, length, true, None, Some, IfSome, IfOk, IfErr, is_some};
+ghost use Rattle.descriptor_parse.specs.Descriptor.{ranges_at, usage_list};
+ghost use Rattle.host_extract.specs.ties.Fits.{FitsReading};
+ghost use Rattle.field_values.specs.Held.{is_held};
+ghost use Rattle.report_write.specs.ties.Fits.{FitsKept, FitsRoom};
+ghost use Rattle.report_write.specs.Firsts.{first};
+ghost use Rattle.report_write.specs.Controls.{number_of};
+ghost use Rattle.report_write.specs.Unused.{unused};
+ghost use Rattle.report_write.specs.Puts.{is_set, ArePut, AreMarked};
+ghost use Rattle.report_write.specs.Arrays.{names, is_free, place_for, on_refusal, off_refusal, usage_refusal, IsOn, IsOff};
+ghost use Rattle.report_write.specs.Settings.{IsUsageSet};
+
+use crate::control::is_usage;
+use crate::kept::{Kept, usages_of};
+use crate::place::{is_set, put_one};
+use crate::setting::WriteError;
+use crate::unused::unused;
+use descriptor_parse::{Descriptor, FieldUsages};
+use field_values::{Asked, is_held, number_of_usage, read_place};
+
+/// Puts a usage into an Array, or takes it out.
+pub(crate) fn set_usage(
+    descriptor: &Descriptor,
+    kept: &Kept,
+    usage: u32,
+    asked: Asked,
+    number: usize,
+    bytes: &mut [u8],
+    marks: &mut [u8],
+) -> Result<(), WriteError>
+    requires fits { FitsKept descriptor.now (8 * length bytes.old) kept.now }
+    requires array { kept.now.field.array ≡ true }
+    requires beside { length marks.old ≡ length bytes.old }
+    ensures taken { IfOk result (λ _. usage_refusal kept.now.field (usage_list (ranges_at descriptor.now kept.now.number)) bytes.old marks.old usage number asked ≡ None) }
+    ensures refused { IfErr result (λ e. usage_refusal kept.now.field (usage_list (ranges_at descriptor.now kept.now.number)) bytes.old marks.old usage number asked ≡ Some e) }
+    ensures set { IfOk result (λ _. IsUsageSet descriptor.now kept.now usage asked bytes.old bytes.new marks.old marks.new) }
+    ensures long { IfOk result (λ _. length bytes.new ≡ length bytes.old) }
+    ensures marks { IfOk result (λ _. length marks.new ≡ length marks.old) }
+{
+    let declared = usages_of(descriptor, kept);
+    match asked {
+        Asked::Null => Err(WriteError::NoNull(number)),
+        Asked::Value(value) => {
+            if value == 0 {
+                take_out(&declared, usage, number, bytes, marks)
+            } else if value == 1 {
+                put_in(&declared, usage, number, bytes, marks)
+            } else {
+                Err(WriteError::OutOfRange(number))
+            }
+        }
+    }
+}
+
+/// Puts a usage into the place that names it already, or else into the first that names none.
+fn put_in(
+    declared: &FieldUsages<'_>,
+    usage: u32,
+    number: usize,
+    bytes: &mut [u8],
+    marks: &mut [u8],
+) -> Result<(), WriteError>
+    requires fits { FitsRoom (8 * length bytes.old) declared.now.field declared.now.ranges.now }
+    requires beside { length marks.old ≡ length bytes.old }
+    requires array { declared.now.field.array ≡ true }
+    ensures taken { IfOk result (λ _. on_refusal declared.now.field (usage_list declared.now.ranges.now) bytes.old marks.old usage number (number_of (usage_list declared.now.ranges.now) usage) ≡ None) }
+    ensures refused { IfErr result (λ e. on_refusal declared.now.field (usage_list declared.now.ranges.now) bytes.old marks.old usage number (number_of (usage_list declared.now.ranges.now) usage) ≡ Some e) }
+    ensures set { IfOk result (λ _. IsOn declared.now.field (usage_list declared.now.ranges.now) usage bytes.old bytes.new marks.old marks.new) }
+{
+    let value = match number_of_usage(declared, usage) {
+        None => return Err(WriteError::Unknown(number)),
+        Some(listed) => declared.field.min + listed as i64,
+    };
+    if !is_held(declared.field.min, declared.field.size, value) {
+        return Err(WriteError::TooLarge(number));
+    }
+    if value > declared.field.max {
+        return Err(WriteError::OutOfRange(number));
+    }
+    let place = match place_for(declared, bytes, usage) {
+        None => return Err(WriteError::NoRoom(number)),
+        Some(place) => place,
+    };
+    if is_set(&declared.field, marks, place) {
+        return Err(WriteError::Twice(number));
+    }
+    put_one(&declared.field, place, value, bytes, marks);
+    Ok(())
+}
+
+/// The first place that names a usage, or else the first that names none.
+fn place_for(declared: &FieldUsages<'_>, bytes: &[u8], usage: u32) -> Option<u16>
+    requires { FitsReading declared.now.field }
+    ensures place { result ≡ place_for declared.now.field (usage_list declared.now.ranges.now) bytes.now usage }
+    ensures within { IfSome result (λ place. place < declared.now.field.count) }
+{
+    match first_named(declared, bytes, usage) {
+        Some(place) => Some(place),
+        None => first_free(declared, bytes),
+    }
+}
+
+/// The first place that names a usage.
+fn first_named(declared: &FieldUsages<'_>, bytes: &[u8], usage: u32) -> Option<u16>
+    requires { FitsReading declared.now.field }
+    ensures place { result ≡ first (names declared.now.field (usage_list declared.now.ranges.now) bytes.now usage) declared.now.field.count }
+    ensures within { IfSome result (λ place. place < declared.now.field.count) }
+{
+    for place in 0..declared.field.count {
+        if is_named(declared, bytes, usage, place) {
+            return Some(place);
+        }
+    }
+    None
+}
+
+/// The first place that names no usage.
+fn first_free(declared: &FieldUsages<'_>, bytes: &[u8]) -> Option<u16>
+    requires { FitsReading declared.now.field }
+    ensures place { result ≡ first (is_free declared.now.field (usage_list declared.now.ranges.now) bytes.now) declared.now.field.count }
+    ensures within { IfSome result (λ place. place < declared.now.field.count) }
+{
+    for place in 0..declared.field.count {
+        if is_free(declared, bytes, place) {
+            return Some(place);
+        }
+    }
+    None
+}
+
+/// Whether a place names a usage.
+fn is_named(declared: &FieldUsages<'_>, bytes: &[u8], usage: u32, place: u16) -> bool
+    requires fits { FitsReading declared.now.field }
+    requires within { place < declared.now.field.count }
+    ensures { result ≡ names declared.now.field (usage_list declared.now.ranges.now) bytes.now usage place }
+{
+    is_usage(read_place(declared, false, bytes, place).usage, usage)
+}
+
+/// Whether a place names no usage, or one whose low half is 0.
+fn is_free(declared: &FieldUsages<'_>, bytes: &[u8], place: u16) -> bool
+    requires fits { FitsReading declared.now.field }
+    requires within { place < declared.now.field.count }
+    ensures { result ≡ is_free declared.now.field (usage_list declared.now.ranges.now) bytes.now place }
+{
+    match read_place(declared, false, bytes, place).usage {
+        None => true,
+        Some(usage) => usage % 0x1_0000 == 0,
+    }
+}
+
+/// Takes a usage out of each place that names it.
+fn take_out(
+    declared: &FieldUsages<'_>,
+    usage: u32,
+    number: usize,
+    bytes: &mut [u8],
+    marks: &mut [u8],
+) -> Result<(), WriteError>
+    requires fits { FitsRoom (8 * length bytes.old) declared.now.field declared.now.ranges.now }
+    requires beside { length marks.old ≡ length bytes.old }
+    requires array { declared.now.field.array ≡ true }
+    ensures taken { IfOk result (λ _. off_refusal declared.now.field (usage_list declared.now.ranges.now) bytes.old marks.old usage number (unused declared.now.field (usage_list declared.now.ranges.now)) ≡ None) }
+    ensures refused { IfErr result (λ e. off_refusal declared.now.field (usage_list declared.now.ranges.now) bytes.old marks.old usage number (unused declared.now.field (usage_list declared.now.ranges.now)) ≡ Some e) }
+    ensures set { IfOk result (λ _. IsOff declared.now.field (usage_list declared.now.ranges.now) usage bytes.old bytes.new marks.old marks.new) }
+{
+    let value = match unused(declared) {
+        None => return Err(WriteError::NoRoom(number)),
+        Some(value) => value,
+    };
+    if is_set_already(declared, usage, bytes, marks) {
+        return Err(WriteError::Twice(number));
+    }
+    clear_all(declared, usage, value, bytes, marks);
+    Ok(())
+}
+
+/// Whether a place that names a usage was set.
+fn is_set_already(declared: &FieldUsages<'_>, usage: u32, bytes: &[u8], marks: &[u8]) -> bool
+    requires { FitsReading declared.now.field }
+    ensures { result ≡ is_some (first (λ place. names declared.now.field (usage_list declared.now.ranges.now) bytes.now usage place && is_set declared.now.field marks.now place) declared.now.field.count) }
+{
+    for place in 0..declared.field.count {
+        if is_named(declared, bytes, usage, place) && is_set(&declared.field, marks, place) {
+            return true;
+        }
+    }
+    false
+}
+
+/// Writes a value into each place that names a usage, and marks it.
+fn clear_all(declared: &FieldUsages<'_>, usage: u32, value: i64, bytes: &mut [u8], marks: &mut [u8])
+    requires fits { FitsRoom (8 * length bytes.old) declared.now.field declared.now.ranges.now }
+    requires beside { length marks.old ≡ length bytes.old }
+    requires held { is_held declared.now.field.min declared.now.field.size value ≡ true }
+    ensures put { ArePut declared.now.field (names declared.now.field (usage_list declared.now.ranges.now) bytes.old usage) value bytes.old bytes.new }
+    ensures marked { AreMarked declared.now.field (names declared.now.field (usage_list declared.now.ranges.now) bytes.old usage) marks.old marks.new }
+{
+    for place in 0..declared.field.count {
+        if is_named(declared, bytes, usage, place) {
+            put_one(&declared.field, place, value, bytes, marks);
+        }
+    }
+}

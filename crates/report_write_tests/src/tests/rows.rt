@@ -1,0 +1,153 @@
+//! Rows: `KIND ID ONTO : SETTING .. = REPORT`, or the refusal.
+//!
+//! A report is hex digits, and `new` stands for none. A setting is `USAGE@PLACE=VALUE`, the usage in hex,
+//! or `#FIELD.PLACE=VALUE`; a value is `n` for none.
+
+use arrayvec::ArrayVec;
+use descriptor_parse::{Kind, parse};
+use field_details::details_of;
+use field_values::Asked;
+use report_write::{Setting, Target, WriteError, write};
+use row_text::{RunsRows, bytes, hex};
+use std::alloc::Global;
+use std::str::SplitWhitespace;
+
+/// What comes of a row.
+#[derive(Debug, PartialEq, Drop)]
+pub(super) enum Told {
+    Report(ArrayVec<u8, 64>),
+    Not(WriteError),
+}
+
+/// What runs the rows.
+#[derive(Drop)]
+pub(super) struct Writer<'t> {
+    pub(super) alloc: Global,
+    /// The descriptor, in hex.
+    pub(super) text: &'t str,
+}
+
+impl<'a, 't> RunsRows<'a> for Writer<'t> {
+    type Told = Told;
+
+    fn told(&mut self, ask: &'a str) -> Option<Told> {
+        let (head, tail) = ask.split_once(" :")?;
+        let mut words = head.split_whitespace();
+        let text = bytes::<256>(self.text)?;
+        let kind = kind_of(words.next()?)?;
+        let id = words.next()?.parse::<u8>().ok()?;
+        let onto = words.next()?;
+        let settings = settings_of(self.alloc, tail.split_whitespace())?;
+        if onto == "new" {
+            told_of(self.alloc, &text, kind, id, &settings, None)
+        } else {
+            let given = bytes::<64>(onto)?;
+            told_of(self.alloc, &text, kind, id, &settings, Some(&given))
+        }
+    }
+
+    fn wanted(_: &'a str, answer: &'a str) -> Option<Told> {
+        match refusal_of(answer) {
+            Some(error) => Some(Told::Not(error)),
+            None => Some(Told::Report(bytes::<64>(answer)?)),
+        }
+    }
+}
+
+/// Which places have Null State, by field.
+pub(super) fn null_states(alloc: Global, text: &[u8]) -> Option<Vec<bool>> {
+    let details = details_of(alloc, text).ok()?;
+    let mut states = Vec::new(alloc);
+    for placed in details.data_fields() {
+        states.push(placed.detail.has_null_state()).ok()?;
+    }
+    Some(states)
+}
+
+fn told_of(
+    alloc: Global,
+    text: &[u8],
+    kind: Kind,
+    id: u8,
+    settings: &[Setting],
+    onto: Option<&[u8]>,
+) -> Option<Told> {
+    let descriptor = parse(alloc, text).ok()?;
+    let states = null_states(alloc, text)?;
+    match write(alloc, &descriptor, &states, kind, id, settings, onto) {
+        Ok(report) => {
+            let mut copy = ArrayVec::new();
+            copy.try_extend_from_slice(&report).ok()?;
+            Some(Told::Report(copy))
+        }
+        Err(error) => Some(Told::Not(error)),
+    }
+}
+
+fn kind_of(word: &str) -> Option<Kind> {
+    match word {
+        "input" => Some(Kind::Input),
+        "output" => Some(Kind::Output),
+        "feature" => Some(Kind::Feature),
+        _ => None,
+    }
+}
+
+fn settings_of(alloc: Global, words: SplitWhitespace<'_>) -> Option<Vec<Setting>> {
+    let mut settings = Vec::new(alloc);
+    for word in words {
+        settings.push(setting_of(word)?).ok()?;
+    }
+    Some(settings)
+}
+
+fn setting_of(word: &str) -> Option<Setting> {
+    let (target, value) = word.split_once('=')?;
+    Some(Setting {
+        target: target_of(target)?,
+        asked: asked_of(value)?,
+    })
+}
+
+fn target_of(word: &str) -> Option<Target> {
+    match word.strip_prefix('#') {
+        Some(rest) => {
+            let (field, place) = rest.split_once('.')?;
+            let field = field.parse::<usize>().ok()?;
+            let place = place.parse::<usize>().ok()?;
+            Some(Target::Field { field, place })
+        }
+        None => {
+            let (usage, place) = word.split_once('@')?;
+            let usage = hex(usage)?;
+            let place = place.parse::<usize>().ok()?;
+            Some(Target::Usage { usage, place })
+        }
+    }
+}
+
+fn asked_of(word: &str) -> Option<Asked> {
+    if word == "n" {
+        Some(Asked::Null)
+    } else {
+        Some(Asked::Value(word.parse::<i64>().ok()?))
+    }
+}
+
+fn refusal_of(answer: &str) -> Option<WriteError> {
+    let (name, number) = answer.split_once(' ').unwrap_or((answer, "0"));
+    let number = number.parse::<usize>().ok()?;
+    match name {
+        "unknown-report" => Some(WriteError::UnknownReport),
+        "other-id" => Some(WriteError::OtherId),
+        "short" => Some(WriteError::Short),
+        "no-unused" => Some(WriteError::NoUnused(number)),
+        "unknown" => Some(WriteError::Unknown(number)),
+        "twice" => Some(WriteError::Twice(number)),
+        "no-null" => Some(WriteError::NoNull(number)),
+        "too-large" => Some(WriteError::TooLarge(number)),
+        "out-of-range" => Some(WriteError::OutOfRange(number)),
+        "no-room" => Some(WriteError::NoRoom(number)),
+        _ => None,
+    }
+}

@@ -1,0 +1,24 @@
+-- Only ties code to its definitions: contracts of the world's private calls.
+use Rattle.std.specs.Prelude.{◌≡◌, ℕ, Bool, ◌∷◌, ◌++◌, List, map, reverse, length, take}
+use Rattle.flash_model.specs.Sim.{SimValue}
+use Rattle.world.specs.declared.event.Event.{Event}
+use Rattle.world.specs.declared.event.Answer.{Answer}
+use Rattle.world.specs.declared.event.Told.{Told}
+use Rattle.world.specs.Kinds.{Step}
+use Rattle.world.specs.Stands.{EndsAfter}
+use Rattle.world.specs.ties.Stands.{StandsFor}
+use Rattle.world.specs.ties.Value.{WorldValue}
+
+-- an event is taken on top of each history that the world stood for
+abbrev pub Takes : Event → WorldValue → Told → WorldValue → Type 0
+Takes event old told new =
+    (start : SimValue) (past : List Step) → StandsFor start past old
+    → StandsFor start (record { event = event; answer = told.answer; flash = new.flash; refused = told.refused } ∷ past) new
+
+-- a run that is over: a longer history without what follows
+pub record Went (start : SimValue) (past : List Step) (world : WorldValue) (events : List Event) (room : ℕ) (before after : List Answer) (ok : Bool) : Type 0 where
+  pub steps : List Step
+  pub stands : StandsFor start (steps ++ past) world
+  pub events_are : map (λ (s : Step). s.event) (reverse steps) ≡ take (length steps) events
+  pub answers_are : after ≡ before ++ map (λ (s : Step). s.answer) (reverse steps)
+  pub ends : EndsAfter room ok steps events

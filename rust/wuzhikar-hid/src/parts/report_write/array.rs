@@ -1,0 +1,143 @@
+// Exported from crates/report_write/src/array.rt by bin/export-rust. Edit that file instead.
+//! Usages of Arrays that are set.
+
+use crate::parts::report_write::control::is_usage;
+use crate::parts::report_write::kept::{Kept, usages_of};
+use crate::parts::report_write::place::{is_set, put_one};
+use crate::parts::report_write::setting::WriteError;
+use crate::parts::report_write::unused::unused;
+use wuzhikar_reader::parts::descriptor_parse::{Descriptor, FieldUsages};
+use crate::parts::field_values::{Asked, is_held, number_of_usage, read_place};
+
+/// Puts a usage into an Array, or takes it out.
+pub(crate) fn set_usage(
+    descriptor: &Descriptor,
+    kept: &Kept,
+    usage: u32,
+    asked: Asked,
+    number: usize,
+    bytes: &mut [u8],
+    marks: &mut [u8],
+) -> Result<(), WriteError> {
+    let declared = usages_of(descriptor, kept);
+    match asked {
+        Asked::Null => Err(WriteError::NoNull(number)),
+        Asked::Value(value) => {
+            if value == 0 {
+                take_out(&declared, usage, number, bytes, marks)
+            } else if value == 1 {
+                put_in(&declared, usage, number, bytes, marks)
+            } else {
+                Err(WriteError::OutOfRange(number))
+            }
+        }
+    }
+}
+
+/// Puts a usage into the place that names it already, or else into the first that names none.
+fn put_in(
+    declared: &FieldUsages<'_>,
+    usage: u32,
+    number: usize,
+    bytes: &mut [u8],
+    marks: &mut [u8],
+) -> Result<(), WriteError> {
+    let value = match number_of_usage(declared, usage) {
+        None => return Err(WriteError::Unknown(number)),
+        Some(listed) => declared.field.min + listed as i64,
+    };
+    if !is_held(declared.field.min, declared.field.size, value) {
+        return Err(WriteError::TooLarge(number));
+    }
+    if value > declared.field.max {
+        return Err(WriteError::OutOfRange(number));
+    }
+    let place = match place_for(declared, bytes, usage) {
+        None => return Err(WriteError::NoRoom(number)),
+        Some(place) => place,
+    };
+    if is_set(&declared.field, marks, place) {
+        return Err(WriteError::Twice(number));
+    }
+    put_one(&declared.field, place, value, bytes, marks);
+    Ok(())
+}
+
+/// The first place that names a usage, or else the first that names none.
+fn place_for(declared: &FieldUsages<'_>, bytes: &[u8], usage: u32) -> Option<u16> {
+    match first_named(declared, bytes, usage) {
+        Some(place) => Some(place),
+        None => first_free(declared, bytes),
+    }
+}
+
+/// The first place that names a usage.
+fn first_named(declared: &FieldUsages<'_>, bytes: &[u8], usage: u32) -> Option<u16> {
+    for place in 0..declared.field.count {
+        if is_named(declared, bytes, usage, place) {
+            return Some(place);
+        }
+    }
+    None
+}
+
+/// The first place that names no usage.
+fn first_free(declared: &FieldUsages<'_>, bytes: &[u8]) -> Option<u16> {
+    for place in 0..declared.field.count {
+        if is_free(declared, bytes, place) {
+            return Some(place);
+        }
+    }
+    None
+}
+
+/// Whether a place names a usage.
+fn is_named(declared: &FieldUsages<'_>, bytes: &[u8], usage: u32, place: u16) -> bool {
+    is_usage(read_place(declared, false, bytes, place).usage, usage)
+}
+
+/// Whether a place names no usage, or one whose low half is 0.
+fn is_free(declared: &FieldUsages<'_>, bytes: &[u8], place: u16) -> bool {
+    match read_place(declared, false, bytes, place).usage {
+        None => true,
+        Some(usage) => usage % 0x1_0000 == 0,
+    }
+}
+
+/// Takes a usage out of each place that names it.
+fn take_out(
+    declared: &FieldUsages<'_>,
+    usage: u32,
+    number: usize,
+    bytes: &mut [u8],
+    marks: &mut [u8],
+) -> Result<(), WriteError> {
+    let value = match unused(declared) {
+        None => return Err(WriteError::NoRoom(number)),
+        Some(value) => value,
+    };
+    if is_set_already(declared, usage, bytes, marks) {
+        return Err(WriteError::Twice(number));
+    }
+    clear_all(declared, usage, value, bytes, marks);
+    Ok(())
+}
+
+/// Whether a place that names a usage was set.
+fn is_set_already(declared: &FieldUsages<'_>, usage: u32, bytes: &[u8], marks: &[u8]) -> bool {
+    for place in 0..declared.field.count {
+        if is_named(declared, bytes, usage, place) && is_set(&declared.field, marks, place) {
+            return true;
+        }
+    }
+    false
+}
+
+/// Writes a value into each place that names a usage, and marks it.
+fn clear_all(declared: &FieldUsages<'_>, usage: u32, value: i64, bytes: &mut [u8], marks: &mut [u8]) {
+    for place in 0..declared.field.count {
+        if is_named(declared, bytes, usage, place) {
+            put_one(&declared.field, place, value, bytes, marks);
+        }
+    }
+}
