@@ -138,19 +138,19 @@ def take_program(name, crates, work):
     lines, crate = lines_of_crates(), f"{work}/crates/growths"
     with open(f"{HERE}/{name}.rattle", encoding="utf-8") as file:
         program = file.read()
+    stands_on = crates_below(crates) if crates else lines["descriptor_parse"]
+    below = crates_below(stands_on)
+    for library in below:
+        take_crate(library, f"{work}/crates/{library}")
     if crates:
-        below = crates_below(crates)
-        for library in below:
-            take_crate(library, f"{work}/crates/{library}")
         os.makedirs(f"{crate}/src")
-        listed = {library: lines[library] for library in below} | {"growths": below}
     else:
         # A `main` at the end of the parser itself.
         take_crate("descriptor_parse", crate)
         with open(f"{crate}/src/lib.rt", encoding="utf-8") as file:
             program = file.read() + "\n" + program
         os.remove(f"{crate}/src/lib.rt")
-        listed = {"growths": lines["descriptor_parse"]}
+    listed = {library: lines[library] for library in below} | {"growths": stands_on}
     with open(f"{crate}/src/main.rt", "w", encoding="utf-8") as file:
         file.write(program)
     with open(f"{work}/crates.txt", "w", encoding="utf-8") as file:
