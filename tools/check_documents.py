@@ -264,6 +264,19 @@ def believed(tree):
             yield f"{path}: {name} only ties code" if name in named else f"{path}: it does not name {name}"
 
 
+def believed_counts(tree):
+    """Pages that tell another number of believed definitions than tools/believed does."""
+    if not tree.exists("tools/believed"):
+        return
+    told = subprocess.run(["python3", "-B", "tools/believed"], cwd=tree.root, stdout=subprocess.PIPE, text=True, check=True).stdout
+    counts = {name: (int(number), int(lines)) for name, number, lines in re.findall(r"^([\w ]+): (\d+) definitions, (\d+) lines", told, re.M)}
+    whole, keys = counts["all of them"], counts["stored keys"]
+    for page in ("README.md", "docs/THEOREM.md"):
+        for words in (f"{whole[0]} definitions of {whole[1]:,} lines", f"{keys[0]} of {keys[1]}"):
+            if words not in tree.read(page):
+                yield f"{page}: tools/believed tells {words}"
+
+
 def measured(tree):
     """Tables of numbers before which no program of the repository is named."""
     document, before = "docs/MEASUREMENTS.md", ""
@@ -308,7 +321,7 @@ def note(tree):
             print(f"check-docs: note: README.md names another toolchain than this one: {version}")
 
 
-CHECKS = [names, links, paragraphs, crates, contracts, wrong_bodies, definitions, edits, promise, believed, measured, proof_rows, benched, shown]
+CHECKS = [names, links, paragraphs, crates, contracts, wrong_bodies, definitions, edits, promise, believed, believed_counts, measured, proof_rows, benched, shown]
 
 
 def main():

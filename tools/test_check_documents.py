@@ -24,6 +24,10 @@ RIGHT = {
 LONG = "A sentence that is long enough to be said once, in one place, and linked to from all of the others that want to say it, too.\n"
 
 
+# A program that counts, and a page that shows what it tells.
+COUNTS = "print('stored keys: 1 definitions, 2 lines, 1 crates\\nall of them: 3 definitions, 4567 lines, 1 crates')\n"
+COUNTED = "3 definitions of 4,567 lines, 1 of 2\n"
+
 # A number, and a document that shows it.
 RESULTS = "target\twhat\tours\tpeer\tratio\tbound\tmissed because\nparse\tone\t9\t-\t-\t-\t\n"
 
@@ -78,6 +82,8 @@ class Checks(unittest.TestCase):
             (checks.believed, {"crates/one/specs/Sizes.antt": "pub def Size\n"}, "its first line does not say"),
             (checks.believed, {"crates/one/specs/Sizes.antt": "-- Only ties code to its definitions: x\n"}, "stands in the wrong folder"),
             (checks.believed, {"crates/one/specs/ties/Kept.antt": "-- Believed: x\n"}, "stands in the wrong folder"),
+            (checks.believed_counts, {"tools/believed": COUNTS, "README.md": COUNTED, "docs/THEOREM.md": COUNTED.replace("1 of 2", "1 of 3")},
+             "docs/THEOREM.md: tools/believed tells 1 of 2"),
             (checks.believed, {"crates/one/specs/Sizes.antt": "-- Believed: x\nuse Rattle.two.specs.ties.Kept.{Size}\n"}, "two.specs.ties.Kept only ties"),
         ]
         for check, files, told in table:

@@ -2,15 +2,11 @@
 use Rattle.shapes.specs.Shapes.{Bytes}
 use Rattle.std.specs.Prelude.{ℕ, zero, suc, ◌++◌, unwrap_or, ◌*◌, ◌==◌, ◌&&◌, [], length, take, drop, nat_lt, if◌then◌else◌, Option, Some, None}
 
--- the bytes that are sent: no more than were asked for
-abbrev pub bytes_sent : Bytes → ℕ → Bytes
-bytes_sent bytes asked = take asked bytes
-
--- packet j: bytes 8j to 8j + 7 as far as there are; after whole packets that hold fewer bytes than
--- asked for an empty one
+-- packet j of the bytes, of which no more are sent than were asked for: bytes 8j to 8j + 7 as far as there are; after whole
+-- packets that hold fewer bytes than asked for an empty one
 unfoldable pub packet_at : Bytes → ℕ → ℕ → Option Bytes
 packet_at bytes asked j =
-    let sent = bytes_sent bytes asked in
+    let sent = take asked bytes in
     if nat_lt (8 * j) (length sent) then Some (take 8 (drop (8 * j) sent))
     else (if (8 * j == length sent) && nat_lt (length sent) asked then Some [] else None)
 

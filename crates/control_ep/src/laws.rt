@@ -1,7 +1,7 @@
 //! What the definitions of this crate say together.
 
 ghost use Rattle.std.specs.Prelude.{◌≡◌, ℕ, ◌*◌, List, ◌∷◌, take};
-ghost use Rattle.control_ep.specs.Packets.{bytes_sent, joined_packets};
+ghost use Rattle.control_ep.specs.Packets.{joined_packets};
 ghost use Rattle.control_ep.specs.Calls.{EpCall};
 ghost use Rattle.control_ep.specs.Stage.{stage};
 ghost use Rattle.control_ep.specs.Moves.{stage_then};
@@ -11,7 +11,7 @@ ghost use Rattle.control_ep.specs.Stands.{AllAnswered};
 /// were asked for.
 pub fn packets_joined()
     ensures { (bytes : List ℕ) (asked n : ℕ)
-        → joined_packets bytes asked n ≡ take (8 * n) (bytes_sent bytes asked) }
+        → joined_packets bytes asked n ≡ take (8 * n) (take asked bytes) }
 {}
 
 /// What each call does to the stage: where each call was answered by the tables, the stage that the

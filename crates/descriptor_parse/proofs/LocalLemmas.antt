@@ -5,14 +5,15 @@ use Rattle.std.proofs.lemmas.Bool.{cases_lt, ne_eqb, eq-eqb}
 use Rattle.descriptor_parse.specs.declared.tag.Tag.{Tag}
 use Rattle.descriptor_parse.specs.declared.tag.Tag.TheVariants.{Main, Global, Local, Skipped}
 use Rattle.descriptor_parse.specs.declared.tag.LocalTag.TheVariants.{Usage, UsageMinimum, UsageMaximum, Delimiter}
-use Rattle.descriptor_parse.specs.declared.locals.Usage.TheVariants.{Short, Whole}
+use Rattle.descriptor_parse.specs.declared.usage.Usage.TheVariants.{Short, Whole}
 use Rattle.descriptor_parse.specs.declared.locals.UsageRange.{UsageRange}
 use Rattle.descriptor_parse.specs.declared.locals.Locals.{Locals}
 use Rattle.descriptor_parse.specs.Items.{ItemValue}
 use Rattle.descriptor_parse.specs.Tags.{tag, is_main}
 use Rattle.descriptor_parse.specs.Globals.{unsigned}
 use Rattle.descriptor_parse.specs.Locals.{has_page, usage_number, since_main, halves, without_partner, unpaired, range_made, ranges_made, usages_since_main}
-use Rattle.descriptor_parse.specs.ties.LocalsStand.{usage_of, usage_on, range_on, half_of, TakesHalf, TakesHalfAt, LocalsStand}
+use Rattle.descriptor_parse.specs.ties.Written.{usage_of, usage_on}
+use Rattle.descriptor_parse.specs.ties.LocalsStand.{range_on, half_of, TakesHalf, TakesHalfAt, LocalsStand}
 
 -- two bytes make 16 bits
 pub unsigned_two : (bytes : List ℕ) → ((i : ℕ) → get_or bytes i 0 < 256) → length bytes ≤ 2 → unsigned bytes < 65536

@@ -4,7 +4,7 @@ use Rattle.std.proofs.lemmas.Bool.{cases_Bool, or_parts, ltb-false, leb-false, e
 use Rattle.descriptor_parse.specs.declared.fault.ParseFault.{ParseFault}
 use Rattle.descriptor_parse.specs.declared.field.Kind.{Kind}
 use Rattle.descriptor_parse.specs.declared.locals.Locals.{Locals}
-use Rattle.descriptor_parse.specs.declared.locals.Usage.TheVariants.{Short, Whole}
+use Rattle.descriptor_parse.specs.declared.usage.Usage.TheVariants.{Short, Whole}
 use Rattle.descriptor_parse.specs.declared.state.State.{State}
 use Rattle.descriptor_parse.specs.declared.tag.Tag.{Tag}
 use Rattle.descriptor_parse.specs.declared.tag.Tag.TheVariants.{Main, Global, Local, Skipped}
@@ -21,7 +21,8 @@ use Rattle.descriptor_parse.specs.Locals.{has_page, unpaired, is_match, is_minim
 use Rattle.descriptor_parse.specs.Fields.{is_constant, is_field, open_collections}
 use Rattle.descriptor_parse.specs.Faults.{shows, fault_at, wants_memory}
 use Rattle.descriptor_parse.specs.ties.GlobalsStand.{GlobalsStand}
-use Rattle.descriptor_parse.specs.ties.LocalsStand.{LocalsStand, usage_of, raw_of, half_of, are_alike, fault_of_local, adds_range}
+use Rattle.descriptor_parse.specs.ties.Written.{usage_of}
+use Rattle.descriptor_parse.specs.ties.LocalsStand.{LocalsStand, raw_of, half_of, are_alike, fault_of_local, adds_range}
 use Rattle.descriptor_parse.specs.ties.ReportsStand.{ReportsStand, FitsData, declares, fills}
 use Rattle.descriptor_parse.specs.ties.StateStands.{StateStands, IsData, fault_of_main, fault_of_global}
 use Rattle.descriptor_parse.proofs.GlobalLemmas.{none_saved, stand_other, is_global}

@@ -15,3 +15,4 @@ pub mod StateStands
 pub mod TagTable
 pub mod Totals
 pub mod WellFormed
+pub mod Written

@@ -4,51 +4,19 @@ ghost use Rattle.std.specs.Prelude.{◌≡◌, ◌≢◌, ◌≤◌, ◌<◌, �
 ghost use Rattle.descriptor_parse.specs.Items.{ItemValue};
 ghost use Rattle.descriptor_parse.specs.Tags.{tag_of};
 ghost use Rattle.descriptor_parse.specs.Locals.{usage_number};
-ghost use Rattle.descriptor_parse.specs.ties.LocalsStand.{LocalsStand, usage_of, usage_on, range_on, raw_of, are_alike, fault_of_pair, fault_of_local, adds_range, TakesHalf};
+ghost use Rattle.descriptor_parse.specs.ties.LocalsStand.{LocalsStand, range_on, raw_of, are_alike, fault_of_pair, fault_of_local, adds_range, TakesHalf};
+ghost use Rattle.descriptor_parse.specs.ties.Written.{usage_of};
 ghost use Rattle.descriptor_parse.specs.ties.CountsStand.{count_with, wrapped_counts};
 ghost use Rattle.descriptor_parse.specs.declared.tag.Tag.{Tag};
 ghost use Rattle.descriptor_parse.specs.declared.tag.LocalTag.{LocalTag};
 
 use crate::fault::ParseFault;
-use crate::number::unsigned;
 use crate::tag::LocalTag;
+use crate::usage::Usage;
 use std::alloc::{AllocError, Global};
 
 /// How many ranges there is room for at first.
 const FIRST_RANGES: usize = 16;
-
-/// A usage as it is written: with its page, or without.
-#[derive(Clone, Copy)]
-pub(crate) enum Usage {
-    Short(u16),
-    Whole(u32),
-}
-
-impl Usage {
-    /// The usage that these data write.
-    pub(crate) fn read(bytes: &[u8]) -> Usage
-        requires few { length bytes.now ≤ 4 }
-        requires not_three { length bytes.now ≢ 3 }
-        ensures { result ≡ usage_of bytes.now }
-    {
-        let number = unsigned(bytes);
-        if bytes.len() == 4 {
-            Usage::Whole(number)
-        } else {
-            Usage::Short(number as u16)
-        }
-    }
-
-    /// The number of the usage, where a short one is of this page.
-    pub(crate) fn on(self, page: u16) -> u32
-        ensures { result ≡ usage_on page self }
-    {
-        match self {
-            Usage::Short(id) => page as u32 * 0x1_0000 + id as u32,
-            Usage::Whole(number) => number,
-        }
-    }
-}
 
 /// A range of usages, its first and its last.
 #[derive(Clone, Copy)]

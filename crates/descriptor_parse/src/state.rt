@@ -8,7 +8,7 @@ ghost use Rattle.descriptor_parse.specs.Globals.{unsigned};
 ghost use Rattle.descriptor_parse.specs.Fields.{open_collections};
 ghost use Rattle.descriptor_parse.specs.Faults.{fault_at};
 ghost use Rattle.descriptor_parse.specs.ties.ReportsStand.{FitsData, fills};
-ghost use Rattle.descriptor_parse.specs.ties.LocalsStand.{usage_of};
+ghost use Rattle.descriptor_parse.specs.ties.Written.{usage_of};
 ghost use Rattle.descriptor_parse.specs.ties.StateStands.{StateStands, Takes, IsRefused, IsData, fault_of_data, fault_of_main, fault_of_global};
 ghost use Rattle.descriptor_parse.specs.declared.tag.Tag.{Tag};
 ghost use Rattle.descriptor_parse.specs.declared.tag.MainTag.{MainTag};
@@ -19,10 +19,11 @@ use crate::fault::ParseFault;
 use crate::field::Kind;
 use crate::globals::GlobalStack;
 use crate::items::{Item, LONG};
-use crate::locals::{Locals, Usage};
+use crate::locals::Locals;
 use crate::number::unsigned;
 use crate::reports::{MAX_COUNT, MAX_SIZE, Reports, declares};
 use crate::tag::{GlobalTag, LocalTag, MainTag, Tag};
+use crate::usage::Usage;
 use std::alloc::{AllocError, Global};
 
 /// The most bits of a Constant item's place.

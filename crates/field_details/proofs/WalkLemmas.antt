@@ -15,17 +15,18 @@ use Rattle.descriptor_parse.specs.declared.tag.LocalTag.TheVariants.{Usage}
 use Rattle.descriptor_parse.specs.Items.{ItemValue, data_size, item_size, front_item, first_items, items_at}
 use Rattle.descriptor_parse.specs.Tags.{tag, tag_of, is_main, is_data, is_collection, is_end_collection}
 use Rattle.descriptor_parse.specs.Globals.{unsigned, in_force}
-use Rattle.descriptor_parse.specs.Locals.{has_page, since_main, usage_number}
+use Rattle.descriptor_parse.specs.Locals.{since_main, usage_number}
 use Rattle.descriptor_parse.specs.Fields.{takes_bit, report_bits}
 use Rattle.descriptor_parse.specs.Faults.{onto, all_items}
+use Rattle.descriptor_parse.specs.declared.usage.Usage.{Usage as Written}
+use Rattle.descriptor_parse.specs.ties.Written.{usage_of, usage_on}
+use Rattle.descriptor_parse.proofs.LocalLemmas.{number_on}
 use Rattle.field_details.specs.ties.Asked.{AreShort}
-use Rattle.field_details.specs.declared.usage.Usage.{Usage as Written}
-use Rattle.field_details.specs.declared.usage.Usage.TheVariants.{Short, Whole}
 use Rattle.field_details.specs.declared.walk.Walk.{Walk}
 use Rattle.field_details.specs.declared.globals.Globals.{Globals}
 use Rattle.field_details.specs.Collections.{is_usage, first_usage, open_now, collections, collection_count, without_last, innermost, declared_collection}
 use Rattle.field_details.specs.Details.{details, declared_detail}
-use Rattle.field_details.specs.ties.Stands.{WalkStands, GlobalsStand, usage_of, usage_on, globals_of, detail_by}
+use Rattle.field_details.specs.ties.Stands.{WalkStands, GlobalsStand, globals_of, detail_by}
 use Rattle.field_details.proofs.GlobalLemmas.{stand_silent, is_silent}
 use Rattle.field_details.proofs.ReportLemmas.{details_other}
 
@@ -57,14 +58,10 @@ mapped_or : {A B : Type 0} (f : A → B) (o : Option A) (x : A) → option_map f
 mapped_or f None x = refl
 mapped_or f (Some y) x = refl
 
--- the usage of a short or whole one is the one that its data write
-pub usage_is : (page : ℕ) (bytes : List ℕ) → usage_on page (usage_of bytes) ≡ usage_number page bytes
-usage_is page bytes = elim (has_page bytes) as (λ b. usage_on page (cond b (Whole (unsigned bytes)) (Short (unsigned bytes))) ≡ cond b (unsigned bytes) (page * 2 ^ 16 + unsigned bytes)) [ true ↦ refl | false ↦ refl ]
-
 -- the usage that was kept is that of a collection
 pub usage_told : (page : ℕ) (o : Option (List ℕ)) → option_map (usage_on page) (option_map usage_of o) ≡ option_map (usage_number page) o
 usage_told page None = refl
-usage_told page (Some bytes) = ap Some (usage_is page bytes)
+usage_told page (Some bytes) = ap Some (number_on page bytes)
 
 -- what the Globals in force make of a data item
 pub detail_is : (before : List ItemValue) (item : ItemValue) (k : Kind) (g : Globals) (bit : ℕ) (inside : Option ℕ)

@@ -9,17 +9,18 @@ ghost use Rattle.descriptor_parse.specs.Globals.{unsigned};
 ghost use Rattle.descriptor_parse.specs.Faults.{all_items};
 ghost use Rattle.descriptor_parse.specs.declared.tag.Tag.{Tag};
 ghost use Rattle.descriptor_parse.specs.declared.tag.MainTag.{MainTag};
+ghost use Rattle.descriptor_parse.specs.ties.Written.{usage_on};
 ghost use Rattle.field_details.specs.Collections.{innermost, declared_collection};
 ghost use Rattle.field_details.specs.Details.{declared_detail, details};
-ghost use Rattle.field_details.specs.ties.Stands.{WalkStands, usage_on};
+ghost use Rattle.field_details.specs.ties.Stands.{WalkStands};
 
 use crate::collection::Collection;
 use crate::detail::Detail;
 use crate::globals::GlobalStack;
 use crate::report::end_of_report;
 use crate::told::Details;
-use crate::usage::Usage;
 use descriptor_parse::number::unsigned;
+use descriptor_parse::usage::Usage;
 use descriptor_parse::{Item, Items, Kind, LocalTag, MainTag, Tag};
 use std::alloc::{AllocError, Global};
 

@@ -4,12 +4,11 @@ ghost use Rattle.std.specs.Prelude.{◌≡◌, ◌<◌, ◌≤◌};
 ghost use Rattle.descriptor_parse.specs.Descriptor.{usage_list};
 ghost use Rattle.host_extract.specs.ties.Fits.{FitsReading};
 ghost use Rattle.host_extract.specs.Found.{value_at};
-ghost use Rattle.host_extract.specs.Numbers.{value_under};
 ghost use Rattle.field_values.specs.Values.{where_is, usage_read, listed};
 
-use crate::bits::number_at;
 use crate::place::is_within;
 use descriptor_parse::{Field, FieldUsages};
+use host_extract::value_at;
 
 /// Where a value is, by the logical extents of its field (HID 1.11, 5.10 and 6.2.2.5).
 #[derive(Clone, Copy, Debug, PartialEq, Eq)]
@@ -59,9 +58,7 @@ pub fn raw_at(field: &Field, bytes: &[u8], place: u16) -> i64
     requires within { place < field.now.count }
     ensures { result ≡ value_at field.now bytes.now place }
 {
-    let bit = field.bit + field.size as u64 * place as u64;
-    let number = number_at(bytes, bit, field.size);
-    value_under(field.min, field.size, number)
+    value_at(field, bytes, place)
 }
 
 /// Where a value of a field is.
@@ -96,18 +93,5 @@ pub(crate) fn listed(declared: &FieldUsages<'_>, value: i64) -> Option<u32>
         declared.nth(value.abs_diff(declared.field.min) as usize)
     } else {
         None
-    }
-}
-
-/// The value of a number of `size` bits: in two's complement where the Logical Minimum is negative.
-fn value_under(minimum: i64, size: u8, number: u32) -> i64
-    requires { size ≤ 32 }
-    ensures { result ≡ value_under minimum size number }
-{
-    let value = number as i64;
-    if minimum < 0 && number as u64 * 2 >= 1 << size {
-        value - (1 << size)
-    } else {
-        value
     }
 }

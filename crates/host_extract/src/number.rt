@@ -4,16 +4,17 @@ ghost use Rattle.std.specs.Prelude.{◌≡◌, ◌+◌, ◌≤◌, ◌<◌, ◌^
 ghost use Rattle.descriptor_parse.specs.Globals.{unsigned};
 ghost use Rattle.host_extract.specs.Numbers.{report_bit, number_at, value_under};
 
-/// The number that `size` bits make from `bit` on; bits past the end of the report are 0.
+/// The number that `size` bits make from the bit `bit` on, the least significant first; bits past the end of the report
+/// are 0.
 #[inline(always)]
-pub(crate) fn number_at(bytes: &[u8], bit: u64, size: u8) -> u32
+pub fn number_at(bytes: &[u8], bit: u64, size: u8) -> u32
     requires { size ≤ 32 }
     ensures { result ≡ number_at bytes.now bit size }
 {
     if size == 1 {
         return bit_at(bytes, bit);
     }
-    let window = window(bytes, bit / 8) >> (bit % 8);
+    let window = window(bytes, (bit / 8) as usize) >> (bit % 8);
     (window & ((1 << size) - 1)) as u32
 }
 
@@ -50,10 +51,11 @@ fn byte_at(bytes: &[u8], place: u64) -> u32
 }
 
 /// The number that five bytes make from `first` on, the low byte first; those past the end of the report are 0.
-fn window(bytes: &[u8], first: u64) -> u64
+#[inline(always)]
+pub fn window(bytes: &[u8], first: usize) -> u64
     ensures { result ≡ unsigned (take 5 (drop first bytes.now)) }
 {
-    match bytes.get(first as usize..) {
+    match bytes.get(first..) {
         Some([a, b, c, d, e, ..]) => u64::from_le_bytes([*a, *b, *c, *d, *e, 0, 0, 0]),
         Some(rest) => unsigned(rest),
         None => 0,

@@ -93,9 +93,9 @@ fn value_in_array(field: &Field, bytes: &[u8], place: u16) -> i64
     value_under(field.min, field.size, number)
 }
 
-/// The value of a place.
+/// The value of a place: the number in its bits, in two's complement where the Logical Minimum is negative (HID 1.11, 5.8).
 #[inline(always)]
-fn value_at(field: &Field, bytes: &[u8], place: u16) -> i64
+pub fn value_at(field: &Field, bytes: &[u8], place: u16) -> i64
     requires fits { FitsReading field.now }
     requires within { place < field.now.count }
     ensures { result ≡ value_at field.now bytes.now place }

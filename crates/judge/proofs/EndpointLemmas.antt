@@ -26,7 +26,7 @@ use Rattle.keymap_store.specs.declared.store.Work.{Work}
 use Rattle.keymap_store.specs.declared.store.Work.TheVariants as Works
 use Rattle.keyboard.specs.Calls.{Call, Scanned, SetUp, Out, In, Polled, Worked, BusReset, EachCall, setup_of, image_after, keymap}
 use Rattle.keyboard.specs.Commands.{working}
-use Rattle.keyboard.specs.Effects.{Entry, SentReport, report_named, sent_as, report_taken, entry_in_report, selected, effect_asked, effect_told}
+use Rattle.keyboard.specs.Effects.{Entry, SentReport, report_named, report_taken, entry_in_report, selected, effect_asked, effect_told}
 use Rattle.reports.specs.declared.Protocol.{Protocol}
 use Rattle.reports.specs.declared.Input.{Input}
 use Rattle.reports.specs.declared.Input.TheVariants.{Boot, One, Two}

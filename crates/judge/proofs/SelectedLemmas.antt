@@ -13,7 +13,8 @@ use Rattle.control_ep.specs.Transfers.{HostReport, LedsWithId, LedsAlone, Featur
 use Rattle.control_ep.specs.Answers.{out_step, received_report, report_step, closing_step}
 use Rattle.keyboard.specs.Calls.{Call, Scanned, SetUp, Out, In, Polled, Worked, BusReset, EachCall, setup_of, image_after}
 use Rattle.keyboard.specs.Commands.{working}
-use Rattle.keyboard.specs.Effects.{Entry, report_named, sent_as, entry_in_report, selected}
+use Rattle.keyboard.specs.Effects.{Entry, report_named, entry_in_report, selected}
+use Rattle.keyboard.proofs.Sent.{sent_as}
 use Rattle.keyboard.specs.Endpoint.{stage_after}
 use Rattle.keyboard.specs.Feature.{yes, no, FeatureAnswer, select_answer}
 use Rattle.keyboard.specs.Lawful.{OutAnswer}

@@ -15,7 +15,7 @@ use Rattle.control_ep.specs.ties.Stands.{StandsFor as EndpointStandsFor}
 use Rattle.control_ep.specs.Answers.{in_answer, in_effect, packet_or_stall}
 use Rattle.control_ep.specs.declared.answer.Effect.{Effect}
 use Rattle.control_ep.specs.declared.answer.Effect.TheVariants.{Nothing}
-use Rattle.control_ep.specs.Packets.{packet_at, bytes_sent}
+use Rattle.control_ep.specs.Packets.{packet_at}
 use Rattle.control_ep.proofs.Moves.{in_sent}
 use Rattle.keyboard.specs.Calls.{Call, SetUp, In}
 use Rattle.keyboard.specs.Effects.{effect_told}

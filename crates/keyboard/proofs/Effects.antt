@@ -17,13 +17,14 @@ use Rattle.keymap_store.specs.declared.store.Work.{Work as WorkAnswer}
 use Rattle.keymap_store.specs.declared.store.Work.TheVariants.{Idle, Working, Settled, Failed}
 use Rattle.keymap_store.specs.Keymap.{SameEntries}
 use Rattle.keyboard.specs.Calls.{Call, Scanned, SetUp, Out, In, Polled, Worked, BusReset, setup_of, image_after, keymap}
-use Rattle.keyboard.specs.Effects.{report_named, sent_as}
+use Rattle.keyboard.specs.Effects.{report_named}
 use Rattle.keyboard.specs.Feature.{command_in, yes, no, FeatureAnswer}
 use Rattle.keyboard.specs.Fate.{works, settled, failed, ended_by}
 use Rattle.keyboard.specs.Commands.{accepts, command_in_report, working}
 use Rattle.keyboard.specs.Endpoint.{stage_after}
 use Rattle.keyboard.specs.Lawful.{IsAnswered, OutAnswer, WorkedOn}
 use Rattle.keyboard.proofs.Accepting.{EndsNone, ended_by-idle, ended_by-working}
+use Rattle.keyboard.proofs.Sent.{sent_as}
 use Rattle.keyboard.proofs.Served.{Serves, serves}
 
 -- nothing is accepted or ended, and the keymap stays; a command is accepted while none works; the working command is

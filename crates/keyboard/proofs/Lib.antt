@@ -2,6 +2,7 @@ pub mod Changing
 pub mod Accepting
 pub mod Requests
 pub mod Served
+pub mod Sent
 pub mod Effects
 pub mod Sessions
 pub mod Restarting

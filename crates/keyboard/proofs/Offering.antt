@@ -34,7 +34,8 @@ use Rattle.control_ep.specs.Calls.{EpCall, Out as EpOut, Judged}
 use Rattle.control_ep.specs.Answers.{out_step, received_report, report_step, closing_step, judged_answer, verdict_answer}
 use Rattle.control_ep.specs.ties.Stands as control_ep
 use Rattle.keyboard.specs.Calls.{Call, Out, setup_of, image_after, keymap}
-use Rattle.keyboard.specs.Effects.{Entry, SentReport, report_named, report_taken, sent_as, leds_in, entry_in_report, selected}
+use Rattle.keyboard.specs.Effects.{Entry, SentReport, report_named, report_taken, leds_in, entry_in_report, selected}
+use Rattle.keyboard.proofs.Sent.{sent_as}
 use Rattle.keyboard.specs.Keys.{key_calls}
 use Rattle.keyboard.specs.Feature.{command_in, yes, no, CommandAnswer, ReadAnswer, FeatureAnswer}
 use Rattle.keyboard.specs.Fate.{changes, changes_by}

@@ -29,7 +29,8 @@ use Rattle.control_ep.specs.ties.Stands as control_ep
 use Rattle.keymap_store.specs.Value.{StoreValue}
 use Rattle.keymap_store.specs.Store.{working as working_in}
 use Rattle.keyboard.specs.Calls.{Call, Scanned, SetUp, Out, In, Polled, BusReset, setup_of, image_after, keymap}
-use Rattle.keyboard.specs.Effects.{Entry, report_named, report_taken, sent_as, leds_in, leds_after, entry_in_report, selected, effect_asked, effect_told, protocol_then, protocol_after}
+use Rattle.keyboard.specs.Effects.{Entry, report_named, report_taken, leds_in, leds_after, entry_in_report, selected, effect_asked, effect_told, protocol_then, protocol_after}
+use Rattle.keyboard.proofs.Sent.{sent_as}
 use Rattle.keyboard.specs.Keys.{with_effect, key_calls}
 use Rattle.keyboard.specs.Commands.{accepts, command_in_report, working, working_of}
 use Rattle.keyboard.specs.Endpoint.{view_after, with_out, ep_calls, stage_after}

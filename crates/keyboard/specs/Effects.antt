@@ -39,13 +39,9 @@ pub record SentReport : Type 0 where
   pub report : HostReport
   pub bytes : Bytes
 
--- a packet as a report
-abbrev pub sent_as : Bytes → HostReport → SentReport
-sent_as packet report = record { report = report; bytes = packet }
-
 -- the report that a call took: an OUT packet that was acknowledged, of a transfer that names a report
 abbrev pub report_taken : List Call → Call → Option SentReport
-report_taken before (Out packet Ack) = option_map (sent_as packet) (report_named (setup_of before))
+report_taken before (Out packet Ack) = option_map (λ report. record { report = report; bytes = packet }) (report_named (setup_of before))
 report_taken before _ = None
 
 -- the LEDs of a report, bits 0 to 4 (HUT page 08h), and none of a feature report

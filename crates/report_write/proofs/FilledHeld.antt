@@ -1,7 +1,7 @@
 -- What fills a place of a new report is held by its bits.
 use Rattle.std.proofs.Common.{◌≡◌, ℕ, suc, ◌+◌, ◌*◌, ◌<◌, Bool, true, false, List, length, get_or, arith, refl, sym, ◌∙◌, ap, subst, Some, None, inl, inr}
 use Rattle.std.specs.Prelude.{Option, ℤ, pos, ◌+ℤ◌, not, ◌&&◌, slice_get, if◌then◌else◌}
-use Rattle.std.specs.Option.{option_map}
+use Rattle.std.specs.Option.{option_map, option_or}
 use Rattle.std.proofs.lemmas.Bool.{cases_lt}
 use Rattle.std.proofs.lemmas.Option.{slice_get-get_or}
 use Rattle.descriptor_parse.specs.declared.field.Field.{Field}
@@ -15,7 +15,7 @@ use Rattle.field_values.specs.Lists.{is_no_control, is_unused}
 use Rattle.field_values.proofs.NullLemmas.{null_is_null}
 use Rattle.report_write.specs.declared.kept.Kept.{Kept}
 use Rattle.report_write.specs.ties.Fits.{FitsRoom}
-use Rattle.report_write.specs.Firsts.{or_else, first}
+use Rattle.report_write.specs.Firsts.{first}
 use Rattle.report_write.specs.Unused.{unused, id_zero}
 use Rattle.report_write.specs.Begins.{empty, cannot_be_empty, IsFilledWith, IsFilledIf, IsEmptyUpTo, IsNeverEmpty}
 use Rattle.report_write.specs.Begins.IsEmptyUpTo.{Zeros, Filled}
@@ -39,7 +39,7 @@ null_held f v e = is_right (not (is_within f v)) (is_held f.min f.size v) (null_
 -- of values in order the one that is taken is one of them
 pub one_of : (p : ℤ → Bool) (a : Bool) (x : ℤ) (o : Option ℤ) (b : Bool) (y : ℤ) (rest : Option ℤ) (v : ℤ) → (a ≡ true → p x ≡ true)
     → ((w : ℤ) → o ≡ Some w → p w ≡ true) → (b ≡ true → p y ≡ true) → ((w : ℤ) → rest ≡ Some w → p w ≡ true)
-    → or_else (if a then Some x else None) (or_else o (or_else (if b then Some y else None) rest)) ≡ Some v → p v ≡ true
+    → option_or (if a then Some x else None) (option_or o (option_or (if b then Some y else None) rest)) ≡ Some v → p v ≡ true
 one_of p true x o b y rest v h1 h2 h3 h4 e = let s : x ≡ v = cc in ap p (sym s) ∙ h1 refl
 one_of p false x (Some w) b y rest v h1 h2 h3 h4 e = let s : w ≡ v = cc in ap p (sym s) ∙ h2 w refl
 one_of p false x None true y rest v h1 h2 h3 h4 e = let s : y ≡ v = cc in ap p (sym s) ∙ h3 refl

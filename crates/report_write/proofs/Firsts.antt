@@ -2,7 +2,8 @@
 use Rattle.std.proofs.Common.{◌≡◌, ℕ, zero, suc, ◌+◌, ◌-◌, ◌<◌, ◌≤◌, Bool, true, false, arith, refl, sym, ◌∙◌, ap, Some, None, inl, inr}
 use Rattle.std.specs.Prelude.{Option, ◌⊎◌, if◌then◌else◌, ◌&&◌}
 use Rattle.std.proofs.lemmas.Bool.{cases_lt}
-use Rattle.report_write.specs.Firsts.{or_else, first}
+use Rattle.std.specs.Option.{option_or}
+use Rattle.report_write.specs.Firsts.{first}
 
 pub no_first : (test : ℕ → Bool) → first test 0 ≡ None
 unfolding first
@@ -43,7 +44,7 @@ found_by test n (suc more) e t = let s : n + suc more ≡ suc (n + more) = omega
 pub first_is : (test : ℕ → Bool) (n m : ℕ) → first test n ≡ None → test n ≡ true → n < m → first test m ≡ Some n
 first_is test n m e t l = let s : suc (n + (m - suc n)) ≡ m = omega arith in rw (← s) (found_by test n (m - suc n) e t)
 
-none_either : (a b : Option ℕ) → or_else a b ≡ None → (a ≡ None) × (b ≡ None)
+none_either : (a b : Option ℕ) → option_or a b ≡ None → (a ≡ None) × (b ≡ None)
 none_either None b e = (refl, e)
 none_either (Some x) b e = absurd (cc)
 
@@ -71,7 +72,7 @@ passed_here : (b : Bool) (m n : ℕ) → (if b then Some m else None) ≡ Some n
 passed_here true m n e = (refl, cc)
 passed_here false m n e = absurd (cc)
 
-either_is : (a b : Option ℕ) (n : ℕ) → or_else a b ≡ Some n → (a ≡ Some n) ⊎ (b ≡ Some n)
+pub either_is : (a b : Option ℕ) (n : ℕ) → option_or a b ≡ Some n → (a ≡ Some n) ⊎ (b ≡ Some n)
 either_is None b n e = inr e
 either_is (Some x) b n e = inl e
 

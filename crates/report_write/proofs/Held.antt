@@ -5,6 +5,7 @@ use Rattle.std.specs.Int.{bit_at}
 use Rattle.std.proofs.lemmas.Bool.{cases_lt}
 use Rattle.std.proofs.lemmas.Int.{ints}
 use Rattle.std.proofs.lemmas.Nat.Bits.{same_from_bits_below}
+use Rattle.std.specs.Option.{option_or}
 use Rattle.descriptor_parse.specs.declared.field.Field.{Field}
 use Rattle.descriptor_parse.specs.Descriptor.{DescriptorValue, ranges_at, usage_list}
 use Rattle.host_extract.specs.Found.{value_at}
@@ -19,7 +20,7 @@ use Rattle.report_write.specs.declared.kept.Kept.{Kept}
 use Rattle.report_write.specs.declared.control.Control.{Control}
 use Rattle.report_write.specs.declared.control.Control.TheVariants.{Place, Usage}
 use Rattle.report_write.specs.declared.setting.Setting.{Setting}
-use Rattle.report_write.specs.Firsts.{or_else, first}
+use Rattle.report_write.specs.Firsts.{first}
 use Rattle.report_write.specs.Controls.{control_of}
 use Rattle.report_write.specs.Arrays.{names, IsOn}
 use Rattle.report_write.specs.Settings.{IsPlaceSet, IsControlSet, IsSet, IsAfter}
@@ -94,7 +95,7 @@ unfolding first
 first_same a b zero h = refl
 first_same a b (suc n) h = rw (first_same a b n h, h n) refl
 
-chosen_first : (a b : Option ℕ) (m n : ℕ) → a ≡ Some m → or_else a b ≡ Some n → n ≡ m
+chosen_first : (a b : Option ℕ) (m n : ℕ) → a ≡ Some m → option_or a b ≡ Some n → n ≡ m
 chosen_first (Some x) b m n e o = cc
 chosen_first None b m n e o = absurd (cc)
 

@@ -4,6 +4,7 @@ use Rattle.std.specs.Prelude.{Option, ◌⊎◌, pos, if◌then◌else◌, slice
 use Rattle.std.specs.Ordering.{int_eq}
 use Rattle.std.proofs.lemmas.Bool.{cases_order}
 use Rattle.std.proofs.lemmas.Option.{none-some}
+use Rattle.std.specs.Option.{option_or}
 use Rattle.descriptor_parse.specs.declared.field.Field.{Field}
 use Rattle.descriptor_parse.specs.Descriptor.{DescriptorValue}
 use Rattle.host_extract.specs.Found.{value_at, bytes_of}
@@ -18,7 +19,8 @@ use Rattle.report_write.specs.declared.kept.Kept.{Kept}
 use Rattle.report_write.specs.declared.control.Control.{Control}
 use Rattle.report_write.specs.declared.control.Control.TheVariants.{Place, Usage}
 use Rattle.report_write.specs.declared.setting.Setting.{Setting}
-use Rattle.report_write.specs.Firsts.{or_else, first}
+use Rattle.report_write.specs.Firsts.{first}
+use Rattle.report_write.proofs.Firsts.{either_is}
 use Rattle.report_write.specs.Controls.{control_of}
 use Rattle.report_write.specs.Settings.{IsPlaceSet, IsSwitched, IsControlSet, IsSet, IsAfter}
 use Rattle.report_write.specs.Untouched.{IsOutsideControl, IsOutsideFrom}
@@ -29,10 +31,6 @@ some_same e = cc
 
 -- ---- the place where a usage is put
 
-one_of_two : (a b : Option ℕ) (k : ℕ) → or_else a b ≡ Some k → (a ≡ Some k) ⊎ (b ≡ Some k)
-one_of_two None b k e = inr e
-one_of_two (Some x) b k e = inl e
-
 this_one : (b : Bool) (n k : ℕ) → (if b then Some n else None) ≡ Some k → n ≡ k
 this_one true n k e = some_same e
 this_one false n k e = absurd (none-some k e)
@@ -40,13 +38,13 @@ this_one false n k e = absurd (none-some k e)
 first_below : (test : ℕ → Bool) (n k : ℕ) → first test n ≡ Some k → k < n
 unfolding first
 first_below test zero k e = absurd (none-some k e)
-first_below test (suc n) k e = elim (one_of_two (first test n) (if test n then Some n else None) k e) [
+first_below test (suc n) k e = elim (either_is (first test n) (if test n then Some n else None) k e) [
   | inl before ↦ omega (arith, first_below test n k before)
   | inr here ↦ omega (arith, this_one (test n) n k here)
 ]
 
-pub either_below : (a b : ℕ → Bool) (n k : ℕ) → or_else (first a n) (first b n) ≡ Some k → k < n
-either_below a b n k e = elim (one_of_two (first a n) (first b n) k e) [
+pub either_below : (a b : ℕ → Bool) (n k : ℕ) → option_or (first a n) (first b n) ≡ Some k → k < n
+either_below a b n k e = elim (either_is (first a n) (first b n) k e) [
   | inl one ↦ first_below a n k one
   | inr other ↦ first_below b n k other
 ]

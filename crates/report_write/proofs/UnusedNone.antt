@@ -2,7 +2,7 @@
 use Rattle.std.proofs.Common.{◌≡◌, ℕ, ◌<◌, Bool, true, false, List, length, arith, refl, sym, ◌∙◌, ap, Some, None, inl, inr}
 use Rattle.std.specs.Prelude.{Option, ◌⊎◌, ℤ, pos, negsuc, ◌+ℤ◌, ◌≤ℤ◌, int_lt, not, ◌&&◌, slice_get, if◌then◌else◌}
 use Rattle.std.specs.Int.{int_gap}
-use Rattle.std.specs.Option.{option_map}
+use Rattle.std.specs.Option.{option_map, option_or}
 use Rattle.std.proofs.lemmas.Bool.{cases_lt, cases_Bool}
 use Rattle.std.proofs.lemmas.Int.{ints}
 use Rattle.std.proofs.lemmas.Option.{slice_get_past}
@@ -11,7 +11,7 @@ use Rattle.field_values.specs.Held.{is_held, is_within}
 use Rattle.field_values.specs.Nulls.{is_null, null_of}
 use Rattle.field_values.specs.Lists.{is_no_control, is_unused}
 use Rattle.field_values.proofs.NullLemmas.{held_between, zero_held}
-use Rattle.report_write.specs.Firsts.{or_else, first}
+use Rattle.report_write.specs.Firsts.{first}
 use Rattle.report_write.specs.Unused.{unused, id_zero}
 use Rattle.report_write.proofs.Firsts.{none_passes, and_both, not_both}
 use Rattle.report_write.proofs.UnusedLemmas.{is_zero}
@@ -105,18 +105,18 @@ never_unused f usages past p zero_named no_null past_named none v = elim (cases_
 
 -- ---- the one that is taken
 
-taken_first : (a : Bool) (x : ℤ) (rest : Option ℤ) → a ≡ true → Some x ≡ or_else (if a then Some x else None) rest
+taken_first : (a : Bool) (x : ℤ) (rest : Option ℤ) → a ≡ true → Some x ≡ option_or (if a then Some x else None) rest
 taken_first a x rest e = rw e refl
 
-taken_second : (a : Bool) (x : ℤ) (o : Option ℤ) (v : ℤ) (rest : Option ℤ) → a ≡ false → o ≡ Some v → Some v ≡ or_else (if a then Some x else None) (or_else o rest)
+taken_second : (a : Bool) (x : ℤ) (o : Option ℤ) (v : ℤ) (rest : Option ℤ) → a ≡ false → o ≡ Some v → Some v ≡ option_or (if a then Some x else None) (option_or o rest)
 taken_second a x o v rest e n = rw (e, n) refl
 
 taken_third : (a : Bool) (x : ℤ) (o : Option ℤ) (b : Bool) (y : ℤ) (rest : Option ℤ) → a ≡ false → o ≡ None → b ≡ true
-    → Some y ≡ or_else (if a then Some x else None) (or_else o (or_else (if b then Some y else None) rest))
+    → Some y ≡ option_or (if a then Some x else None) (option_or o (option_or (if b then Some y else None) rest))
 taken_third a x o b y rest e n u = rw (e, n, u) refl
 
 taken_last : (a : Bool) (x : ℤ) (o : Option ℤ) (b : Bool) (y : ℤ) (rest : Option ℤ) → a ≡ false → o ≡ None → b ≡ false
-    → rest ≡ or_else (if a then Some x else None) (or_else o (or_else (if b then Some y else None) rest))
+    → rest ≡ option_or (if a then Some x else None) (option_or o (option_or (if b then Some y else None) rest))
 taken_last a x o b y rest e n u = rw (e, n, u) refl
 
 pub takes_zero : (f : Field) (usages : List ℕ) → is_unused f usages (pos 0) ≡ true → Some (pos 0) ≡ unused f usages

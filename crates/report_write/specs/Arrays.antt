@@ -2,6 +2,7 @@
 use Rattle.shapes.specs.Shapes.{Bytes, UsageList}
 use Rattle.std.specs.Prelude.{◌≡◌, ℕ, if◌then◌else◌, not, ◌&&◌, Bool, ℤ, pos, ◌+ℤ◌, int_lt, Option, Some, None, is_some}
 use Rattle.std.specs.Ordering.{int_eq}
+use Rattle.std.specs.Option.{option_or}
 use Rattle.descriptor_parse.specs.declared.field.Field.{Field}
 use Rattle.host_extract.specs.Found.{value_at}
 use Rattle.field_values.specs.declared.null.Asked.{Asked}
@@ -11,7 +12,7 @@ use Rattle.field_values.specs.Lists.{is_no_control}
 use Rattle.field_values.specs.Values.{usage_read}
 use Rattle.report_write.specs.declared.setting.WriteError.{WriteError}
 use Rattle.report_write.specs.declared.setting.WriteError.TheVariants.{Unknown, Twice, NoNull, TooLarge, OutOfRange, NoRoom}
-use Rattle.report_write.specs.Firsts.{or_else, first}
+use Rattle.report_write.specs.Firsts.{first}
 use Rattle.report_write.specs.Controls.{is_usage, number_of}
 use Rattle.report_write.specs.Unused.{unused}
 use Rattle.report_write.specs.Puts.{IsPut, IsMarked, ArePut, AreMarked, is_set}
@@ -26,7 +27,7 @@ is_free field usages bytes place = is_no_control (usage_read field usages place 
 
 -- where a usage is put: the first place that names it, or else the first that names none
 abbrev pub place_for : Field → UsageList → Bytes → ℕ → Option ℕ
-place_for field usages bytes usage = or_else (first (names field usages bytes usage) field.count) (first (is_free field usages bytes) field.count)
+place_for field usages bytes usage = option_or (first (names field usages bytes usage) field.count) (first (is_free field usages bytes) field.count)
 
 -- why it is not put there, if it is not
 abbrev pub taken_place : Field → Bytes → ℕ → Option ℕ → Option WriteError

@@ -1,11 +1,11 @@
 -- Believed: the value by which a place of an Array says that it names no usage (HID 1.11, 6.2.2.5).
 use Rattle.shapes.specs.Shapes.{UsageList}
 use Rattle.std.specs.Prelude.{if◌then◌else◌, ◌&&◌, length, slice_get, ℤ, pos, ◌+ℤ◌, Option, Some, None}
-use Rattle.std.specs.Option.{option_map}
+use Rattle.std.specs.Option.{option_map, option_or}
 use Rattle.descriptor_parse.specs.declared.field.Field.{Field}
 use Rattle.field_values.specs.Nulls.{null_of}
 use Rattle.field_values.specs.Lists.{is_no_control, is_unused}
-use Rattle.report_write.specs.Firsts.{or_else, first}
+use Rattle.report_write.specs.Firsts.{first}
 
 -- a value, if it names no usage
 abbrev pub if_unused : Field → UsageList → ℤ → Option ℤ
@@ -21,5 +21,5 @@ id_zero field usages =
 -- whose low half is 0
 unfoldable pub unused : Field → UsageList → Option ℤ
 unused field usages =
-    or_else (if_unused field usages (pos 0))
-    (or_else (null_of field) (or_else (if_unused field usages (field.min +ℤ pos (length usages))) (id_zero field usages)))
+    option_or (if_unused field usages (pos 0))
+    (option_or (null_of field) (option_or (if_unused field usages (field.min +ℤ pos (length usages))) (id_zero field usages)))

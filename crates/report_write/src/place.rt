@@ -9,7 +9,8 @@ ghost use Rattle.report_write.specs.Settings.{place_refusal, told, IsPlaceSet};
 use crate::kept::Kept;
 use crate::setting::WriteError;
 use descriptor_parse::Field;
-use field_values::{Asked, PlaceError, number_at, put_number, put_value, set_place};
+use field_values::{Asked, PlaceError, put_number, put_value, set_place};
+use host_extract::number_at;
 
 /// Writes what is asked for into a place, and marks it.
 pub(crate) fn set_one(

@@ -4,7 +4,7 @@ use Rattle.std.specs.Prelude.{unwrap_or}
 use Rattle.std.proofs.lemmas.Bool.Decides.{nat_tests}
 use Rattle.std.proofs.lemmas.List.{length-take}
 use Rattle.control_ep.specs.Calls.{EpCall}
-use Rattle.control_ep.specs.Packets.{bytes_sent, packet_at, joined_packets}
+use Rattle.control_ep.specs.Packets.{packet_at, joined_packets}
 use Rattle.control_ep.specs.Stage.{calls_since, first_stall, count_in}
 use Rattle.control_ep.proofs.Joined.{joined-is}
 use Rattle.host.specs.Calls.{HostCall, was_set_up, got_packet, lost}
@@ -106,7 +106,7 @@ size_by false false whole l = omega arith
 packet_size : (text : List ℕ) (wanted n : ℕ) → length (unwrap_or (packet_at text wanted n) []) ≤ 8
 unfolding packet_at
 packet_size text wanted n =
-    let sent = bytes_sent text wanted in
+    let sent = take wanted text in
     size_by (nat_lt (8 * n) (length sent)) ((8 * n == length sent) && nat_lt (length sent) wanted) (take 8 (drop (8 * n) sent)) (omega (arith, length-take 8 (drop (8 * n) sent)))
 
 joined_size : (text : List ℕ) (wanted n : ℕ) → length (joined_packets text wanted n) ≤ wanted

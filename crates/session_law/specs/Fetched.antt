@@ -11,12 +11,8 @@ AreTaken [] = Unit {0}
 AreTaken (got_packet packet taken ∷ before) = (taken ≡ true) × AreTaken before
 AreTaken (_ ∷ before) = ⊥
 
--- in how many packets of eight bytes the keyboard's report descriptor comes; the last one has fewer
-abbrev pub text_packets : ℕ
-text_packets = div_ceil text_length 8
-
 -- after what a host was told before, it saw a SETUP packet that asks for at least the 99 bytes of the report descriptor, and
--- then its 13 packets, before any other SETUP packet, a bus reset or a cut
+-- then its 13 packets of eight bytes, of which the last has fewer, before any other SETUP packet, a bus reset or a cut
 pub record IsFetched (told host : List HostCall) : Type 0 where
   pub later : List HostCall
   pub packets : List HostCall
@@ -25,5 +21,5 @@ pub record IsFetched (told host : List HostCall) : Type 0 where
   pub split : host ≡ later ++ (packets ++ (was_set_up setup ∷ before ++ told))
   pub asks : asks_for_report setup ≡ true
   pub enough : text_length ≤ wanted_length setup
-  pub count : length packets ≡ text_packets
+  pub count : length packets ≡ div_ceil text_length 8
   pub taken : AreTaken packets

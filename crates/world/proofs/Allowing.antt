@@ -10,8 +10,8 @@ use Rattle.keyboard.specs.Commands.{Accepted, accepted, if_settled, settled_of, 
 use Rattle.keyboard.specs.Fate.{Fate, works, settled, failed}
 use Rattle.keyboard.specs.Restart.{AllButLastSettled, LegalRestart, RestartsLegally}
 use Rattle.keyboard.proofs.Sessions.{orderly}
-use Rattle.world.specs.Acknowledged.{once_settled, codes_after, once_caught, codes_caught, session_codes, start_codes, codes_at_start, codes_now, IsOneOf, HoldsAllowed}
-use Rattle.world.specs.History.{Session, session_with, session, flash_after, EachStep}
+use Rattle.world.specs.Acknowledged.{once_settled, codes_after, once_caught, codes_caught, session_codes, start_codes, codes_at_start, codes_now, IsOneOf}
+use Rattle.world.specs.History.{Session, session_with, session, flash_after, image_after, EachStep}
 use Rattle.world.specs.Kinds.{Step, Kind, starts, calls, looks, kind}
 use Rattle.world.specs.Lawful.{IsAnswered}
 use Rattle.world.specs.Restart.{StartsLegally}
@@ -171,7 +171,8 @@ at_start start [] layer key l k h = inl refl
 at_start start (step ∷ before) layer key l k h =
     at_kind (kind step) (session start before) step.flash.image layer key (codes_at_start start before layer key) l k ((starts_legally start (step ∷ before) h).0) (at_start start before layer key l k h.1)
 
-pub holds_allowed : (start : SimValue) (history : List Step) → EachStep IsAnswered start history → HoldsAllowed start history
+pub holds_allowed : (start : SimValue) (history : List Step) → EachStep IsAnswered start history → (layer key : ℕ) → layer < layers → key < keys
+    → IsOneOf (keymap (image_after start history) layer key) (codes_now start history layer key)
 holds_allowed start history h layer key l k =
     let now : Session = session start history in
     let there = here start history h in

@@ -6,7 +6,7 @@ use Rattle.host.specs.Kept.{asks_for_report, wanted_length, text_length, gatheri
 use Rattle.keyboard.specs.Calls.{Call, EachCall}
 use Rattle.keyboard.specs.Feature.{Where, yes, no}
 use Rattle.keyboard.specs.Lawful.{IsAnswered}
-use Rattle.session_law.specs.Fetched.{AreTaken, text_packets, IsFetched}
+use Rattle.session_law.specs.Fetched.{AreTaken, IsFetched}
 use Rattle.session_law.specs.Heard.{heard, with_heard, Hears, at_start, one_more, NoneOrServed, none_kept, served_kept}
 use Rattle.session_law.proofs.Keeping.{kept_is_fetched}
 
@@ -55,7 +55,7 @@ IsSplit host later packets setup before = host ≡ later ++ (packets ++ (was_set
 record IsWhole (packets : List HostCall) (setup : List ℕ) : Type 0 where
   pub asks : asks_for_report setup ≡ true
   pub enough : text_length ≤ wanted_length setup
-  pub count : length packets ≡ text_packets
+  pub count : length packets ≡ div_ceil text_length 8
   pub taken : AreTaken packets
 
 fetched_from : (told host later packets : List HostCall) (setup : List ℕ) (before : List HostCall) → IsWhole packets setup → IsSplit host later packets setup (before ++ told) → IsFetched told host

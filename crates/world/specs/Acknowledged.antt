@@ -107,13 +107,9 @@ abbrev pub IsOneOf : ℕ → List ℕ → Type 0
 IsOneOf code [] = ⊥
 IsOneOf code (first ∷ others) = (code ≡ first) ⊎ IsOneOf code others
 
--- each entry holds one of the codes that may stand there
-abbrev pub HoldsAllowed : SimValue → List Step → Type 0
-HoldsAllowed start history =
-    (layer key : ℕ) → layer < layers → key < keys → IsOneOf (keymap (image_after start history) layer key) (codes_now start history layer key)
-
 -- what the host was told is stored is there while no later command writes the entry; and each entry holds the code of the
 -- latest settled command that writes it, told or not, or of one that a cut caught since
 pub record KeepsStored (start : SimValue) (history : List Step) : Type 0 where
   pub told : KeepsAcknowledged start history
-  pub allowed : HoldsAllowed start history
+  pub allowed : (layer key : ℕ) → layer < layers → key < keys
+      → IsOneOf (keymap (image_after start history) layer key) (codes_now start history layer key)

@@ -5,22 +5,15 @@ use Rattle.descriptor_parse.specs.declared.fault.ParseFault.{ParseFault}
 use Rattle.descriptor_parse.specs.declared.fault.ParseFault.TheVariants.{Delimiter, UnpairedUsage, UsageInverted}
 use Rattle.descriptor_parse.specs.declared.tag.LocalTag.{LocalTag}
 use Rattle.descriptor_parse.specs.declared.tag.LocalTag.TheVariants.{UsageMinimum, UsageMaximum}
-use Rattle.descriptor_parse.specs.declared.locals.Usage.{Usage}
-use Rattle.descriptor_parse.specs.declared.locals.Usage.TheVariants.{Short, Whole}
-use Rattle.descriptor_parse.specs.declared.locals.UsageRange.{UsageRange}
+use Rattle.descriptor_parse.specs.declared.usage.Usage.{Usage}
+use Rattle.descriptor_parse.specs.declared.usage.Usage.TheVariants.{Short, Whole}
+use Rattle.descriptor_parse.specs.declared.usage.UsageRange.{UsageRange}
 use Rattle.descriptor_parse.specs.declared.locals.Half.{Half}
 use Rattle.descriptor_parse.specs.declared.locals.Locals.{Locals}
 use Rattle.descriptor_parse.specs.Items.{ItemValue}
 use Rattle.descriptor_parse.specs.Tags.{tag}
-use Rattle.descriptor_parse.specs.Globals.{unsigned}
-use Rattle.descriptor_parse.specs.Locals.{has_page, is_minimum, unpaired, usages_since_main}
-
-abbrev pub usage_of : Bytes → Usage
-usage_of bytes = if has_page bytes then Whole (unsigned bytes) else Short (unsigned bytes)
-
-abbrev pub usage_on : ℕ → Usage → ℕ
-usage_on page (Short id) = page * 2 ^ 16 + id
-usage_on page (Whole number) = number
+use Rattle.descriptor_parse.specs.Locals.{is_minimum, unpaired, usages_since_main}
+use Rattle.descriptor_parse.specs.ties.Written.{usage_of, usage_on}
 
 abbrev pub raw_of : Usage → ℕ
 raw_of (Short id) = id

@@ -7,12 +7,11 @@ use Rattle.descriptor_parse.specs.declared.tag.GlobalTag.TheVariants.{UsagePage,
 use Rattle.descriptor_parse.specs.Items.{ItemValue}
 use Rattle.descriptor_parse.specs.Tags.{tag, is_usage_page, is_logical_minimum, is_logical_maximum, is_report_size, is_report_id, is_report_count, is_push}
 use Rattle.descriptor_parse.specs.Globals.{unsigned, signed, latest, in_force}
-use Rattle.descriptor_parse.specs.Locals.{has_page, since_main}
+use Rattle.descriptor_parse.specs.Locals.{since_main}
+use Rattle.descriptor_parse.specs.ties.Written.{usage_of}
 use Rattle.field_details.specs.declared.globals.Maximum.{Maximum}
 use Rattle.field_details.specs.declared.globals.Globals.{Globals}
 use Rattle.field_details.specs.declared.globals.GlobalStack.{GlobalStack}
-use Rattle.field_details.specs.declared.usage.Usage.{Usage}
-use Rattle.field_details.specs.declared.usage.Usage.TheVariants.{Short, Whole}
 use Rattle.field_details.specs.declared.detail.Detail.{Detail}
 use Rattle.field_details.specs.declared.walk.Walk.{Walk}
 use Rattle.field_details.specs.Extents.{latest_with, power_of}
@@ -74,15 +73,6 @@ pub record GlobalsStand (before : List ItemValue) (globals : GlobalStack) : Type
 -- a data item under these Globals takes a bit
 abbrev pub fills : Globals → Bool
 fills g = nat_lt 0 g.size && nat_lt 0 g.count
-
--- ---- usages
-
-abbrev pub usage_of : Bytes → Usage
-usage_of bytes = if has_page bytes then Whole (unsigned bytes) else Short (unsigned bytes)
-
-abbrev pub usage_on : ℕ → Usage → ℕ
-usage_on page (Short id) = page * 2 ^ 16 + id
-usage_on page (Whole number) = number
 
 -- ---- reports
 

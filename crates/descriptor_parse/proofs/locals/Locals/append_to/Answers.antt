@@ -1,5 +1,5 @@
 use Rattle.std.proofs.Common.{◌≡◌, ℕ, refl, sym, get_or}
-use Rattle.descriptor_parse.specs.declared.locals.Usage.TheVariants.{Short}
+use Rattle.descriptor_parse.specs.declared.usage.Usage.TheVariants.{Short}
 use Rattle.descriptor_parse.specs.ties.LocalsStand.{range_on}
 use Rattle.descriptor_parse.specs.ties.CountsStand.{wrapped_counts}
 use Rattle.descriptor_parse.proofs.CountLemmas.{ranged_step, counted_step}

@@ -1,6 +1,6 @@
 use Rattle.std.proofs.Common.{ap, ◌∙◌, sym}
 use Rattle.descriptor_parse.specs.declared.tag.Tag.TheVariants.{Local}
-use Rattle.field_details.specs.ties.Stands.{usage_of}
+use Rattle.descriptor_parse.specs.ties.Written.{usage_of}
 use Rattle.field_details.proofs.WalkLemmas.{stand_local, stand_usage}
 use Rattle.field_details.proofs.walk.Walk.take_local.Goals as goal
 

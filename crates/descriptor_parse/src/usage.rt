@@ -1,20 +1,20 @@
-//! A usage as it is written.
+//! A usage as it is written (HID 1.11, 6.2.2.8).
 
 ghost use Rattle.std.specs.Prelude.{◌≡◌, ◌≢◌, ◌≤◌, length};
-ghost use Rattle.field_details.specs.ties.Stands.{usage_of, usage_on};
+ghost use Rattle.descriptor_parse.specs.ties.Written.{usage_of, usage_on};
 
-use descriptor_parse::number::unsigned;
+use crate::number::unsigned;
 
-/// A usage as it is written: with its page, or without (HID 1.11, 6.2.2.8).
+/// A usage as it is written: with its page, or without.
 #[derive(Clone, Copy)]
-pub(crate) enum Usage {
+pub enum Usage {
     Short(u16),
     Whole(u32),
 }
 
 impl Usage {
-    /// The usage that these data write.
-    pub(crate) fn read(bytes: &[u8]) -> Usage
+    /// The usage that the data of a Local item write.
+    pub fn read(bytes: &[u8]) -> Usage
         requires few { length bytes.now ≤ 4 }
         requires not_three { length bytes.now ≢ 3 }
         ensures { result ≡ usage_of bytes.now }
@@ -28,7 +28,7 @@ impl Usage {
     }
 
     /// The number of the usage, where a short one is of this page.
-    pub(crate) fn on(self, page: u16) -> u32
+    pub fn on(self, page: u16) -> u32
         ensures { result ≡ usage_on page self }
     {
         match self {
