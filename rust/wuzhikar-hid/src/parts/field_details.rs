@@ -18,7 +18,6 @@ mod report;
 mod text;
 mod told;
 pub mod unit;
-mod usage;
 mod walk;
 
 pub use applications::Applications;

@@ -16,7 +16,7 @@ mod physical;
 mod place;
 mod value;
 
-pub use bits::{number_at, put_number, window};
+pub use bits::put_number;
 pub use fill::fill_places;
 pub use list::{is_unused, number_of_usage};
 pub use null::{Asked, is_null, null_of, set_place};

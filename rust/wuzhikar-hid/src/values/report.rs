@@ -2,12 +2,12 @@
 
 use super::reader::{Kept, Reader};
 use super::spots::Spot;
-use crate::parts::field_values::number_at;
 
 pub use crate::parts::field_values::Within;
 
 use alloc::vec::Vec;
 use core::fmt;
+use wuzhikar_reader::parts::host_extract::number_at;
 use wuzhikar_reader::Kind;
 
 /// The value of a place of a field.

@@ -2,9 +2,9 @@
 
 use super::reader::{Kept, Reader};
 use super::report::{Value, Within};
-use crate::parts::field_values::window;
 use alloc::vec::Vec;
 use core::iter::once;
+use wuzhikar_reader::parts::host_extract::window;
 use wuzhikar_reader::{AllocError, Descriptor};
 
 /// A place of a report, or all places of a field that has very many, with what the value of one is made of.

@@ -26,6 +26,7 @@ mod state;
 mod tag;
 mod text;
 mod totals;
+pub mod usage;
 
 pub use descriptor::Descriptor;
 pub use fault::{ParseError, ParseFault};

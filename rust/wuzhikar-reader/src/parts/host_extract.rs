@@ -27,6 +27,8 @@ mod reading;
 
 pub use boot::BOOT_DESCRIPTOR;
 pub use error::ExtractError;
+pub use number::{number_at, window};
+pub use places::value_at;
 pub use press::pressed;
 pub use read::extract;
 pub use reading::Found;

@@ -6,8 +6,8 @@ use crate::parts::field_details::detail::Detail;
 use crate::parts::field_details::globals::GlobalStack;
 use crate::parts::field_details::report::end_of_report;
 use crate::parts::field_details::told::Details;
-use crate::parts::field_details::usage::Usage;
 use wuzhikar_reader::parts::descriptor_parse::number::unsigned;
+use wuzhikar_reader::parts::descriptor_parse::usage::Usage;
 use wuzhikar_reader::parts::descriptor_parse::{Item, Items, Kind, LocalTag, MainTag, Tag};
 use crate::rattle::alloc::{AllocError, Global};
 

@@ -1,9 +1,9 @@
 // Exported from crates/field_values/src/value.rt by bin/export-rust. Edit that file instead.
 //! What a place of a field holds.
 
-use crate::parts::field_values::bits::number_at;
 use crate::parts::field_values::place::is_within;
 use wuzhikar_reader::parts::descriptor_parse::{Field, FieldUsages};
+use wuzhikar_reader::parts::host_extract::value_at;
 
 /// Where a value is, by the logical extents of its field (HID 1.11, 5.10 and 6.2.2.5).
 #[derive(Clone, Copy, Debug, PartialEq, Eq)]
@@ -43,9 +43,7 @@ pub fn read_place(
 
 /// The number in the bits of a place, in two's complement where the Logical Minimum is negative (HID 1.11, 5.8).
 pub fn raw_at(field: &Field, bytes: &[u8], place: u16) -> i64 {
-    let bit = field.bit + field.size as u64 * place as u64;
-    let number = number_at(bytes, bit, field.size);
-    value_under(field.min, field.size, number)
+    value_at(field, bytes, place)
 }
 
 /// Where a value of a field is.
@@ -74,15 +72,5 @@ pub(crate) fn listed(declared: &FieldUsages<'_>, value: i64) -> Option<u32> {
         declared.nth(value.abs_diff(declared.field.min) as usize)
     } else {
         None
-    }
-}
-
-/// The value of a number of `size` bits: in two's complement where the Logical Minimum is negative.
-fn value_under(minimum: i64, size: u8, number: u32) -> i64 {
-    let value = number as i64;
-    if minimum < 0 && number as u64 * 2 >= 1 << size {
-        value - (1 << size)
-    } else {
-        value
     }
 }

@@ -4,7 +4,8 @@
 use crate::parts::report_write::kept::Kept;
 use crate::parts::report_write::setting::WriteError;
 use wuzhikar_reader::parts::descriptor_parse::Field;
-use crate::parts::field_values::{Asked, PlaceError, number_at, put_number, put_value, set_place};
+use crate::parts::field_values::{Asked, PlaceError, put_number, put_value, set_place};
+use wuzhikar_reader::parts::host_extract::number_at;
 
 /// Writes what is asked for into a place, and marks it.
 pub(crate) fn set_one(

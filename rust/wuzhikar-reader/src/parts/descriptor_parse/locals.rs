@@ -2,39 +2,12 @@
 //! The Local items since the latest Main item (HID 1.11, 6.2.2.8).
 
 use crate::parts::descriptor_parse::fault::ParseFault;
-use crate::parts::descriptor_parse::number::unsigned;
 use crate::parts::descriptor_parse::tag::LocalTag;
+use crate::parts::descriptor_parse::usage::Usage;
 use crate::rattle::alloc::{AllocError, Global};
 
 /// How many ranges there is room for at first.
 const FIRST_RANGES: usize = 16;
-
-/// A usage as it is written: with its page, or without.
-#[derive(Clone, Copy)]
-pub(crate) enum Usage {
-    Short(u16),
-    Whole(u32),
-}
-
-impl Usage {
-    /// The usage that these data write.
-    pub(crate) fn read(bytes: &[u8]) -> Usage {
-        let number = unsigned(bytes);
-        if bytes.len() == 4 {
-            Usage::Whole(number)
-        } else {
-            Usage::Short(number as u16)
-        }
-    }
-
-    /// The number of the usage, where a short one is of this page.
-    pub(crate) fn on(self, page: u16) -> u32 {
-        match self {
-            Usage::Short(id) => page as u32 * 0x1_0000 + id as u32,
-            Usage::Whole(number) => number,
-        }
-    }
-}
 
 /// A range of usages, its first and its last.
 #[derive(Clone, Copy)]

@@ -5,10 +5,11 @@ use crate::parts::descriptor_parse::fault::ParseFault;
 use crate::parts::descriptor_parse::field::Kind;
 use crate::parts::descriptor_parse::globals::GlobalStack;
 use crate::parts::descriptor_parse::items::{Item, LONG};
-use crate::parts::descriptor_parse::locals::{Locals, Usage};
+use crate::parts::descriptor_parse::locals::Locals;
 use crate::parts::descriptor_parse::number::unsigned;
 use crate::parts::descriptor_parse::reports::{MAX_COUNT, MAX_SIZE, Reports, declares};
 use crate::parts::descriptor_parse::tag::{GlobalTag, LocalTag, MainTag, Tag};
+use crate::parts::descriptor_parse::usage::Usage;
 use crate::rattle::alloc::{AllocError, Global};
 
 /// The most bits of a Constant item's place.

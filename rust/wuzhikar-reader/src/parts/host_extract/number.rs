@@ -1,13 +1,14 @@
 // Exported from crates/host_extract/src/number.rt by bin/export-rust. Edit that file instead.
 //! The numbers in the bits of a report.
 
-/// The number that `size` bits make from `bit` on; bits past the end of the report are 0.
+/// The number that `size` bits make from the bit `bit` on, the least significant first; bits past the end of the report
+/// are 0.
 #[inline(always)]
-pub(crate) fn number_at(bytes: &[u8], bit: u64, size: u8) -> u32 {
+pub fn number_at(bytes: &[u8], bit: u64, size: u8) -> u32 {
     if size == 1 {
         return bit_at(bytes, bit);
     }
-    let window = window(bytes, bit / 8) >> (bit % 8);
+    let window = window(bytes, (bit / 8) as usize) >> (bit % 8);
     (window & ((1 << size) - 1)) as u32
 }
 
@@ -37,8 +38,9 @@ fn byte_at(bytes: &[u8], place: u64) -> u32 {
 }
 
 /// The number that five bytes make from `first` on, the low byte first; those past the end of the report are 0.
-fn window(bytes: &[u8], first: u64) -> u64 {
-    match bytes.get(first as usize..) {
+#[inline(always)]
+pub fn window(bytes: &[u8], first: usize) -> u64 {
+    match bytes.get(first..) {
         Some([a, b, c, d, e, ..]) => u64::from_le_bytes([*a, *b, *c, *d, *e, 0, 0, 0]),
         Some(rest) => unsigned(rest),
         None => 0,

@@ -72,9 +72,9 @@ fn value_in_array(field: &Field, bytes: &[u8], place: u16) -> i64 {
     value_under(field.min, field.size, number)
 }
 
-/// The value of a place.
+/// The value of a place: the number in its bits, in two's complement where the Logical Minimum is negative (HID 1.11, 5.8).
 #[inline(always)]
-fn value_at(field: &Field, bytes: &[u8], place: u16) -> i64 {
+pub fn value_at(field: &Field, bytes: &[u8], place: u16) -> i64 {
     let bit = field.bit + field.size as u64 * place as u64;
     let number = number_at(bytes, bit, field.size);
     value_under(field.min, field.size, number)

@@ -1,17 +1,18 @@
-// Exported from crates/field_details/src/usage.rt by bin/export-rust. Edit that file instead.
-//! A usage as it is written.
+// Exported from crates/descriptor_parse/src/usage.rt by bin/export-rust. Edit that file instead.
+//! A usage as it is written (HID 1.11, 6.2.2.8).
 
-use wuzhikar_reader::parts::descriptor_parse::number::unsigned;
+use crate::parts::descriptor_parse::number::unsigned;
 
-/// A usage as it is written: with its page, or without (HID 1.11, 6.2.2.8).
+/// A usage as it is written: with its page, or without.
 #[derive(Clone, Copy)]
-pub(crate) enum Usage {
+pub enum Usage {
     Short(u16),
     Whole(u32),
 }
 
 impl Usage {
-    /// The usage that these data write.
+    /// The usage that the data of a Local item write.
+    #[inline(always)]
     pub(crate) fn read(bytes: &[u8]) -> Usage {
         let number = unsigned(bytes);
         if bytes.len() == 4 {
@@ -22,7 +23,8 @@ impl Usage {
     }
 
     /// The number of the usage, where a short one is of this page.
-    pub(crate) fn on(self, page: u16) -> u32 {
+    #[inline(always)]
+    pub fn on(self, page: u16) -> u32 {
         match self {
             Usage::Short(id) => page as u32 * 0x1_0000 + id as u32,
             Usage::Whole(number) => number,
