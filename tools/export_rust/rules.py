@@ -107,7 +107,7 @@ READER = Rules(
     derives={("descriptor_parse", "Descriptor"): ("Clone", "PartialEq", "Eq"),
              **{("descriptor_parse", name): ("PartialEq", "Eq")
                 for name in ("Reports", "Totals", "Link", "IdReports", "ReportBits", "FirstFields")}},
-    inlined=frozenset({("descriptor_parse", name) for name in ("Items::next", "Item::tag", "Usage::read", "Usage::on")}),
+    inlined=frozenset({("descriptor_parse", name) for name in ("Items::next", "Item::tag", "read_usage", "Usage::on")}),
     docs={("host_extract", ""): [("by the descriptor that [`descriptor_parse`] gives", "by the descriptor that `descriptor_parse` gives"),
                                  ("The crate `host` calls it", "The crate `kbsim` calls it")]},
 )

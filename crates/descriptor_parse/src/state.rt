@@ -23,7 +23,7 @@ use crate::locals::Locals;
 use crate::number::unsigned;
 use crate::reports::{MAX_COUNT, MAX_SIZE, Reports, declares};
 use crate::tag::{GlobalTag, LocalTag, MainTag, Tag};
-use crate::usage::Usage;
+use crate::usage::{Usage, read_usage};
 use std::alloc::{AllocError, Global};
 
 /// The most bits of a Constant item's place.
@@ -81,7 +81,7 @@ impl State {
         match Tag::of(item.prefix) {
             Tag::Main(tag) => self.judge_main(tag, unsigned(item.bytes)),
             Tag::Global(tag) => self.judge_global(tag, item.bytes),
-            Tag::Local(tag) => self.locals.judge(tag, Usage::read(item.bytes)),
+            Tag::Local(tag) => self.locals.judge(tag, read_usage(item.bytes)),
             Tag::Skipped => None,
         }
     }
@@ -164,9 +164,9 @@ impl State {
             // Most Local items are single usages: the compiler makes a shorter way for them.
             Tag::Local(LocalTag::Usage) => self.step_local(
                 LocalTag::Usage,
-                Usage::read(item.bytes),
+                read_usage(item.bytes),
             ),
-            Tag::Local(tag) => self.step_local(tag, Usage::read(item.bytes)),
+            Tag::Local(tag) => self.step_local(tag, read_usage(item.bytes)),
             Tag::Skipped => Ok(()),
         }
     }

@@ -12,21 +12,21 @@ pub enum Usage {
     Whole(u32),
 }
 
-impl Usage {
-    /// The usage that the data of a Local item write.
-    pub fn read(bytes: &[u8]) -> Usage
-        requires few { length bytes.now ≤ 4 }
-        requires not_three { length bytes.now ≢ 3 }
-        ensures { result ≡ usage_of bytes.now }
-    {
-        let number = unsigned(bytes);
-        if bytes.len() == 4 {
-            Usage::Whole(number)
-        } else {
-            Usage::Short(number as u16)
-        }
+/// The usage that the data of a Local item write.
+pub fn read_usage(bytes: &[u8]) -> Usage
+    requires few { length bytes.now ≤ 4 }
+    requires not_three { length bytes.now ≢ 3 }
+    ensures { result ≡ usage_of bytes.now }
+{
+    let number = unsigned(bytes);
+    if bytes.len() == 4 {
+        Usage::Whole(number)
+    } else {
+        Usage::Short(number as u16)
     }
+}
 
+impl Usage {
     /// The number of the usage, where a short one is of this page.
     pub fn on(self, page: u16) -> u32
         ensures { result ≡ usage_on page self }

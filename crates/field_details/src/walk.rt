@@ -20,7 +20,7 @@ use crate::globals::GlobalStack;
 use crate::report::end_of_report;
 use crate::told::Details;
 use descriptor_parse::number::unsigned;
-use descriptor_parse::usage::Usage;
+use descriptor_parse::usage::{Usage, read_usage};
 use descriptor_parse::{Item, Items, Kind, LocalTag, MainTag, Tag};
 use std::alloc::{AllocError, Global};
 
@@ -101,7 +101,7 @@ impl Walk {
             → WalkStands before self.old → WalkStands (item ∷ before) self.new }
     {
         match tag {
-            LocalTag::Usage => self.note_usage(Usage::read(bytes)),
+            LocalTag::Usage => self.note_usage(read_usage(bytes)),
             _ => {}
         }
     }

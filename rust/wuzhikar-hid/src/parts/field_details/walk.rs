@@ -7,7 +7,7 @@ use crate::parts::field_details::globals::GlobalStack;
 use crate::parts::field_details::report::end_of_report;
 use crate::parts::field_details::told::Details;
 use wuzhikar_reader::parts::descriptor_parse::number::unsigned;
-use wuzhikar_reader::parts::descriptor_parse::usage::Usage;
+use wuzhikar_reader::parts::descriptor_parse::usage::{Usage, read_usage};
 use wuzhikar_reader::parts::descriptor_parse::{Item, Items, Kind, LocalTag, MainTag, Tag};
 use crate::rattle::alloc::{AllocError, Global};
 
@@ -72,7 +72,7 @@ impl Walk {
     /// Takes a Local item.
     fn take_local(&mut self, tag: LocalTag, bytes: &[u8]) {
         match tag {
-            LocalTag::Usage => self.note_usage(Usage::read(bytes)),
+            LocalTag::Usage => self.note_usage(read_usage(bytes)),
             _ => {}
         }
     }

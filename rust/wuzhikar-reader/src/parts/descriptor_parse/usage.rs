@@ -10,18 +10,18 @@ pub enum Usage {
     Whole(u32),
 }
 
-impl Usage {
-    /// The usage that the data of a Local item write.
-    #[inline(always)]
-    pub(crate) fn read(bytes: &[u8]) -> Usage {
-        let number = unsigned(bytes);
-        if bytes.len() == 4 {
-            Usage::Whole(number)
-        } else {
-            Usage::Short(number as u16)
-        }
+/// The usage that the data of a Local item write.
+#[inline(always)]
+pub fn read_usage(bytes: &[u8]) -> Usage {
+    let number = unsigned(bytes);
+    if bytes.len() == 4 {
+        Usage::Whole(number)
+    } else {
+        Usage::Short(number as u16)
     }
+}
 
+impl Usage {
     /// The number of the usage, where a short one is of this page.
     #[inline(always)]
     pub fn on(self, page: u16) -> u32 {

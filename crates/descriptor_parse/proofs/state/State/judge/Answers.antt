@@ -17,7 +17,7 @@ returns-in-Global c = λ before s.
 
 pub returns-in-Local : goal.returns-in-Local
 returns-in-Local c = λ before s.
-    c.judge.ensures ∙ ap (λ v. fault_of_local c.in-Local.tag v c.args.self.now.locals.half) c.read.ensures
+    c.judge.ensures ∙ ap (λ v. fault_of_local c.in-Local.tag v c.args.self.now.locals.half) c.read_usage.ensures
     ∙ sym (judged_local before _ c.in-Local.tag _ (sym c.in-Local.ensures) s.locals)
 
 pub returns-in-Skipped : goal.returns-in-Skipped

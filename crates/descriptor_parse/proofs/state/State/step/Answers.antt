@@ -38,12 +38,12 @@ returns-in-Global-clause-taken c = on_ok_weaker {Q = (before : List ItemValue) �
 pub returns-in-Local-Usage-clause-taken : goal.returns-in-Local-Usage-clause-taken
 returns-in-Local-Usage-clause-taken c = on_ok_weaker {Q = (before : List ItemValue) → StateStands before c.args.self.now → length before ≤ 4096
     → Takes before (item_view c.args.item.now) c.step_local.new.self} _ (λ took before s few.
-    took before (item_view c.args.item.now) (sym c.in-Local-Usage.ensures ∙ ap Local c.in-Local-Usage.field-0-is) (sym c.read.ensures) s) c.step_local.ensures.taken
+    took before (item_view c.args.item.now) (sym c.in-Local-Usage.ensures ∙ ap Local c.in-Local-Usage.field-0-is) (sym c.read_usage.ensures) s) c.step_local.ensures.taken
 
 pub returns-in-Local-clause-taken : goal.returns-in-Local-clause-taken
 returns-in-Local-clause-taken c = on_ok_weaker {Q = (before : List ItemValue) → StateStands before c.args.self.now → length before ≤ 4096
     → Takes before (item_view c.args.item.now) c.step_local-in-Local.new.self} _ (λ took before s few.
-    took before (item_view c.args.item.now) (sym c.in-Local.ensures) (sym c.read-in-Local.ensures) s) c.step_local-in-Local.ensures.taken
+    took before (item_view c.args.item.now) (sym c.in-Local.ensures) (sym c.read_usage-in-Local.ensures) s) c.step_local-in-Local.ensures.taken
 
 pub returns-in-Skipped-clause-taken : goal.returns-in-Skipped-clause-taken
 returns-in-Skipped-clause-taken c = λ before s few.

@@ -1,7 +1,7 @@
 use Rattle.std.proofs.Common.{◌≤◌, ◌<◌, length, arith}
 use Rattle.descriptor_parse.specs.Globals.{unsigned}
 use Rattle.descriptor_parse.proofs.LocalLemmas.{unsigned_two}
-use Rattle.descriptor_parse.proofs.usage.Usage.read.Goals as goal
+use Rattle.descriptor_parse.proofs.usage.read_usage.Goals as goal
 
 pub overflow_cast-result : goal.overflow_cast-result
 overflow_cast-result c =
