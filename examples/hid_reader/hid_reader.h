@@ -4,9 +4,9 @@
  *
  * A call answers a status. HIDR_OK: it did what it says. Any other is a refusal: then nothing was written behind a pointer
  * (but the fault of a text, at HIDR_FAULT, and the number of what hidr_write refuses), and no handle was opened or closed.
- * Where several refusals hold, the first one of this list is told: HIDR_NULL, HIDR_LENGTH, the handle's, HIDR_OVERLAP, the
- * text's or the report's, HIDR_FULL. A call with a pointer may answer HIDR_NULL, one with a count or a length HIDR_LENGTH, one with a handle HIDR_NO_HANDLE, HIDR_CLOSED and
- * HIDR_WRONG_KIND; the others are named at each call.
+ * Where several refusals hold, the first one of this list is told: HIDR_NULL, HIDR_LENGTH, the handle's, HIDR_OVERLAP, then
+ * those that are named at the call, in that order. A call with a pointer may answer HIDR_NULL, one with a count or a length HIDR_LENGTH, one
+ * with a handle HIDR_NO_HANDLE, HIDR_CLOSED and HIDR_WRONG_KIND.
  *
  * Texts and reports may be any bytes. Behind a pointer that is not null have to stand as many values as its count says, as
  * ever in C; they need no alignment and may overlap (but for what HIDR_OVERLAP refuses), and no pointer is kept. A pointer may
@@ -154,7 +154,9 @@ hidr_status hidr_extract(hidr_descriptor descriptor, const uint8_t *report, size
 hidr_status hidr_pressed(hidr_descriptor descriptor, const uint8_t *report, size_t length, uint32_t *into, size_t room,
                          size_t *count);
 
-/* ---- A reader: what fields mean, values, and reports from values. It is tested, not proved. ---- */
+/* ---- A reader: what fields mean, values, and reports from values. What a descriptor declares, a value in its unit and a
+ * report that is written come from a proved source; the values of a report, names, and this edge to C are tested, not proved.
+ * ---- */
 
 /* The reader of a whole text of at most 4,096 bytes: a handle, to be closed. HIDR_FAULT with the first fault of the text in
  * *error; HIDR_NO_MEMORY; HIDR_FULL. */
@@ -329,7 +331,9 @@ typedef struct hidr_setting {
  * is 0. The report may be written over `onto`. The first of these, and of several settings that of the first one:
  * HIDR_NO_MEMORY for the settings, HIDR_UNKNOWN_REPORT, HIDR_OTHER_ID, HIDR_SHORT_REPORT, HIDR_NO_MEMORY for the report,
  * HIDR_NO_UNUSED with the field in *which; and with the number of the setting in *which HIDR_UNKNOWN_CONTROL, HIDR_TWICE,
- * HIDR_NO_NULL, HIDR_TOO_LARGE, HIDR_OUT_OF_RANGE, HIDR_NO_ROOM. */
+ * HIDR_NO_NULL, HIDR_TOO_LARGE, HIDR_OUT_OF_RANGE; of a usage of an array HIDR_UNKNOWN_CONTROL, HIDR_NO_NULL,
+ * HIDR_OUT_OF_RANGE where it is set to neither 0 nor 1, HIDR_TOO_LARGE, HIDR_OUT_OF_RANGE, HIDR_NO_ROOM where each place names
+ * another usage, or none can name none, HIDR_TWICE. */
 hidr_status hidr_write(hidr_reader reader, uint8_t kind, uint8_t id, const hidr_setting *settings, size_t count,
                        const uint8_t *onto, size_t onto_length, uint8_t *into, size_t room, size_t *length, size_t *which);
 
