@@ -1,4 +1,5 @@
-//! Usage Minimums and Maximums, and which of them has no partner.
+//! Usage Minimums and Maximums, and which of them has no partner. Items stand newest first. Minimums and Maximums pair in the
+//! order in which they were declared, whichever comes first: where their number is odd, the newest has no partner.
 
 ghost use Rattle.std.specs.Prelude.{◌≡◌, ◌≤◌, IfSome, Option, option_map, slice_get, length};
 ghost use Rattle.descriptor_parse.specs.Locals.{since_main, halves, without_partner, unpaired};
@@ -42,7 +43,7 @@ fn half_count(items: &[Plain<'_>]) -> usize
     half_count(earlier)
 }
 
-/// The newest of them.
+/// The newest Usage Minimum or Maximum among these items.
 fn newest_half<'a>(items: &[Plain<'a>]) -> Option<Plain<'a>>
     ensures item { option_map item_of result ≡ slice_get (halves (items_of items.now)) 0 }
     ensures few { IfSome result (λ half. length half.bytes.now ≤ 4) }

@@ -9,9 +9,8 @@ ghost use Rattle.flash_model.specs.Image.{page_count, IsImage};
 ghost use Rattle.flash_model.specs.ByMask.{IsMask, ProgramsByMask, ErasesByMask};
 ghost use Rattle.flash_model.specs.Operations.{Programs, MayProgram, Erases, MayErase};
 
-/// The torn outcomes of an operation are those of the masks: each of them is the outcome of some
-/// mask, and what a mask leaves is one of them. So a fault of any flash is one that
-/// `SimFlash::fault_next` can make.
+/// What a torn operation may leave is exactly what some mask leaves. So a fault of any flash is one
+/// that `SimFlash::fault_next` can make.
 pub fn torn_is_by_mask()
     ensures programs { (old new : List ℕ) (page slot : ℕ) (programmed : List ℕ) → IsImage old → IsImage new → page < page_count old → slot < PAGE_SLOTS
         → MayProgram old page slot programmed new ↔ ((mask : List ℕ) × (IsMask mask × ProgramsByMask old page slot programmed mask new)) }
@@ -19,7 +18,7 @@ pub fn torn_is_by_mask()
         → MayErase old page new ↔ ((mask : List ℕ) × (IsMask mask × ErasesByMask old page mask new)) }
 {}
 
-/// A mask has one outcome.
+/// A mask has at most one outcome.
 pub fn mask_has_one_outcome()
     ensures programs { (old new other : List ℕ) (page slot : ℕ) (programmed mask : List ℕ) → ProgramsByMask old page slot programmed mask new → ProgramsByMask old page slot programmed mask other → other ≡ new }
     ensures erases { (old new other : List ℕ) (page : ℕ) (mask : List ℕ) → ErasesByMask old page mask new → ErasesByMask old page mask other → other ≡ new }

@@ -1,6 +1,7 @@
 //! The places of one field.
 
-ghost use Rattle.std.specs.Prelude.{◌≡◌, ◌<◌, ◌++◌, pos, true, false, OnOk};
+ghost use Rattle.std.specs.Prelude.{◌≡◌, ◌<◌, ◌++◌, ◌||◌, if◌then◌else◌, int_lt, pos, slice_get, None, true, false, OnOk};
+ghost use Rattle.std.specs.Int.{int_gap};
 ghost use Rattle.descriptor_parse.specs.Descriptor.{usage_list};
 ghost use Rattle.host_extract.specs.Found.{named, in_array, readings_of, value_at};
 ghost use Rattle.host_extract.specs.ties.Fits.{FitsReading};
@@ -27,7 +28,7 @@ pub(crate) fn read_field(
 }
 
 /// Reads a variable field: each place has a usage of its own, and the last usage serves the places that are left.
-// Not inlined, so that its loop has the registers to itself: 46 instructions a place in the place of 67.
+// Not inlined, so that its loop has the registers to itself: 46 instructions a place instead of 67.
 #[inline(never)]
 fn read_variable(
     out: &mut Vec<Found>,
@@ -72,7 +73,8 @@ fn read_array(
 /// The usage that a value of an array names, if it is within the logical extents and the list has so many.
 #[inline(always)]
 fn usage_by_value(declared: &FieldUsages<'_>, value: i64) -> Option<u32>
-    ensures { named result (pos 1) ≡ in_array declared.now.field (usage_list declared.now.ranges.now) value }
+    ensures usage { result ≡ (if int_lt value declared.now.field.min || int_lt declared.now.field.max value then None else slice_get (usage_list declared.now.ranges.now) (int_gap declared.now.field.min value)) }
+    ensures reads { named result (pos 1) ≡ in_array declared.now.field (usage_list declared.now.ranges.now) value }
 {
     let field = &declared.field;
     if value < field.min || value > field.max {
@@ -81,7 +83,7 @@ fn usage_by_value(declared: &FieldUsages<'_>, value: i64) -> Option<u32>
     declared.nth(value.abs_diff(field.min) as usize)
 }
 
-/// The value of a place of an array, most of which have a byte for each.
+/// As `value_at`, sooner where each place is a byte, as in most arrays.
 #[inline(always)]
 fn value_in_array(field: &Field, bytes: &[u8], place: u16) -> i64
     requires fits { FitsReading field.now }

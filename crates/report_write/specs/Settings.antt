@@ -1,6 +1,7 @@
 -- Believed: what settings do to a report, one after the other, and which of them is the first that is refused.
 use Rattle.shapes.specs.Shapes.{Bytes, UsageList}
 use Rattle.std.specs.Prelude.{◌≡◌, ℕ, zero, suc, if◌then◌else◌, Bool, true, false, List, slice_get, ℤ, pos, Option, Some, None}
+use Rattle.std.specs.Option.{option_map}
 use Rattle.std.specs.Ordering.{int_eq}
 use Rattle.descriptor_parse.specs.declared.field.Field.{Field}
 use Rattle.descriptor_parse.specs.Descriptor.{DescriptorValue, ranges_at, usage_list}
@@ -27,14 +28,10 @@ told number place_error.NoNull = error.NoNull number
 told number place_error.TooLarge = error.TooLarge number
 told number place_error.OutOfRange = error.OutOfRange number
 
-abbrev pub told_if : ℕ → Option PlaceError → Option WriteError
-told_if number None = None
-told_if number (Some e) = Some (told number e)
-
--- why a place is not set, if it is not: first since it is set already
+-- why a place is not set, if it is not: first because it is set already
 abbrev pub place_refusal : Kept → ℕ → Bytes → Bytes → ℕ → Asked → Option WriteError
 place_refusal kept place bytes marks number asked =
-    if is_set kept.field marks place then Some (error.Twice number) else told_if number (asked_refusal kept.field kept.null_state bytes place asked)
+    if is_set kept.field marks place then Some (error.Twice number) else option_map (told number) (asked_refusal kept.field kept.null_state bytes place asked)
 
 -- why a control is not set, if it is not
 abbrev pub control_refusal : DescriptorValue → Bytes → Bytes → ℕ → Asked → Option Control → Option WriteError
@@ -54,7 +51,7 @@ pub record IsPlaceSet (kept : Kept) (place : ℕ) (asked : Asked) (old new marks
   pub put : IsPut kept.field place value old new
   pub marked : IsMarked kept.field place marks_old marks_new
 
--- a usage is taken out of an Array, or put in
+-- a usage is taken out of an Array, where it is set to 0, or else put in: no other value than 1 is taken
 abbrev pub IsSwitched : Bool → Field → UsageList → ℕ → Bytes → Bytes → Bytes → Bytes → Type 0
 IsSwitched true field usages usage old new marks_old marks_new = IsOff field usages usage old new marks_old marks_new
 IsSwitched false field usages usage old new marks_old marks_new = IsOn field usages usage old new marks_old marks_new
@@ -75,21 +72,21 @@ unfoldable pub IsSet : DescriptorValue → List Kept → Setting → Bytes → B
 IsSet d kept setting old new marks_old marks_new = IsControlSet d (control_of d kept setting.target) setting.asked old new marks_old marks_new
 
 -- the bytes of a report and its marks after the first settings
-pub data IsAfter (d : DescriptorValue) (kept : List Kept) (settings : List Setting) (start clear : Bytes) : ℕ → Bytes → Bytes → Type 0 where
-  Begun : IsAfter d kept settings start clear zero start clear
+pub data IsAfter (d : DescriptorValue) (kept : List Kept) (settings : List Setting) (start no_marks : Bytes) : ℕ → Bytes → Bytes → Type 0 where
+  Begun : IsAfter d kept settings start no_marks zero start no_marks
   Next : (number : ℕ) (setting : Setting) (old new marks_old marks_new : Bytes)
-      → IsAfter d kept settings start clear number old marks_old
+      → IsAfter d kept settings start no_marks number old marks_old
       → slice_get settings number ≡ Some setting
       → refusal_at d kept old marks_old number setting ≡ None
       → IsSet d kept setting old new marks_old marks_new
-      → IsAfter d kept settings start clear (suc number) new marks_new
+      → IsAfter d kept settings start no_marks (suc number) new marks_new
 
 -- the first setting that is refused, by what those before it left
-pub record IsRefused (d : DescriptorValue) (kept : List Kept) (settings : List Setting) (start clear : Bytes) (e : WriteError) : Type 0 where
+pub record IsRefused (d : DescriptorValue) (kept : List Kept) (settings : List Setting) (start no_marks : Bytes) (e : WriteError) : Type 0 where
   pub number : ℕ
   pub setting : Setting
   pub bytes : Bytes
   pub marks : Bytes
-  pub before : IsAfter d kept settings start clear number bytes marks
+  pub before : IsAfter d kept settings start no_marks number bytes marks
   pub here : slice_get settings number ≡ Some setting
   pub refused : refusal_at d kept bytes marks number setting ≡ Some e

@@ -1,4 +1,5 @@
-//! Usages of Arrays that are set.
+//! Usages of Arrays that are set. `marks` stands beside the bytes of a report: a bit of it is on where a place begins that an
+//! earlier setting has set. `number` is the setting's.
 
 ghost use Rattle.std.specs.Prelude.{◌≡◌, ◌*◌, ◌<◌, ◌&&◌, length, true, None, Some, IfSome, IfOk, IfErr, is_some};
 ghost use Rattle.descriptor_parse.specs.Descriptor.{ranges_at, usage_list};
@@ -18,7 +19,7 @@ use crate::place::{is_set, put_one};
 use crate::setting::WriteError;
 use crate::unused::unused;
 use descriptor_parse::{Descriptor, FieldUsages};
-use field_values::{Asked, is_held, number_of_usage, read_place};
+use field_values::{Asked, is_held, is_no_control, number_of_usage, read_place};
 
 /// Puts a usage into an Array, or takes it out.
 pub(crate) fn set_usage(
@@ -145,10 +146,7 @@ fn is_free(declared: &FieldUsages<'_>, bytes: &[u8], place: u16) -> bool
     requires within { place < declared.now.field.count }
     ensures { result ≡ is_free declared.now.field (usage_list declared.now.ranges.now) bytes.now place }
 {
-    match read_place(declared, false, bytes, place).usage {
-        None => true,
-        Some(usage) => usage % 0x1_0000 == 0,
-    }
+    is_no_control(read_place(declared, false, bytes, place).usage)
 }
 
 /// Takes a usage out of each place that names it.
@@ -173,7 +171,7 @@ fn take_out(
     if is_set_already(declared, usage, bytes, marks) {
         return Err(WriteError::Twice(number));
     }
-    clear_all(declared, usage, value, bytes, marks);
+    put_all(declared, usage, value, bytes, marks);
     Ok(())
 }
 
@@ -191,7 +189,7 @@ fn is_set_already(declared: &FieldUsages<'_>, usage: u32, bytes: &[u8], marks: &
 }
 
 /// Writes a value into each place that names a usage, and marks it.
-fn clear_all(declared: &FieldUsages<'_>, usage: u32, value: i64, bytes: &mut [u8], marks: &mut [u8])
+fn put_all(declared: &FieldUsages<'_>, usage: u32, value: i64, bytes: &mut [u8], marks: &mut [u8])
     requires fits { FitsRoom (8 * length bytes.old) declared.now.field declared.now.ranges.now }
     requires beside { length marks.old ≡ length bytes.old }
     requires held { is_held declared.now.field.min declared.now.field.size value ≡ true }

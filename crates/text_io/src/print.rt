@@ -10,8 +10,9 @@ use std::fmt;
 use std::fmt::{Display, Write as _};
 use std::io::Write;
 
-/// What is printed on its way to a writer, which gets it in pieces of at most 4,096 bytes; a longer piece of text is
-/// handed on as it is. It takes no memory.
+/// Text on its way to a writer, which gets it in pieces of at most 4,096 bytes; a longer piece is handed on as it is. It asks
+/// for no memory. After a `WriteError` nothing more is to be printed: a part may come twice. What waits when a printer is
+/// dropped is lost.
 #[derive(Debug, Drop)]
 pub struct Printer<'w, W> {
     writer: &'w mut W,
@@ -31,7 +32,8 @@ impl<'w, W: Write> Printer<'w, W> {
         }
     }
 
-    /// Prints a value as it shows itself. `WriteError` comes where the writer fails, is interrupted or takes no byte.
+    /// Prints a value as it shows itself. `WriteError` comes where the writer fails, is interrupted or takes no byte, and where
+    /// the value does not show itself.
     pub fn print<T: Display>(&mut self, shown: &T) -> Result<(), WriteError>
         ensures printed { OnOk result (IfSome (T.output shown.now) (Prints W.contents self.old self.new)) }
         ensures same_writer { OnOk result (IfSome (T.output shown.now) (λ text. printer_writer self.new ≡ printer_writer self.old)) }
@@ -54,6 +56,7 @@ impl<'w, W: Write> Printer<'w, W> {
         self.writer.flush().map_err(|_| WriteError)
     }
 
+    /// Gives the writer what waits.
     fn send(&mut self) -> Result<(), WriteError>
         ensures given { OnOk result (Keeps (printed W.contents self.old) (given W.contents self.new)) }
         ensures empty { OnOk result (self.new.waiting.bytes ≡ []) }

@@ -15,5 +15,5 @@ loop-place-preserved c =
     let v = c.value_in_array-value.result in
     let same : to_z w64 (of_z w64 v) ≡ v = search rules in
     let read = array-place f us bytes place (to_z w64 (of_z w64 v)) c.usage_by_value-usage.result c.requires.array
-    (same ∙ c.value_in_array-value.ensures) c.usage_by_value-usage.ensures in
+    (same ∙ c.value_in_array-value.ensures) c.usage_by_value-usage.ensures.reads in
     one-more _ _ _ f us bytes place c.loop-place.invariant (c.in_ok-push_named.ensures ∙ ap (λ xs. c.loop-place.out.items ++ xs) read)

@@ -18,8 +18,8 @@ returns-then-is_set_already-clause-refused c =
     off_twice field usages c.args.bytes.now c.args.marks.now c.args.usage c.args.number (unused field usages) c.in-Some.value c.in-Some.ensures.unused
     (sym c.is_set_already.ensures ∙ c.if-is_set_already.true)
 
-pub clear_all-requires-clause-held : goal.clear_all-requires-clause-held
-clear_all-requires-clause-held c =
+pub put_all-requires-clause-held : goal.put_all-requires-clause-held
+put_all-requires-clause-held c =
     let field = c.args.declared.now.field in
     let usages = usage_list c.args.declared.now.ranges.now in
     let value : to_z w64 (of_z w64 c.in-Some.value) ≡ c.in-Some.value = search rules in
@@ -38,6 +38,6 @@ returns-clause-set c =
     record {
       value = c.in-Some.value;
       none = sym c.in-Some.ensures.unused;
-      put = rw value at c.clear_all.ensures.put;
-      marked = c.clear_all.ensures.marked;
+      put = rw value at c.put_all.ensures.put;
+      marked = c.put_all.ensures.marked;
     }

@@ -2,8 +2,8 @@ use Rattle.std.proofs.Common.{◌≡◌, ◌∙◌, sym, arith, rules, to_z, of_
 use Rattle.descriptor_parse.specs.Descriptor.{usage_list}
 use Rattle.report_write.specs.Arrays.{names}
 use Rattle.report_write.proofs.ArraysCleared.{ahead, names_same, one_put, one_left, one_marked, one_unmarked, all_put, all_marked}
-use Rattle.report_write.proofs.array.clear_all.Goals as goal
-use Rattle.report_write.proofs.array.clear_all.Goals.{then-is_named, else-is_named}
+use Rattle.report_write.proofs.array.put_all.Goals as goal
+use Rattle.report_write.proofs.array.put_all.Goals.{then-is_named, else-is_named}
 
 pub loop-place-preserved : goal.loop-place-preserved
 loop-place-preserved c =

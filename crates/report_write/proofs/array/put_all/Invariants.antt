@@ -1,7 +1,7 @@
 use Rattle.descriptor_parse.specs.Descriptor.{usage_list}
 use Rattle.report_write.specs.Arrays.{names}
 use Rattle.report_write.proofs.ArraysCleared.{ArePutTo, AreMarkedTo}
-use Rattle.report_write.proofs.array.clear_all.Given as goal
+use Rattle.report_write.proofs.array.put_all.Given as goal
 
 abbrev pub invariant-loop-place : goal.invariant-loop-place
 invariant-loop-place l = record {
