@@ -6,6 +6,7 @@ use Rattle.host.specs.Kept.{asks_for_report, wanted_length, text_length, gatheri
 use Rattle.keyboard.specs.Calls.{Call, EachCall}
 use Rattle.keyboard.specs.Feature.{Where, yes, no}
 use Rattle.keyboard.specs.Lawful.{IsAnswered}
+use Rattle.std.specs.Int.{div_ceil}
 use Rattle.session_law.specs.Fetched.{AreTaken, IsFetched}
 use Rattle.session_law.specs.Heard.{heard, with_heard, Hears, at_start, one_more, NoneOrServed, none_kept, served_kept}
 use Rattle.session_law.proofs.Keeping.{kept_is_fetched}

@@ -7,7 +7,7 @@ use Rattle.descriptor_parse.specs.declared.tag.LocalTag.{LocalTag}
 use Rattle.descriptor_parse.specs.declared.tag.LocalTag.TheVariants.{UsageMinimum, UsageMaximum}
 use Rattle.descriptor_parse.specs.declared.usage.Usage.{Usage}
 use Rattle.descriptor_parse.specs.declared.usage.Usage.TheVariants.{Short, Whole}
-use Rattle.descriptor_parse.specs.declared.usage.UsageRange.{UsageRange}
+use Rattle.descriptor_parse.specs.declared.locals.UsageRange.{UsageRange}
 use Rattle.descriptor_parse.specs.declared.locals.Half.{Half}
 use Rattle.descriptor_parse.specs.declared.locals.Locals.{Locals}
 use Rattle.descriptor_parse.specs.Items.{ItemValue}

@@ -7,8 +7,9 @@ use core::fmt;
 use core::fmt::{Display, Write as _};
 use std::io::Write;
 
-/// What is printed on its way to a writer, which gets it in pieces of at most 4,096 bytes; a longer piece of text is
-/// handed on as it is. It takes no memory.
+/// Text on its way to a writer, which gets it in pieces of at most 4,096 bytes; a longer piece is handed on as it is. It asks
+/// for no memory. After a `WriteError` nothing more is to be printed: a part may come twice. What waits when a printer is
+/// dropped is lost.
 #[derive(Debug)]
 pub struct Printer<'w, W> {
     writer: &'w mut W,
@@ -24,7 +25,8 @@ impl<'w, W: Write> Printer<'w, W> {
         }
     }
 
-    /// Prints a value as it shows itself. `WriteError` comes where the writer fails, is interrupted or takes no byte.
+    /// Prints a value as it shows itself. `WriteError` comes where the writer fails, is interrupted or takes no byte, and where
+    /// the value does not show itself.
     pub fn print<T: Display>(&mut self, shown: &T) -> Result<(), WriteError> {
         match write!(self, "{shown}") {
             Ok(()) => Ok(()),
@@ -39,6 +41,7 @@ impl<'w, W: Write> Printer<'w, W> {
         self.writer.flush().map_err(|_| WriteError)
     }
 
+    /// Gives the writer what waits.
     fn send(&mut self) -> Result<(), WriteError> {
         write_whole(self.writer, self.waiting.as_str().as_bytes())?;
         self.waiting.clear();

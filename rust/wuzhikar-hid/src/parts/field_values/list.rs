@@ -12,8 +12,8 @@ pub fn is_unused(declared: &FieldUsages<'_>, value: i64) -> bool {
         && is_no_control(listed(declared, value))
 }
 
-/// Whether a usage is none.
-fn is_no_control(usage: Option<u32>) -> bool {
+/// Whether a usage is none, or one whose low half is 0.
+pub fn is_no_control(usage: Option<u32>) -> bool {
     match usage {
         None => true,
         Some(usage) => usage % 0x1_0000 == 0,

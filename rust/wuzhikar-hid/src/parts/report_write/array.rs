@@ -1,5 +1,6 @@
 // Exported from crates/report_write/src/array.rt by bin/export-rust. Edit that file instead.
-//! Usages of Arrays that are set.
+//! Usages of Arrays that are set. `marks` stands beside the bytes of a report: a bit of it is on where a place begins that an
+//! earlier setting has set. `number` is the setting's.
 
 use crate::parts::report_write::control::is_usage;
 use crate::parts::report_write::kept::{Kept, usages_of};
@@ -7,7 +8,7 @@ use crate::parts::report_write::place::{is_set, put_one};
 use crate::parts::report_write::setting::WriteError;
 use crate::parts::report_write::unused::unused;
 use wuzhikar_reader::parts::descriptor_parse::{Descriptor, FieldUsages};
-use crate::parts::field_values::{Asked, is_held, number_of_usage, read_place};
+use crate::parts::field_values::{Asked, is_held, is_no_control, number_of_usage, read_place};
 
 /// Puts a usage into an Array, or takes it out.
 pub(crate) fn set_usage(
@@ -98,10 +99,7 @@ fn is_named(declared: &FieldUsages<'_>, bytes: &[u8], usage: u32, place: u16) ->
 
 /// Whether a place names no usage, or one whose low half is 0.
 fn is_free(declared: &FieldUsages<'_>, bytes: &[u8], place: u16) -> bool {
-    match read_place(declared, false, bytes, place).usage {
-        None => true,
-        Some(usage) => usage % 0x1_0000 == 0,
-    }
+    is_no_control(read_place(declared, false, bytes, place).usage)
 }
 
 /// Takes a usage out of each place that names it.
@@ -119,7 +117,7 @@ fn take_out(
     if is_set_already(declared, usage, bytes, marks) {
         return Err(WriteError::Twice(number));
     }
-    clear_all(declared, usage, value, bytes, marks);
+    put_all(declared, usage, value, bytes, marks);
     Ok(())
 }
 
@@ -134,7 +132,7 @@ fn is_set_already(declared: &FieldUsages<'_>, usage: u32, bytes: &[u8], marks: &
 }
 
 /// Writes a value into each place that names a usage, and marks it.
-fn clear_all(declared: &FieldUsages<'_>, usage: u32, value: i64, bytes: &mut [u8], marks: &mut [u8]) {
+fn put_all(declared: &FieldUsages<'_>, usage: u32, value: i64, bytes: &mut [u8], marks: &mut [u8]) {
     for place in 0..declared.field.count {
         if is_named(declared, bytes, usage, place) {
             put_one(&declared.field, place, value, bytes, marks);

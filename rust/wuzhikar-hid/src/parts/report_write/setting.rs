@@ -33,10 +33,10 @@ pub struct Setting {
     pub asked: Asked,
 }
 
-/// Why nothing is written. The first four are of the report: the first that holds is told. The others are of a setting, by
-/// its number from 0, and are told of the first one that is refused: of several the first in this order, but for a usage of an
-/// Array, which is refused as `NoNull`, `OutOfRange` where it is set to neither 0 nor 1, `TooLarge`, `OutOfRange`, `NoRoom` or
-/// `Twice`.
+/// Why nothing is written. The first four are of the report: the first that holds is told. The others but `Memory` are of a
+/// setting, by its number from 0, and are told of the first one that is refused: of several the first in this order, but for a
+/// usage of an Array, which is refused as `NoNull`, `OutOfRange` where it is set to neither 0 nor 1, `TooLarge`, `OutOfRange`,
+/// `NoRoom` or `Twice`.
 #[derive(Clone, Copy, Debug, PartialEq, Eq)]
 pub enum WriteError {
     /// The descriptor has no such report.
@@ -49,7 +49,8 @@ pub enum WriteError {
     NoUnused(usize),
     /// The report does not have the usage, so many times, or the field or place.
     Unknown(usize),
-    /// The place is set twice.
+    /// The place is set twice; or, of a usage that is put into an Array, the first place that is free is one that a setting
+    /// before it freed.
     Twice(usize),
     /// A null, and the field has no Null State, or no value for it.
     NoNull(usize),

@@ -126,10 +126,7 @@ impl State {
             Tag::Main(tag) => self.step_main(tag, unsigned(item.bytes)),
             Tag::Global(tag) => self.step_global(tag, item.bytes),
             // Most Local items are single usages: the compiler makes a shorter way for them.
-            Tag::Local(LocalTag::Usage) => self.step_local(
-                LocalTag::Usage,
-                read_usage(item.bytes),
-            ),
+            Tag::Local(LocalTag::Usage) => self.step_local(LocalTag::Usage, read_usage(item.bytes)),
             Tag::Local(tag) => self.step_local(tag, read_usage(item.bytes)),
             Tag::Skipped => Ok(()),
         }

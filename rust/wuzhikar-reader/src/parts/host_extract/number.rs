@@ -1,6 +1,8 @@
 // Exported from crates/host_extract/src/number.rt by bin/export-rust. Edit that file instead.
 //! The numbers in the bits of a report.
 
+use crate::parts::descriptor_parse::number::unsigned;
+
 /// The number that `size` bits make from the bit `bit` on, the least significant first; bits past the end of the report
 /// are 0.
 #[inline(always)]
@@ -12,7 +14,7 @@ pub fn number_at(bytes: &[u8], bit: u64, size: u8) -> u32 {
     (window & ((1 << size) - 1)) as u32
 }
 
-/// The same, sooner where the bits are those of one byte.
+/// As `number_at`, sooner where the bits are those of one byte.
 #[inline(always)]
 pub(crate) fn byte_or_number_at(bytes: &[u8], bit: u64, size: u8) -> u32 {
     if size == 8 && bit % 8 == 0 {
@@ -30,8 +32,8 @@ fn bit_at(bytes: &[u8], bit: u64) -> u32 {
 }
 
 /// A byte of the report, 0 past its end.
-fn byte_at(bytes: &[u8], place: u64) -> u32 {
-    match bytes.get(place as usize) {
+fn byte_at(bytes: &[u8], index: u64) -> u32 {
+    match bytes.get(index as usize) {
         Some(byte) => *byte as u32,
         None => 0,
     }
@@ -42,19 +44,8 @@ fn byte_at(bytes: &[u8], place: u64) -> u32 {
 pub fn window(bytes: &[u8], first: usize) -> u64 {
     match bytes.get(first..) {
         Some([a, b, c, d, e, ..]) => u64::from_le_bytes([*a, *b, *c, *d, *e, 0, 0, 0]),
-        Some(rest) => unsigned(rest),
+        Some(rest) => unsigned(rest) as u64,
         None => 0,
-    }
-}
-
-/// The number that at most four bytes make, the low byte first.
-fn unsigned(bytes: &[u8]) -> u64 {
-    match bytes {
-        [] => 0,
-        [a] => *a as u64,
-        [a, b] => u16::from_le_bytes([*a, *b]) as u64,
-        [a, b, c] => u32::from_le_bytes([*a, *b, *c, 0]) as u64,
-        [a, b, c, d, ..] => u32::from_le_bytes([*a, *b, *c, *d]) as u64,
     }
 }
 

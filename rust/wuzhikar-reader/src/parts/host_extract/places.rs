@@ -20,7 +20,7 @@ pub(crate) fn read_field(
 }
 
 /// Reads a variable field: each place has a usage of its own, and the last usage serves the places that are left.
-// Not inlined, so that its loop has the registers to itself: 46 instructions a place in the place of 67.
+// Not inlined, so that its loop has the registers to itself: 46 instructions a place instead of 67.
 #[inline(never)]
 fn read_variable(
     out: &mut crate::rattle::Vec<Found>,
@@ -64,7 +64,7 @@ fn usage_by_value(declared: &FieldUsages<'_>, value: i64) -> Option<u32> {
     declared.nth(value.abs_diff(field.min) as usize)
 }
 
-/// The value of a place of an array, most of which have a byte for each.
+/// As `value_at`, sooner where each place is a byte, as in most arrays.
 #[inline(always)]
 fn value_in_array(field: &Field, bytes: &[u8], place: u16) -> i64 {
     let bit = field.bit + field.size as u64 * place as u64;

@@ -13,17 +13,17 @@ unsigned-requires c = c.requires.few (not_long _ _ c.in-Main.ensures (λ s. cc))
 pub step_global-requires : goal.step_global-requires
 step_global-requires c = c.requires.few (not_long _ _ c.in-Global.ensures (λ s. cc))
 
-pub read-requires-clause-few : goal.read-requires-clause-few
-read-requires-clause-few c = c.requires.few (not_long _ _ c.in-Local-Usage.ensures (λ s. cc))
+pub read_usage-requires-clause-few : goal.read_usage-requires-clause-few
+read_usage-requires-clause-few c = c.requires.few (not_long _ _ c.in-Local-Usage.ensures (λ s. cc))
 
-pub read-requires-clause-not_three : goal.read-requires-clause-not_three
-read-requires-clause-not_three c = c.requires.not_three (not_long _ _ c.in-Local-Usage.ensures (λ s. cc))
+pub read_usage-requires-clause-not_three : goal.read_usage-requires-clause-not_three
+read_usage-requires-clause-not_three c = c.requires.not_three (not_long _ _ c.in-Local-Usage.ensures (λ s. cc))
 
-pub read-requires-in-Local-clause-few : goal.read-requires-in-Local-clause-few
-read-requires-in-Local-clause-few c = c.requires.few (not_long _ _ c.in-Local.ensures (λ s. cc))
+pub read_usage-requires-in-Local-clause-few : goal.read_usage-requires-in-Local-clause-few
+read_usage-requires-in-Local-clause-few c = c.requires.few (not_long _ _ c.in-Local.ensures (λ s. cc))
 
-pub read-requires-in-Local-clause-not_three : goal.read-requires-in-Local-clause-not_three
-read-requires-in-Local-clause-not_three c = c.requires.not_three (not_long _ _ c.in-Local.ensures (λ s. cc))
+pub read_usage-requires-in-Local-clause-not_three : goal.read_usage-requires-in-Local-clause-not_three
+read_usage-requires-in-Local-clause-not_three c = c.requires.not_three (not_long _ _ c.in-Local.ensures (λ s. cc))
 
 pub returns-in-Main-clause-taken : goal.returns-in-Main-clause-taken
 returns-in-Main-clause-taken c = on_ok_weaker {Q = (before : List ItemValue) → StateStands before c.args.self.now → length before ≤ 4096
