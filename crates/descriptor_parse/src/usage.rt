@@ -6,9 +6,11 @@ ghost use Rattle.descriptor_parse.specs.ties.Written.{usage_of, usage_on};
 use crate::number::unsigned;
 
 /// A usage as it is written: with its page, or without.
-#[derive(Clone, Copy)]
+#[derive(Clone, Copy, Debug)]
 pub enum Usage {
+    /// Two bytes or fewer: of the Usage Page in force.
     Short(u16),
+    /// Four bytes: with its page in the high half.
     Whole(u32),
 }
 

@@ -4,9 +4,11 @@
 use crate::parts::descriptor_parse::number::unsigned;
 
 /// A usage as it is written: with its page, or without.
-#[derive(Clone, Copy)]
+#[derive(Clone, Copy, Debug)]
 pub enum Usage {
+    /// Two bytes or fewer: of the Usage Page in force.
     Short(u16),
+    /// Four bytes: with its page in the high half.
     Whole(u32),
 }
 
