@@ -7,8 +7,8 @@ pub use crate::parts::field_values::Within;
 
 use alloc::vec::Vec;
 use core::fmt;
-use wuzhikar_reader::parts::host_extract::number_at;
 use wuzhikar_reader::Kind;
+use wuzhikar_reader::parts::host_extract::number_at;
 
 /// The value of a place of a field.
 #[derive(Clone, Copy, Debug, PartialEq, Eq)]
