@@ -4,8 +4,6 @@ ghost use Rattle.std.specs.Prelude.{◌≡◌, ◌+◌, ◌≤◌, ◌<◌, ◌^
 ghost use Rattle.descriptor_parse.specs.Globals.{unsigned};
 ghost use Rattle.host_extract.specs.Numbers.{report_bit, number_at, value_under};
 
-use descriptor_parse::number::unsigned;
-
 /// The number that `size` bits make from the bit `bit` on, the least significant first; bits past the end of the report
 /// are 0.
 #[inline(always)]
@@ -59,8 +57,24 @@ pub fn window(bytes: &[u8], first: usize) -> u64
 {
     match bytes.get(first..) {
         Some([a, b, c, d, e, ..]) => u64::from_le_bytes([*a, *b, *c, *d, *e, 0, 0, 0]),
-        Some(rest) => unsigned(rest) as u64,
+        Some(rest) => unsigned(rest),
         None => 0,
+    }
+}
+
+/// The number that at most four bytes make, the low byte first.
+// By their number, and not byte by byte as `descriptor_parse::number::unsigned`: with that one a place takes five
+// instructions more, of 62.
+fn unsigned(bytes: &[u8]) -> u64
+    requires { length bytes.now ≤ 4 }
+    ensures { result ≡ unsigned bytes.now }
+{
+    match bytes {
+        [] => 0,
+        [a] => *a as u64,
+        [a, b] => u16::from_le_bytes([*a, *b]) as u64,
+        [a, b, c] => u32::from_le_bytes([*a, *b, *c, 0]) as u64,
+        [a, b, c, d, ..] => u32::from_le_bytes([*a, *b, *c, *d]) as u64,
     }
 }
 

@@ -1,8 +1,6 @@
 // Exported from crates/host_extract/src/number.rt by bin/export-rust. Edit that file instead.
 //! The numbers in the bits of a report.
 
-use crate::parts::descriptor_parse::number::unsigned;
-
 /// The number that `size` bits make from the bit `bit` on, the least significant first; bits past the end of the report
 /// are 0.
 #[inline(always)]
@@ -44,8 +42,21 @@ fn byte_at(bytes: &[u8], index: u64) -> u32 {
 pub fn window(bytes: &[u8], first: usize) -> u64 {
     match bytes.get(first..) {
         Some([a, b, c, d, e, ..]) => u64::from_le_bytes([*a, *b, *c, *d, *e, 0, 0, 0]),
-        Some(rest) => unsigned(rest) as u64,
+        Some(rest) => unsigned(rest),
         None => 0,
+    }
+}
+
+/// The number that at most four bytes make, the low byte first.
+// By their number, and not byte by byte as `descriptor_parse::number::unsigned`: with that one a place takes five
+// instructions more, of 62.
+fn unsigned(bytes: &[u8]) -> u64 {
+    match bytes {
+        [] => 0,
+        [a] => *a as u64,
+        [a, b] => u16::from_le_bytes([*a, *b]) as u64,
+        [a, b, c] => u32::from_le_bytes([*a, *b, *c, 0]) as u64,
+        [a, b, c, d, ..] => u32::from_le_bytes([*a, *b, *c, *d]) as u64,
     }
 }
 
