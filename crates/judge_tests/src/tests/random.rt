@@ -34,24 +34,17 @@ const SERVED: [[u8; 8]; 24] = [
     [0x21, 0x0B, 0x01, 0x00, 0x00, 0x00, 0x00, 0x00],
 ];
 
-/// A SETUP packet: mostly one that is served, else one with another byte in a place, or any bytes.
+/// A SETUP packet: mostly one that is served, else one with another byte in a place, or three drawn bytes over and over.
 pub fn setup(state: &mut u32) -> [u8; 8] {
-    let [a, b, c, d] = drawn(state).to_le_bytes();
+    let [a, b, c, _] = drawn(state).to_le_bytes();
     let mut setup = served(a);
     match b % 16 {
         0 => setup[usize::from(c % 8)] = b / 16,
-        1 => setup[usize::from(c % 8)] = d,
-        2 => setup = eight(state),
+        1 => setup[usize::from(c % 8)] = c,
+        2 => setup = [a, b, c, a, b, c, a, b],
         _ => {}
     }
     setup
-}
-
-/// Eight bytes, any.
-fn eight(state: &mut u32) -> [u8; 8] {
-    let [a, b, c, d] = drawn(state).to_le_bytes();
-    let [e, f, g, h] = drawn(state).to_le_bytes();
-    [a, b, c, d, e, f, g, h]
 }
 
 fn served(number: u8) -> [u8; 8] {
@@ -59,7 +52,7 @@ fn served(number: u8) -> [u8; 8] {
 }
 
 /// An OUT packet: mostly a feature report whose command sets one of eight entries of layers 0 and 1; else of another length,
-/// one that selects an entry, resets or sets any code, LEDs, or any six bytes.
+/// one that selects an entry, resets or sets another code, LEDs, or three drawn bytes over and over.
 pub fn packet(state: &mut u32) -> ArrayVec<u8, 8> {
     let [a, b, c, _] = drawn(state).to_le_bytes();
     let mut packet = ArrayVec::from([0x03, 0x01, b % 2, b / 2 % 4, c % 16, 0x00, 0x00, 0x00]);
@@ -70,7 +63,7 @@ pub fn packet(state: &mut u32) -> ArrayVec<u8, 8> {
         2 => packet = ArrayVec::from([0x03, 0x02, b % 5, 0, 0, 0, 0, 0]),
         3 => packet = ArrayVec::from([0x03, 0x03, 0, 0, 0, 0, 0, 0]),
         4 => packet = ArrayVec::from([0x03, b % 5, b, c, a, b, 0, 0]),
-        5 => packet = ArrayVec::from(eight(state)),
+        5 => packet = ArrayVec::from([a, b, c, a, b, c, a, b]),
         6..=9 => packet = ArrayVec::from([0x03, 0x01, 0, b % 6, c, 0x40, 0, 0]),
         10..=12 => packet = ArrayVec::from([0x03, 0x01, 0, b % 6, c % 4, 0x50, 0, 0]),
         13..=15 => {
@@ -83,13 +76,13 @@ pub fn packet(state: &mut u32) -> ArrayVec<u8, 8> {
     packet
 }
 
-/// A scan of some of nine keys, of which the last two, 94 and 95, are modifiers by default.
+/// A scan of some of nine keys, of which the last, key 95, is a modifier by default.
 pub fn scan(state: &mut u32) -> Scan {
     let held = drawn(state);
     let [_, low, high, _] = held.to_le_bytes();
     let rows = match held % 8 {
-        // Seven keys, one more than a boot report has room for, and the modifiers.
-        0 => [0x007F, 0, 0, 0, 0, 0xC000],
+        // Eight keys, two more than a boot report has room for, and the modifier.
+        0 => [0x00FF, 0, 0, 0, 0, 0x8000],
         1 => [0; 6],
         _ => [
             u16::from(low % 64),
@@ -97,7 +90,7 @@ pub fn scan(state: &mut u32) -> Scan {
             0,
             0,
             0,
-            u16::from(high % 4) * 0x4000,
+            u16::from(high % 2) * 0x8000,
         ],
     };
     Scan { rows }
