@@ -1,6 +1,6 @@
 -- Believed: what a C array says.
 use Rattle.shapes.specs.Shapes.{Bytes}
-use Rattle.std.specs.Prelude.{◌≡◌, ◌<◌, ◌+◌, ◌-◌, ◌==◌, ◌||◌, ◌⊎◌, not, ℕ, Bool, true, false, List, [], ◌∷◌, ◌++◌, length, take, drop, slice_index}
+use Rattle.std.specs.Prelude.{◌≡◌, ◌<◌, ◌+◌, ◌-◌, ◌==◌, ◌||◌, ◌⊎◌, not, ℕ, Bool, true, false, [], ◌∷◌, ◌++◌, length, take, drop, slice_index}
 use Rattle.std.specs.Char.{is_ascii_alphanumeric, is_ascii_digit}
 use Rattle.std.specs.List.{prefix_len}
 use Rattle.std.specs.Str.Parse.{IsNumeral, digits_value}
@@ -26,14 +26,14 @@ pub data WritesByte (word : Bytes) (n : ℕ) : Type 0 where
 
 -- the word doesn't begin with 0x or 0X
 abbrev pub IsNoHex : Bytes → Type 0
-IsNoHex word = (x : ℕ) (digits : List ℕ) → word ≡ 48 ∷ x ∷ digits → (x ≡ 120) ⊎ (x ≡ 88) → ⊥
+IsNoHex word = (x : ℕ) (digits : Bytes) → word ≡ 48 ∷ x ∷ digits → (x ≡ 120) ⊎ (x ≡ 88) → ⊥
 
 -- the word at a place is a byte
 abbrev pub IsByte : Bytes → ℕ → ℕ → Type 0
 IsByte text start n = WritesByte (between text start (word_end text start)) n
 
 -- from one place up to another stand these bytes, each with a comma behind it
-pub data Elements (text : Bytes) (from : ℕ) : List ℕ → ℕ → Type 0 where
+pub data Elements (text : Bytes) (from : ℕ) : Bytes → ℕ → Type 0 where
   none : Elements text from [] from
   more : (bytes : Bytes) (at start n comma : ℕ) → Elements text from bytes at → IsGap text at start → IsByte text start n
       → IsGap text (word_end text start) comma → IsAt text comma 44 → Elements text from (bytes ++ n ∷ []) (comma + 1)

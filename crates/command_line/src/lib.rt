@@ -4,6 +4,7 @@
 //! `kbsim_cli` calls it.
 #![tactic(auto)]
 
+use clap::builder::ValueParser;
 use clap::{Arg, ArgAction, ArgMatches, Command, Error, value_parser};
 use std::alloc::{AllocError, Global};
 use std::convert::AsStr;
@@ -260,8 +261,13 @@ fn pages<'a>(alloc: Global) -> Arg<'a> {
         .long("pages")
         .value_name("N")
         .help("How many pages the flash has")
-        .value_parser(value_parser!(usize).range(2..=8))
+        .value_parser(page_counts())
         .default_value(PAGES_WORD)
+}
+
+/// How many pages a flash may have.
+fn page_counts<'a>() -> ValueParser<'a> {
+    value_parser!(usize).range(2..=8)
 }
 
 fn image<'a>(alloc: Global) -> Result<Arg<'a>, AllocError> {
@@ -300,21 +306,27 @@ fn describe<'a>(alloc: Global) -> Command<'a> {
 }
 
 fn parse<'a>(alloc: Global) -> Result<Command<'a>, AllocError> {
-    let items = Arg::new(alloc, "items")
-        .long("items")
-        .help("Prints each item, up to the first fault, in place of the fields")
-        .action(ArgAction::SetTrue);
-    let from = Arg::new(alloc, "from")
-        .long("from")
-        .value_name("FORM")
-        .help("How the text says the bytes")
-        .value_parser(FORMS)
-        .default_value("hex");
     Command::new(alloc, "parse")
         .about("Prints the fields, or the items, of a report descriptor")
         .long_about(PARSE_HELP)
         .after_long_help(STATUS_HELP)
-        .arg(from)?
-        .arg(items)?
+        .arg(from(alloc))?
+        .arg(items(alloc))?
         .arg(file(alloc))
+}
+
+fn items<'a>(alloc: Global) -> Arg<'a> {
+    Arg::new(alloc, "items")
+        .long("items")
+        .help("Prints each item, up to the first fault, in place of the fields")
+        .action(ArgAction::SetTrue)
+}
+
+fn from<'a>(alloc: Global) -> Arg<'a> {
+    Arg::new(alloc, "from")
+        .long("from")
+        .value_name("FORM")
+        .help("How the text says the bytes")
+        .value_parser(FORMS)
+        .default_value("hex")
 }

@@ -1,6 +1,7 @@
 -- Believed: what a SETUP packet says, the transfers that requests begin, and the stages of a transfer (USB 2.0 sections
 -- 8.5.3 and 9.3).
-use Rattle.std.specs.Prelude.{ℕ, List}
+use Rattle.shapes.specs.Shapes.{Bytes}
+use Rattle.std.specs.Prelude.{ℕ}
 use Rattle.control_ep.specs.declared.why.Why.{Why}
 use Rattle.control_ep.specs.declared.answer.Effect.{Effect}
 
@@ -23,7 +24,7 @@ pub data HostReport : Type 0 where
 -- what a request that is served begins
 pub data Transfer : Type 0 where
   -- a read of these bytes
-  Reads : List ℕ → Transfer
+  Reads : Bytes → Transfer
   -- a report from the host
   Takes : HostReport → Transfer
   -- no data, and this effect
@@ -34,7 +35,7 @@ pub data Stage : Type 0 where
   -- no transfer is under way
   Rest : Stage
   -- a read of these bytes, of which so many were asked for, and so many packets were sent
-  Sending : List ℕ → ℕ → ℕ → Stage
+  Sending : Bytes → ℕ → ℕ → Stage
   -- a report is expected
   Taking : HostReport → Stage
   -- a feature command works

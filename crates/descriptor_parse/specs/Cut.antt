@@ -20,11 +20,11 @@ IsWritten item bytes = IsShortItem item bytes ⊎ IsLongItem item bytes
 abbrev pub IsCut : ℕ → Bytes → List ItemValue → ℕ → Bytes → Type 0
 IsCut offset text [] end rest = (offset ≡ end) × (text ≡ rest)
 IsCut offset text (item ∷ items) end rest =
-    (head : List ℕ) × (more : List ℕ) × IsWritten item head × (item.offset ≡ offset) × (text ≡ head ++ more) × IsCut (offset + length head) more items end rest
+    (head : Bytes) × (more : Bytes) × IsWritten item head × (item.offset ≡ offset) × (text ≡ head ++ more) × IsCut (offset + length head) more items end rest
 
 -- no whole item stands at the front
 abbrev pub HasNoItem : Bytes → Type 0
-HasNoItem rest = (item : ItemValue) (head more : List ℕ) → IsWritten item head → rest ≡ head ++ more → ⊥
+HasNoItem rest = (item : ItemValue) (head more : Bytes) → IsWritten item head → rest ≡ head ++ more → ⊥
 
 -- bytes that are left are an item that was cut off
 abbrev pub cut_off_at : ℕ → Bytes → List (Result ItemValue ParseError)

@@ -1,6 +1,6 @@
 -- Believed: the cells of a write unit, those of the error correction among them, and what they read as.
 use Rattle.shapes.specs.Shapes.{Bytes}
-use Rattle.std.specs.Prelude.{◌≡◌, ℕ, ◌++◌, ◌<◌, Option, None, Some, List, length, slice_index, replicate}
+use Rattle.std.specs.Prelude.{◌≡◌, ℕ, ◌++◌, ◌<◌, Option, None, Some, length, slice_index, replicate}
 use Rattle.std.specs.Int.{bit_at}
 use Rattle.flash_model.specs.Torn.{Within}
 use Rattle.ecc_flash.specs.Units.{IsEight}
@@ -23,11 +23,11 @@ code_word check bytes = bytes ++ check bytes
 pub record IsCode (size : ℕ) (check : Bytes → Bytes) : Type 0 where
   pub all_checks : (bytes : Bytes) → IsEight bytes → length (check bytes) ≡ size
   pub of_blank : check blank ≡ replicate size 255
-  pub apart : (one two cells : List ℕ) → IsEight one → IsEight two → IsNear (code_word check one) cells → IsNear (code_word check two) cells → one ≡ two
+  pub apart : (one two cells : Bytes) → IsEight one → IsEight two → IsNear (code_word check one) cells → IsNear (code_word check two) cells → one ≡ two
 
 -- what cells read as: the bytes whose code word is near, but FFh only where each cell is set; else an error
 abbrev pub ReadsCells : (Bytes → Bytes) → Bytes → Option Bytes → Type 0
-ReadsCells check cells None = (bytes : List ℕ) → IsEight bytes → IsNear (code_word check bytes) cells → (bytes ≡ blank) × (cells ≡ code_word check blank → ⊥)
+ReadsCells check cells None = (bytes : Bytes) → IsEight bytes → IsNear (code_word check bytes) cells → (bytes ≡ blank) × (cells ≡ code_word check blank → ⊥)
 ReadsCells check cells (Some bytes) = IsEight bytes × IsNear (code_word check bytes) cells × (bytes ≡ blank → cells ≡ code_word check blank)
 
 -- a unit and its cells: those are set that the bytes want set that it was last programmed with

@@ -39,4 +39,4 @@ Gives _ meant reads = ⊥
 
 -- an erase with this outcome leaves what it gives, where the clauses of a flash allow it
 abbrev pub ErasedBy : Outcome → ChosenUnit → ChosenUnit → Type 0
-ErasedBy outcome old new = (reads : Option (List ℕ)) → Gives outcome old.meant reads → MayBeErased (told_unit old) (record { meant = old.meant; reads = reads }) → told_unit new ≡ record { meant = old.meant; reads = reads }
+ErasedBy outcome old new = (reads : Option Bytes) → Gives outcome old.meant reads → MayBeErased (told_unit old) (record { meant = old.meant; reads = reads }) → told_unit new ≡ record { meant = old.meant; reads = reads }

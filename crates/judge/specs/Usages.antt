@@ -1,6 +1,6 @@
 -- Believed where this crate is called: the usages that are on in an input report, by its layout.
 use Rattle.shapes.specs.Shapes.{Bytes, UsageList}
-use Rattle.std.specs.Prelude.{◌≡◌, ◌⊎◌, ◌↔◌, ℕ, ◌+◌, ◌*◌, ◌/◌, ◌%◌, ◌<◌, ◌≤◌, List, ◌∷◌, length, Contains, slice_index}
+use Rattle.std.specs.Prelude.{◌≡◌, ◌⊎◌, ◌↔◌, ℕ, ◌+◌, ◌*◌, ◌/◌, ◌%◌, ◌<◌, ◌≤◌, ◌∷◌, length, Contains, slice_index}
 use Rattle.std.specs.Int.{bit_at}
 use Rattle.std.specs.List.Sorted.{IsStrictlyIncreasing}
 use Rattle.reports.specs.declared.Protocol.{Protocol}
@@ -30,16 +30,16 @@ IsInWord places usage =
 
 -- the three input reports: the boot report has no ID, the others begin with theirs
 pub data AreOn : Protocol → Bytes → UsageList → Type 0 where
-  boot : (modifiers reserved : ℕ) (places usages : List ℕ) → length places ≡ 6 → IsStrictlyIncreasing usages
+  boot : (modifiers reserved : ℕ) (places : Bytes) (usages : UsageList) → length places ≡ 6 → IsStrictlyIncreasing usages
       → ((usage : ℕ) → Contains usages usage ↔ (IsInPlace places usage ⊎ IsModifier modifiers usage))
       → AreOn Boot (modifiers ∷ reserved ∷ places) usages
-  bitmap : (modifiers : ℕ) (keys usages : List ℕ) → length keys ≡ 21 → IsStrictlyIncreasing usages
+  bitmap : (modifiers : ℕ) (keys : Bytes) (usages : UsageList) → length keys ≡ 21 → IsStrictlyIncreasing usages
       → ((usage : ℕ) → Contains usages usage ↔ (IsBit keys usage ⊎ IsModifier modifiers usage))
       → AreOn Report (1 ∷ modifiers ∷ keys) usages
-  consumer : (places usages : List ℕ) → length places ≡ 8 → IsStrictlyIncreasing usages
+  consumer : (places : Bytes) (usages : UsageList) → length places ≡ 8 → IsStrictlyIncreasing usages
       → ((usage : ℕ) → Contains usages usage ↔ IsInWord places usage)
       → AreOn Report (2 ∷ places) usages
 
 -- bytes that are none of the three
 abbrev pub IsNone : Protocol → Bytes → Type 0
-IsNone protocol bytes = (usages : List ℕ) → AreOn protocol bytes usages → ⊥
+IsNone protocol bytes = (usages : UsageList) → AreOn protocol bytes usages → ⊥

@@ -17,7 +17,7 @@ Gives packet step = (step.event ≡ event.InPacket) × (step.answer ≡ Packet (
 -- IN packets that were each answered by eight bytes
 abbrev pub AllFull : List Step → Type 0
 AllFull [] = Unit {0}
-AllFull (step ∷ before) = ((packet : List ℕ) × Gives packet step × (length packet ≡ 8)) × AllFull before
+AllFull (step ∷ before) = ((packet : Bytes) × Gives packet step × (length packet ≡ 8)) × AllFull before
 
 -- the SETUP packet, and full packets after it, newest first
 pub record Gathers (full steps : List Step) : Type 0 where

@@ -107,7 +107,7 @@ LineRuns _ steps (Fetched count) = ⊥
 abbrev pub Prints : List Line → List Step → Bytes → Type 0
 Prints [] steps text = (steps ≡ []) × (text ≡ [])
 Prints (line ∷ more) steps text =
-    (first later : List Step) × (outcome : Outcome) × (rest : List ℕ) × (steps ≡ later ++ first) × LineRuns line.statement first outcome
+    (first later : List Step) × (outcome : Outcome) × (rest : Bytes) × (steps ≡ later ++ first) × LineRuns line.statement first outcome
     × (text ≡ printed_line line.number outcome ++ rest) × Prints more later rest
 
 -- a flash that holds these bytes: nothing was operated, and nothing is armed

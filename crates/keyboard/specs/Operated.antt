@@ -70,7 +70,7 @@ ComesTo command old _ new = SameEntries (keymap new) (keymap old)
 -- the operations of a command's steps are, in order, those of the list that the flash and the command gave when it was accepted,
 -- and it needs as many steps as the list is long. The operation of the last one is its record, and each before is one of a
 -- turn, which is made where there is no room; a step that fails leaves words and active page as they were
-pub record Advances (accepted_at : List ℕ) (made : ℕ) (command : Command) (old : Bytes) (operation : Operation) (work : WorkAnswer) (new : Bytes) : Type 0 where
+pub record Advances (accepted_at : Bytes) (made : ℕ) (command : Command) (old : Bytes) (operation : Operation) (work : WorkAnswer) (new : Bytes) : Type 0 where
   pub needed : ℕ
   pub needed_is : needed ≡ length (operations_of accepted_at command)
   pub within : suc made ≤ needed

@@ -1,6 +1,6 @@
 -- Believed: what the operations of a store do to the active page.
 use Rattle.shapes.specs.Shapes.{Bytes}
-use Rattle.std.specs.Prelude.{◌≡◌, ℕ, suc, ◌<◌, List, Some}
+use Rattle.std.specs.Prelude.{◌≡◌, ℕ, suc, ◌<◌, Some}
 use Rattle.layers.specs.Copies.{AreCopies, places}
 use Rattle.flash_model.specs.Image.{slot_at}
 use Rattle.flash_model.specs.Operations.{OnePage}
@@ -49,7 +49,7 @@ pub data Wears (old new : Bytes) : Type 0 where
   fills : Fills old new → Wears old new
 
 -- operations one after another, none of which turns over, and how many of them may touch the tail of the active page
-pub data Follows (old : Bytes) : ℕ → List ℕ → Type 0 where
+pub data Follows (old : Bytes) : ℕ → Bytes → Type 0 where
   begin : Follows old 0 old
   spare : (n : ℕ) (image new : Bytes) → Follows old n image → Spares image new → Follows old n new
   fill : (n : ℕ) (image new : Bytes) → Follows old n image → Fills image new → Follows old (suc n) new

@@ -1,6 +1,6 @@
 -- Believed: the entries that differ from the default, by rising place, and the words that set them.
 use Rattle.shapes.specs.Shapes.{SlotWords}
-use Rattle.std.specs.Prelude.{◌≡◌, ◌≢◌, ℕ, zero, suc, ◌*◌, ◌/◌, ◌%◌, ◌<◌, ◌≤◌, ◌==◌, if◌then◌else◌, IsTrue, List, [], ◌∷◌, ◌++◌}
+use Rattle.std.specs.Prelude.{◌≡◌, ◌≢◌, ℕ, zero, suc, ◌*◌, ◌/◌, ◌%◌, ◌<◌, ◌≤◌, ◌==◌, if◌then◌else◌, IsTrue, [], ◌∷◌, ◌++◌}
 use Rattle.layers.specs.Codes.{layers, keys, is_code, default_at}
 use Rattle.layers.specs.Commands.{word_of}
 use Rattle.layers.specs.declared.command.Command.{Command}
@@ -38,6 +38,6 @@ copies_below entries (suc place) =
     else copies_below entries place ++ word_of (set_key_at entries place) ∷ []
 
 -- these are the copies of the entries below a place, each of which is a code
-pub record AreCopies (entries : ℕ → ℕ → ℕ) (place : ℕ) (words : List ℕ) : Type 0 where
+pub record AreCopies (entries : ℕ → ℕ → ℕ) (place : ℕ) (words : SlotWords) : Type 0 where
   pub listed : words ≡ copies_below entries place
   pub codes : (other : ℕ) → other < place → IsTrue (is_code (entry_at entries other))

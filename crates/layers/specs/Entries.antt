@@ -1,4 +1,5 @@
 -- Believed: the entries of a keymap by the commands that changed it: the last writer decides.
+use Rattle.shapes.specs.Shapes.{SlotWords}
 use Rattle.std.specs.Prelude.{◌≡◌, ◌≢◌, ℕ, ◌<◌, ◌==◌, ◌&&◌, if◌then◌else◌, Option, Some, None, unwrap_or, List, [], ◌∷◌, All}
 use Rattle.std.specs.List.{filter_map}
 use Rattle.std.specs.Option.{option_and_then, option_or}
@@ -23,11 +24,11 @@ unfoldable pub changed : (ℕ → ℕ → ℕ) → List Command → ℕ → ℕ 
 changed entries commands layer key = unwrap_or (last_written commands layer key) (entries layer key)
 
 -- the commands among the words of a page of this format, in order; a word that is no command is passed over
-unfoldable pub commands_in : ℕ → List ℕ → List Command
+unfoldable pub commands_in : ℕ → SlotWords → List Command
 commands_in format words = filter_map (command_in format) words
 
 -- the entry of a key on a layer by the words of a page of this format
-unfoldable pub entry_in : ℕ → List ℕ → ℕ → ℕ → ℕ
+unfoldable pub entry_in : ℕ → SlotWords → ℕ → ℕ → ℕ
 entry_in format words layer key = changed default_code (commands_in format words) layer key
 
 -- what a word gives an entry, if it is a command that writes it
@@ -35,7 +36,7 @@ abbrev pub written_by_word : ℕ → ℕ → ℕ → ℕ → Option ℕ
 written_by_word format word layer key = option_and_then (λ command. written command layer key) (command_in format word)
 
 -- none of these words writes the entry
-abbrev pub NoneWrites : ℕ → List ℕ → ℕ → ℕ → Type 0
+abbrev pub NoneWrites : ℕ → SlotWords → ℕ → ℕ → Type 0
 NoneWrites format words layer key = All (λ word. written_by_word format word layer key ≡ None) words
 
 -- some entry differs after the command

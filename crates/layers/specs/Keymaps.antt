@@ -1,6 +1,6 @@
 -- Believed: a keymap as the list of its codes, layer by layer.
-use Rattle.shapes.specs.Shapes.{KeyCodes}
-use Rattle.std.specs.Prelude.{◌≡◌, ℕ, ◌+◌, ◌*◌, ◌<◌, List, length, slice_index}
+use Rattle.shapes.specs.Shapes.{SlotWords, KeyCodes}
+use Rattle.std.specs.Prelude.{◌≡◌, ℕ, ◌+◌, ◌*◌, ◌<◌, length, slice_index}
 use Rattle.layers.specs.Codes.{layers, keys}
 use Rattle.layers.specs.Entries.{entry_in}
 
@@ -18,5 +18,5 @@ pub record HasEntries (entries : ℕ → ℕ → ℕ) (keymap : KeyCodes) : Type
   pub each : (layer key : ℕ) → layer < layers → key < keys → code_at keymap layer key ≡ entries layer key
 
 -- a keymap stands for the words of a page of this format
-abbrev pub StandsFor : ℕ → List ℕ → KeyCodes → Type 0
+abbrev pub StandsFor : ℕ → SlotWords → KeyCodes → Type 0
 StandsFor format words keymap = HasEntries (entry_in format words) keymap

@@ -16,7 +16,7 @@ consumer_usages past usage = any_has (code past) (names_consumer usage)
 -- two sets of usages, of page 07h and of page 0Ch: a bit for each number, eight to a byte and 32 to a word; and a bit
 -- for each word of the second that may have one
 pub record UsageSets : Type 0 where
-  pub key_bits : List ℕ
+  pub key_bits : Bytes
   pub consumer_words : List ℕ
   pub occupied : List ℕ
 

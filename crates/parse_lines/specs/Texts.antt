@@ -1,6 +1,6 @@
 -- Believed: what a text in hex declares, and why it is refused.
 use Rattle.shapes.specs.Shapes.{Bytes}
-use Rattle.std.specs.Prelude.{◌≡◌, ◌≢◌, ℕ, ◌<◌, ◌≤◌, List, length, Option, IfSome, ⊤}
+use Rattle.std.specs.Prelude.{◌≡◌, ◌≢◌, ℕ, ◌<◌, ◌≤◌, length, Option, IfSome, ⊤}
 use Rattle.text_io.specs.Readers.{longest}
 use Rattle.text_io.specs.declared.fault.ReadError.{ReadError}
 use Rattle.text_io.specs.declared.fault.ReadError.TheVariants as read
@@ -55,7 +55,7 @@ unread read.Memory = error.Memory
 abbrev pub IsTextFault : Option Bytes → LinesError → Type 0
 IsTextFault text error.TooLong = IfSome text (λ t. longest < length t)
 IsTextFault text error.BadHexText = IfSome text (λ t. (length t ≤ longest) × IsNoHex t)
-IsTextFault text (error.Refused e) = IfSome text (λ t. (bytes : List ℕ)
+IsTextFault text (error.Refused e) = IfSome text (λ t. (bytes : Bytes)
     × (length t ≤ longest) × SaysBytes t bytes × (e.fault ≢ fault.Memory) × IsFirstFault bytes e)
 IsTextFault text error.Input = ⊤
 IsTextFault text error.Memory = ⊤

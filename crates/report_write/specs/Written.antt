@@ -17,7 +17,7 @@ with_id d id bytes = if d.uses_ids then id ∷ bytes else bytes
 -- Where nothing is refused, all settings are written one after the other onto the bytes at the start, and no place is set
 -- before the first.
 pub record IsWritten (d : DescriptorValue) (null_states : List Bool) (kind : Kind) (id : ℕ) (settings : List Setting)
-    (onto : Option Bytes) (report : List ℕ) : Type 0 where
+    (onto : Option Bytes) (report : Bytes) : Type 0 where
   pub len : ℕ
   pub start : Bytes
   pub bytes : Bytes

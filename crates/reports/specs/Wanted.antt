@@ -1,12 +1,12 @@
 -- Believed: the bytes of each report for a set of usages. A set is a test: `keys u` says that usage u of page 07h is in it,
 -- `consumer u` that usage u of page 0Ch is.
 use Rattle.shapes.specs.Shapes.{Bytes, UsageList}
-use Rattle.std.specs.Prelude.{ℕ, zero, suc, ◌+◌, ◌-◌, ◌*◌, ◌/◌, ◌%◌, ◌^◌, Bool, ◌&&◌, List, [], ◌∷◌, ◌++◌, length, take, replicate, if◌then◌else◌, nat_le, nat_lt}
+use Rattle.std.specs.Prelude.{ℕ, zero, suc, ◌+◌, ◌-◌, ◌*◌, ◌/◌, ◌%◌, ◌^◌, Bool, ◌&&◌, [], ◌∷◌, ◌++◌, length, take, replicate, if◌then◌else◌, nat_le, nat_lt}
 use Rattle.reports.specs.declared.Input.{Input}
 use Rattle.reports.specs.declared.Input.TheVariants.{Boot, One, Two}
 
 -- those of `count` numbers from `first` on that pass the test, rising
-unfoldable pub members : (ℕ → Bool) → ℕ → ℕ → List ℕ
+unfoldable pub members : (ℕ → Bool) → ℕ → ℕ → UsageList
 members test first zero = []
 members test first (suc n) = members test first n ++ (if test (first + n) then (first + n) ∷ [] else [])
 
@@ -29,12 +29,12 @@ abbrev pub modifiers_of : (ℕ → Bool) → ℕ
 modifiers_of keys = byte_of (λ i. keys (224 + i))
 
 -- the distinct usages 04h to A4h, rising
-abbrev pub listed : (ℕ → Bool) → List ℕ
+abbrev pub listed : (ℕ → Bool) → UsageList
 listed keys = members keys 4 161
 
 -- the six places of a boot report: these usages and then zeros, or six times ErrorRollOver where they
 -- are more
-abbrev pub places_of : UsageList → List ℕ
+abbrev pub places_of : UsageList → UsageList
 places_of usages =
     if nat_le (length usages) 6 then usages ++ replicate (6 - length usages) 0 else replicate 6 1
 
@@ -51,16 +51,16 @@ unfoldable pub bitmap_bytes : (ℕ → Bool) → Bytes
 bitmap_bytes keys = 1 ∷ bytes_of (bitmap_bit keys) 22
 
 -- the usages 001h to 3FFh, rising
-abbrev pub consumer_listed : (ℕ → Bool) → List ℕ
+abbrev pub consumer_listed : (ℕ → Bool) → UsageList
 consumer_listed consumer = members consumer 1 1023
 
 -- numbers of two bytes, the low one first
-unfoldable pub words_of : List ℕ → List ℕ
+unfoldable pub words_of : UsageList → Bytes
 words_of [] = []
 words_of (n ∷ ns) = n % 256 ∷ n / 256 ∷ words_of ns
 
 -- four places: these usages and then zeros
-abbrev pub padded : UsageList → List ℕ
+abbrev pub padded : UsageList → UsageList
 padded usages = usages ++ replicate (4 - length usages) 0
 
 -- the input report of ID 2: the usages, or the four least of more

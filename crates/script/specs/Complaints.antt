@@ -1,4 +1,5 @@
 -- Believed: what is wrong with a line, by the words that it has.
+use Rattle.shapes.specs.Shapes.{Bytes}
 use Rattle.std.specs.Prelude.{◌≡◌, ◌≢◌, ℕ, List, length}
 use Rattle.script.specs.Statements.{Kind, IsOfKind, Number, Count, HexBytes, MaskBytes, Takes, spelling}
 use Rattle.script.specs.declared.complaint.Complaint.{Complaint}
@@ -24,5 +25,5 @@ kind_of pages wanted.Code = HexBytes 2 2
 -- what is complained of is so: no line begins with the word, so many words may not follow, or the word is not what is wanted
 abbrev pub IsSo : ℕ → Complaint → Type 0
 IsSo pages (complaint.Unknown word) = (k : Keyword) → spelling k ≢ word.now
-IsSo pages (complaint.Words k count) = (arguments : List (List ℕ)) × (length arguments ≡ count) × ¬ (Takes k arguments)
+IsSo pages (complaint.Words k count) = (arguments : List Bytes) × (length arguments ≡ count) × ¬ (Takes k arguments)
 IsSo pages (complaint.Word word column w) = ¬ (IsOfKind (kind_of pages w) word.now)

@@ -108,16 +108,16 @@ IsFault pages (name ∷ arguments) fault = (k : Keyword) × (spelling k ≡ name
 -- the words that say a statement
 abbrev pub Says : ℕ → Statement → List Bytes → Type 0
 Says pages (statement.One (action.Scan scan)) words =
-    (ks : List (List ℕ)) × (words ≡ codes "scan" ∷ ks) × (length ks ≤ 96) × WritesScan ks scan
+    (ks : List Bytes) × (words ≡ codes "scan" ∷ ks) × (length ks ≤ 96) × WritesScan ks scan
 Says pages (statement.One action.Poll) words = words ≡ codes "poll" ∷ []
 Says pages (statement.Scans count scan) words =
-    (n : List ℕ) × (ks : List (List ℕ)) × (words ≡ codes "scans" ∷ n ∷ ks) × (length ks ≤ 96)
+    (n : Bytes) × (ks : List Bytes) × (words ≡ codes "scans" ∷ n ∷ ks) × (length ks ≤ 96)
     × WritesNumber n (non_zero_u16_get count) × (non_zero_u16_get count ≤ 10000) × WritesScan ks scan
 Says pages (statement.One (action.Setup packet)) words =
-    (w : List ℕ) × (words ≡ codes "setup" ∷ w ∷ []) × WritesBytes w packet
+    (w : Bytes) × (words ≡ codes "setup" ∷ w ∷ []) × WritesBytes w packet
 Says pages (statement.One (action.Out packet)) words =
     ((words ≡ codes "out" ∷ []) × (packet.items ≡ []))
-    ⊎ ((w : List ℕ) × (words ≡ codes "out" ∷ w ∷ []) × WritesBytes w packet.items × (0 < length packet.items))
+    ⊎ ((w : Bytes) × (words ≡ codes "out" ∷ w ∷ []) × WritesBytes w packet.items × (0 < length packet.items))
 Says pages (statement.One action.In) words = words ≡ codes "in" ∷ []
 Says pages (statement.One action.Work) words = words ≡ codes "work" ∷ []
 Says pages (statement.One (action.WorkFault mask)) words = (words ≡ codes "workfault" ∷ mask ∷ []) × IsMaskWord mask
@@ -125,10 +125,10 @@ Says pages (statement.One action.Cut) words = words ≡ codes "cut" ∷ []
 Says pages (statement.One (action.CutWork mask)) words = (words ≡ codes "cutwork" ∷ mask ∷ []) × IsMaskWord mask
 Says pages (statement.One action.Reset) words = words ≡ codes "reset" ∷ []
 Says pages (statement.One (action.Entry layer key)) words =
-    (l k : List ℕ) × (words ≡ codes "entry" ∷ l ∷ k ∷ []) × WritesNumber l layer × WritesNumber k key
+    (l k : Bytes) × (words ≡ codes "entry" ∷ l ∷ k ∷ []) × WritesNumber l layer × WritesNumber k key
 Says pages (statement.One (action.Slot page slot)) words =
-    (p s : List ℕ) × (words ≡ codes "slot" ∷ p ∷ s ∷ []) × WritesNumber p page × WritesNumber s slot × (page < pages) × (slot < 512)
+    (p s : Bytes) × (words ≡ codes "slot" ∷ p ∷ s ∷ []) × WritesNumber p page × WritesNumber s slot × (page < pages) × (slot < 512)
 Says pages (statement.One action.Leds) words = words ≡ codes "leds" ∷ []
 Says pages (statement.Set layer key code) words =
-    (l k c : List ℕ) × (words ≡ codes "set" ∷ l ∷ k ∷ c ∷ []) × WritesNumber l layer × WritesNumber k key × ((high low : ℕ) × WritesBytes c (high ∷ low ∷ []) × (code ≡ 256 * high + low))
+    (l k c : Bytes) × (words ≡ codes "set" ∷ l ∷ k ∷ c ∷ []) × WritesNumber l layer × WritesNumber k key × ((high low : ℕ) × WritesBytes c (high ∷ low ∷ []) × (code ≡ 256 * high + low))
 Says pages statement.Fetch words = words ≡ codes "fetch" ∷ []

@@ -52,5 +52,5 @@ abbrev pub typed : List Call
 typed = no_key ∷ no_key ∷ no_key ∷ no_key ∷ no_key ∷ pressed
 
 -- the report of ID 1 with usage 04h alone
-abbrev pub letter_a : List ℕ
+abbrev pub letter_a : Bytes
 letter_a = 1 ∷ 0 ∷ 1 ∷ replicate 20 0

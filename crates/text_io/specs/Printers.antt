@@ -1,5 +1,6 @@
 -- Believed where this crate is called: what a printer has printed.
-use Rattle.std.specs.Prelude.{◌≡◌, ℕ, List, [], Option}
+use Rattle.shapes.specs.Shapes.{Bytes}
+use Rattle.std.specs.Prelude.{◌≡◌, [], Option}
 use Rattle.std.specs.Borrow.{GName}
 use Rattle.std.specs.Io.KnownBytes.{Appends, append_known}
 use Rattle.text_io.specs.declared.print.Printer.{Printer}
@@ -10,11 +11,11 @@ module _ {W : Type 0} where
   printer_writer p = p.writer.ghost_name
 
   -- the bytes that the writer was given, where they are known
-  abbrev pub given : (W → Option (List ℕ)) → Printer W → Option (List ℕ)
+  abbrev pub given : (W → Option Bytes) → Printer W → Option Bytes
   given contents p = contents p.writer.now
 
   -- those, and what waits for the writer
-  abbrev pub printed : (W → Option (List ℕ)) → Printer W → Option (List ℕ)
+  abbrev pub printed : (W → Option Bytes) → Printer W → Option Bytes
   printed contents p = append_known (given contents p) p.waiting.bytes
 
   -- nothing waits for the writer: it was given all that was printed
@@ -22,5 +23,5 @@ module _ {W : Type 0} where
   NothingWaits p = p.waiting.bytes ≡ []
 
   -- this text was printed between the two
-  abbrev pub Prints : (W → Option (List ℕ)) → Printer W → Printer W → List ℕ → Type 0
+  abbrev pub Prints : (W → Option Bytes) → Printer W → Printer W → Bytes → Type 0
   Prints contents old new text = Appends (printed contents old) (printed contents new) text

@@ -1,7 +1,7 @@
 -- Believed: what has happened: the flash at the start, and steps, newest first; the session that they end in, as its
 -- keyboard has seen it; and what the host has heard.
 use Rattle.shapes.specs.Shapes.{Bytes}
-use Rattle.std.specs.Prelude.{ℕ, Bool, not, Option, None, Some, List, [], ◌∷◌}
+use Rattle.std.specs.Prelude.{Bool, not, Option, None, Some, List, [], ◌∷◌}
 use Rattle.flash_model.specs.Sim.{SimValue}
 use Rattle.keyboard.specs.Calls.{Call}
 use Rattle.host.specs.Calls.{HostCall, lost}
@@ -20,7 +20,7 @@ image_after start past = (flash_after start past).image
 -- a session is what comes after a start, up to the next one: the image that the keyboard started on, and its calls since,
 -- newest first
 pub record Session : Type 0 where
-  pub first : List ℕ
+  pub first : Bytes
   pub past : List Call
 
 -- the session after a step of this kind, which leaves this image: a start begins one, and a look changes nothing

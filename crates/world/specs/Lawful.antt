@@ -85,7 +85,7 @@ Answered now heard old InPacket answer refused new =
     (by_ep : EpAnswer) × (answer ≡ as_answer by_ep) × keyboard.IsAnswered now.first now.past (In by_ep) × (new ≡ old)
     × MayRefuse heard by_ep refused
 Answered now heard old Poll answer refused new =
-    (report : Option (List ℕ)) × keyboard.IsAnswered now.first now.past (Polled report) × (new ≡ old)
+    (report : Option Bytes) × keyboard.IsAnswered now.first now.past (Polled report) × (new ≡ old)
     × IsSent (protocol_after now.past) heard report answer refused
 Answered now heard old Work answer refused new =
     (work : WorkAnswer) × (answer ≡ Worked work) × WorksIn now old old work new × (refused ≡ false)

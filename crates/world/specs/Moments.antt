@@ -1,6 +1,6 @@
 -- Believed: the moments that the reports of a session are of.
 use Rattle.shapes.specs.Shapes.{Bytes}
-use Rattle.std.specs.Prelude.{◌≡◌, ◌≢◌, ℕ, Some, List, ◌∷◌, ◌++◌}
+use Rattle.std.specs.Prelude.{◌≡◌, ◌≢◌, Some, List, ◌∷◌, ◌++◌}
 use Rattle.flash_model.specs.Sim.{SimValue}
 use Rattle.host.specs.declared.reading.Reading.{Reading}
 use Rattle.keyboard.specs.Calls.{Call, Polled}
@@ -16,7 +16,7 @@ report_of sent = record { moment = sent.moment; input = sent.input }
 
 -- the bytes are those of a report as it was wanted at its moment. Of each report that a poll of the session sent before, it
 -- is of the same moment or a later one, and it is another one
-pub record SendsOnward (first : List ℕ) (past : List Call) (bytes : Bytes) : Type 0 where
+pub record SendsOnward (first : Bytes) (past : List Call) (bytes : Bytes) : Type 0 where
   pub sent : IsWantedAt first past bytes
   pub onward : (since before : List Call) (earlier : Bytes) (was : IsWantedAt first before earlier) → past ≡ since ++ Polled (Some earlier) ∷ before
       → (between : List Call) × (sent.moment ≡ between ++ was.moment)
@@ -26,5 +26,5 @@ pub record SendsOnward (first : List ℕ) (past : List Call) (bytes : Bytes) : T
 -- from one start to the next the moments of the reports that polls send do not go back, and no report is sent twice
 abbrev pub MovesOn : SimValue → List Step → Step → Type 0
 MovesOn start before step =
-    (bytes : List ℕ) (reading : Reading) → step.answer ≡ Sent (record { items = bytes }) reading
+    (bytes : Bytes) (reading : Reading) → step.answer ≡ Sent (record { items = bytes }) reading
     → SendsOnward (session start before).first (session start before).past bytes

@@ -1,5 +1,6 @@
 -- Believed: what the host reads in a report, and the descriptor that it keeps.
-use Rattle.std.specs.Prelude.{◌≡◌, ℕ, None, Some, List, [], length, take}
+use Rattle.shapes.specs.Shapes.{Bytes}
+use Rattle.std.specs.Prelude.{◌≡◌, None, Some, List, [], length, take}
 use Rattle.flash_model.specs.Sim.{SimValue}
 use Rattle.descriptor_build.specs.Served.{report_bytes}
 use Rattle.host.specs.Kept.{Fetch, gathering, kept}
@@ -15,7 +16,7 @@ use Rattle.world.specs.History.{session, host_calls}
 -- session that the report is of. It is unread only where report protocol is in force and no descriptor is kept
 abbrev pub ReadsWanted : SimValue → List Step → Step → Type 0
 ReadsWanted start before step =
-    (bytes : List ℕ) (reading : Reading) → step.answer ≡ Sent (record { items = bytes }) reading
+    (bytes : Bytes) (reading : Reading) → step.answer ≡ Sent (record { items = bytes }) reading
     → IsReadAs (session start before).first (session start before).past (host_calls before) bytes reading
 
 -- over all sessions the host keeps the keyboard's report descriptor where a fetch of it came through, whatever was asked,

@@ -1,6 +1,6 @@
 -- Only ties code to its definitions: the parser to the bytes that it was fed.
 use Rattle.shapes.specs.Shapes.{Bytes}
-use Rattle.std.specs.Prelude.{◌≡◌, ℕ, ◌<◌, ◌≤◌, List, ◌++◌, length, slice_index, Option, Some, None}
+use Rattle.std.specs.Prelude.{◌≡◌, ℕ, ◌<◌, ◌≤◌, ◌++◌, length, slice_index, Option, Some, None}
 use Rattle.descriptor_parse.specs.declared.fault.ParseError.{ParseError}
 use Rattle.descriptor_parse.specs.declared.state.State.{State}
 use Rattle.descriptor_parse.specs.declared.reading.Reading.{Reading}
@@ -10,7 +10,7 @@ use Rattle.descriptor_parse.specs.Fed.{RefusesAll}
 
 -- Whatever follows a text, its items were read up to this offset, and the rest of it is left.
 pub record IsAt (text rest : Bytes) (offset : ℕ) (state : State) : Type 0 where
-  pub reached : (more : List ℕ) → HasReached (text ++ more) (rest ++ more) offset state
+  pub reached : (more : Bytes) → HasReached (text ++ more) (rest ++ more) offset state
   pub within : offset ≤ 4096
 
 -- a whole item stands at the front
