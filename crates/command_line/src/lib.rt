@@ -4,7 +4,6 @@
 //! `kbsim_cli` calls it.
 #![tactic(auto)]
 
-use clap::builder::ValueParser;
 use clap::{Arg, ArgAction, ArgMatches, Command, Error, value_parser};
 use std::alloc::{AllocError, Global};
 use std::convert::AsStr;
@@ -261,13 +260,8 @@ fn pages<'a>(alloc: Global) -> Arg<'a> {
         .long("pages")
         .value_name("N")
         .help("How many pages the flash has")
-        .value_parser(page_counts())
+        .value_parser(value_parser!(usize).range(2..=8))
         .default_value(PAGES_WORD)
-}
-
-/// How many pages a flash may have.
-fn page_counts<'a>() -> ValueParser<'a> {
-    value_parser!(usize).range(2..=8)
 }
 
 fn image<'a>(alloc: Global) -> Result<Arg<'a>, AllocError> {
@@ -306,27 +300,21 @@ fn describe<'a>(alloc: Global) -> Command<'a> {
 }
 
 fn parse<'a>(alloc: Global) -> Result<Command<'a>, AllocError> {
-    Command::new(alloc, "parse")
-        .about("Prints the fields, or the items, of a report descriptor")
-        .long_about(PARSE_HELP)
-        .after_long_help(STATUS_HELP)
-        .arg(from(alloc))?
-        .arg(items(alloc))?
-        .arg(file(alloc))
-}
-
-fn items<'a>(alloc: Global) -> Arg<'a> {
-    Arg::new(alloc, "items")
+    let items = Arg::new(alloc, "items")
         .long("items")
         .help("Prints each item, up to the first fault, in place of the fields")
-        .action(ArgAction::SetTrue)
-}
-
-fn from<'a>(alloc: Global) -> Arg<'a> {
-    Arg::new(alloc, "from")
+        .action(ArgAction::SetTrue);
+    let from = Arg::new(alloc, "from")
         .long("from")
         .value_name("FORM")
         .help("How the text says the bytes")
         .value_parser(FORMS)
-        .default_value("hex")
+        .default_value("hex");
+    Command::new(alloc, "parse")
+        .about("Prints the fields, or the items, of a report descriptor")
+        .long_about(PARSE_HELP)
+        .after_long_help(STATUS_HELP)
+        .arg(from)?
+        .arg(items)?
+        .arg(file(alloc))
 }
