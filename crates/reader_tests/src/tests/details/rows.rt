@@ -1,7 +1,8 @@
 //! Texts beside what is told of them, and a real one beside the plain program.
 
+use super::super::same;
 use super::made_up::check;
-use super::{bytes, same, two};
+use super::{bytes, two};
 use descriptor_parse::Kind;
 use field_details::{Collection, Detail, Details, details_of};
 use std::alloc::Global;

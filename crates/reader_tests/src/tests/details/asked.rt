@@ -1,7 +1,8 @@
 //! The calls over what is told, beside a plain program that looks over all of it at every question, and beside rows.
 
+use super::super::same;
 use super::plain::{items_of, names};
-use super::{bytes, same, two};
+use super::{bytes, two};
 use descriptor_parse::{Item, Kind};
 use field_details::{Detail, Details, Naming, PlacedFields, details_of, namings};
 use std::alloc::Global;

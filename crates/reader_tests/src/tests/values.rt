@@ -1,4 +1,4 @@
-//! What is given beside what is told of it. Rows are lines of one text.
+//! Places beside what is read there, written there, and refused.
 
 mod lists;
 mod physical;
@@ -18,11 +18,6 @@ fn two<'a>(rt: &impl Abort, row: &'a str, between: &str) -> (&'a str, &'a str) {
         Some(sides) => sides,
         None => panic!(rt; "{row} has no {between}"),
     }
-}
-
-/// Compares what is told with what a row wants.
-fn same(rt: &impl Abort, told: &str, wanted: &str, row: &str) {
-    assert_eq!(rt; told, wanted, "of the row {row}");
 }
 
 /// The next number of a row.

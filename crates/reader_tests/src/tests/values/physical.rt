@@ -1,6 +1,7 @@
 //! Physical values.
 
-use super::{number, same, two};
+use super::super::same;
+use super::{number, two};
 use field_values::{Extents, physical_value};
 use std::alloc::Global;
 use std::process::Abort;

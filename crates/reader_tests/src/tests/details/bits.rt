@@ -1,6 +1,7 @@
 //! The bits of an item, and the digits of a unit.
 
-use super::{same, two};
+use super::super::same;
+use super::two;
 use descriptor_parse::Kind;
 use field_details::{Detail, Dimension};
 use std::alloc::Global;

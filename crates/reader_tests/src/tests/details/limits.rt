@@ -1,6 +1,7 @@
 //! Texts of the greatest length, and numbers that are as large as they can be.
 
-use super::{push_byte, same};
+use super::super::same;
+use super::push_byte;
 use descriptor_parse::Kind;
 use field_details::{Details, Naming, details_of, namings};
 use std::alloc::Global;

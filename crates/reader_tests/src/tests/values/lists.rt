@@ -1,6 +1,7 @@
 //! Usages of places and of values.
 
-use super::{is_readable, same, two};
+use super::super::same;
+use super::{is_readable, two};
 use descriptor_parse::{FieldUsages, Kind, parse};
 use field_values::read_place;
 use row_text::bytes;

@@ -1,4 +1,4 @@
-//! What is given beside what is told of it. Rows are lines of one text.
+//! What a descriptor says beside what is told of it.
 
 mod asked;
 mod bits;
@@ -27,9 +27,4 @@ fn two<'a>(rt: &impl Abort, row: &'a str) -> (&'a str, &'a str) {
         Some(sides) => sides,
         None => panic!(rt; "no answer in the row {row}"),
     }
-}
-
-/// Compares what is told with what a row wants.
-fn same(rt: &impl Abort, told: &str, wanted: &str, row: &str) {
-    assert_eq!(rt; told, wanted, "of the row {row}");
 }

@@ -1,0 +1,13 @@
+//! What is told of data items (`details`, of `field_details`), the values of their places (`values`, of `field_values`), and
+//! reports that are written by settings (`settings`, of `report_write`). Rows are lines of one text.
+
+mod details;
+mod settings;
+mod values;
+
+use std::process::Abort;
+
+/// Compares what is told with what a row wants.
+fn same(rt: &impl Abort, told: &str, wanted: &str, row: &str) {
+    assert_eq!(rt; told, wanted, "of the row {row}");
+}
