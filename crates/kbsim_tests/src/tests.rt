@@ -1,11 +1,13 @@
-//! What is given beside what is printed.
+//! Texts beside what is read of them, and what is given beside what is printed.
 
 use row_text::text_of;
 use std::process::Abort;
 
 mod descriptors;
+mod language;
 mod scripts;
 mod streams;
+mod texts;
 
 /// Compares what was printed with what was to be; `case` says where.
 fn same<R: Abort>(rt: &R, printed: &str, expected: &str, case: &str) {

@@ -1,7 +1,0 @@
-//! Sessions that look random (`sessions`), of a keyboard and its flash (`rig`), which is one of cells (`cells`) or one that
-//! reads as it is told to (`choices`).
-
-mod cells;
-mod choices;
-mod rig;
-mod sessions;
