@@ -37,7 +37,7 @@ STATEMENTS = [
         "key_reports": "", "debounce": "Scan", "reports": "", "layers": "Code KeyNo Keymap LayerNo"}),
     Statement("crates/keymap_store_tests/src/tests/store/plain_image.rt", {
         "keymap_store": "SubmitRefusal", "page_turnover": "", "layers": ""}),
-    Statement("crates/reader_tests/src/tests/details/plain.rt", {
+    Statement("crates/hid_tests/src/tests/details/plain.rt", {
         "field_details": "Collection Detail", "descriptor_parse": "Item Items Kind"}),
 ]
 

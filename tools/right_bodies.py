@@ -1,9 +1,9 @@
 """Proves the right bodies of tests/right_bodies, each of which has the shape of a wrong one.
 
 A wrong body that is refused shows what the contract refuses only where a right body of the same shape is proved.
-tests/right_bodies/CRATE/NAME.edit stands beside crates/CRATE/must-fail/NAME.edit, and is written as that: a file of the crate, a
-text that stands there once, and what takes its place, maybe several times; a text may go on over several lines. All of a crate's
-are applied to a copy of the repository, and the crate has to be proved with them: by `rt ci`, which takes what the gate proved
+tests/right_bodies/CRATE/NAME.edit stands beside NAME.edit in must-fail/ or more-edits/ of crates/CRATE, and is written as that: a
+file of the crate, a text that stands there once, and what takes its place, maybe several times; a text may go on over several
+lines. All of a crate's are applied to a copy of the repository, and the crate has to be proved with them: by `rt ci`, which takes what the gate proved
 here of the crates below. A crate takes half a minute of processor and more. bin/test only sees that each can be applied.
 """
 
@@ -56,7 +56,7 @@ def edits_of(crate, names):
     """The paths of a crate's right bodies, of these names or of all."""
     found = sorted(glob.glob(f"{BODIES}/{crate}/*.edit"))
     for path in found:
-        if not os.path.exists(f"{ROOT}/crates/{crate}/must-fail/{os.path.basename(path)}"):
+        if not any(os.path.exists(f"{ROOT}/crates/{crate}/{place}/{os.path.basename(path)}") for place in ("must-fail", "more-edits")):
             raise ValueError(f"{path}: no wrong body of this name")
     return [path for path in found if not names or os.path.basename(path).removesuffix(".edit") in names]
 

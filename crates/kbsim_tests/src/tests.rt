@@ -9,7 +9,7 @@ mod scripts;
 mod streams;
 mod texts;
 
-/// Compares what was printed with what was to be; `case` says where.
-fn same<R: Abort>(rt: &R, printed: &str, expected: &str, case: &str) {
-    assert_eq!(rt; printed, expected, "of {case}");
+/// Compares a text with what was to be; `case` says where.
+fn same<R: Abort>(rt: &R, found: &str, expected: &str, case: &str) {
+    assert_eq!(rt; found, expected, "of {case}");
 }

@@ -1,7 +1,6 @@
 //! The bits of an item, and the digits of a unit.
 
-use super::super::same;
-use super::two;
+use super::super::{same, two};
 use descriptor_parse::Kind;
 use field_details::{Detail, Dimension};
 use std::alloc::Global;
@@ -64,7 +63,7 @@ fn high_bits(alloc: Global, rt: &impl Abort, detail: &Detail) -> String {
 }
 
 fn check_bits(rt: &impl Abort, alloc: Global, row: &str) {
-    let (flags, wanted) = two(rt, row);
+    let (flags, wanted) = two(rt, row, " = ");
     let detail = with(number(rt, flags), 0);
     let low = low_bits(alloc, rt, &detail);
     let high = high_bits(alloc, rt, &detail);
@@ -97,7 +96,7 @@ FFFFFFFF = cvrwnpuob
 
 /// The system, the exponents of the six dimensions, and the reserved digit.
 fn check_unit(rt: &impl Abort, alloc: Global, row: &str) {
-    let (unit, wanted) = two(rt, row);
+    let (unit, wanted) = two(rt, row, " = ");
     let detail = with(0, number(rt, unit));
     let mut told = format!(in alloc; "{}", detail.unit_system())
         .ok()

@@ -1,8 +1,8 @@
 //! The calls over what is told, beside a plain program that looks over all of it at every question, and beside rows.
 
-use super::super::same;
+use super::super::{same, two};
 use super::plain::{items_of, names};
-use super::{bytes, two};
+use super::{bytes, kind_name};
 use descriptor_parse::{Item, Kind};
 use field_details::{Detail, Details, Naming, PlacedFields, details_of, namings};
 use std::alloc::Global;
@@ -21,14 +21,6 @@ fn say(rt: &impl Abort, alloc: Global, all: &mut String, word: &str, number: u64
         .ok()
         .expect(rt, "memory");
     all.push_str(more.as_str()).ok().expect(rt, "memory");
-}
-
-fn kind_name(kind: Kind) -> &'static str {
-    match kind {
-        Kind::Input => "input",
-        Kind::Output => "output",
-        Kind::Feature => "feature",
-    }
 }
 
 /// All that the calls give, one after the other.
@@ -248,7 +240,7 @@ fn want_names(rt: &impl Abort, alloc: Global, all: &mut String, items: &[Item<'_
 // ---- rows
 
 fn check_row<R: AllocGlobal + Abort>(rt: &R, row: &str) {
-    let (text, wanted) = two(rt, row);
+    let (text, wanted) = two(rt, row, " = ");
     let text = bytes(rt, text);
     let told = details_of(rt.alloc(), &text).ok().expect(rt, "memory");
     let given = given(rt, rt.alloc(), &told, &text);

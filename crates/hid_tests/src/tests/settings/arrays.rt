@@ -1,16 +1,6 @@
 //! Rows of reports that are written: Arrays.
 
-use super::rows::Writer;
-use row_text::first_wrong;
-use std::alloc::Global;
-use std::process::Abort;
-
-fn check(rt: &impl Abort, alloc: Global, text: &str, rows: &str) {
-    let mut writer = Writer { alloc, text };
-    if let Some((row, told)) = first_wrong(&mut writer, rows) {
-        panic!(rt; "{row}: {told:?}");
-    }
-}
+use super::rows::check;
 
 #[test]
 fn usages_of_an_array(rt: HostRuntime) {

@@ -2,7 +2,7 @@
 //! beside a plain program that looks back over the items at every question; places and bytes beside what is read there,
 //! written there, and refused; settings beside the report that is written of them, or the refusal.
 //!
-//! They stand apart from the three crates, since a crate with tests is proved twice.
+//! They stand apart from these crates, since a crate with tests is proved twice.
 #![tactic(auto)]
 
 #[cfg(test)]

@@ -1,7 +1,7 @@
 //! Physical values.
 
-use super::super::same;
-use super::{number, two};
+use super::super::{same, two};
+use super::number;
 use field_values::{Extents, physical_value};
 use std::alloc::Global;
 use std::process::Abort;

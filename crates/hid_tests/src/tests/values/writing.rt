@@ -1,7 +1,7 @@
 //! Values and nulls into the bits of bytes.
 
-use super::super::same;
-use super::{field_of, is_readable, number, two, value};
+use super::super::{same, two};
+use super::{field_of, is_readable, number, value};
 use descriptor_parse::Field;
 use field_values::{Asked, set_place};
 use row_text::bytes;

@@ -8,23 +8,24 @@ use descriptor_parse::{Kind, parse};
 use field_details::details_of;
 use field_values::Asked;
 use report_write::{Setting, Target, WriteError, write};
-use row_text::{RunsRows, bytes, hex};
+use row_text::{RunsRows, bytes, first_wrong, hex};
 use std::alloc::Global;
+use std::process::Abort;
 use std::str::SplitWhitespace;
 
 /// What comes of a row.
 #[derive(Debug, PartialEq, Drop)]
-pub(super) enum Told {
+enum Told {
     Report(ArrayVec<u8, 64>),
     Not(WriteError),
 }
 
 /// What runs the rows.
 #[derive(Drop)]
-pub(super) struct Writer<'t> {
-    pub(super) alloc: Global,
+struct Writer<'t> {
+    alloc: Global,
     /// The descriptor, in hex.
-    pub(super) text: &'t str,
+    text: &'t str,
 }
 
 impl<'a, 't> RunsRows<'a> for Writer<'t> {
@@ -51,6 +52,14 @@ impl<'a, 't> RunsRows<'a> for Writer<'t> {
             Some(error) => Some(Told::Not(error)),
             None => Some(Told::Report(bytes::<64>(answer)?)),
         }
+    }
+}
+
+/// Compares rows of a descriptor, in hex, with what is written.
+pub(super) fn check(rt: &impl Abort, alloc: Global, text: &str, rows: &str) {
+    let mut writer = Writer { alloc, text };
+    if let Some((row, told)) = first_wrong(&mut writer, rows) {
+        panic!(rt; "{row}: {told:?}");
     }
 }
 

@@ -1,8 +1,8 @@
 //! Texts beside what is told of them, and a real one beside the plain program.
 
-use super::super::same;
+use super::super::{same, two};
 use super::made_up::check;
-use super::{bytes, two};
+use super::{bytes, kind_name};
 use descriptor_parse::Kind;
 use field_details::{Collection, Detail, Details, details_of};
 use std::alloc::Global;
@@ -30,14 +30,6 @@ impl fmt::Display for Told<'_> {
         write!(f, " {:X}^{} ", detail.unit, detail.exponent)?;
         write_number(f, detail.inside)?;
         f.write_str(";")
-    }
-}
-
-fn kind_name(kind: Kind) -> &'static str {
-    match kind {
-        Kind::Input => "input",
-        Kind::Output => "output",
-        Kind::Feature => "feature",
     }
 }
 
@@ -89,7 +81,7 @@ fn words(rt: &impl Abort, alloc: Global, told: &Details) -> String {
 }
 
 fn check_row<R: AllocGlobal + Abort>(rt: &R, row: &str) {
-    let (text, wanted) = two(rt, row);
+    let (text, wanted) = two(rt, row, " = ");
     let told = details_of(rt.alloc(), &bytes(rt, text))
         .ok()
         .expect(rt, "memory");

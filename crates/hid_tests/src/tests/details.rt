@@ -7,6 +7,7 @@ mod made_up;
 mod plain;
 mod rows;
 
+use descriptor_parse::Kind;
 use row_text::push_bytes;
 use std::process::Abort;
 
@@ -21,10 +22,10 @@ fn push_byte(rt: &impl Abort, out: &mut Vec<u8>, byte: u8) {
     out.push(byte).ok().expect(rt, "memory");
 }
 
-/// The two sides of a row.
-fn two<'a>(rt: &impl Abort, row: &'a str) -> (&'a str, &'a str) {
-    match row.split_once(" = ") {
-        Some(sides) => sides,
-        None => panic!(rt; "no answer in the row {row}"),
+fn kind_name(kind: Kind) -> &'static str {
+    match kind {
+        Kind::Input => "input",
+        Kind::Output => "output",
+        Kind::Feature => "feature",
     }
 }

@@ -1,7 +1,7 @@
 //! Usages of places and of values.
 
-use super::super::same;
-use super::{is_readable, two};
+use super::super::{same, two};
+use super::is_readable;
 use descriptor_parse::{FieldUsages, Kind, parse};
 use field_values::read_place;
 use row_text::bytes;

@@ -11,3 +11,11 @@ use std::process::Abort;
 fn same(rt: &impl Abort, told: &str, wanted: &str, row: &str) {
     assert_eq!(rt; told, wanted, "of the row {row}");
 }
+
+/// The two sides of a row.
+fn two<'a>(rt: &impl Abort, row: &'a str, between: &str) -> (&'a str, &'a str) {
+    match row.split_once(between) {
+        Some(sides) => sides,
+        None => panic!(rt; "{row} has no {between}"),
+    }
+}

@@ -12,14 +12,6 @@ use descriptor_parse::{Field, Kind};
 use std::process::Abort;
 use std::str::SplitWhitespace;
 
-/// The two sides of a row.
-fn two<'a>(rt: &impl Abort, row: &'a str, between: &str) -> (&'a str, &'a str) {
-    match row.split_once(between) {
-        Some(sides) => sides,
-        None => panic!(rt; "{row} has no {between}"),
-    }
-}
-
 /// The next number of a row.
 fn number(rt: &impl Abort, words: &mut SplitWhitespace<'_>) -> i64 {
     match words.next() {

@@ -1,7 +1,7 @@
 //! Values in the bits of bytes.
 
-use super::super::same;
-use super::{field_of, is_readable, number, two};
+use super::super::{same, two};
+use super::{field_of, is_readable, number};
 use field_values::{raw_at, where_is};
 use row_text::bytes;
 use std::alloc::Global;
