@@ -9,8 +9,6 @@ mod random;
 mod reader;
 mod rows;
 mod slots;
-#[cfg(test)]
-mod tests;
 
 use arrayvec::ArrayVec;
 pub use random::{Numbers, drawn, next, push_drawn};

@@ -1,6 +1,6 @@
-//! Which lines are rows, and which rows are found wrong.
+//! Which lines are rows, and which rows `row_text` finds wrong, for all crates of tests.
 
-use super::{
+use row_text::{
     Numbers, Row, RunsRows, first_wrong, first_wrong_of_each, placed, push_bytes, push_drawn,
     put_slot,
 };
@@ -22,7 +22,7 @@ impl<'a> RunsRows<'a> for Count {
         }
         self.0 = self
             .0
-            .wrapping_add(super::number(ask.strip_prefix("add ")?)?);
+            .wrapping_add(row_text::number(ask.strip_prefix("add ")?)?);
         Some(None)
     }
 
@@ -30,7 +30,7 @@ impl<'a> RunsRows<'a> for Count {
         if answer.is_empty() {
             Some(None)
         } else {
-            Some(Some(super::number(answer)?))
+            Some(Some(row_text::number(answer)?))
         }
     }
 }
@@ -141,11 +141,11 @@ fn bytes_are_two_digits_each(rt: HostRuntime) {
     expect_bytes(&rt, all.as_slice(), &[0x00, 0xFF, 0xA4]);
     for text in ["0", "0g", "+5", "00 1"] {
         assert_eq!(rt; push_bytes(&mut all, text), None, "{text}");
-        assert!(rt; super::bytes::<4>(text).is_none(), "{text}");
+        assert!(rt; row_text::bytes::<4>(text).is_none(), "{text}");
     }
-    let few = super::bytes::<2>("05fe").unwrap_or_default();
+    let few = row_text::bytes::<2>("05fe").unwrap_or_default();
     expect_bytes(&rt, few.as_slice(), &[0x05, 0xFE]);
-    assert!(rt; super::bytes::<2>("000000").is_none());
+    assert!(rt; row_text::bytes::<2>("000000").is_none());
 }
 
 #[test]
@@ -163,7 +163,7 @@ fn slots_are_named_and_written(rt: HostRuntime) {
 
 /// Compares the word of a slot of a full page.
 fn expect_word(rt: &impl Abort, slot: u32, wanted: u32) {
-    assert_eq!(rt; super::full_word(slot), wanted, "slot {slot}");
+    assert_eq!(rt; row_text::full_word(slot), wanted, "slot {slot}");
 }
 
 #[test]
