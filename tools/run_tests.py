@@ -158,6 +158,21 @@ def sources():
     return subprocess.run(["bash", "-c", script, "-", ROOT], cwd=ROOT, check=True, stdout=subprocess.PIPE, text=True).stdout.strip()
 
 
+# What a check of the gate takes at most, in bytes of memory.
+A_CHECK = 4 << 30
+
+
+def environment_of_gate():
+    """The environment that the gate runs in: a check on each processor, by one job each, where there is memory for them.
+
+    Left to itself rt gives a check the processors that no other one wants, and a check by two jobs costs a fifth more.
+    """
+    checks = len(os.sched_getaffinity(0))
+    if checks * A_CHECK > os.sysconf("SC_PAGE_SIZE") * os.sysconf("SC_PHYS_PAGES"):
+        return dict(os.environ)
+    return {"RT_JOBS": str(checks), **os.environ}
+
+
 def run_gate(whole):
     """Runs the gate, and keeps the program that it proved for bin/kbsim; whether it passed."""
     # It runs the program on crates/kbsim_cli/stdin and compares what it prints: one example is that run.
@@ -166,7 +181,7 @@ def run_gate(whole):
             print(f"examples/{name} is not crates/kbsim_cli/{given}")
             return False
     before = sources()
-    gate = subprocess.Popen(["rt", "ci"], cwd=ROOT, stdout=subprocess.PIPE, text=True)
+    gate = subprocess.Popen(["rt", "ci"], cwd=ROOT, env=environment_of_gate(), stdout=subprocess.PIPE, text=True)
     for line in gate.stdout:
         print(line, end="", flush=True)
         whole.gate = line.strip() or whole.gate
