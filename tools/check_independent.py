@@ -30,10 +30,10 @@ STATEMENTS = [
     Statement("crates/descriptor_plain/src/**/*.rt", {
         "descriptor_parse": "GlobalTag Kind LocalTag MainTag ParseError ParseFault Tag"}),
     Statement("crates/reports/src/plain.rt", {"crate": "IdleId Input Protocol Report"}),
-    Statement("crates/key_reports_tests/src/tests/debouncing/plain.rt", {"debounce": ""}),
-    Statement("crates/key_reports_tests/src/tests/keymaps/plain.rt", {"layers": "Code Command KeyNo Keymap LayerNo"}),
-    Statement("crates/key_reports_tests/src/tests/keymaps/plain_held.rt", {"layers": "Code KeyNo Keymap LayerNo"}),
-    Statement("crates/key_reports_tests/src/tests/keys/plain.rt", {
+    Statement("crates/keyboard_tests/src/tests/debouncing/plain.rt", {"debounce": ""}),
+    Statement("crates/keyboard_tests/src/tests/keymaps/plain.rt", {"layers": "Code Command KeyNo Keymap LayerNo"}),
+    Statement("crates/keyboard_tests/src/tests/keymaps/plain_held.rt", {"layers": "Code KeyNo Keymap LayerNo"}),
+    Statement("crates/keyboard_tests/src/tests/keys/plain.rt", {
         "key_reports": "", "debounce": "Scan", "reports": "", "layers": "Code KeyNo Keymap LayerNo"}),
     Statement("crates/keymap_store_tests/src/tests/store/plain_image.rt", {
         "keymap_store": "SubmitRefusal", "page_turnover": "", "layers": ""}),

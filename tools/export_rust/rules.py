@@ -76,7 +76,7 @@ KEYBOARD = Rules(
     name="wuzhikar",
     crates=("layers", "keymap_store", "debounce", "reports", "key_reports", "descriptor_build", "control_ep", "keyboard"),
     below=(LOG,),
-    tests=("row_text", "keymap_store_tests", "key_reports_tests", "keyboard_tests"),
+    tests=("row_text", "keymap_store_tests", "keyboard_tests"),
     conditions={("reports", "plain"): "test"},
     owed={("keyboard", "Keyboard::work"): "**Needs** the flash that the keyboard last started or restarted on, as the keyboard left it. "
                                 "Nothing checks it: [`FlashKeyboard`](crate::FlashKeyboard) holds both."},
