@@ -1,7 +1,5 @@
 //! Finding what the lines of a run mean.
 
-ghost use Rattle.std.specs.Prelude.{◌≤◌, length};
-
 use crate::Tell;
 use crate::edges::KeyChanges;
 use crate::explanation::{Explanation, bytes_of};
@@ -10,6 +8,7 @@ use debounce::Debouncer;
 use flash_model::{NorFlash, SimFlash};
 use script::{Action, ScriptError, Statement, read_lines};
 use std::alloc::{AllocError, Global};
+use text_io::line_length;
 
 /// What explains the lines that a run of a script prints, in their order.
 #[derive(Debug, Drop)]
@@ -106,14 +105,6 @@ impl<'t> Explainer<'t> {
         sentences.tell(&explanation);
         self.read = read_after(read, answer);
     }
-}
-
-/// How many bytes the first line has here, with its LF.
-pub(crate) fn line_length(bytes: &[u8]) -> usize
-    ensures { result ≤ length bytes.now }
-{
-    let before = bytes.iter().take_while(|byte| **byte != b'\n').count();
-    bytes.len().min(before.saturating_add(1))
 }
 
 /// The number and the answer of a line that was printed, without its LF; `None` where it has none.

@@ -1,17 +1,18 @@
 //! Explanations for people: what each answer of a script means, in a sentence.
 //!
-//! [`Explaining`] is a writer that hands on what a run prints, and says behind each line what its answer means: the reason of a
-//! STALL, the request of a SETUP packet, the usages of a report, the operation that a step of the flash work made, by their
-//! names. An [`Explainer`] finds it: it knows the script, and takes the same packets, steps and cuts on a second keyboard with a
-//! flash of its own, which notes each operation.
+//! [`Explaining`] hears the lines that a run prints, from the writer that hands them on (`text_io::Tee`), and says behind each
+//! what its answer means: the reason of a STALL, the request of a SETUP packet, the usages of a report, the operation that a
+//! step of the flash work made, by their names. An [`Explainer`] finds it: it knows the script, and takes the same packets,
+//! steps and cuts on a second keyboard with a flash of its own, which notes each operation.
 //!
-//! A sentence depends on the script, the flash and the line that was printed. The promise is that the writer behind it gets
-//! the same bytes as without it, whatever is said. The program `kbsim_cli` has the sentences on standard error.
+//! A sentence depends on the script, the flash and the line that was printed. The program `kbsim_cli` has the sentences on
+//! standard error.
 #![tactic(auto)]
 
 mod code;
 mod edges;
 mod explainer;
+mod explaining;
 mod explanation;
 mod flash;
 mod follower;
@@ -21,7 +22,6 @@ mod report;
 mod request;
 mod slot;
 mod usages;
-mod writer;
 
 pub use explainer::Explainer;
-pub use writer::{Explaining, Tell};
+pub use explaining::{Explaining, Tell};

@@ -12,6 +12,7 @@ use sentences::of_line;
 use std::fmt::Display;
 use std::io;
 use std::rt::Files;
+use text_io::Tee;
 
 /// Runs the script of a source on the flash that a run starts on. The answer is the flash after it. The line of a fault is
 /// the last one on standard output, and standard error says in a sentence what it is, and with `explain` what each answer
@@ -61,7 +62,8 @@ fn run_text<R: AllocGlobal + Print + Eprint>(
     let mut reader = text;
     let ended = match explainer {
         Some(explainer) => {
-            let mut writer = Explaining::new(io::writer(rt), StandardError { rt }, explainer);
+            let listener = Explaining::new(StandardError { rt }, explainer);
+            let mut writer = Tee::new(io::writer(rt), listener);
             run_on(rt.alloc(), flash, &mut reader, &mut writer)
         }
         None => run_on(rt.alloc(), flash, &mut reader, &mut io::writer(rt)),

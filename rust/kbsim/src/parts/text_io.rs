@@ -5,14 +5,17 @@
 //! whatever shows itself, with [`HexDigits`] and [`HexWord`] among it, and hands it on in pieces of at most 4,096 bytes,
 //! or a longer piece of text as it is; its one promise is that the writer has, once the printer is finished, just what
 //! was printed, in order. Both tell an interruption as a fault. The crates that read scripts and descriptors from any
-//! reader, and print lines to any writer, stand on it.
+//! reader, and print lines to any writer, stand on it. A [`Tee`] is a writer before another one, which gets the same bytes as
+//! without it, and lets a [`Listener`] hear each line.
 
 mod digits;
 mod fault;
 mod print;
 mod read;
+mod tee;
 
 pub use digits::{HexDigits, HexWord};
 pub use fault::{ReadError, WriteError};
 pub use print::Printer;
 pub use read::{read_text, read_whole};
+pub use tee::{Listener, Tee, line_length};

@@ -4,6 +4,7 @@ use super::source::{Unread, opened, text_of};
 use super::{Source, Start, tell, tell_output};
 use kbsim::parts::explanations::{Explainer, Explaining, Tell};
 use kbsim::parts::sentences::of_line;
+use kbsim::parts::text_io::Tee;
 use kbsim::{RunError, SimFlash, blank_flash, image_flash, print_fault, run_on};
 use std::fmt::Display;
 use std::fs::{self, OpenOptions};
@@ -45,7 +46,7 @@ fn run_text(flash: SimFlash, mut text: &[u8], explain: bool) -> Result<SimFlash,
     let (pages, script) = (flash.image().len() / 4096, text);
     let out = io::stdout().lock();
     let ended = match explain.then(|| Explainer::new((), &flash, script)) {
-        Some(Ok(explainer)) => run_on(flash, &mut text, &mut Explaining::new(out, StandardError, explainer)),
+        Some(Ok(explainer)) => run_on(flash, &mut text, &mut Tee::new(out, Explaining::new(StandardError, explainer))),
         Some(Err(_)) => {
             tell(&"out of memory to explain the answers");
             run_on(flash, &mut text, &mut { out })

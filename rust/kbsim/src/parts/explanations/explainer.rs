@@ -9,6 +9,7 @@ use wuzhikar::parts::debounce::Debouncer;
 use wuzhikar_log::parts::flash_model::{NorFlash, SimFlash};
 use crate::parts::script::{Action, ScriptError, Statement, read_lines};
 use crate::rattle::alloc::{AllocError, Global};
+use crate::parts::text_io::line_length;
 
 /// What explains the lines that a run of a script prints, in their order.
 #[derive(Debug)]
@@ -105,12 +106,6 @@ impl<'t> Explainer<'t> {
         sentences.tell(&explanation);
         self.read = read_after(read, answer);
     }
-}
-
-/// How many bytes the first line has here, with its LF.
-pub(crate) fn line_length(bytes: &[u8]) -> usize {
-    let before = bytes.iter().take_while(|byte| **byte != b'\n').count();
-    bytes.len().min(before.saturating_add(1))
 }
 
 /// The number and the answer of a line that was printed, without its LF; `None` where it has none.

@@ -1,0 +1,34 @@
+//! What explains the lines that a writer hands on.
+
+use crate::Explainer;
+use std::fmt::Display;
+use text_io::Listener;
+
+/// Where sentences go.
+pub trait Tell {
+    /// Says a sentence.
+    fn tell<T: Display>(&mut self, sentence: &T);
+}
+
+/// A listener to the lines that a run prints, behind a [`text_io::Tee`]: it says of each what its answer means.
+#[derive(Debug, Drop)]
+pub struct Explaining<'t, T> {
+    sentences: T,
+    explainer: Explainer<'t>,
+}
+
+impl<'t, T: Tell> Explaining<'t, T> {
+    /// Before the first line.
+    pub fn new(sentences: T, explainer: Explainer<'t>) -> Explaining<'t, T> {
+        Explaining {
+            sentences,
+            explainer,
+        }
+    }
+}
+
+impl<T: Tell> Listener for Explaining<'_, T> {
+    fn hear(&mut self, line: &[u8]) {
+        self.explainer.explain(line, &mut self.sentences);
+    }
+}
