@@ -11,7 +11,7 @@ pub trait Tell {
     fn tell<T: Display>(&mut self, sentence: &T);
 }
 
-/// A listener to the lines that a run prints, behind a [`text_io::Tee`]: it says of each what its answer means.
+/// A listener to the lines that a run prints: it says of each what its answer means.
 #[derive(Debug)]
 pub struct Explaining<'t, T> {
     sentences: T,
