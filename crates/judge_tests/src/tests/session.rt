@@ -16,6 +16,9 @@ mod rows;
 mod torn;
 mod wrong;
 
+/// SET_REPORT of the feature report.
+pub const SET_FEATURE: [u8; 8] = [0x21, 0x09, 0x03, 0x03, 0x00, 0x00, 0x06, 0x00];
+
 /// A keyboard and its flash, and what was recorded of them since the start: the flash then, and the
 /// calls, the newest first. The keyboard is boxed, so that a function which drops a rig is proved in
 /// little time.

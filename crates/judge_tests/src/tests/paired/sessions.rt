@@ -1,5 +1,6 @@
 //! Sessions of calls that look random, each of which is judged right.
 
+use super::super::session::SET_FEATURE;
 use super::cells::TornCells;
 use super::choices::ToldUnits;
 use super::rig::{Counts, Rig};
@@ -18,9 +19,6 @@ const FLASHES: u32 = 80;
 const SESSIONS: u32 = 20;
 
 const CALLS: u32 = 25;
-
-/// SET_REPORT of the feature report.
-const SET_FEATURE: [u8; 8] = [0x21, 0x09, 0x03, 0x03, 0x00, 0x00, 0x06, 0x00];
 
 /// GET_REPORT of the feature report.
 const GET_FEATURE: [u8; 8] = [0xA1, 0x01, 0x03, 0x03, 0x00, 0x00, 0x06, 0x00];

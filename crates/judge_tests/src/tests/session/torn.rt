@@ -11,9 +11,6 @@ const MASKS: [u8; 7] = [0x00, 0x01, 0x0f, 0x55, 0xaa, 0xfe, 0xff];
 /// How many bytes the masks that look random have.
 const RANDOM: [usize; 3] = [1, 8, 4096];
 
-/// SET_REPORT of the feature report.
-const SET_FEATURE: [u8; 8] = [0x21, 0x09, 0x03, 0x03, 0x00, 0x00, 0x06, 0x00];
-
 /// A mask: the ones of one byte come first.
 fn mask(number: usize, state: &mut u32) -> Option<Mask> {
     if let Some(byte) = MASKS.get(number) {
