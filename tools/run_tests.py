@@ -70,6 +70,7 @@ STEPS = [
     Step("how independence is checked", [*PYTHON, "tools/test_check_independent.py", "--quiet"]),
     Step("what tools/check runs", [*PYTHON, "tools/test_check_crate.py", "--quiet"]),
     Step("what proofs take", [*PYTHON, "tools/test_proof_times.py", "--quiet"]),
+    Step("how many checks the gate runs at once", [*PYTHON, "tools/test_run_tests.py", "--quiet"]),
     Step("how bin/kbsim chooses", [*PYTHON, "tools/test_door.py", "--quiet"]),
     Step("the pictures", [*PYTHON, "tools/pictures", "--check"]),
     Step("the exporter's own tests", [*PYTHON, "tools/export_rust/test_export.py", "--quiet"]),
@@ -162,15 +163,35 @@ def sources():
 A_CHECK = 4 << 30
 
 
-def environment_of_gate():
-    """The environment that the gate runs in: a check on each processor, by one job each, where there is memory for them.
+def text_of(path):
+    """What a file of the system says; nothing where it is not there."""
+    try:
+        with open(path, encoding="ascii") as file:
+            return file.read()
+    except OSError:
+        return ""
 
-    Left to itself rt gives a check the processors that no other one wants, and a check by two jobs costs a fifth more.
+
+def processors(quota=""):
+    """How many processors this process may use, by what its control group says of them (cpu.max)."""
+    number = len(os.sched_getaffinity(0))
+    share, _, period = quota.strip().partition(" ")
+    return max(1, min(number, int(share) // int(period))) if share.isdigit() else number
+
+
+def free_memory(information, limit=""):
+    """How many bytes of memory are free, by /proc/meminfo and what the control group may hold (memory.max)."""
+    free = [int(line.split()[1]) * 1024 for line in information.splitlines() if line.startswith("MemAvailable:")]
+    return min([*free, *([int(limit)] if limit.strip().isdigit() else [])], default=0)
+
+
+def environment_of_gate(given, checks, memory):
+    """The environment that the gate runs in: so many checks at once, by one job each, where this memory holds them.
+
+    Left to itself rt gives a check the processors that no other one wants, and a check by two jobs costs a fifth more. By
+    RT_JOBS it starts so many checks whatever memory is free.
     """
-    checks = len(os.sched_getaffinity(0))
-    if checks * A_CHECK > os.sysconf("SC_PAGE_SIZE") * os.sysconf("SC_PHYS_PAGES"):
-        return dict(os.environ)
-    return {"RT_JOBS": str(checks), **os.environ}
+    return {"RT_JOBS": str(checks), **given} if checks * A_CHECK <= memory else dict(given)
 
 
 def run_gate(whole):
@@ -181,7 +202,10 @@ def run_gate(whole):
             print(f"examples/{name} is not crates/kbsim_cli/{given}")
             return False
     before = sources()
-    gate = subprocess.Popen(["rt", "ci"], cwd=ROOT, env=environment_of_gate(), stdout=subprocess.PIPE, text=True)
+    groups = "/sys/fs/cgroup"
+    memory = free_memory(text_of("/proc/meminfo"), text_of(f"{groups}/memory.max"))
+    environment = environment_of_gate(os.environ, processors(text_of(f"{groups}/cpu.max")), memory)
+    gate = subprocess.Popen(["rt", "ci"], cwd=ROOT, env=environment, stdout=subprocess.PIPE, text=True)
     for line in gate.stdout:
         print(line, end="", flush=True)
         whole.gate = line.strip() or whole.gate

@@ -1,5 +1,5 @@
 //! Recorded runs, and what is judged of them (`history`, `session`), also on flash with error correction (`paired`), and
-//! that flash by itself (`ecc`); `random` and `text` are what they share.
+//! that flash by itself (`ecc`); `random` and `text` are what the others share.
 
 mod ecc;
 mod history;

@@ -1,6 +1,7 @@
 //! All that a reader gives, and values printed in few writes: that there is room, what is left of a reader that fails or
 //! gives too much, and what a writer has taken that fails.
 
+mod heard;
 mod lengths;
 
 use super::{same, text_of};

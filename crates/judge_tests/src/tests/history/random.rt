@@ -3,6 +3,7 @@
 ghost use Rattle.std.specs.Prelude.{◌<◌};
 
 use super::super::random::{mask, packet, scan, setup};
+use super::super::session::SET_FEATURE;
 use super::*;
 use layers::{KeyNo, LayerNo};
 use row_text::{drawn, good};
@@ -68,7 +69,7 @@ fn works(events: &mut Vec<Event>, state: &mut u32) -> Result<(), Fail> {
 
 /// A command, and steps of its work.
 fn command(events: &mut Vec<Event>, state: &mut u32) -> Result<(), Fail> {
-    events.push(Event::Setup([0x21, 9, 3, 3, 0, 0, 6, 0]))?;
+    events.push(Event::Setup(SET_FEATURE))?;
     events.push(Event::OutPacket(packet(state)))?;
     works(events, state)?;
     events.push(Event::InPacket)?;

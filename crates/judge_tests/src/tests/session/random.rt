@@ -82,7 +82,7 @@ fn sessions_on_three_pages(rt: HostRuntime) -> Result<(), Fail> {
 fn session(rig: &mut Rig, alloc: Global, state: &mut u32) -> Result<Option<u32>, Fail> {
     let mut made: u32 = 0;
     for _ in 0..8 {
-        rig.setup([0x21, 0x09, 0x03, 0x03, 0x00, 0x00, 0x06, 0x00])?;
+        rig.setup(SET_FEATURE)?;
         rig.out(packet(state).as_slice())?;
         if drawn(state) % 8 == 0 {
             rig.work(alloc, mask(state).ok_or("a mask")?.as_slice())?;

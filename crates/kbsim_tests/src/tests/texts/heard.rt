@@ -1,0 +1,127 @@
+//! What a listener hears of a text: each line that the writer has taken, once, and no other.
+
+use super::super::streams::{FailingWriter, KINDS, NeverFlushed, Then};
+use super::super::{same, text_of};
+use arrayvec::ArrayVec;
+use std::io;
+use std::io::{ErrorKind, Write};
+use std::process::Abort;
+use std::test::Fail;
+use text_io::{Listener, Tee};
+
+/// Keeps what it hears, with a bar behind each line.
+#[derive(Drop)]
+struct Hears<'h> {
+    heard: &'h mut ArrayVec<u8, 4096>,
+}
+
+impl Listener for Hears<'_> {
+    fn hear(&mut self, line: &[u8]) {
+        let _ = self.heard.try_extend_from_slice(line);
+        let _ = self.heard.try_push(b'|');
+    }
+}
+
+/// The last line has no LF.
+const TEXT: &str = "one\n\nthree and more\n4\nlast";
+
+/// What is heard of the lines of these bytes.
+fn lines_of(bytes: &[u8]) -> ArrayVec<u8, 4096> {
+    let mut heard = ArrayVec::new();
+    let mut whole = 0;
+    for byte in bytes {
+        let _ = heard.try_push(*byte);
+        if *byte == b'\n' {
+            let _ = heard.try_push(b'|');
+            whole = heard.len();
+        }
+    }
+    heard.truncate(whole);
+    heard
+}
+
+/// Hands the text on, up to the first write that takes nothing, or past it to the end.
+fn hand_on<W: Write, L: Listener>(tee: &mut Tee<W, L>, is_again: bool) {
+    let mut rest = TEXT.as_bytes();
+    for _ in 0..100 {
+        match tee.write(rest) {
+            Ok(0) | Err(_) => {
+                if !is_again {
+                    return;
+                }
+            }
+            Ok(taken) => rest = &rest[taken..],
+        }
+    }
+}
+
+/// Hands the text on to a writer that takes three bytes at a time and fails so at one of its writes, and compares what was
+/// heard with the lines that it has taken.
+fn expect_lines<R: Abort>(rt: &R, writes: usize, then: Then, is_again: bool) {
+    let mut writer = FailingWriter::new(writes, then);
+    let mut heard = ArrayVec::new();
+    hand_on(
+        &mut Tee::new(&mut writer, Hears { heard: &mut heard }),
+        is_again,
+    );
+    let taken = writer.taken();
+    if is_again {
+        same(rt, text_of(taken), TEXT, "what was taken in the end");
+    }
+    same(
+        rt,
+        text_of(heard.as_slice()),
+        text_of(lines_of(taken).as_slice()),
+        text_of(taken),
+    );
+}
+
+#[test]
+fn lines_that_were_taken_are_heard_once(rt: HostRuntime) {
+    for writes in 0..12 {
+        for then in KINDS {
+            expect_lines(&rt, writes, then, false);
+            expect_lines(&rt, writes, then, true);
+        }
+    }
+}
+
+/// What is heard of a line of so many bytes, its LF among them, which comes in pieces of so many, and of a short one behind it.
+fn heard_of_a_line(length: usize, piece: usize) -> ArrayVec<u8, 4096> {
+    let mut heard = ArrayVec::new();
+    let mut tee = Tee::new(io::sink(), Hears { heard: &mut heard });
+    let mut left = length.saturating_sub(1);
+    while left > 0 {
+        let count = left.min(piece.clamp(1, 4096));
+        let _ = tee.write(&[b'a'; 4096][..count]);
+        left -= count;
+    }
+    let _ = tee.write(b"\n");
+    let _ = tee.write(b"b\n");
+    heard
+}
+
+#[test]
+fn a_long_line_is_heard_from_its_beginning(rt: HostRuntime) {
+    for piece in [1, 700, 2_048, 4_096] {
+        for (length, shown) in [
+            (2_047, 2_047),
+            (2_048, 2_048),
+            (2_049, 2_048),
+            (5_000, 2_048),
+        ] {
+            let heard = heard_of_a_line(length, piece);
+            let (line, rest) = heard.as_slice().split_at(heard.len().min(shown));
+            let letters = line.iter().take_while(|byte| **byte == b'a').count();
+            assert_eq!(rt; letters, shown.min(length - 1));
+            same(&rt, text_of(rest), "|b\n|", "what follows the long line");
+        }
+    }
+}
+
+#[test]
+fn a_flush_that_fails_is_told(rt: HostRuntime) {
+    let mut heard = ArrayVec::new();
+    let mut tee = Tee::new(NeverFlushed, Hears { heard: &mut heard });
+    assert_eq!(rt; tee.flush().is_err(), true);
+}
