@@ -25,6 +25,9 @@ impl Listener for Hears<'_> {
 /// The last line has no LF.
 const TEXT: &str = "one\n\nthree and more\n4\nlast";
 
+/// How many writes it takes of at most three bytes, each of one line.
+const WRITES: usize = 11;
+
 /// What is heard of the lines of these bytes.
 fn lines_of(bytes: &[u8]) -> ArrayVec<u8, 4096> {
     let mut heard = ArrayVec::new();
@@ -40,19 +43,20 @@ fn lines_of(bytes: &[u8]) -> ArrayVec<u8, 4096> {
     heard
 }
 
-/// Hands the text on, up to the first write that takes nothing, or past it to the end.
-fn hand_on<W: Write, L: Listener>(tee: &mut Tee<W, L>, is_again: bool) {
+/// Hands the text on, up to the first write that takes nothing, or past it to the end: how many writes took nothing.
+fn hand_on<W: Write, L: Listener>(tee: &mut Tee<W, L>, is_again: bool) -> usize {
     let mut rest = TEXT.as_bytes();
-    for _ in 0..100 {
+    let mut failures: usize = 0;
+    for _ in 0..=WRITES {
+        if rest.is_empty() || failures > 0 && !is_again {
+            return failures;
+        }
         match tee.write(rest) {
-            Ok(0) | Err(_) => {
-                if !is_again {
-                    return;
-                }
-            }
+            Ok(0) | Err(_) => failures = failures.saturating_add(1),
             Ok(taken) => rest = &rest[taken..],
         }
     }
+    failures
 }
 
 /// Hands the text on to a writer that takes three bytes at a time and fails so at one of its writes, and compares what was
@@ -60,10 +64,11 @@ fn hand_on<W: Write, L: Listener>(tee: &mut Tee<W, L>, is_again: bool) {
 fn expect_lines<R: Abort>(rt: &R, writes: usize, then: Then, is_again: bool) {
     let mut writer = FailingWriter::new(writes, then);
     let mut heard = ArrayVec::new();
-    hand_on(
+    let failures = hand_on(
         &mut Tee::new(&mut writer, Hears { heard: &mut heard }),
         is_again,
     );
+    assert_eq!(rt; failures, usize::from(writes < WRITES), "at write {writes}");
     let taken = writer.taken();
     if is_again {
         same(rt, text_of(taken), TEXT, "what was taken in the end");
@@ -78,7 +83,7 @@ fn expect_lines<R: Abort>(rt: &R, writes: usize, then: Then, is_again: bool) {
 
 #[test]
 fn lines_that_were_taken_are_heard_once(rt: HostRuntime) {
-    for writes in 0..12 {
+    for writes in 0..=WRITES {
         for then in KINDS {
             expect_lines(&rt, writes, then, false);
             expect_lines(&rt, writes, then, true);
@@ -90,11 +95,9 @@ fn lines_that_were_taken_are_heard_once(rt: HostRuntime) {
 fn heard_of_a_line(length: usize, piece: usize) -> ArrayVec<u8, 4096> {
     let mut heard = ArrayVec::new();
     let mut tee = Tee::new(io::sink(), Hears { heard: &mut heard });
-    let mut left = length.saturating_sub(1);
-    while left > 0 {
-        let count = left.min(piece.clamp(1, 4096));
-        let _ = tee.write(&[b'a'; 4096][..count]);
-        left -= count;
+    let letters = [b'a'; 5_000];
+    for part in letters[..length.saturating_sub(1).min(5_000)].chunks(piece.max(1)) {
+        let _ = tee.write(part);
     }
     let _ = tee.write(b"\n");
     let _ = tee.write(b"b\n");
@@ -113,7 +116,7 @@ fn a_long_line_is_heard_from_its_beginning(rt: HostRuntime) {
             let heard = heard_of_a_line(length, piece);
             let (line, rest) = heard.as_slice().split_at(heard.len().min(shown));
             let letters = line.iter().take_while(|byte| **byte == b'a').count();
-            assert_eq!(rt; letters, shown.min(length - 1));
+            assert_eq!(rt; letters, shown.min(length.saturating_sub(1)));
             same(&rt, text_of(rest), "|b\n|", "what follows the long line");
         }
     }

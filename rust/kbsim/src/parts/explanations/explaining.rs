@@ -19,7 +19,7 @@ pub struct Explaining<'t, T> {
 }
 
 impl<'t, T: Tell> Explaining<'t, T> {
-    /// Before the first line.
+    /// What tells of each line, from the first one on, what this explainer finds.
     pub fn new(sentences: T, explainer: Explainer<'t>) -> Explaining<'t, T> {
         Explaining {
             sentences,

@@ -7,23 +7,24 @@ use std::io::Write;
 
 /// What hears the lines that a [`Tee`] hands on.
 pub trait Listener {
-    /// Hears a line that was taken, with its LF. Of one of more than 2,048 bytes it gets the beginning.
+    /// Hears a line that was taken, with its LF; of one of more than 2,048 bytes the first 2,048. What has no LF behind it is
+    /// not heard.
     fn hear(&mut self, line: &[u8]);
 }
 
 /// A writer that hands all bytes on to another one, a line at a time, and lets a listener hear each line.
 ///
-/// What the other one answers is answered; a line that it did not take is not heard.
+/// What the other one answers is answered, a fault or an interruption too; a line that it did not take is not heard.
 #[derive(Debug)]
 pub struct Tee<W, L> {
     writer: W,
     listener: L,
-    /// The line that is under way. Of one that is longer the rest is left out.
+    /// The line that is under way, at most its first 2,048 bytes.
     line: ArrayVec<u8, 2048>,
 }
 
 impl<W: Write, L: Listener> Tee<W, L> {
-    /// Before the first byte.
+    /// A tee before this writer, with no line under way.
     pub fn new(writer: W, listener: L) -> Tee<W, L> {
         Tee {
             writer,
@@ -34,7 +35,8 @@ impl<W: Write, L: Listener> Tee<W, L> {
 
     /// These bytes were handed on, at most a line.
     fn pass(&mut self, bytes: &[u8]) {
-        let _full = self.line.try_extend_from_slice(bytes);
+        let fits = bytes.len().min(self.line.remaining_capacity());
+        let _ = self.line.try_extend_from_slice(&bytes[..fits]);
         if bytes.last() == Some(&b'\n') {
             self.listener.hear(self.line.as_slice());
             self.line.clear();
