@@ -81,10 +81,16 @@ impl Rig {
         if let Some(index) = first_wrong(alloc, &self.start, past)? {
             return Ok(Some(index));
         }
-        if let Some(index) = first_misstep(alloc, &self.start, past)? {
+        if let Some(index) = self.misstep(alloc)? {
             return Ok(Some(index));
         }
         let found = first_unlawful(alloc, &self.start, past)?;
+        Ok(found)
+    }
+
+    /// The first step of the flash work that is not the next one.
+    pub fn misstep(&self, alloc: Global) -> Result<Option<usize>, Fail> {
+        let found = first_misstep(alloc, &self.start, self.past.as_slice())?;
         Ok(found)
     }
 

@@ -87,6 +87,7 @@ input 1 new : D0042@0=1 D0042@1=1 10031@1=4095 D0054@0=2 = 010100000000000100000
 feature 2 new : D0055@0=2 = 0202
 feature 2 0202 : D0055@0=1 = 0201
 feature 2 0102 : D0055@0=1 = other-id
+feature 2 0002 : D0055@0=1 = other-id
 feature 2 02 : D0055@0=1 = short
 feature 2 01 : D0055@0=1 = other-id
 feature 2 - : D0055@0=1 = short

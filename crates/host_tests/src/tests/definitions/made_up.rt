@@ -6,6 +6,16 @@ use row_text::{Numbers, push_drawn};
 use std::alloc::Global;
 use std::process::Abort;
 
+/// Eight pushes and nine, 256 fields and 257, each a text of its own.
+const LIMITS: [&str; 4] = ["8*A4", "9*A4", "75019501 256*8102", "75019501 257*8102"];
+
+#[test]
+fn as_many_as_there_can_be_and_one_more(rt: HostRuntime) {
+    for words in LIMITS {
+        check(&rt, rt.alloc(), &bytes(&rt, words));
+    }
+}
+
 #[test]
 fn random_bytes(rt: HostRuntime) {
     let mut numbers = Numbers(1);

@@ -294,7 +294,8 @@ fn changed(alloc: Global, call: Recorded, told: &str, slots: &str) -> Result<Rec
     })
 }
 
-/// Makes a call and changes it: it is judged right before, and is the first wrong one then.
+/// Makes a call and changes it: it is judged right before, and is the first wrong one then. A step of the flash work is then
+/// also the first that is not the next one.
 fn refuse(rt: &impl Abort, alloc: Global, rig: &mut Rig, line: &str) -> Result<(), Fail> {
     let (last, told) = line.split_once(" != ").unwrap_or((line, ""));
     rig.take(rt, alloc, last)?;
@@ -306,6 +307,9 @@ fn refuse(rt: &impl Abort, alloc: Global, rig: &mut Rig, line: &str) -> Result<(
     let (told, slots) = told.split_once(" with ").unwrap_or((told, ""));
     rig.record(changed(alloc, call, told, slots)?)?;
     expect_judged(rt, rig.judged(alloc)?, Some(index), line);
+    if last.starts_with("work") {
+        expect_judged(rt, rig.misstep(alloc)?, Some(index), line);
+    }
     Ok(())
 }
 

@@ -18,6 +18,12 @@ set 0 0 0005 = ack
 slot 0 0 = 01000020feffffdf
 slot 0 1 = 05000010faffffef
 
+# a set whose command fails prints the stall of its status stage.
+set 0 0 0005 = stall 13
+entry 0 0 = 0004
+set 0 0 0005 = ack
+entry 0 0 = 0005
+
 # a fault takes the place of the armed one.
 setup 2109030300000600 = ack
 out 030100000500 = ack

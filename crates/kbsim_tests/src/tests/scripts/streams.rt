@@ -146,5 +146,14 @@ fn the_longest_script_of_a_reader_that_fails(rt: HostRuntime) {
 fn page_counts_that_no_flash_has(rt: HostRuntime) {
     for pages in [0, 1, 9, usize::MAX] {
         prints(&rt, pages, b"in x\n", Err(RunError::PageCount), "");
+        is_not_read(&rt, pages);
     }
+}
+
+/// The script of a flash that there can't be is not read.
+fn is_not_read<R: AllocGlobal + Abort>(rt: &R, pages: usize) {
+    let mut reader = SCRIPT.as_bytes();
+    let mut printed = Vec::new(rt.alloc());
+    let _ = run_script(rt.alloc(), pages, &mut reader, &mut printed);
+    same(rt, text_of(reader), SCRIPT, "what is left");
 }
