@@ -16,6 +16,7 @@
 import argparse
 import functools
 import glob
+import itertools
 import os
 import re
 import shutil
@@ -202,12 +203,13 @@ def wrong_bodies(tree):
     """Wrong bodies that stand elsewhere than their row says, and edits of the gate without a row."""
     page = tree.read("docs/WRONG_BODIES.md")
     edits = {os.path.basename(path)[:-5] for path in tree.files("crates/*/*/*.edit")}
-    for listed, crate, more in re.findall(r"((?:`\w+`(?:, )?)+) \(`(\w+)`(?:, `\w+`)*(, more-edits)?\)", page):
-        folder = f"crates/{crate}/{'more-edits' if more else 'must-fail'}"
-        for name in re.findall(r"\w+", listed):
-            # Other names are those of tests.
-            if name in edits and not tree.exists(f"{folder}/{name}.edit"):
-                yield f"docs/WRONG_BODIES.md: {name}.edit is not in {folder}"
+    for listed, places in re.findall(r"((?:`\w+`(?:, )?)+) \(([^()]*)\)", page):
+        for place in places.split(";"):
+            folder = "more-edits" if "more-edits" in place else "must-fail"
+            for crate, name in itertools.product(re.findall(r"`(\w+)`", place), re.findall(r"\w+", listed)):
+                # Other names are those of tests.
+                if name in edits and not tree.exists(f"crates/{crate}/{folder}/{name}.edit"):
+                    yield f"docs/WRONG_BODIES.md: {name}.edit is not in crates/{crate}/{folder}"
     mentioned = set(re.findall(r"`(\w+)`", page))
     for path in tree.files("crates/*/must-fail/*.edit"):
         if os.path.basename(path)[:-5] not in mentioned:

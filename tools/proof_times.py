@@ -7,6 +7,7 @@ nothing out. --write puts the numbers into the table of docs/MEASUREMENTS.md, wh
 """
 
 import argparse
+import glob
 import os
 import re
 import subprocess
@@ -109,14 +110,20 @@ def rows_of(document):
 
 
 def rewritten(document, names, numbers):
-    """The document, whose table has a row for each of these crates, with these numbers in place of those that it had."""
+    """The document, whose table has a row for each of these crates, with these numbers, or nothing for None, in place of those that
+    it had."""
     rows = rows_of(document)
     lines = []
     for name in names:
-        row = {**rows.get(name, {"proof": "", "edits": ""}), **{what: str(round(number)) for (of, what), number in numbers.items() if of == name}}
+        row = {**rows.get(name, {"proof": "", "edits": ""}), **{what: shown(number) for (of, what), number in numbers.items() if of == name}}
         lines.append(f"| `{name}` | {row['proof']} | {row['edits']} |\n")
     before, _, rest = document.partition(BEGIN)
     return before + BEGIN + HEAD + "".join(lines) + "\n" + END + rest.split(END, 1)[1]
+
+
+def shown(number):
+    """A number as the table has it."""
+    return "" if number is None else str(round(number))
 
 
 def known_crates():
@@ -125,12 +132,17 @@ def known_crates():
         return crates(file.read())
 
 
+def without_edits(names):
+    """That these crates have no number for edits, if they have none."""
+    return {(name, "edits"): None for name in names if not glob.glob(f"{ROOT}/crates/{name}/must-fail/*.edit")}
+
+
 def write(numbers):
     """Writes numbers into the document."""
     with open(DOCUMENT, encoding="utf-8") as file:
         text = file.read()
     with open(DOCUMENT, "w", encoding="utf-8") as file:
-        file.write(rewritten(text, known_crates(), numbers))
+        file.write(rewritten(text, known_crates(), {**numbers, **without_edits(known_crates())}))
 
 
 def main():

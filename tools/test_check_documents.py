@@ -71,6 +71,8 @@ class Checks(unittest.TestCase):
             (checks.contracts, {"crates.txt": "two: .\none: .\n", "docs/CONTRACTS.md": "| `one` | x |\n| `two` | x |\n"},
              "docs/CONTRACTS.md: two stands behind one, and not so in crates.txt"),
             (checks.wrong_bodies, {"docs/WRONG_BODIES.md": "`wrong` (`two`)\n"}, "wrong.edit is not in crates/two/must-fail"),
+            (checks.wrong_bodies, {"docs/WRONG_BODIES.md": "`wrong` (`one`, `two`)\n"}, "wrong.edit is not in crates/two/must-fail"),
+            (checks.wrong_bodies, {"docs/WRONG_BODIES.md": "`wrong` (`one`; `two`, more-edits)\n"}, "wrong.edit is not in crates/two/more-edits"),
             (checks.wrong_bodies, {"docs/WRONG_BODIES.md": "\n"}, "crates/one/must-fail/wrong.edit is not named"),
             (checks.definitions, {"crates/one/specs/Sizes.antt": "-- Believed: x\n"}, "README.md: Size is not in one/specs/Sizes"),
             (checks.edits, {"crates/one/src/lib.rt": "{ 1 } { 1 }\n"}, "src/lib.rt has 2 times, not once: { 1 }"),

@@ -58,11 +58,14 @@ class ProofTimes(unittest.TestCase):
                                                      "two": {"proof": "4", "edits": ""}})
         self.assertTrue(text.startswith("# M\n\n") and text.endswith(f"\n{END}More.\n"))
         self.assertEqual(proof_times.rewritten(DOCUMENT, ["one", "two"], {}), DOCUMENT)
+        self.assertIn("| `one` | 20 |  |", proof_times.rewritten(DOCUMENT, ["one", "two"], {("one", "edits"): None}))
 
     def test_the_table_of_the_repository(self):
         with open(proof_times.DOCUMENT, encoding="utf-8") as file:
             text = file.read()
-        self.assertEqual(proof_times.rewritten(text, proof_times.known_crates(), {}), text, "a row for each crate of crates.txt, in its order")
+        names = proof_times.known_crates()
+        self.assertEqual(proof_times.rewritten(text, names, proof_times.without_edits(names)), text,
+                         "a row for each crate of crates.txt, in its order, without a number for edits where there are none")
 
 
 if __name__ == "__main__":
