@@ -1,4 +1,4 @@
-"""check CRATE..: proves crates, their tests and their edits, and nothing else, and says what each took.
+"""check CRATE..: proves crates, their tests and those of their edits that the gate tries, and nothing else, and says what each took.
 
 1. `rt check` proves the crate, over what was proved of it before. Libraries below it are built where they changed.
 2. `rt test` proves and runs the crate of tests that has its tests (README.md's table of crates), if one has.
