@@ -1,8 +1,8 @@
 """Tries wrong bodies on the tests: edits of must-fail/ and more-edits/, and says which test tells each.
 
 An edit is applied to a clone of the last commit, whose source is written as plain Rust with its tests. The body is told where one
-of these tests fails, or a row of tests/ or a command line on the program that is built of it, or where one hangs: half a minute an
-edit. Where plain Rust has not the tests of a crate, its crate of tests is run by `rt try`, in one to twenty minutes.
+of these tests fails, or a row of tests/ or a command line on the program that is built of it, or where one hangs: one to two
+minutes an edit.
 
 The source as it stands is tried first: nothing may tell it. An edit that turns no code is left out.
 """
@@ -16,10 +16,8 @@ import subprocess
 import sys
 import tempfile
 import threading
-from typing import NamedTuple
 
 import right_bodies
-from check_crate import testers
 from debian_crates import OF_PROGRAM, environment
 
 ROOT = os.path.dirname(os.path.dirname(os.path.abspath(__file__)))
@@ -30,48 +28,17 @@ import rules  # noqa: E402  (it stands in that folder)
 SECONDS = 600  # a program that takes so many seconds of the processor hangs
 MEMORY = 4 << 20  # what a run of the program may take, in KiB
 
-# Of a crate of tests those that look at a crate, by the file that an edit turns.
-NARROWED = {
-    "field_details/": "tests::details",
-    "report_write/": "tests::settings",
-    "ecc_sim/": "tests::ecc",
-    "judge/src/session": "tests::session",
-    "judge/src/history": "tests::history::wrong",
-}
-
-
-class Trial(NamedTuple):
-    """An edit, None for the source as it stands, and the tests of a crate of tests, None for those of plain Rust."""
-
-    path: str | None
-    tests: tuple[str, str] | None
-
-    def __str__(self):
-        name = os.path.relpath(self.path, f"{ROOT}/crates").removesuffix(".edit") if self.path else "the source as it stands"
-        return f"{name} ({self.tests[1]})" if self.tests else name
-
 
 def turned_by(path):
     """The files of code that an edit turns."""
     return [name for name, _, _ in right_bodies.read_edit(path) if name.startswith("src/")]
 
 
-def tests_of(path):
-    """What tries an edit of a body: a crate of tests and which of them, or None for plain Rust."""
-    crate, turned = path.split("/")[-3], turned_by(path)
-    with open(f"{ROOT}/README.md", encoding="utf-8") as file:
-        tester = testers(file.read()).get(crate)
-    plain = {name for of in rules.WORKSPACE for name in of.tests + (() if tester else of.crates)}
-    if (tester or crate) in plain:
-        return None
-    if not tester:
-        raise ValueError(f"this tool has no tests of {crate}")
-    return tester, next((tests for begin, tests in NARROWED.items() if f"{crate}/{turned[0]}".startswith(begin)), "tests")
-
-
 def edits_of(word):
     """The paths of the edits of bodies that a word names: those of a crate, or one."""
     crate, _, name = word.partition("/")
+    if not any(crate in of.crates + of.tests for of in rules.WORKSPACE):
+        raise ValueError(f"plain Rust has no {crate}")
     found = [path for path in sorted(glob.glob(f"{ROOT}/crates/{crate}/m*/{name or '*'}.edit")) if turned_by(path)]
     if not found:
         raise ValueError(f"no edit that turns code is called {word}")
@@ -79,11 +46,11 @@ def edits_of(word):
 
 
 class Worker(threading.Thread):
-    """Takes trials from a queue, and makes them one after the other in a clone of its own."""
+    """Takes edits from a queue, None for the source as it stands, and tries them one after the other in a clone of its own."""
 
-    def __init__(self, work, trials, told):
+    def __init__(self, work, edits, told):
         super().__init__(daemon=True)
-        self.work, self.trials, self.told = work, trials, told
+        self.work, self.edits, self.told = work, edits, told
         subprocess.run(["git", "clone", "-q", ROOT, f"{work}/clone"], check=True)
         os.symlink(f"{work}/clone/examples", f"{work}/examples")  # (crates that are exported take descriptors from there)
         self.environment = environment(work, *OF_PROGRAM)
@@ -92,19 +59,19 @@ class Worker(threading.Thread):
     def run(self):
         while True:
             try:
-                trial = self.trials.get_nowait()
+                path = self.edits.get_nowait()
             except queue.Empty:
                 return
-            self.told.put((trial, *self.one(trial)))
+            self.told.put((path, *self.one(path)))
 
-    def one(self, trial):
-        """Makes a trial: whether it could be made, and what told the body, or why not."""
+    def one(self, path):
+        """Tries an edit: whether it could be tried, and what told the body, or why not."""
         try:
             self.needed(["git", "checkout", "-q", "--", "."])
-            if trial.path:
-                right_bodies.apply(trial.path, f"{self.work}/clone/crates/{trial.path.split('/')[-3]}")
-            return True, self.rattle(*trial.tests) if trial.tests else self.plain()
-        except Exception as why:  # (whatever it is, who waits for this trial has to hear of it)
+            if path:
+                right_bodies.apply(path, f"{self.work}/clone/crates/{path.split('/')[-3]}")
+            return True, self.plain()
+        except Exception as why:  # (whatever it is, who waits for this edit has to hear of it)
             return False, str(why)
 
     def command(self, words, folder="clone", limits=f"ulimit -S -t {SECONDS}", **more):
@@ -124,7 +91,7 @@ class Worker(threading.Thread):
         self.needed(["rm", "-rf", "../plain"])
         self.needed([sys.executable, "-B", "tools/export_rust/export_rust.py", "--tests", "../plain"])
         self.needed(["cargo", "test", "-q", "--no-run", "--lib"], "plain")
-        well, said = self.command(["cargo", "test", "-q", "--no-fail-fast", "--lib"], "plain")
+        well, said = self.command(["cargo", "test", "-q", "--lib"], "plain")
         if not well:
             return shown(r"^    (\S+::\S+)$", said)
         self.needed(["cargo", "build", "-q", "--release", "-p", "kbsim"], "plain")
@@ -134,11 +101,6 @@ class Worker(threading.Thread):
             if not well:
                 return shown(r"^(?:FAIL|ERROR): (\w+)", said)
         return ""
-
-    def rattle(self, crate, tests):
-        """What a crate of tests tells of it."""
-        well, said = self.command(["rt", "try", "--test", "--seconds", str(SECONDS), "--", tests], f"clone/crates/{crate}")
-        return "" if well else shown(r"^test (\S+) \.\.\. FAILED", said)
 
 
 def shown(pattern, said):
@@ -151,10 +113,9 @@ def shown(pattern, said):
     return ", ".join(names[:2]) + (f" and {len(names) - 2} more" if len(names) > 2 else "")
 
 
-def trials_of(words):
-    """The trials of the edits that these words name, behind those of the source as it stands."""
-    edits = [Trial(path, tests_of(path)) for word in words for path in edits_of(word)]
-    return [Trial(None, tests) for tests in dict.fromkeys(trial.tests for trial in edits)] + edits
+def name_of(path):
+    """What is printed of an edit."""
+    return os.path.relpath(path, f"{ROOT}/crates").removesuffix(".edit") if path else "the source as it stands"
 
 
 def main():
@@ -163,22 +124,22 @@ def main():
     words.add_argument("--workers", type=int, default=3, help="how many trials at once (3)")
     given = words.parse_args()
     try:
-        made = trials_of(given.edits)
+        edits = [None] + [path for word in given.edits for path in edits_of(word)]
     except ValueError as why:
         words.error(str(why))
     trials, told, failed = queue.Queue(), queue.Queue(), 0
-    for trial in made:
-        trials.put(trial)
+    for path in edits:
+        trials.put(path)
     with tempfile.TemporaryDirectory() as work:
-        for number in range(max(1, min(given.workers, len(made)))):
+        for number in range(max(1, min(given.workers, len(edits)))):
             os.mkdir(f"{work}/{number}")
             Worker(f"{work}/{number}", trials, told).start()
-        for _ in made:
-            trial, could, why = told.get()
-            well = could and bool(why) == bool(trial.path)
+        for _ in edits:
+            path, could, why = told.get()
+            well = could and bool(why) == bool(path)
             failed += not well
-            print(f"{trial}: " + (f"told by {why}" if could and why else why or "not told") + ("" if well else "  <-- NOT AS IT SHOULD BE"), flush=True)
-    print(f"told_by_tests: {sum(bool(trial.path) for trial in made)} wrong bodies, {failed} trials not as they should be")
+            print(f"{name_of(path)}: " + (f"told by {why}" if could and why else why or "not told") + ("" if well else "  <-- NOT AS IT SHOULD BE"), flush=True)
+    print(f"told_by_tests: {len(edits) - 1} wrong bodies, {failed} trials not as they should be")
     return 1 if failed else 0
 
 

@@ -59,8 +59,9 @@ def members(path, crates):
 def add_tests(crate, name):
     """Adds to a crate what its exported tests stand on."""
     shutil.copytree(os.path.join(TESTS, "rattle"), os.path.join(crate, "src", "rattle"), dirs_exist_ok=True)
-    for addition, to in ((f"{name}.rattle.rs", "src/rattle.rs"), (f"{name}.toml", "Cargo.toml")):
-        with open(os.path.join(TESTS, addition), encoding="utf-8") as file:
-            text = file.read()
-        with open(os.path.join(crate, to), "a", encoding="utf-8") as file:
-            file.write("\n" + text)
+    for addition, to in (("rattle.rs", "src/rattle.rs"), (f"{name}.rattle.rs", "src/rattle.rs"), (f"{name}.toml", "Cargo.toml")):
+        if os.path.exists(os.path.join(TESTS, addition)):
+            with open(os.path.join(TESTS, addition), encoding="utf-8") as file:
+                text = file.read()
+            with open(os.path.join(crate, to), "a", encoding="utf-8") as file:
+                file.write("\n" + text)

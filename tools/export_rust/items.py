@@ -43,7 +43,7 @@ class Translator:
 
     def translate(self, text):
         """The Rust for a file's text."""
-        made = self.items(without_drop_bounds(lex(text, self.rewriter.file)), 0)
+        made = self.items(without_laws(without_drop_bounds(lex(text, self.rewriter.file))), 0)
         if self.rewriter.traits:
             made += "\n" + "".join(f"#[allow(unused_imports)]\nuse {name};\n" for name in sorted(self.rewriter.traits))
         return tidy(made)
@@ -224,7 +224,7 @@ class Translator:
         if not self.with_tests and (condition == "test" or lead.is_test_module()):
             return None
         hosted = self.rewriter.hosted or lead.is_test_module() or key in self.holder.hosted or condition == "test"
-        if condition:
+        if condition and condition != "test":
             lead.attributes.append(f"#[cfg({condition})]")
         if text_at(tokens, after(tokens, name_at)) == ";":
             return self.rewriter.code(tokens) if self.open_module(name, hosted) else None
@@ -246,7 +246,7 @@ class Translator:
         condition = self.holder.conditions.get((self.crate, self.joined(first)))
         if condition == "test" and not self.with_tests:
             return None
-        if condition:
+        if condition and condition != "test":
             lead.attributes.append(f"#[cfg({condition})]")
         return self.rewriter.code(tokens)
 
@@ -313,8 +313,7 @@ class Translator:
             return None
         if lead.is_test():
             return self.test(tokens)
-        if name == "fmt":
-            tokens = self.formatter(tokens)
+        tokens = self.formatter(tokens)
         self.inline(lead, tokens, (self.crate, f"{self.of}::{name}" if self.of else name))
         if self.of and self.is_public(tokens):
             has_condition = any(clause.text.startswith("requires") for clause in clauses)
@@ -367,14 +366,14 @@ class Translator:
         return self.for_the_crate(tokens)
 
     def formatter(self, tokens):
-        """`fmt` without its parameter, the writer."""
-        opening = after(tokens, find(tokens, "fmt"))
+        """`fmt`, or a function that it calls, without its parameter, the writer of a `Formatter`."""
+        opening = after(tokens, after(tokens, find(tokens, "fn")))
         words = [token.text for token in tokens[opening:opening + 9] if token.kind not in TRIVIA]
-        if words[:6] != ["<", "W", ":", "fmt", "::", "Write"]:
+        of_formatters = {n for n in range(len(tokens)) if [text_at(tokens, at) for at in range(n - 2, n + 1)] == ["Formatter", "<", "W"]}
+        if words[:6] != ["<", "W", ":", "fmt", "::", "Write"] or not of_formatters:
             return tokens
-        tokens = tokens[:opening] + tokens[find(tokens, ">", opening) + 1:]
-        return [token._replace(text="'_") if token.text == "W" and text_at(tokens, n - 1) == "<" and text_at(tokens, n - 2) == "Formatter"
-                else token for n, token in enumerate(tokens)]
+        made = [token._replace(text="'_") if n in of_formatters else token for n, token in enumerate(tokens)]
+        return made[:opening] + made[find(tokens, ">", opening) + 1:]
 
     def is_public(self, tokens):
         """Whether a function begins with a plain `pub`."""
@@ -418,6 +417,23 @@ def without_drop_bounds(tokens):
                 del out[before(out, plus) + 1:]
                 continue
         out.append(token)
+    return out
+
+
+def without_laws(tokens):
+    """The tokens without the laws of crates below: what a `use` takes of their modules `laws`, and where that is called."""
+    out, laws, at = [], set(), 0
+    while at < len(tokens):
+        end = find(tokens, ";", at) + 1 if tokens[at].text in laws | {"use"} else at + 1
+        words = [token.text for token in tokens[at:end] if token.kind not in TRIVIA]
+        is_use = words[:1] == ["use"] and words[2:4] == ["::", "laws"] and words[1] != "crate"
+        if is_use:
+            laws.update(word for word in words[4:] if word.isidentifier())
+        if is_use or words[1:] == ["(", ")", ";"] and words[0] in laws:
+            at = end
+        else:
+            out.append(tokens[at])
+            at += 1
     return out
 
 

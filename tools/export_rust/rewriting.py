@@ -6,8 +6,9 @@ Everything else is copied byte for byte. What may mean something else in Rust is
 import rules
 from lexing import Refused, after, before, find, group_end, text_at
 
-# The traits of calls that take memory.
+# The traits of calls that take memory, and of those that only tests make.
 MEMORY = "crate::rattle::memory::*"
+MEMORY_OF_TESTS = "crate::rattle::cloning::*"
 
 
 class Rewriter:
@@ -20,6 +21,8 @@ class Rewriter:
         self.holder = holder            # the rules of the crate of plain Rust that it becomes a part of
         self.hosted = hosted            # whether this code may take memory
         self.traits = set()             # the traits that its calls need
+        # What the methods of the crates under test are called here.
+        self.renamed = {name.split("::")[1]: new for (_, name), new in holder.renamed.items()}
 
     def refuse(self, token, why):
         raise Refused(f"{self.file}:{token.line}: {why}")
@@ -138,6 +141,8 @@ class Rewriter:
     def method(self, tokens, at):
         """The name of a method that is called."""
         token = tokens[at]
+        if self.crate in self.holder.tests and token.text in self.renamed:
+            return self.renamed[token.text], at + 1
         if self.hosted and token.text == "expect":
             return self.expect(tokens, at)
         if token.text not in rules.REFUSED_METHODS or self.is_own(tokens, at):
@@ -146,6 +151,8 @@ class Rewriter:
             self.refuse(token, f"`.{token.text}()` may mean something else in Rust")
         if token.text in rules.MEMORY_METHODS and not self.is_plain_collect(tokens, at):
             self.traits.add(MEMORY)
+            if token.text == "clone" and self.crate in self.holder.tests:
+                self.traits.add(MEMORY_OF_TESTS)
             return rules.MEMORY_METHODS[token.text], at + 1
         return token.text, at + 1
 

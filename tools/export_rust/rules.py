@@ -14,7 +14,7 @@ class Rules:
     below: tuple = ()               # the crates of plain Rust that it stands on
     tests: tuple = ()               # the crates of tests that are exported into it to be run
     allocs: bool = False            # whether its code may take memory
-    # Modules under a condition, by (crate, module), "test" for those that only tests run.
+    # Modules under a condition, by (crate, module), "test" for those that only tests run, here or in a crate above.
     conditions: dict = field(default_factory=dict)
     # Modules that may take memory, where the others may not.
     hosted: frozenset = frozenset()
@@ -116,6 +116,7 @@ DETAILS = Rules(
     name="wuzhikar-hid",
     crates=("field_details", "field_values", "report_write"),
     below=(READER,),
+    tests=("row_text", "descriptor_plain", "hid_tests"),
     allocs=True,
     hidden=frozenset({("field_details", "Details::around")}),
     renamed={("field_details", "Details::around"): "numbers_around", ("field_details", "Details::each_around"): "around"},
@@ -133,7 +134,7 @@ SIMULATOR = Rules(
     name="kbsim",
     crates=("host", "world", "text_io", "script", "kbsim", "c_array", "parse_lines", "sentences", "explanations"),
     below=(KEYBOARD, LOG, READER),
-    tests=("row_text", "descriptor_plain", "host_tests", "kbsim_tests"),
+    tests=("row_text", "descriptor_plain", "host_tests", "kbsim_tests", "ecc_sim", "ecc_law", "judge", "judge_tests"),
     allocs=True,
     hidden=frozenset({("world", "World::new"), ("host", "Host::new")}),
     fallible_clones=frozenset({("host", "UsageList"), ("host", "Reading")}),
@@ -197,7 +198,7 @@ VEC_CALLS = {"new", "with_capacity"}
 REFUSED_WORDS = {"unsafe", "async", "await", "extern", "union", "size_of", "size_of_val", "align_of", "transmute",
                  "HashMap", "String", "Box", "Rc", "Arc"}
 HOSTED_WORDS = {"Vec", "HostRuntime", "AllocGlobal"}
-TEST_WORDS = {"String"}
+TEST_WORDS = {"String", "Box"}
 
 # Macros that mean the same in both languages, and those that Rattle gives a runtime or an allocator.
 KEPT_MACROS = {"matches", "unreachable"}

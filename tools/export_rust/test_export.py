@@ -50,6 +50,8 @@ LEFT_OUT = [
      "trait T {\n    /// Ghost.\n    ghost image: { Self → ℕ };\n\n    /// Runs.\n    fn a(&self) -> u8\n        ensures { result ≡ image self.now };\n}\n",
      "trait T {\n    /// Runs.\n    fn a(&self) -> u8;\n}\n"),
     ("a law", "/// Law.\npub fn law()\n    ensures { a }\n{}\nuse crate::x;\n", "use crate::parts::layers::x;\n"),
+    ("laws of a crate below", "use records::laws::{a, b};\nuse records::c;\n\nfn f() -> u8 {\n    a();\n    b();\n    c();\n    g(a)\n}\n",
+     "use wuzhikar_log::parts::records::c;\n\nfn f() -> u8 {\n    c();\n    g(a)\n}\n"),
     ("the root's tactic", "//! Root.\n#![tactic(auto)]\n\nconst A: u8 = 1;\n", "//! Root.\n\nconst A: u8 = 1;\n"),
 ]
 
@@ -61,6 +63,7 @@ KEPT = [
     ("what is only for the crate", "pub(crate) fn b() -> u8 { 2 }\n"),
     ("unreachable", "fn f() -> u8 { unreachable!() }\n"),
     ("matches", "fn f(a: u8) -> bool { matches!(a, 1 | 2) }\n"),
+    ("a writer that is no formatter's", "fn f<W: fmt::Write>(f: &mut W) -> fmt::Result { f.write_str(\"-\") }\n"),
     ("a slice's open end", "fn f(a: &[u8]) -> &[u8] { &a[1..] }\n"),
 ]
 
@@ -68,6 +71,8 @@ CHANGED = [
     ("a caller's condition", "impl S { pub fn f(a: u8) -> u8\n    requires { a < 2 }\n{\n    a\n} }\n", "impl S { pub(crate) fn f(a: u8) -> u8 {\n    a\n} }\n"),
     ("a function's condition, which `parts` alone shows", "pub fn f(a: u8) -> u8\n    requires { a < 2 }\n{\n    a\n}\n", "pub fn f(a: u8) -> u8 {\n    a\n}\n"),
     ("code in docs, which is Rattle's", "/// ```\n/// f(alloc)\n/// ```\nfn f() {}\n", "/// ```text\n/// f(alloc)\n/// ```\nfn f() {}\n"),
+    ("a formatter's writer, of `fmt` and of what it calls", "fn f<W: fmt::Write>(a: u8, f: &mut fmt::Formatter<W>) -> fmt::Result { f.write_str(\"-\") }\n",
+     "fn f(a: u8, f: &mut fmt::Formatter<'_>) -> fmt::Result { f.write_str(\"-\") }\n"),
     ("core", "use std::fmt::Debug;\n", "use core::fmt::Debug;\n"),
     ("memory", "use std::alloc::{AllocError, Global};\n", "use crate::rattle::alloc::{AllocError, Global};\n"),
     ("a vector of lanes", "use std::simd::prelude::*;\n", "use crate::rattle::simd::prelude::*;\n"),
@@ -159,6 +164,23 @@ class Forms(unittest.TestCase):
         source = "impl Details { pub fn around(&self, place: u8) -> u8 { place } }\n"
         self.assertEqual(rust(source, crate="field_details", of=rules.DETAILS),
                          "impl Details { pub(crate) fn numbers_around(&self, place: u8) -> u8 { place } }\n")
+
+    def test_tests_call_a_method_by_its_name_here(self):
+        source = "fn f(told: &Details) -> u8 { told.around(1) }\n"
+        for crate, name in (("hid_tests", "numbers_around"), ("report_write", "around")):
+            made = Translator(crate, "", "f.rt", {"field_details"}, rules.DETAILS, hosted=True).translate(source)
+            self.assertEqual(made, source.replace("around", name))
+
+    def test_tests_copy_what_else_is_not_copied(self):
+        source = "fn f(flash: &SimFlash) { flash.clone()?; }\n"
+        for crate, copies in (("keymap_store_tests", True), ("keymap_store", False)):
+            made = rust(source, crate=crate, hosted=True)
+            self.assertIn("flash.try_clone()?", made)
+            self.assertEqual("use crate::rattle::cloning::*;" in made, copies)
+
+    def test_what_only_tests_run_is_there_for_those_above_too(self):
+        self.assertEqual(rust("pub mod plain;\n", crate="reports", with_tests=True), "pub mod plain;\n")
+        self.assertEqual(rust("pub mod plain;\n", crate="reports").strip(), "")
 
     def test_a_call_with_a_type_that_has_no_name_is_for_the_crate(self):
         source = "impl Keyboard { pub fn start_in(room: Room) -> u8\n    ensures { a }\n{ 1 } }\n"

@@ -163,7 +163,7 @@
 //! the values of a report ([`Reader::read`]) and names among it; it is compared with a program in another language over some
 //! ten thousand descriptors. Any bytes may come: nothing panics on them. Where a call says nothing of memory, it takes memory
 //! as std does.
-#![no_std]
+#![cfg_attr(not(test), no_std)]
 #![forbid(unsafe_code)]
 #![warn(missing_docs, missing_debug_implementations)]
 

@@ -1,10 +1,2 @@
 #[cfg(test)]
-pub mod process;
-#[cfg(test)]
-pub mod test;
-#[cfg(test)]
-pub mod text;
-#[cfg(test)]
-pub use self::{process::AllocGlobal, process::HostRuntime, text::String};
-#[cfg(test)]
 pub use wuzhikar_reader::rattle::{Vec, memory, vec};

@@ -33,7 +33,7 @@ impl Rig {
         let (word, rest) = ask.split_once(' ').unwrap_or((ask, ""));
         self.ask(alloc, word, rest)?;
         if !told.is_empty() {
-            self.expect(rt, told, line);
+            self.expect_told(rt, told, line);
         }
         Ok(())
     }
@@ -64,7 +64,7 @@ impl Rig {
     }
 
     /// Compares how the newest call was answered with what a line tells.
-    pub fn expect(&self, rt: &impl Abort, told: &str, line: &str) {
+    pub fn expect_told(&self, rt: &impl Abort, told: &str, line: &str) {
         match self.past.first() {
             Some(Recorded::Out(_, answer) | Recorded::In(answer)) => {
                 expect_answer(rt, answer, told, line)

@@ -131,7 +131,7 @@ fn tear_each_step(
     let wrong = run.judged(alloc)?;
     assert_eq!(rt; wrong, None);
     run.in_packet()?;
-    run.expect(rt, "data -", "the status stage");
+    run.expect_told(rt, "data -", "the status stage");
     Ok(())
 }
 
