@@ -77,14 +77,24 @@ impl Rig {
     /// The first call that does not pass, or the first step of the flash work that is not the next one;
     /// else the first that was not answered as it had to be, and there is none.
     pub fn judged(&self, alloc: Global) -> Result<Option<usize>, Fail> {
-        let past = self.past.as_slice();
-        if let Some(index) = first_wrong(alloc, &self.start, past)? {
+        if let Some(index) = self.wrong(alloc)? {
             return Ok(Some(index));
         }
         if let Some(index) = self.misstep(alloc)? {
             return Ok(Some(index));
         }
-        let found = first_unlawful(alloc, &self.start, past)?;
+        self.unlawful(alloc)
+    }
+
+    /// The first call that does not pass.
+    pub fn wrong(&self, alloc: Global) -> Result<Option<usize>, Fail> {
+        let found = first_wrong(alloc, &self.start, self.past.as_slice())?;
+        Ok(found)
+    }
+
+    /// The first call that was not answered as it had to be.
+    pub fn unlawful(&self, alloc: Global) -> Result<Option<usize>, Fail> {
+        let found = first_unlawful(alloc, &self.start, self.past.as_slice())?;
         Ok(found)
     }
 

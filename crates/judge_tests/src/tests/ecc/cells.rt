@@ -236,7 +236,13 @@ fn a_torn_erase_leaves_errors(rt: HostRuntime) {
         unit 0 0 = error
         unit 0 1 = ffffffffffffffff
         erase 0
-        unit 0 0 = ffffffffffffffff",
+        unit 0 0 = ffffffffffffffff
+        program 0 0 05000010faffffef
+        program 0 1 05000010faffffef
+        tear 0 ff ff ff ff ff ff ff ff ff 00 00 00 00 00 00 00 00 00
+        erase 0 = fault
+        unit 0 0 = ffffffffffffffff
+        unit 0 1 = 05000010faffffef",
     );
 }
 

@@ -2,6 +2,7 @@
 
 use super::super::text::mask_of;
 use super::*;
+use judge::history::fetched::gathering;
 use judge::history::restart::is_legal;
 use judge::history::sessions::{advance, at_start};
 use std::marker::Model;
@@ -103,6 +104,14 @@ impl Rig {
         let found = first_wrong(alloc, &rig.start, rig.steps.as_slice())?;
         self.steps.reverse();
         Ok(found)
+    }
+
+    /// Whether a text of the descriptor is being gathered after the steps.
+    pub fn gathers(&mut self, alloc: Global) -> Result<bool, Fail> {
+        self.steps.reverse();
+        let found = gathering(alloc, self.steps.as_slice())?;
+        self.steps.reverse();
+        Ok(found.is_some())
     }
 
     /// The steps, the oldest first.

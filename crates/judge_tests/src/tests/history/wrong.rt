@@ -105,6 +105,14 @@ const WRONG: &str = "
     fetch
     scans 5 0 1 88
     poll != report 0101030000000000000000000000000000000000000000 read 0200040500000000
+    # The last usage of the bitmap, A4h, is missing.
+    setup 2109030300000600
+    out 03010000a400
+    works 2
+    in
+    fetch
+    scans 5 0
+    poll != report 0100000000000000000000000000000000000000000001 read 0000000000000000
     # With seven keys a boot report says ErrorRollOver, and the host reads that.
     setup 210b000000000000
     in
@@ -346,6 +354,64 @@ fn each_restart(rt: &impl Abort, alloc: Global, rig: &mut Rig) -> Result<(), Fai
 fn restarts_are_judged(rt: HostRuntime) -> Result<(), Fail> {
     let mut rig = Rig::blank(rt.alloc(), 2)?;
     each_restart(&rt, rt.alloc(), &mut rig)
+}
+
+/// Events, and whether a text of the descriptor is being gathered after them.
+const GATHERED: &str = "no
+    setup 8106002200006300
+    yes
+    in
+    yes
+    scans 5 0
+    poll
+    work
+    leds
+    yes
+    in
+    yes
+    reset
+    no
+    setup 8106002200006300
+    in
+    cut
+    no
+    setup 8106002200006300
+    in
+    cutwork ff
+    no
+    setup 8106002200006300
+    in
+    setup 2109030300000600
+    no
+    setup 8106002200000900
+    in
+    yes
+    in
+    no";
+
+/// Takes a line of events, or compares what is gathered after those before it.
+fn gather(rt: &impl Abort, alloc: Global, rig: &mut Rig, line: &str) -> Result<(), Fail> {
+    match line {
+        "yes" | "no" => {
+            let gathers = rig.gathers(alloc)?;
+            assert_eq!(rt; gathers, line == "yes", "after {} steps", rig.steps().len());
+            Ok(())
+        }
+        _ => goes(rt, alloc, rig, line),
+    }
+}
+
+fn each_gathered(rt: &impl Abort, alloc: Global, rig: &mut Rig) -> Result<(), Fail> {
+    for line in GATHERED.lines() {
+        gather(rt, alloc, rig, line.trim())?;
+    }
+    Ok(())
+}
+
+#[test]
+fn a_text_is_gathered_until_it_ends_or_is_dropped(rt: HostRuntime) -> Result<(), Fail> {
+    let mut rig = Rig::blank(rt.alloc(), 2)?;
+    each_gathered(&rt, rt.alloc(), &mut rig)
 }
 
 /// A command, told whole.

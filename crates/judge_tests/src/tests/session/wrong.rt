@@ -295,7 +295,7 @@ fn changed(alloc: Global, call: Recorded, told: &str, slots: &str) -> Result<Rec
 }
 
 /// Makes a call and changes it: it is judged right before, and is the first wrong one then. A step of the flash work is then
-/// also the first that is not the next one.
+/// also the first that is not the next one. After a call more the same one is wrong, and it is the first unlawful one.
 fn refuse(rt: &impl Abort, alloc: Global, rig: &mut Rig, line: &str) -> Result<(), Fail> {
     let (last, told) = line.split_once(" != ").unwrap_or((line, ""));
     rig.take(rt, alloc, last)?;
@@ -308,8 +308,20 @@ fn refuse(rt: &impl Abort, alloc: Global, rig: &mut Rig, line: &str) -> Result<(
     rig.record(changed(alloc, call, told, slots)?)?;
     expect_judged(rt, rig.judged(alloc)?, Some(index), line);
     if last.starts_with("work") {
-        expect_judged(rt, rig.misstep(alloc)?, Some(index), line);
+        assert_eq!(rt;
+            rig.misstep(alloc)?,
+            Some(index),
+            "the first misstep after: {line}"
+        );
     }
+    let wrong = rig.wrong(alloc)?;
+    rig.scan(Scan { rows: [0; 6] })?;
+    assert_eq!(rt; rig.wrong(alloc)?, wrong, "and after a call more: {line}");
+    assert_eq!(rt;
+        rig.unlawful(alloc)?,
+        Some(index),
+        "the first unlawful call after: {line}"
+    );
     Ok(())
 }
 
