@@ -2,7 +2,7 @@
 
 An edit is applied to a clone of the last commit, whose source is written as plain Rust with its tests. The body is told where one
 of these tests fails, or a row of tests/ or a command line on the program that is built of it, or where one hangs: one to two
-minutes an edit.
+minutes an edit. What is named are tests of the first crate of plain Rust that tells it.
 
 The source as it stands is tried first: nothing may tell it. An edit that turns no code is left out.
 """

@@ -43,7 +43,7 @@ class Translator:
 
     def translate(self, text):
         """The Rust for a file's text."""
-        made = self.items(without_laws(without_drop_bounds(lex(text, self.rewriter.file))), 0)
+        made = self.items(without_drop_bounds(lex(text, self.rewriter.file)), 0)
         if self.rewriter.traits:
             made += "\n" + "".join(f"#[allow(unused_imports)]\nuse {name};\n" for name in sorted(self.rewriter.traits))
         return tidy(made)
@@ -223,9 +223,8 @@ class Translator:
         condition = self.holder.conditions.get(key)
         if not self.with_tests and (condition == "test" or lead.is_test_module()):
             return None
-        hosted = self.rewriter.hosted or lead.is_test_module() or key in self.holder.hosted or condition == "test"
-        if condition and condition != "test":
-            lead.attributes.append(f"#[cfg({condition})]")
+        hosted = self.rewriter.hosted or lead.is_test_module() or key in self.holder.hosted
+        self.put_condition(lead, condition)
         if text_at(tokens, after(tokens, name_at)) == ";":
             return self.rewriter.code(tokens) if self.open_module(name, hosted) else None
         outer, self.rewriter.hosted = self.rewriter.hosted, hosted
@@ -243,12 +242,25 @@ class Translator:
         first = text_at(tokens, after(tokens, self.past_visibility(tokens)))
         if words[-2] == rules.PROVER_TRAIT or first in rules.DERIVING_LIBRARIES:
             return None
+        if words[1] in self.neighbours and words[2:4] == ["::", "laws"]:
+            return self.laws(tokens[0], words[4:])
         condition = self.holder.conditions.get((self.crate, self.joined(first)))
         if condition == "test" and not self.with_tests:
             return None
+        self.put_condition(lead, condition)
+        return self.rewriter.code(tokens)
+
+    def put_condition(self, lead, condition):
+        """Puts an item under a condition. Where tests are exported, "test" is none: those of a crate above are there, too."""
         if condition and condition != "test":
             lead.attributes.append(f"#[cfg({condition})]")
-        return self.rewriter.code(tokens)
+
+    def laws(self, token, words):
+        """A `use` of laws of a crate below is left out, as are their calls."""
+        names = {word for word in words if word.isidentifier()}
+        if not names or "*" in words:
+            self.refuse(token, "laws of another crate without their names")
+        self.rewriter.laws |= names
 
     def implementation(self, tokens, depth):
         """An impl or a trait. One of the prover's trait is left out."""
@@ -417,23 +429,6 @@ def without_drop_bounds(tokens):
                 del out[before(out, plus) + 1:]
                 continue
         out.append(token)
-    return out
-
-
-def without_laws(tokens):
-    """The tokens without the laws of crates below: what a `use` takes of their modules `laws`, and where that is called."""
-    out, laws, at = [], set(), 0
-    while at < len(tokens):
-        end = find(tokens, ";", at) + 1 if tokens[at].text in laws | {"use"} else at + 1
-        words = [token.text for token in tokens[at:end] if token.kind not in TRIVIA]
-        is_use = words[:1] == ["use"] and words[2:4] == ["::", "laws"] and words[1] != "crate"
-        if is_use:
-            laws.update(word for word in words[4:] if word.isidentifier())
-        if is_use or words[1:] == ["(", ")", ";"] and words[0] in laws:
-            at = end
-        else:
-            out.append(tokens[at])
-            at += 1
     return out
 
 

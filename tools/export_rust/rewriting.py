@@ -21,7 +21,8 @@ class Rewriter:
         self.holder = holder            # the rules of the crate of plain Rust that it becomes a part of
         self.hosted = hosted            # whether this code may take memory
         self.traits = set()             # the traits that its calls need
-        # What the methods of the crates under test are called here.
+        self.laws = set()               # the laws of crates below that the file takes
+        # Methods that have another name here, by their name alone: no crate of tests has one of its own that is called so.
         self.renamed = {name.split("::")[1]: new for (_, name), new in holder.renamed.items()}
 
     def refuse(self, token, why):
@@ -70,6 +71,8 @@ class Rewriter:
         last = text_at(tokens, before(tokens, at))
         following = after(tokens, at)
         next_text = text_at(tokens, following)
+        if token.text in self.laws and last in (";", "{", "}"):
+            return "", find(tokens, ";", at) + 1
         if self.hosted and token.text in rules.TEST_WORDS and last not in (".", "::"):
             return f"crate::rattle::{token.text}", at + 1
         if token.text in rules.REFUSED_WORDS or token.text == "static" and next_text == "mut":

@@ -12,9 +12,9 @@ class Rules:
     name: str                       # the crate, and its folder in rust/
     crates: tuple                   # the crates of the source that it holds, lowest first
     below: tuple = ()               # the crates of plain Rust that it stands on
-    tests: tuple = ()               # the crates of tests that are exported into it to be run
+    tests: tuple = ()               # the crates that are exported into it for tests alone: those of tests, and what only they call
     allocs: bool = False            # whether its code may take memory
-    # Modules under a condition, by (crate, module), "test" for those that only tests run, here or in a crate above.
+    # Modules under a condition, by (crate, module). Those under "test" are left out where no tests are exported.
     conditions: dict = field(default_factory=dict)
     # Modules that may take memory, where the others may not.
     hosted: frozenset = frozenset()
@@ -116,7 +116,7 @@ DETAILS = Rules(
     name="wuzhikar-hid",
     crates=("field_details", "field_values", "report_write"),
     below=(READER,),
-    tests=("row_text", "descriptor_plain", "hid_tests"),
+    tests=("row_text", "hid_tests"),
     allocs=True,
     hidden=frozenset({("field_details", "Details::around")}),
     renamed={("field_details", "Details::around"): "numbers_around", ("field_details", "Details::each_around"): "around"},

@@ -52,6 +52,8 @@ LEFT_OUT = [
     ("a law", "/// Law.\npub fn law()\n    ensures { a }\n{}\nuse crate::x;\n", "use crate::parts::layers::x;\n"),
     ("laws of a crate below", "use records::laws::{a, b};\nuse records::c;\n\nfn f() -> u8 {\n    a();\n    b();\n    c();\n    g(a)\n}\n",
      "use wuzhikar_log::parts::records::c;\n\nfn f() -> u8 {\n    c();\n    g(a)\n}\n"),
+    ("a law's attribute, and no method of its name", "#[cfg(test)]\nuse records::laws::a;\nfn f(x: S) -> u8 {\n    x.a();\n    a();\n    1\n}\n",
+     "fn f(x: S) -> u8 {\n    x.a();\n\n    1\n}\n"),
     ("the root's tactic", "//! Root.\n#![tactic(auto)]\n\nconst A: u8 = 1;\n", "//! Root.\n\nconst A: u8 = 1;\n"),
 ]
 
@@ -100,6 +102,8 @@ REFUSED = [
     "fn f(v: Vec<u8>) -> u8 { 1 }",
     "use std::process::Abort;",
     "use std::collections::HashMap;",
+    "use records::laws;",
+    "use records::laws::*;",
     "fn f() -> u8 { assert!(rt; a); 1 }",
     "fn f() -> u8 { panic!(\"a\") }",
     "fn f() -> u8 { unreachable!(\"a\") }",
@@ -171,16 +175,21 @@ class Forms(unittest.TestCase):
             made = Translator(crate, "", "f.rt", {"field_details"}, rules.DETAILS, hosted=True).translate(source)
             self.assertEqual(made, source.replace("around", name))
 
-    def test_tests_copy_what_else_is_not_copied(self):
+    def test_a_copy_in_tests_has_the_trait_for_it(self):
         source = "fn f(flash: &SimFlash) { flash.clone()?; }\n"
         for crate, copies in (("keymap_store_tests", True), ("keymap_store", False)):
             made = rust(source, crate=crate, hosted=True)
             self.assertIn("flash.try_clone()?", made)
             self.assertEqual("use crate::rattle::cloning::*;" in made, copies)
 
-    def test_what_only_tests_run_is_there_for_those_above_too(self):
-        self.assertEqual(rust("pub mod plain;\n", crate="reports", with_tests=True), "pub mod plain;\n")
-        self.assertEqual(rust("pub mod plain;\n", crate="reports").strip(), "")
+    def test_a_module_for_tests_has_no_condition(self):
+        for source in ("pub mod plain;\n", "use plain::x;\n"):
+            self.assertEqual(rust(source, crate="reports", with_tests=True), source)
+            self.assertEqual(rust(source, crate="reports").strip(), "")
+
+    def test_what_is_added_for_tests_is_for_a_crate_that_has_some(self):
+        names = {"rattle", "rattle.rs"} | {f"{of.name}.{end}" for of in rules.WORKSPACE if of.tests for end in ("rattle.rs", "toml")}
+        self.assertLessEqual(set(os.listdir(os.path.join(HERE, "tests"))), names)
 
     def test_a_call_with_a_type_that_has_no_name_is_for_the_crate(self):
         source = "impl Keyboard { pub fn start_in(room: Room) -> u8\n    ensures { a }\n{ 1 } }\n"

@@ -4,7 +4,7 @@ use arrayvec::ArrayVec;
 use wuzhikar_log::SimFlash;
 use wuzhikar_reader::AllocError;
 
-/// A copy that memory may be refused.
+/// `try_clone` of what is `Clone` and not `Copy`: it never refuses.
 pub trait TryCloneOwned: Sized {
     fn try_clone(&self) -> Result<Self, AllocError>;
 }
