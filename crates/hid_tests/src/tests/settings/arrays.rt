@@ -43,6 +43,21 @@ fn the_first_value_that_says_none(rt: HostRuntime) {
 }
 
 #[test]
+fn id_zero_comes_before_a_null(rt: HostRuntime) {
+    check(&rt, rt.alloc(), ID_ZERO_AND_NULLS, ID_ZERO_AND_NULLS_ROWS);
+}
+
+#[test]
+fn id_zero_is_listed_first_below_zero(rt: HostRuntime) {
+    check(&rt, rt.alloc(), ID_ZERO_BELOW_ZERO, ID_ZERO_BELOW_ZERO_ROWS);
+}
+
+#[test]
+fn a_value_past_the_list(rt: HostRuntime) {
+    check(&rt, rt.alloc(), SHORT_LIST, SHORT_LIST_ROWS);
+}
+
+#[test]
 fn a_usage_that_is_listed_twice(rt: HostRuntime) {
     check(&rt, rt.alloc(), LISTED_TWICE, LISTED_TWICE_ROWS);
 }
@@ -90,6 +105,8 @@ output 0 new : #1.0=1 80005@0=1 = 11
 output 0 new : #2.0=1 = unknown 0
 input 0 new : #2.0=4 #2.1=5 70006@0=1 70007@0=1 = 0000040506070000
 input 0 0000FF0000000000FFFF : 70005@0=1 = 0000FF0500000000FFFF
+input 0 00000000000000 : 700E1@0=1 = short
+input 0 0000000000000000 : 700E1@0=1 = 0200000000000000
 input 0 new : 7000B@0=0 7000B@0=1 = 00000B0000000000
 input 0 new : 7000B@0=0 #2.0=11 = 00000B0000000000
 input 0 0000040000000000 : 70004@0=0 70005@0=1 = twice 1
@@ -150,6 +167,30 @@ input 0 new : = 99
 input 0 AA : 90001@0=0 = AA
 input 0 new : 90001@0=1 = too-large 0";
 
+/// The usage of number 0 listed first, in places that hold nulls too.
+const ID_ZERO_AND_NULLS: &str = "\
+05091900290315002503750395028100";
+
+const ID_ZERO_AND_NULLS_ROWS: &str = "
+input 0 new : = 00
+input 0 new : 90003@0=1 = 03";
+
+/// The usage of number 0 listed first, and every value of the bits names a usage: that one's is -2.
+const ID_ZERO_BELOW_ZERO: &str = "\
+05091900290315FE2501750295028100";
+
+const ID_ZERO_BELOW_ZERO_ROWS: &str = "
+input 0 new : = 0A
+input 0 new : 90003@0=1 = 09";
+
+/// An Array whose values go on past its list, and fill the bits.
+const SHORT_LIST: &str = "\
+0509190129041500250F750495028100";
+
+const SHORT_LIST_ROWS: &str = "
+input 0 new : = 44
+input 0 new : 90002@0=1 = 41";
+
 /// An Array that lists a usage twice.
 const LISTED_TWICE: &str = "\
 050909010902090115012503750295028100";
@@ -175,7 +216,8 @@ const TWO_ARRAYS_ROWS: &str = "
 input 0 new : = no-unused 1
 input 0 00 : 90002@0=1 = 02
 input 0 0000 : 90002@0=1 = 0200
-input 0 0000 : 90002@1=1 = no-room 0";
+input 0 0000 : 90002@1=1 = no-room 0
+input 0 00 : #1.0=1 #0.1=1 = unknown 1";
 
 /// An Array whose list goes on past the Logical Maximum.
 const PAST_THE_MAXIMUM: &str = "\

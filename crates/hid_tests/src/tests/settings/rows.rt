@@ -26,6 +26,8 @@ struct Writer<'t> {
     alloc: Global,
     /// The descriptor, in hex.
     text: &'t str,
+    /// Whether it is told which fields have Null State.
+    tells_nulls: bool,
 }
 
 impl<'a, 't> RunsRows<'a> for Writer<'t> {
@@ -39,11 +41,20 @@ impl<'a, 't> RunsRows<'a> for Writer<'t> {
         let id = words.next()?.parse::<u8>().ok()?;
         let onto = words.next()?;
         let settings = settings_of(self.alloc, tail.split_whitespace())?;
+        let states = self.states(&text)?;
         if onto == "new" {
-            told_of(self.alloc, &text, kind, id, &settings, None)
+            told_of(self.alloc, &text, &states, kind, id, &settings, None)
         } else {
             let given = bytes::<64>(onto)?;
-            told_of(self.alloc, &text, kind, id, &settings, Some(&given))
+            told_of(
+                self.alloc,
+                &text,
+                &states,
+                kind,
+                id,
+                &settings,
+                Some(&given),
+            )
         }
     }
 
@@ -55,9 +66,45 @@ impl<'a, 't> RunsRows<'a> for Writer<'t> {
     }
 }
 
+impl Writer<'_> {
+    /// What is told of the Null State of each field.
+    fn states(&self, text: &[u8]) -> Option<Vec<bool>> {
+        if self.tells_nulls {
+            null_states(self.alloc, text)
+        } else {
+            Some(Vec::new(self.alloc))
+        }
+    }
+}
+
 /// Compares rows of a descriptor, in hex, with what is written.
 pub(super) fn check(rt: &impl Abort, alloc: Global, text: &str, rows: &str) {
-    let mut writer = Writer { alloc, text };
+    compare(
+        rt,
+        Writer {
+            alloc,
+            text,
+            tells_nulls: true,
+        },
+        rows,
+    );
+}
+
+/// The same, where it is not told which fields have Null State.
+pub(super) fn check_without_nulls(rt: &impl Abort, alloc: Global, text: &str, rows: &str) {
+    compare(
+        rt,
+        Writer {
+            alloc,
+            text,
+            tells_nulls: false,
+        },
+        rows,
+    );
+}
+
+fn compare(rt: &impl Abort, writer: Writer<'_>, rows: &str) {
+    let mut writer = writer;
     if let Some((row, told)) = first_wrong(&mut writer, rows) {
         panic!(rt; "{row}: {told:?}");
     }
@@ -76,14 +123,14 @@ pub(super) fn null_states(alloc: Global, text: &[u8]) -> Option<Vec<bool>> {
 fn told_of(
     alloc: Global,
     text: &[u8],
+    states: &[bool],
     kind: Kind,
     id: u8,
     settings: &[Setting],
     onto: Option<&[u8]>,
 ) -> Option<Told> {
     let descriptor = parse(alloc, text).ok()?;
-    let states = null_states(alloc, text)?;
-    match write(alloc, &descriptor, &states, kind, id, settings, onto) {
+    match write(alloc, &descriptor, states, kind, id, settings, onto) {
         Ok(report) => {
             let mut copy = ArrayVec::new();
             copy.try_extend_from_slice(&report).ok()?;

@@ -1,6 +1,6 @@
 //! Rows of reports that are written: Variable fields and report IDs.
 
-use super::rows::check;
+use super::rows::{check, check_without_nulls};
 
 #[test]
 fn places_of_variable_fields(rt: HostRuntime) {
@@ -30,6 +30,11 @@ fn signed_values_and_nulls(rt: HostRuntime) {
 #[test]
 fn a_hat_is_null_in_a_new_report(rt: HostRuntime) {
     check(&rt, rt.alloc(), HAT, HAT_ROWS);
+}
+
+#[test]
+fn a_hat_of_which_no_null_state_is_told(rt: HostRuntime) {
+    check_without_nulls(&rt, rt.alloc(), HAT, WITHOUT_NULLS_ROWS);
 }
 
 #[test]
@@ -116,7 +121,9 @@ input 2 new : = 0200
 output 2 new : = 0200
 output 2 02AA : = 02AA
 input 0 new : = unknown-report
-input 2 0200 : 90039@0=n = 0200";
+input 2 0200 : 90039@0=n = 0200
+input 1 new : 90039@0=1 = unknown 0
+input 2 new : 90001@0=1 = unknown 0";
 
 /// Signed values with Null State.
 const SIGNED: &str = "\
@@ -138,6 +145,10 @@ input 0 new : = 08
 input 0 new : 10039@0=0 = 00
 input 0 00 : 10039@0=n = 08
 input 0 FF : 10039@0=8 = out-of-range 0";
+
+const WITHOUT_NULLS_ROWS: &str = "
+input 0 new : = 00
+input 0 00 : 10039@0=n = no-null 0";
 
 /// A Logical Minimum over the Logical Maximum.
 const INVERTED: &str = "\
