@@ -13,3 +13,6 @@ returns-else-is_null_under-clause-null c = no_null c.args.field.now
 pub returns-else-is_null_under-clause-none : goal.returns-else-is_null_under-clause-none
 returns-else-is_null_under-clause-none c = λ _ v. never_null c.args.field.now
     (sym c.is_null.ensures ∙ c.if-is_null.false) (sym c.is_null_over.ensures.same ∙ c.if-is_null_over.false) (sym c.is_null_under.ensures.same ∙ c.if-is_null_under.false) v
+
+pub returns-then-is_null_over-clause-null : goal.returns-then-is_null_over-clause-null
+returns-then-is_null_over-clause-null c = search rules

@@ -21,3 +21,6 @@ returns-clause-exact c =
       line = same ∙ ap (λ n. n *ℤ c.reduced.result.denominator) line;
       lowest = c.reduced.ensures.lowest;
     }
+
+pub returns-clause-exponent : goal.returns-clause-exponent
+returns-clause-exponent c = search rules

@@ -1,7 +1,11 @@
 use Rattle.key_reports.specs.Past.{wanted_after}
 use Rattle.key_reports.proofs.key_reports.KeyReports.bitmap.Goals as goal
+use Rattle.std.proofs.Common.{rules}
 
 pub returns-then-is_made_for : goal.returns-then-is_made_for
 returns-then-is_made_for c past s =
     let h = rw (← c.self.view_is) at s in
     c.made_bitmap.ensures (wanted_after past) (c.is_made_for.ensures.made (wanted_after past) c.if-is_made_for.true h.made)
+
+pub returns-else-is_made_for : goal.returns-else-is_made_for
+returns-else-is_made_for c = search rules
