@@ -327,6 +327,8 @@ class Translator:
             return self.test(tokens)
         tokens = self.formatter(tokens)
         self.inline(lead, tokens, (self.crate, f"{self.of}::{name}" if self.of else name))
+        if self.rewriter.file.endswith(rules.TOLD_AT_THE_CALL) and "Abort" in [token.text for token in tokens[:find(tokens, "{")]]:
+            lead.attributes.append("#[track_caller]")
         if self.of and self.is_public(tokens):
             has_condition = any(clause.text.startswith("requires") for clause in clauses)
             tokens = self.method(lead, tokens, (self.crate, f"{self.of}::{name}"), has_condition)
@@ -420,13 +422,13 @@ def contract(clauses, has_docs):
 
 
 def without_drop_bounds(tokens):
-    """The tokens without `+ Drop`, a bound that says in Rattle what Rust does by itself."""
+    """The tokens without `+ Drop` and `: Drop`, a bound that says in Rattle what Rust does by itself."""
     out = []
     for token in tokens:
         if token == Token("word", "Drop", token.line):
-            plus = before(out, len(out)) if out else -1
-            if text_at(out, plus) == "+":
-                del out[before(out, plus) + 1:]
+            sign = before(out, len(out)) if out else -1
+            if text_at(out, sign) in ("+", ":"):
+                del out[before(out, sign) + 1:]
                 continue
         out.append(token)
     return out

@@ -180,6 +180,9 @@ PROVER_TRAIT = "Model"
 DROPPED_ATTRIBUTES = {"tactic", "cycle"}
 KEPT_ATTRIBUTES = {"cfg", "test", "inline", "cold", "must_use", "repr", "non_exhaustive", "ignore", "default"}
 
+# The files whose functions that end a test tell the place of the call.
+TOLD_AT_THE_CALL = "/asserts.rt"
+
 # Derives that mean the same in both languages; `Drop` says in Rattle what Rust does by itself, `Error` is written out.
 DERIVES = {"Clone", "Copy", "PartialEq", "Eq", "PartialOrd", "Ord", "Debug", "Default", "Hash"}
 DROPPED_DERIVES = {"Drop"}

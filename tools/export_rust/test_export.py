@@ -20,9 +20,9 @@ from lexing import Refused
 from texts import text
 
 
-def rust(text, crate="layers", of=rules.KEYBOARD, hosted=False, contracts=False, left=True, with_tests=False):
+def rust(text, crate="layers", of=rules.KEYBOARD, hosted=False, contracts=False, left=True, with_tests=False, file="f.rt"):
     """The Rust for a file of a crate that stands on `records`."""
-    translator = Translator(crate, "", "f.rt", {"records"}, of, hosted, contracts, with_tests)
+    translator = Translator(crate, "", file, {"records"}, of, hosted, contracts, with_tests)
     translator.open_module = lambda name, hosted: left
     return translator.translate(text)
 
@@ -42,8 +42,8 @@ LEFT_OUT = [
      "pub struct S {\n    a: u8,\n}\n"),
     ("a ghost field at the end", "struct S { a: u8, ghost inside: { a < 3 } }\n", "struct S { a: u8,}\n"),
     ("Drop among derives", "#[derive(Debug, Drop, PartialEq)]\nenum E { A }\n", "#[derive(Debug, PartialEq)]\nenum E { A }\n"),
-    ("Drop among bounds", "impl<F: Flash + Drop> P<F> { fn f<G: A + Drop>(g: G) -> u8 { 1 } }\nstruct S<F: Flash + Drop>(F);\n",
-     "impl<F: Flash> P<F> { fn f<G: A>(g: G) -> u8 { 1 } }\nstruct S<F: Flash>(F);\n"),
+    ("Drop among bounds", "impl<F: Flash + Drop> P<F> { fn f<G: A + Drop>(g: G) -> u8 { 1 } }\nstruct S<F: Flash + Drop>(F);\nfn h<T: Drop>(t: T) {}\n",
+     "impl<F: Flash> P<F> { fn f<G: A>(g: G) -> u8 { 1 } }\nstruct S<F: Flash>(F);\nfn h<T>(t: T) {}\n"),
     ("the prover's impl", "impl<'a, T> Model for S<'a, T> {\n    ghost Value = { ℕ };\n}\nfn g() -> u8 { 1 }\n", "fn g() -> u8 { 1 }\n"),
     ("the prover's trait", "use std::marker::Model;\nconst A: u8 = 1;\n", "const A: u8 = 1;\n"),
     ("ghosts of a trait",
@@ -202,6 +202,11 @@ class Forms(unittest.TestCase):
         self.assertEqual(made, "impl Item { /// Tag.\n    #[inline(always)]\n    fn tag() -> u8 { 1 } }\nfn tag() -> u8 { 2 }\n")
         with self.assertRaises(Refused):
             rust("impl Item { #[inline(never)] fn tag() -> u8 { 1 } }\n", crate="descriptor_parse", of=rules.READER)
+
+    def test_what_ends_a_test_tells_the_place_of_the_call(self):
+        source, hosted = "pub fn holds(rt: &impl Abort, it: bool) { assert!(rt; it); }\npub fn text() {}\n", "pub fn holds(rt: &impl Abort, it: bool) { assert!(it); }\n"
+        self.assertEqual(rust(source, file="tests/asserts.rt", hosted=True), f"#[track_caller]\n{hosted}pub fn text() {{}}\n")
+        self.assertEqual(rust(source, file="tests/rows.rt", hosted=True), f"{hosted}pub fn text() {{}}\n")
 
     def test_memory_that_waits_for_a_keyboard_is_zeros(self):
         of = dataclasses.replace(rules.KEYBOARD, unstarted={("keymap_store", name): None for name in "SRT"} | {("keymap_store", "E"): "E::A(0)"})
