@@ -1,12 +1,17 @@
 //! What is given beside what is told of it. Rows are lines of one text; a row that begins with `#` is a comment.
 
 mod answers;
+mod asserts;
 mod definitions;
 mod gathering;
 mod parsing;
 mod reading;
 
+use asserts::{made, same_text};
+use descriptor_parse::{Descriptor, parse};
 use row_text::push_bytes;
+use std::alloc::Global;
+use std::fmt::{Debug, Display};
 use std::process::Abort;
 
 /// The report descriptor that the keyboard serves, 99 bytes, but for its last byte C0, which ends a collection.
@@ -71,7 +76,22 @@ fn two<'a>(rt: &impl Abort, row: &'a str, between: &str) -> (&'a str, &'a str) {
     }
 }
 
-/// Compares what is told with what a row wants.
-fn same(rt: &impl Abort, told: &str, wanted: &str, row: &str) {
-    assert_eq!(rt; told, wanted, "of the row {row}");
+/// Compares what is shown of a value with what a row wants.
+fn shows<T: Display>(rt: &impl Abort, alloc: Global, told: &T, wanted: &str, row: &str) {
+    let shown = made(rt, format!(in alloc; "{told}"));
+    same_text(rt, shown.as_str(), wanted, row);
+}
+
+/// The same of what a log shows.
+fn logs<T: Debug>(rt: &impl Abort, alloc: Global, told: &T, wanted: &str, row: &str) {
+    let shown = made(rt, format!(in alloc; "{told:?}"));
+    same_text(rt, shown.as_str(), wanted, row);
+}
+
+/// The descriptor of a text without a fault.
+fn descriptor_of(rt: &impl Abort, alloc: Global, text: &[u8]) -> Descriptor {
+    match parse(alloc, text) {
+        Ok(descriptor) => descriptor,
+        Err(error) => panic!(rt; "{error}"),
+    }
 }

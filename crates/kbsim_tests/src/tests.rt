@@ -1,15 +1,17 @@
 //! Texts beside what is read of them, and what is given beside what is printed.
 
+use asserts::made;
 use row_text::text_of;
 use std::process::Abort;
 
+mod asserts;
 mod descriptors;
 mod language;
 mod scripts;
 mod streams;
 mod texts;
 
-/// Compares a text with what was to be; `case` says where.
-fn same<R: Abort>(rt: &R, found: &str, expected: &str, case: &str) {
-    assert_eq!(rt; found, expected, "of {case}");
+/// Adds to a text.
+fn push(rt: &impl Abort, to: &mut String, more: &str) {
+    made(rt, to.push_str(more));
 }

@@ -14,10 +14,7 @@ use std::str::SplitWhitespace;
 
 /// The next number of a row.
 fn number(rt: &impl Abort, words: &mut SplitWhitespace<'_>) -> i64 {
-    match words.next() {
-        Some(word) => value(rt, word),
-        None => panic!(rt; "a number is missing"),
-    }
+    value(rt, words.next().expect(rt, "a number"))
 }
 
 fn value(rt: &impl Abort, word: &str) -> i64 {
@@ -33,7 +30,7 @@ fn field_of(rt: &impl Abort, words: &mut SplitWhitespace<'_>) -> Field {
     let min = number(rt, words);
     let max = number(rt, words);
     let bit = number(rt, words);
-    made(
+    input_field(
         u8::try_from(size).ok().expect(rt, "a size"),
         min,
         max,
@@ -41,7 +38,16 @@ fn field_of(rt: &impl Abort, words: &mut SplitWhitespace<'_>) -> Field {
     )
 }
 
-fn made(size: u8, min: i64, max: i64, bit: u64) -> Field {
+/// A field, and the number of a place, from `SIZE MINIMUM MAXIMUM BIT PLACE`.
+fn field_and_place(rt: &impl Abort, text: &str) -> (Field, u16) {
+    let mut words = text.split_whitespace();
+    let field = field_of(rt, &mut words);
+    let place = u16::try_from(number(rt, &mut words));
+    (field, place.ok().expect(rt, "a place"))
+}
+
+/// Four places of an input report, each a control of its own.
+fn input_field(size: u8, min: i64, max: i64, bit: u64) -> Field {
     Field {
         kind: Kind::Input,
         id: 0,

@@ -1,5 +1,6 @@
 //! Two answers of the parser to one text, which is given whole or in pieces.
 
+use crate::tests::asserts::{same, same_at, same_in};
 use descriptor_parse::{Descriptor, ParseError};
 use std::process::Abort;
 
@@ -12,21 +13,14 @@ pub(super) fn same_answers(
 ) {
     match (told, whole) {
         (Ok(a), Ok(b)) => same_descriptors(rt, a, b),
-        (Err(a), Err(b)) => same_errors(rt, a, b, text),
+        (Err(a), Err(b)) => same_at(rt, a, b, &text),
         _ => panic!(rt; "of {text:?} one refuses what the other does not"),
     }
 }
 
-fn same_errors(rt: &impl Abort, told: &ParseError, whole: &ParseError, text: &[u8]) {
-    assert_eq!(rt; told, whole, "of {text:?}");
-}
-
 fn same_descriptors(rt: &impl Abort, told: &Descriptor, whole: &Descriptor) {
-    assert_eq!(rt; told.fields(), whole.fields());
-    assert!(rt;
-        told.uses_ids() == whole.uses_ids(),
-        "one uses IDs, and one does not"
-    );
+    same(rt, &told.fields(), &whole.fields());
+    same_in(rt, &told.uses_ids(), &whole.uses_ids(), "the use of IDs");
     for field in 0..=whole.fields().len() {
         same_ranges(rt, told.ranges(field), whole.ranges(field));
     }
@@ -34,5 +28,5 @@ fn same_descriptors(rt: &impl Abort, told: &Descriptor, whole: &Descriptor) {
 
 /// Compares ranges of usages.
 pub(super) fn same_ranges(rt: &impl Abort, told: &[(u32, u32)], wanted: &[(u32, u32)]) {
-    assert_eq!(rt; told, wanted);
+    same(rt, &told, &wanted);
 }

@@ -6,6 +6,7 @@ mod single;
 
 use super::answers::same_answers;
 use super::{bytes, push_byte};
+use crate::tests::asserts::{made, same, same_at, same_in};
 use descriptor_parse::{Descriptor, Field, Kind, ParseError, Parser, parse};
 use descriptor_plain::{
     Plain, PlainField, cut, field_usages, fields, first_fault, has_report_id, report_bits,
@@ -29,8 +30,8 @@ fn check(rt: &impl Abort, alloc: Global, text: &[u8]) {
 
 /// Compares the parser's fault with the first one by the definitions.
 fn same_fault(rt: &impl Abort, alloc: Global, text: &[u8], told: Option<ParseError>) {
-    let wanted = first_fault(alloc, text).ok().expect(rt, "memory");
-    assert_eq!(rt; told, wanted, "of {text:?}");
+    let wanted = made(rt, first_fault(alloc, text));
+    same_at(rt, &told, &wanted, &text);
 }
 
 /// Parses a text in pieces of none to nine bytes, whose lengths follow from the text.
@@ -60,24 +61,24 @@ fn feed_pieces(parser: &mut Parser, text: &[u8]) -> Result<(), ParseError> {
 
 /// Compares a descriptor with the items of its text.
 fn check_descriptor(rt: &impl Abort, alloc: Global, descriptor: &Descriptor, text: &[u8]) {
-    let items = cut(alloc, text).ok().expect(rt, "memory").items;
+    let items = made(rt, cut(alloc, text)).items;
     check_fields(rt, alloc, descriptor, &items);
     check_all_usages(rt, alloc, descriptor, &items);
     check_reports(rt, descriptor, &items);
 }
 
 fn check_fields(rt: &impl Abort, alloc: Global, descriptor: &Descriptor, items: &[Plain<'_>]) {
-    let wanted = fields(alloc, items).ok().expect(rt, "memory");
+    let wanted = made(rt, fields(alloc, items));
     let told = descriptor.fields();
     same_number(rt, told.len(), wanted.len(), "fields");
     for (field, want) in told.iter().zip(&wanted) {
-        same_field(rt, plain_of(field), want);
+        same(rt, &plain_of(field), want);
     }
 }
 
 /// Compares how many there are.
 fn same_number(rt: &impl Abort, told: usize, wanted: usize, what: &str) {
-    assert_eq!(rt; told, wanted, "{what}");
+    same_in(rt, &told, &wanted, what);
 }
 
 fn plain_of(field: &Field) -> PlainField {
@@ -93,13 +94,9 @@ fn plain_of(field: &Field) -> PlainField {
     }
 }
 
-fn same_field(rt: &impl Abort, told: PlainField, wanted: &PlainField) {
-    assert_eq!(rt; told, *wanted);
-}
-
 /// Compares the ranges of all fields, and the usages of some places.
 fn check_all_usages(rt: &impl Abort, alloc: Global, descriptor: &Descriptor, items: &[Plain<'_>]) {
-    let wanted = field_usages(alloc, items).ok().expect(rt, "memory");
+    let wanted = made(rt, field_usages(alloc, items));
     let told = descriptor.fields();
     same_number(rt, told.len(), wanted.len(), "lists of usages");
     for (place, (field, ranges)) in told.iter().zip(&wanted).enumerate() {
@@ -110,13 +107,13 @@ fn check_all_usages(rt: &impl Abort, alloc: Global, descriptor: &Descriptor, ite
         descriptor.ranges(told.len()).len(),
         descriptor.usage(told.len(), 0),
     );
-    assert_eq!(rt; past, (0, None), "past the last field");
+    same_in(rt, &past, &(0, None), "past the last field");
 }
 
 fn check_ranges(rt: &impl Abort, told: &[(u32, u32)], wanted: &[(u64, u64)]) {
     same_number(rt, told.len(), wanted.len(), "ranges");
     for ((first, last), range) in told.iter().zip(wanted) {
-        assert_eq!(rt; (*first as u64, *last as u64), *range);
+        same(rt, &(*first as u64, *last as u64), range);
     }
 }
 
@@ -135,12 +132,9 @@ fn check_usages(
     push_usages(rt, &mut usages, ranges);
     for place in PLACES {
         let wanted = usage_of_place(shape, &usages, place);
-        same_usage(rt, descriptor.usage(field, place), wanted, place);
+        let told = descriptor.usage(field, place);
+        same_at(rt, &told.map(|usage| usage as u64), &wanted, &place);
     }
-}
-
-fn same_usage(rt: &impl Abort, told: Option<u32>, wanted: Option<u64>, place: usize) {
-    assert_eq!(rt; told.map(|usage| usage as u64), wanted, "of place {place}");
 }
 
 /// The usages of ranges one by one, the first 400.
@@ -167,21 +161,14 @@ fn usage_of_place(field: &Field, usages: &[u64], place: usize) -> Option<u64> {
 /// Compares whether IDs are used, and how long the reports of some of them are.
 fn check_reports(rt: &impl Abort, descriptor: &Descriptor, items: &[Plain<'_>]) {
     let uses_ids = has_report_id(items);
-    assert!(rt;
-        descriptor.uses_ids() == uses_ids,
-        "one uses IDs, and one does not"
-    );
+    same_in(rt, &descriptor.uses_ids(), &uses_ids, "the use of IDs");
     for id in [0u8, 1, 2, 255] {
         for kind in [Kind::Input, Kind::Output, Kind::Feature] {
             let bits = report_bits(kind, id as u32, items);
-            let told = descriptor.report_len(kind, id);
-            same_length(rt, told, bytes_of_report(bits, uses_ids), kind, id);
+            let told = descriptor.report_len(kind, id).map(|bytes| bytes as u128);
+            same_at(rt, &told, &bytes_of_report(bits, uses_ids), &(kind, id));
         }
     }
-}
-
-fn same_length(rt: &impl Abort, told: Option<usize>, wanted: Option<u128>, kind: Kind, id: u8) {
-    assert_eq!(rt; told.map(|bytes| bytes as u128), wanted, "of {kind:?} {id}");
 }
 
 /// The bytes of a report with so many bits, if it has any.

@@ -2,10 +2,10 @@
 
 mod extremes;
 
-use super::{bytes, number, same, two};
+use super::{bytes, logs, number, shows, two};
+use crate::tests::asserts::{holds_in, made, same, same_in};
 use host::{Host, Reading};
 use reports::Protocol;
-use std::alloc::Global;
 use std::fmt;
 use std::process::Abort;
 
@@ -76,7 +76,7 @@ fn eight(rt: &impl Abort, packet: &[u8]) -> [u8; 8] {
 /// Hands on a text in packets of eight bytes.
 fn hand(rt: &impl Abort, host: &mut Host, text: &[u8]) {
     for packet in text.chunks(8) {
-        host.packet(packet).ok().expect(rt, "memory");
+        made(rt, host.packet(packet));
     }
 }
 
@@ -92,14 +92,7 @@ fn hand_part<R: AllocGlobal + Abort>(rt: &R, host: &mut Host, words: &str) {
 fn reads<R: AllocGlobal + Abort>(rt: &R, host: &Host, protocol: Protocol, row: &str) {
     let (report, wanted) = two(rt, row, " = ");
     let reading = host.read(protocol, &bytes(rt, report));
-    told(rt, rt.alloc(), &reading, wanted, row);
-}
-
-fn told(rt: &impl Abort, alloc: Global, reading: &Reading, wanted: &str, row: &str) {
-    let told = format!(in alloc; "{}", Words(reading))
-        .ok()
-        .expect(rt, "memory");
-    same(rt, told.as_str(), wanted, row);
+    shows(rt, rt.alloc(), &Words(&reading), wanted, row);
 }
 
 #[test]
@@ -188,27 +181,23 @@ fn readings_compared(rt: HostRuntime) {
     let reading = host.read(Protocol::Report, &[2, 0x92, 1, 0, 0, 0, 0, 0, 0]);
     let other = host.read(Protocol::Report, &[2, 0x93, 1, 0, 0, 0, 0, 0, 0]);
     compared(&rt, &before, &reading, &other);
-    let told = format!(in rt.alloc(); "{reading:?}")
-        .ok()
-        .expect(&rt, "memory");
-    same(
-        &rt,
-        told.as_str(),
-        "Usages(UsageList { usages: [786834] })",
-        "{:?}",
-    );
+    let shown = "Usages(UsageList { usages: [786834] })";
+    logs(&rt, rt.alloc(), &reading, shown, "{:?}");
 }
 
 fn compared(rt: &impl Abort, before: &Reading, reading: &Reading, other: &Reading) {
-    assert!(rt;
-        *before == Reading::Unread,
-        "unread before the descriptor came"
+    same_in(
+        rt,
+        before,
+        &Reading::Unread,
+        "unread before the descriptor came",
     );
-    assert!(rt;
+    holds_in(
+        rt,
         *reading != Reading::NoMemory,
-        "a reading is not want of memory"
+        "a reading, which is not want of memory",
     );
-    assert!(rt; *reading != *other, "usages 192h and 193h");
-    let copy = reading.clone().ok().expect(rt, "memory");
-    assert_eq!(rt; copy, *reading);
+    holds_in(rt, *reading != *other, "usages 192h and 193h");
+    let copy = made(rt, reading.clone());
+    same(rt, &copy, reading);
 }

@@ -8,7 +8,7 @@ mod questions;
 mod touch;
 
 use super::answers::{same_answers, same_ranges};
-use super::{bytes, number, push_byte, push_words, same, two};
+use super::{bytes, descriptor_of, logs, number, push_byte, push_words, shows, two};
 use descriptor_parse::{Descriptor, Kind, ParseError, Parser, parse};
 use std::alloc::Global;
 use std::fmt;
@@ -74,7 +74,7 @@ struct Answer<'a>(&'a Result<Descriptor, ParseError>);
 impl fmt::Display for Answer<'_> {
     fn fmt<W: fmt::Write>(&self, f: &mut fmt::Formatter<W>) -> fmt::Result {
         match self.0 {
-            Ok(descriptor) => write!(f, "{}", FieldWords(descriptor)),
+            Ok(descriptor) => fmt::Display::fmt(&FieldWords(descriptor), f),
             Err(error) => write!(f, "{} at {}", error.fault.number(), error.offset),
         }
     }
@@ -92,21 +92,8 @@ fn check_rows<R: AllocGlobal + Abort>(rt: &R, rows: &str) {
 
 fn check_text<R: AllocGlobal + Abort>(rt: &R, text: &[u8], wanted: &str, row: &str) {
     let whole = parse(rt.alloc(), text);
-    same_answer(rt, rt.alloc(), &whole, wanted, row);
+    shows(rt, rt.alloc(), &Answer(&whole), wanted, row);
     check_cuttings(rt, rt.alloc(), text, &whole);
-}
-
-fn same_answer(
-    rt: &impl Abort,
-    alloc: Global,
-    told: &Result<Descriptor, ParseError>,
-    wanted: &str,
-    row: &str,
-) {
-    let told = format!(in alloc; "{}", Answer(told))
-        .ok()
-        .expect(rt, "memory");
-    same(rt, told.as_str(), wanted, row);
 }
 
 /// Parses a text in pieces of so many bytes, after a first one.

@@ -2,8 +2,8 @@
 
 mod extremes;
 
-use super::{bytes, push_byte, push_words, same, two};
-use descriptor_parse::{Descriptor, parse};
+use super::{bytes, descriptor_of, logs, push_byte, push_words, shows, two};
+use crate::tests::asserts::{made, same};
 use host_extract::{BOOT_DESCRIPTOR, ExtractError, Found, extract, pressed};
 use std::alloc::Global;
 use std::fmt;
@@ -35,6 +35,16 @@ impl fmt::Display for Usages<'_> {
     }
 }
 
+/// What is found in a report, and what of it is pressed.
+#[derive(Drop)]
+struct FoundAndPressed<'a>(&'a [Found], &'a [u32]);
+
+impl fmt::Display for FoundAndPressed<'_> {
+    fn fmt<W: fmt::Write>(&self, f: &mut fmt::Formatter<W>) -> fmt::Result {
+        write!(f, "{}pressed{}", Readings(self.0), Usages(self.1))
+    }
+}
+
 /// Reads reports and compares what is found and pressed, or the refusal: `DESCRIPTOR < REPORT = ROWS`. `BOOT` is the
 /// host's own descriptor.
 fn check_reports<R: AllocGlobal + Abort>(rt: &R, rows: &str) {
@@ -57,26 +67,13 @@ fn read_by<R: AllocGlobal + Abort>(rt: &R, descriptor: &[u8], row: &str) {
     let found = extract(rt.alloc(), &descriptor, &bytes(rt, report));
     match found {
         Ok(found) => told(rt, rt.alloc(), &found, wanted, row),
-        Err(error) => refused(rt, rt.alloc(), error, wanted, row),
-    }
-}
-
-fn descriptor_of(rt: &impl Abort, alloc: Global, text: &[u8]) -> Descriptor {
-    match parse(alloc, text) {
-        Ok(descriptor) => descriptor,
-        Err(error) => panic!(rt; "{error}"),
+        Err(error) => logs(rt, rt.alloc(), &error, wanted, row),
     }
 }
 
 fn told(rt: &impl Abort, alloc: Global, found: &[Found], wanted: &str, row: &str) {
-    let on = pressed(alloc, found).ok().expect(rt, "memory");
-    let told = format!(in alloc; "{}pressed{}", Readings(found), Usages(&on));
-    same(rt, told.ok().expect(rt, "memory").as_str(), wanted, row);
-}
-
-fn refused(rt: &impl Abort, alloc: Global, error: ExtractError, wanted: &str, row: &str) {
-    let told = format!(in alloc; "{error:?}").ok().expect(rt, "memory");
-    same(rt, told.as_str(), wanted, row);
+    let on = made(rt, pressed(alloc, found));
+    shows(rt, alloc, &FoundAndPressed(found, &on), wanted, row);
 }
 
 #[test]
@@ -95,8 +92,8 @@ BOOT < 7*00 = Short";
 
 #[test]
 fn numbers_of_refusals(rt: HostRuntime) {
-    let numbers = (ExtractError::Empty.number(), ExtractError::Memory.number());
-    assert_eq!(rt; numbers, (1, 4));
+    same(&rt, &ExtractError::Empty.number(), &1);
+    same(&rt, &ExtractError::Memory.number(), &4);
 }
 
 #[test]
@@ -139,12 +136,8 @@ fn found_by<R: AllocGlobal + Abort>(rt: &R, text: &[u8], report: &str) -> Vec<Fo
 
 /// Compares how much is found, and how much of it is pressed.
 fn same_counts(rt: &impl Abort, alloc: Global, found: &[Found], wanted: (usize, usize)) {
-    let on = pressed(alloc, found).ok().expect(rt, "memory");
-    assert_eq!(rt; (found.len(), on.len()), wanted);
-}
-
-fn same_found(rt: &impl Abort, found: &Found, wanted: Found) {
-    assert_eq!(rt; *found, wanted);
+    let on = made(rt, pressed(alloc, found));
+    same(rt, &(found.len(), on.len()), &wanted);
 }
 
 #[test]
@@ -162,7 +155,7 @@ fn seven_of_eight(rt: &impl Abort, found: &[Found]) {
     let mut usage = 0x000C_4000u32;
     for (place, reading) in found.iter().enumerate() {
         let value = if place % 8 == 0 { 0 } else { 1 };
-        same_found(rt, reading, Found { usage, value });
+        same(rt, reading, &Found { usage, value });
         usage = usage.wrapping_add(1);
     }
 }
@@ -222,7 +215,7 @@ fn a_large_text(rt: HostRuntime) {
 /// Compares how long a text is, and how many fields it declares.
 fn has_fields(rt: &impl Abort, alloc: Global, text: &[u8], wanted: (usize, usize)) {
     let descriptor = descriptor_of(rt, alloc, text);
-    assert_eq!(rt; (text.len(), descriptor.fields().len()), wanted);
+    same(rt, &(text.len(), descriptor.fields().len()), &wanted);
 }
 
 fn all_of_large(rt: &impl Abort, found: &[Found]) {
@@ -237,6 +230,6 @@ fn all_of_large(rt: &impl Abort, found: &[Found]) {
                 (last, if place % 2 == 0 { 1 } else { 0 })
             }
         };
-        same_found(rt, reading, Found { usage, value });
+        same(rt, reading, &Found { usage, value });
     }
 }

@@ -1,11 +1,10 @@
 //! Histories of a world, recorded and judged.
 
 use arrayvec::ArrayVec;
-use flash_model::{Mask, SimFlash};
+use flash_model::SimFlash;
 use judge::history::{RecordedStep, Start, all_told, first_wrong};
 use std::alloc::Global;
 use std::process::Abort;
-use std::test::Fail;
 use world::{Answer, Event, World};
 
 mod lines;

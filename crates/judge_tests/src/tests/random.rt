@@ -5,6 +5,7 @@ use arrayvec::ArrayVec;
 use flash_model::Mask;
 use keyboard::Scan;
 use row_text::drawn;
+use std::process::Abort;
 
 /// SETUP packets that are served, those of commands more often than others.
 const SERVED: [[u8; 8]; 24] = [
@@ -55,24 +56,22 @@ fn served(number: u8) -> [u8; 8] {
 /// one that selects an entry, resets or sets another code, LEDs, or three drawn bytes over and over.
 pub fn packet(state: &mut u32) -> ArrayVec<u8, 8> {
     let [a, b, c, _] = drawn(state).to_le_bytes();
-    let mut packet = ArrayVec::from([0x03, 0x01, b % 2, b / 2 % 4, c % 16, 0x00, 0x00, 0x00]);
-    let mut length = 6;
-    match a % 32 {
-        0 => length = usize::from(c % 9),
-        1 => packet = ArrayVec::from([0x03, 0x00, b % 5, c % 128, 0, 0, 0, 0]),
-        2 => packet = ArrayVec::from([0x03, 0x02, b % 5, 0, 0, 0, 0, 0]),
-        3 => packet = ArrayVec::from([0x03, 0x03, 0, 0, 0, 0, 0, 0]),
-        4 => packet = ArrayVec::from([0x03, b % 5, b, c, a, b, 0, 0]),
-        5 => packet = ArrayVec::from([a, b, c, a, b, c, a, b]),
-        6..=9 => packet = ArrayVec::from([0x03, 0x01, 0, b % 6, c, 0x40, 0, 0]),
-        10..=12 => packet = ArrayVec::from([0x03, 0x01, 0, b % 6, c % 4, 0x50, 0, 0]),
-        13..=15 => {
-            packet = ArrayVec::from([0x01, b, 0, 0, 0, 0, 0, 0]);
-            length = 1 + usize::from(c % 2);
-        }
-        _ => {}
-    }
-    packet.truncate(length);
+    let mut packet = ArrayVec::from(match a % 32 {
+        1 => [0x03, 0x00, b % 5, c % 128, 0, 0, 0, 0],
+        2 => [0x03, 0x02, b % 5, 0, 0, 0, 0, 0],
+        3 => [0x03, 0x03, 0, 0, 0, 0, 0, 0],
+        4 => [0x03, b % 5, b, c, a, b, 0, 0],
+        5 => [a, b, c, a, b, c, a, b],
+        6..=9 => [0x03, 0x01, 0, b % 6, c, 0x40, 0, 0],
+        10..=12 => [0x03, 0x01, 0, b % 6, c % 4, 0x50, 0, 0],
+        13..=15 => [0x01, b, 0, 0, 0, 0, 0, 0],
+        _ => [0x03, 0x01, b % 2, b / 2 % 4, c % 16, 0, 0, 0],
+    });
+    packet.truncate(match a % 32 {
+        0 => usize::from(c % 9),
+        13..=15 => 1 + usize::from(c % 2),
+        _ => 6,
+    });
     packet
 }
 
@@ -97,13 +96,13 @@ pub fn scan(state: &mut u32) -> Scan {
 }
 
 /// A mask: of all bits, of none, or of some, of up to eight bytes.
-pub fn mask(state: &mut u32) -> Option<Mask> {
+pub fn mask(rt: &impl Abort, state: &mut u32) -> Mask {
     let [a, b, c, _] = drawn(state).to_le_bytes();
     match a % 8 {
-        0 => mask_of(&[0xFF]),
-        1 => mask_of(&[0x00]),
-        2 => mask_of(&[]),
-        3 | 4 => mask_of(&[a, b, c, a, b, c, 0xFF, b]),
-        _ => mask_of(&[b]),
+        0 => mask_of(rt, &[0xFF]),
+        1 => mask_of(rt, &[0x00]),
+        2 => mask_of(rt, &[]),
+        3 | 4 => mask_of(rt, &[a, b, c, a, b, c, 0xFF, b]),
+        _ => mask_of(rt, &[b]),
     }
 }

@@ -1,15 +1,14 @@
 //! Sessions of a keyboard on a simulated flash, recorded and judged.
 
-use super::text::mask_of;
-use arrayvec::ArrayVec;
+use super::text::{blank, copied, copy_of, flash_from, mask_of, packet_of, put};
+use crate::tests::asserts::made;
 use flash_model::{Mask, NorFlash, SimFlash};
 use judge::session::{Recorded, cut_leaves, first_misstep, first_unlawful, first_wrong};
 use keyboard::{EpAnswer, Keyboard, Report, Scan, Work};
 use row_text::{good, put_slot};
-use std::alloc::{AllocError, Global};
+use std::alloc::Global;
 use std::marker::Model;
 use std::process::Abort;
-use std::test::Fail;
 
 mod random;
 mod rows;
@@ -43,128 +42,118 @@ impl Model for Rig {
 
 impl Rig {
     /// A keyboard that starts on a flash.
-    pub fn start(alloc: Global, flash: SimFlash) -> Result<Rig, Fail> {
-        let start = flash.clone()?;
-        let keyboard = Box::new(alloc, Keyboard::start(alloc, &flash)?)?;
-        Ok(Rig {
-            keyboard,
+    pub fn start(rt: &impl Abort, alloc: Global, flash: SimFlash) -> Rig {
+        let start = copy_of(rt, &flash);
+        let keyboard = Keyboard::start(alloc, &flash).expect(rt, "memory");
+        Rig {
+            keyboard: Box::new(alloc, keyboard).ok().expect(rt, "memory"),
             flash,
             start,
             past: Vec::new(alloc),
-        })
+        }
     }
 
     /// The power is cut: a new session begins.
-    pub fn cut(&mut self, alloc: Global) -> Result<(), Fail> {
-        let start = self.flash.clone()?;
+    pub fn cut(&mut self, rt: &impl Abort, alloc: Global) {
         self.keyboard.restart(&self.flash);
-        self.start = start;
+        self.start = copy_of(rt, &self.flash);
         self.past = Vec::new(alloc);
-        Ok(())
     }
 
     /// The power is cut inside the next step of the flash work, which this mask tears: whether it may
     /// leave what it left. A new session begins.
-    pub fn cut_in_work(&mut self, alloc: Global, mask: &[u8]) -> Result<bool, Fail> {
-        self.arm(mask)?;
-        let _work = self.step();
-        self.disarm();
-        let right = cut_leaves(alloc, &self.start, self.past.as_slice(), &self.flash)?;
-        self.cut(alloc)?;
-        Ok(right)
+    pub fn cut_in_work(&mut self, rt: &impl Abort, alloc: Global, mask: &[u8]) -> bool {
+        let _work = self.step(rt, mask);
+        let may_leave = self.may_leave(rt, alloc, &self.flash);
+        self.cut(rt, alloc);
+        may_leave
+    }
+
+    /// Whether a cut inside the next step of the flash work may leave this.
+    pub fn may_leave(&self, rt: &impl Abort, alloc: Global, flash: &SimFlash) -> bool {
+        made(
+            rt,
+            cut_leaves(alloc, &self.start, self.past.as_slice(), flash),
+        )
     }
 
     /// The first call that does not pass, or the first step of the flash work that is not the next one;
     /// else the first that was not answered as it had to be, and there is none.
-    pub fn judged(&self, alloc: Global) -> Result<Option<usize>, Fail> {
-        if let Some(index) = self.wrong(alloc)? {
-            return Ok(Some(index));
+    pub fn judged(&self, rt: &impl Abort, alloc: Global) -> Option<usize> {
+        if let Some(index) = self.wrong(rt, alloc) {
+            return Some(index);
         }
-        if let Some(index) = self.misstep(alloc)? {
-            return Ok(Some(index));
+        if let Some(index) = self.misstep(rt, alloc) {
+            return Some(index);
         }
-        self.unlawful(alloc)
+        self.unlawful(rt, alloc)
     }
 
     /// The first call that does not pass.
-    pub fn wrong(&self, alloc: Global) -> Result<Option<usize>, Fail> {
-        let found = first_wrong(alloc, &self.start, self.past.as_slice())?;
-        Ok(found)
+    pub fn wrong(&self, rt: &impl Abort, alloc: Global) -> Option<usize> {
+        made(rt, first_wrong(alloc, &self.start, self.past.as_slice()))
     }
 
     /// The first call that was not answered as it had to be.
-    pub fn unlawful(&self, alloc: Global) -> Result<Option<usize>, Fail> {
-        let found = first_unlawful(alloc, &self.start, self.past.as_slice())?;
-        Ok(found)
+    pub fn unlawful(&self, rt: &impl Abort, alloc: Global) -> Option<usize> {
+        made(rt, first_unlawful(alloc, &self.start, self.past.as_slice()))
     }
 
     /// The first step of the flash work that is not the next one.
-    pub fn misstep(&self, alloc: Global) -> Result<Option<usize>, Fail> {
-        let found = first_misstep(alloc, &self.start, self.past.as_slice())?;
-        Ok(found)
+    pub fn misstep(&self, rt: &impl Abort, alloc: Global) -> Option<usize> {
+        made(rt, first_misstep(alloc, &self.start, self.past.as_slice()))
     }
 
     /// Records a call.
-    pub fn record(&mut self, call: Recorded) -> Result<(), Fail> {
-        self.past.insert(0, call)?;
-        Ok(())
+    pub fn record(&mut self, rt: &impl Abort, call: Recorded) {
+        self.past.insert(0, call).ok().expect(rt, "memory");
     }
 
-    pub fn scan(&mut self, scan: Scan) -> Result<(), Fail> {
+    pub fn scan(&mut self, rt: &impl Abort, scan: Scan) {
         self.keyboard.scan(scan);
-        self.record(Recorded::Scanned(scan))
+        self.record(rt, Recorded::Scanned(scan));
     }
 
-    pub fn setup(&mut self, setup: [u8; 8]) -> Result<(), Fail> {
+    pub fn setup(&mut self, rt: &impl Abort, setup: [u8; 8]) {
         self.keyboard.setup(setup);
-        self.record(Recorded::SetUp(setup))
+        self.record(rt, Recorded::SetUp(setup));
     }
 
-    pub fn out(&mut self, packet: &[u8]) -> Result<(), Fail> {
+    pub fn out(&mut self, rt: &impl Abort, packet: &[u8]) {
         let answer = self.keyboard.out(packet);
-        let mut copy = ArrayVec::new();
-        copy.try_extend_from_slice(packet).ok().ok_or("a packet")?;
-        self.record(Recorded::Out(copy, answer))
+        self.record(rt, Recorded::Out(packet_of(rt, packet), answer));
     }
 
-    pub fn in_packet(&mut self) -> Result<(), Fail> {
+    pub fn in_packet(&mut self, rt: &impl Abort) {
         let answer = self.keyboard.in_packet();
-        self.record(Recorded::In(answer))
+        self.record(rt, Recorded::In(answer));
     }
 
-    pub fn poll(&mut self) -> Result<(), Fail> {
+    pub fn poll(&mut self, rt: &impl Abort) {
         let answer = self.keyboard.poll();
-        self.record(Recorded::Polled(answer))
+        self.record(rt, Recorded::Polled(answer));
     }
 
-    pub fn reset(&mut self) -> Result<(), Fail> {
+    pub fn reset(&mut self, rt: &impl Abort) {
         self.keyboard.bus_reset();
-        self.record(Recorded::BusReset)
+        self.record(rt, Recorded::BusReset);
     }
 
     /// A step of the flash work, which a mask tears, if there is one.
-    pub fn work(&mut self, alloc: Global, mask: &[u8]) -> Result<(), Fail> {
-        self.arm(mask)?;
-        let work = self.step();
-        self.disarm();
-        let flash = self.flash.clone()?;
-        self.record(Recorded::Worked(work, flash))
+    pub fn work(&mut self, rt: &impl Abort, mask: &[u8]) {
+        let work = self.step(rt, mask);
+        let flash = copy_of(rt, &self.flash);
+        self.record(rt, Recorded::Worked(work, flash));
     }
 
-    fn step(&mut self) -> Work {
-        self.keyboard.work(&mut self.flash)
-    }
-
-    fn arm(&mut self, bytes: &[u8]) -> Result<(), Fail> {
-        let mask = mask_of(bytes).ok_or("a mask")?;
+    /// The same, and nothing is recorded.
+    fn step(&mut self, rt: &impl Abort, mask: &[u8]) -> Work {
         if !mask.is_empty() {
-            self.flash.fault_next(mask);
+            self.flash.fault_next(mask_of(rt, mask));
         }
-        Ok(())
-    }
-
-    fn disarm(&mut self) {
+        let work = self.keyboard.work(&mut self.flash);
         self.flash.disarm();
+        work
     }
 
     /// Takes the newest call away.
@@ -184,33 +173,30 @@ impl Rig {
 
 /// A flash of these slots, page, number and bytes of each, and blank elsewhere.
 fn slots_of(
+    rt: &impl Abort,
     alloc: Global,
     pages: usize,
     slots: &[(usize, usize, [u8; 8])],
-) -> Result<SimFlash, Fail> {
-    let mut image = vec![in alloc; 0xffu8; 4096]?;
-    for _ in 1..pages {
-        image.extend_from_slice(&[0xff; 4096])?;
-    }
+) -> SimFlash {
+    let mut image = copied(rt, alloc, blank(rt, alloc, pages).image());
     for (page, slot, new) in slots {
         put_slot(image.as_mut_slice(), *page, *slot, *new);
     }
-    let flash = SimFlash::from_image(image)?;
-    Ok(flash)
+    flash_from(rt, image)
 }
 
 /// A full page of format 2, which sets key 0 to 5 last, and these slots on top.
-fn full_page(alloc: Global, other: &[(usize, usize, [u8; 8])]) -> Result<SimFlash, Fail> {
+fn full_page(rt: &impl Abort, alloc: Global, other: &[(usize, usize, [u8; 8])]) -> SimFlash {
     let mut slots = Vec::new(alloc);
-    slots.push((0, 0, good(0x2000_0001)))?;
+    put(rt, &mut slots, (0, 0, good(0x2000_0001)));
     for slot in 1..512usize {
         let word = if slot % 2 == 0 {
             0x1000_0006
         } else {
             0x1000_0005
         };
-        slots.push((0, slot, good(word)))?;
+        put(rt, &mut slots, (0, slot, good(word)));
     }
-    slots.extend_from_slice(other)?;
-    slots_of(alloc, 2, slots.as_slice())
+    made(rt, slots.extend_from_slice(other));
+    slots_of(rt, alloc, 2, slots.as_slice())
 }

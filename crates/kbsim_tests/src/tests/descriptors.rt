@@ -1,7 +1,8 @@
 //! Descriptors of readers and to writers that fail, and memory that is refused. Texts beside what is printed of them are
 //! rows of `tests/descriptors`.
 
-use super::{same, text_of};
+use super::text_of;
+use crate::tests::asserts::same_in;
 use descriptor_parse::{ParseError, ParseFault};
 use parse_lines::LinesError;
 use std::process::Abort;
@@ -16,7 +17,7 @@ fn so_ended<R: Abort>(
     ends: Result<(), LinesError>,
     case: &str,
 ) {
-    assert_eq!(rt; ended, ends, "of {case}");
+    same_in(rt, &ended, &ends, case);
 }
 
 /// A descriptor is refused for a fault at this offset.

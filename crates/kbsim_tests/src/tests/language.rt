@@ -1,11 +1,11 @@
 //! The language of scripts: what each line says, and the first fault of a text.
 
-use super::same;
+use super::push;
+use crate::tests::asserts::{holds, made, same_text};
 use row_text::add_rows;
 use script::{Action, Line, Statement, read_lines};
 use std::alloc::{AllocError, Global};
 use std::process::Abort;
-use std::test::Fail;
 use text_io::HexDigits;
 
 /// Each line of the language, beside what it says.
@@ -46,86 +46,88 @@ cutwork 0g|Line { line: 1, fault: BadHex }|
 workfault|Line { line: 1, fault: WrongWords }|
 cutwork 00 00|Line { line: 1, fault: WrongWords }";
 
+/// A line of a mask.
+fn masked(alloc: Global, number: usize, name: &str, mask: &[u8]) -> Result<String, AllocError> {
+    format!(in alloc; "{number} {name}({})\n", HexDigits(mask))
+}
+
 /// Adds a line's number and what it says to a text.
-fn push_line(alloc: Global, text: &mut String, line: &Line<'_>) -> Result<(), AllocError> {
+fn push_line(rt: &impl Abort, alloc: Global, text: &mut String, line: &Line<'_>) {
     let number = line.number;
     let said = match &line.statement {
         Statement::One(Action::WorkFault(mask)) => {
-            let mask = mask.mask();
-            format!(in alloc; "{number} WorkFault({})\n", HexDigits(mask.as_slice()))
+            masked(alloc, number, "WorkFault", mask.mask().as_slice())
         }
         Statement::One(Action::CutWork(mask)) => {
-            let mask = mask.mask();
-            format!(in alloc; "{number} CutWork({})\n", HexDigits(mask.as_slice()))
+            masked(alloc, number, "CutWork", mask.mask().as_slice())
         }
         statement => format!(in alloc; "{number} {statement:?}\n"),
-    }?;
-    text.push_str(said.as_str())
+    };
+    push(rt, text, made(rt, said).as_str());
 }
 
 /// Adds these lines to a text.
-fn push_lines(alloc: Global, text: &mut String, lines: &[Line<'_>]) -> Result<(), AllocError> {
+fn push_lines(rt: &impl Abort, alloc: Global, text: &mut String, lines: &[Line<'_>]) {
     for line in lines {
-        push_line(alloc, text, line)?;
+        push_line(rt, alloc, text, line);
     }
-    Ok(())
 }
 
 /// Adds what a script says to a text: its lines, or its first fault alone.
-fn push_script<R: AllocGlobal + Abort>(
-    rt: &R,
-    text: &mut String,
-    script: &[u8],
-) -> Result<(), AllocError> {
-    assert!(rt; script.len() <= 1_048_576);
+fn push_script<R: AllocGlobal + Abort>(rt: &R, text: &mut String, script: &[u8]) {
+    holds(rt, script.len() <= 1_048_576);
     match read_lines(rt.alloc(), 2, script) {
-        Ok(lines) => push_lines(rt.alloc(), text, lines.as_slice()),
+        Ok(lines) => push_lines(rt, rt.alloc(), text, lines.as_slice()),
         Err(error) => {
-            let fault = format!(in rt.alloc(); "{error:?}")?;
-            text.push_str(fault.as_str())
+            let fault = format!(in rt.alloc(); "{error:?}");
+            push(rt, text, made(rt, fault).as_str());
         }
     }
 }
 
 /// Reads a script, and compares what it says.
-fn says<R: AllocGlobal + Abort>(rt: &R, script: &str, expected: &str) -> Result<(), AllocError> {
+fn says<R: AllocGlobal + Abort>(rt: &R, script: &str, expected: &str) {
     let mut said = String::new(rt.alloc());
-    push_script(rt, &mut said, script.as_bytes())?;
-    same(rt, said.as_str(), expected, script);
-    Ok(())
+    push_script(rt, &mut said, script.as_bytes());
+    same_text(rt, said.as_str(), expected, script);
 }
 
 #[test]
-fn each_line(rt: HostRuntime) -> Result<(), Fail> {
+fn each_line(rt: HostRuntime) {
     let mut script = String::new(rt.alloc());
     let mut expected = String::new(rt.alloc());
-    add_rows(rt.alloc(), &mut script, &mut expected, EACH_LINE).ok_or("memory")?;
-    says(&rt, script.as_str(), expected.as_str())?;
+    let added = add_rows(rt.alloc(), &mut script, &mut expected, EACH_LINE);
+    added.expect(&rt, "memory");
+    says(&rt, script.as_str(), expected.as_str());
     // The last line needs no end.
-    says(&rt, "leds\nfetch", "1 One(Leds)\n2 Fetch\n")?;
-    Ok(())
+    says(&rt, "leds\nfetch", "1 One(Leds)\n2 Fetch\n");
 }
 
 #[test]
-fn the_first_fault(rt: HostRuntime) -> Result<(), Fail> {
+fn the_first_fault(rt: HostRuntime) {
     for row in FAULTS.split("|\n") {
         let (script, fault) = row.split_once('|').unwrap_or((row, "no row"));
-        says(&rt, script, fault)?;
+        says(&rt, script, fault);
     }
-    Ok(())
+}
+
+/// The digits of a mask of so many bytes, between these words.
+fn mask_between<R: AllocGlobal + Abort>(rt: &R, before: &str, count: usize, after: &str) -> String {
+    let mut text = String::new(rt.alloc());
+    push(rt, &mut text, before);
+    for _ in 0..count {
+        push(rt, &mut text, "a5");
+    }
+    push(rt, &mut text, after);
+    text
 }
 
 /// The longest mask has 4,096 bytes.
 #[test]
-fn the_longest_mask(rt: HostRuntime) -> Result<(), Fail> {
-    let mut digits = String::new(rt.alloc());
-    for _ in 0..4096 {
-        digits.push_str("a5")?;
-    }
-    let script = format!(in rt.alloc(); "cutwork {digits}")?;
-    let expected = format!(in rt.alloc(); "1 CutWork({digits})\n")?;
-    says(&rt, script.as_str(), expected.as_str())?;
-    let longer = format!(in rt.alloc(); "cutwork {digits}a5")?;
-    says(&rt, longer.as_str(), "Line { line: 1, fault: BadHex }")?;
-    Ok(())
+fn the_longest_mask(rt: HostRuntime) {
+    let script = mask_between(&rt, "cutwork ", 4096, "");
+    let expected = mask_between(&rt, "1 CutWork(", 4096, ")\n");
+    says(&rt, script.as_str(), expected.as_str());
+    let longer = mask_between(&rt, "cutwork ", 4097, "");
+    says(&rt, longer.as_str(), "Line { line: 1, fault: BadHex }");
 }

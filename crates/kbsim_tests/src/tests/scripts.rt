@@ -1,7 +1,8 @@
 //! Scripts of readers and to writers that fail, on flashes that are armed, with memory that is refused, and scripts that
 //! are drawn. Scripts beside what they print are rows of `tests/scripts`.
 
-use super::{same, text_of};
+use super::text_of;
+use crate::tests::asserts::{same_in, same_text};
 use kbsim::{RunError, SimFlash, run_script};
 use std::process::Abort;
 
@@ -22,7 +23,7 @@ fn prints<R: AllocGlobal + Abort>(
     let mut reader = script;
     let mut printed = Vec::new(rt.alloc());
     let ended = run_script(rt.alloc(), pages, &mut reader, &mut printed);
-    same(rt, text_of(printed.as_slice()), expected, text_of(script));
+    same_text(rt, text_of(printed.as_slice()), expected, text_of(script));
     so_ended(rt, ended, ends, text_of(script));
 }
 
@@ -36,5 +37,5 @@ fn end_of(run: Result<SimFlash, RunError>) -> Result<(), RunError> {
 
 /// Compares how a call ended.
 fn so_ended<R: Abort>(rt: &R, ended: Result<(), RunError>, ends: Result<(), RunError>, case: &str) {
-    assert_eq!(rt; ended, ends, "of {case}");
+    same_in(rt, &ended, &ends, case);
 }

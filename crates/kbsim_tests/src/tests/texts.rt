@@ -4,13 +4,13 @@
 mod heard;
 mod lengths;
 
-use super::{same, text_of};
+use super::{push, text_of};
+use crate::tests::asserts::{made, same_in, same_text};
 use row_text::FailingReader;
 use std::alloc::{AllocError, Global};
 use std::io;
 use std::io::{ErrorKind, Write};
 use std::process::Abort;
-use std::test::Fail;
 use text_io::{HexDigits, HexWord, Printer, ReadError, WriteError, read_whole};
 
 /// What is read of a text, or why it is not.
@@ -32,8 +32,8 @@ fn reads<R: AllocGlobal + Abort>(
     left: &str,
 ) {
     let read = read_whole(rt.alloc(), reader, most);
-    same(rt, told(&read), expected, expected);
-    same(rt, text_of(reader.text), left, expected);
+    same_text(rt, told(&read), expected, expected);
+    same_text(rt, text_of(reader.text), left, expected);
 }
 
 /// Texts that come in pieces of five bytes, of which so many come before an interruption, the most bytes that are asked for,
@@ -69,11 +69,10 @@ fn texts_up_to_a_limit(rt: HostRuntime) {
 }
 
 #[test]
-fn a_large_text(rt: HostRuntime) -> Result<(), Fail> {
-    let text = vec![in rt.alloc(); b'a'; 100_000]?;
+fn a_large_text(rt: HostRuntime) {
+    let text = made(&rt, vec![in rt.alloc(); b'a'; 100_000]);
     let read = read_whole(rt.alloc(), &mut text.as_slice(), 100_000);
-    same(&rt, told(&read), text_of(text.as_slice()), "a large text");
-    Ok(())
+    same_text(&rt, told(&read), text_of(text.as_slice()), "a large text");
 }
 
 /// Takes all that it is given, and counts the writes, but is interrupted at one of them.
@@ -120,46 +119,46 @@ fn printed_words(alloc: Global, fails_at: u32) -> Result<String, AllocError> {
     format!(in alloc; "{ended:?}: {taken} bytes were taken, in {writes} writes")
 }
 
+/// The write that fails, beside how the words are printed.
+const WRITES: &[(u32, &str)] = &[
+    (0, "Ok(()): 8000 bytes were taken, in 2 writes"),
+    (1, "Err(WriteError): 0 bytes were taken, in 1 writes"),
+    (2, "Err(WriteError): 4096 bytes were taken, in 2 writes"),
+];
+
 #[test]
-fn few_writes_and_none_after_one_that_failed(rt: HostRuntime) -> Result<(), Fail> {
-    for (fails_at, expected) in [
-        (0, "Ok(()): 8000 bytes were taken, in 2 writes"),
-        (1, "Err(WriteError): 0 bytes were taken, in 1 writes"),
-        (2, "Err(WriteError): 4096 bytes were taken, in 2 writes"),
-    ] {
-        let printed = printed_words(rt.alloc(), fails_at)?;
-        same(&rt, printed.as_str(), expected, "words");
+fn few_writes_and_none_after_one_that_failed(rt: HostRuntime) {
+    for (fails_at, expected) in WRITES.iter() {
+        let printed = made(&rt, printed_words(rt.alloc(), *fails_at));
+        same_text(&rt, printed.as_str(), expected, "words");
     }
-    Ok(())
+}
+
+/// Ends the test where a print failed.
+fn printed(rt: &impl Abort, ended: Result<(), WriteError>) {
+    same_in(rt, &ended, &Ok(()), "a print");
 }
 
 /// Prints values of several kinds, and then these bytes in hex.
-fn print_values<W: Write>(printer: &mut Printer<'_, W>, long: &[u8]) -> Result<(), WriteError> {
-    printer.print(&12)?;
-    printer.print(&" ")?;
-    printer.print(&HexDigits(&[0x00, 0x7F, 0xA0]))?;
-    printer.print(&"\n")?;
-    printer.print(&HexWord(0x0007_00E0))?;
-    printer.print(&HexDigits(long))?;
-    printer.finish()
+fn print_values<W: Write>(rt: &impl Abort, printer: &mut Printer<'_, W>, long: &[u8]) {
+    printed(rt, printer.print(&12));
+    printed(rt, printer.print(&" "));
+    printed(rt, printer.print(&HexDigits(&[0x00, 0x7F, 0xA0])));
+    printed(rt, printer.print(&"\n"));
+    printed(rt, printer.print(&HexWord(0x0007_00E0)));
+    printed(rt, printer.print(&HexDigits(long)));
+    printed(rt, printer.finish());
 }
 
 #[test]
-fn values_as_they_show_themselves(rt: HostRuntime) -> Result<(), Fail> {
+fn values_as_they_show_themselves(rt: HostRuntime) {
     let mut expected = String::new(rt.alloc());
-    expected.push_str("12 007fa0\n000700e0")?;
+    push(&rt, &mut expected, "12 007fa0\n000700e0");
     for _ in 0..5_000 {
-        expected.push_str("5a")?;
+        push(&rt, &mut expected, "5a");
     }
-    let long = [0x5A; 5_000];
-    let mut printed = Vec::new(rt.alloc());
-    let ended = print_values(&mut Printer::new(&mut printed), &long);
-    assert_eq!(rt; ended, Ok(()));
-    same(
-        &rt,
-        text_of(printed.as_slice()),
-        expected.as_str(),
-        "values",
-    );
-    Ok(())
+    let mut taken = Vec::new(rt.alloc());
+    print_values(&rt, &mut Printer::new(&mut taken), &[0x5A; 5_000]);
+    let taken = text_of(taken.as_slice());
+    same_text(&rt, taken, expected.as_str(), "values");
 }

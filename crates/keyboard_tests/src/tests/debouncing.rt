@@ -4,6 +4,7 @@
 ghost use Rattle.std.specs.Prelude.{◌<◌};
 
 use super::text::Random;
+use crate::tests::asserts::{holds, holds_at, same, same_at};
 use debounce::{Debouncer, Edges, Scan};
 use std::process::Abort;
 
@@ -26,7 +27,7 @@ fn a_scan_has_its_bits(rt: HostRuntime) {
     };
     for key in 0..96u8 {
         let wanted = key == 0 || key == 15 || key == 36 || key == 95;
-        assert_eq!(rt; scan.has(key), wanted, "at key {key}");
+        same_at(&rt, &scan.has(key), &wanted, &key);
     }
 }
 
@@ -34,10 +35,10 @@ fn a_scan_has_its_bits(rt: HostRuntime) {
 fn assert_keys(rt: &impl Abort, scan: Scan, wanted: &[u8]) {
     let mut count = 0;
     for key in scan.keys() {
-        assert_eq!(rt; wanted.get(count), Some(&key), "place {count}");
+        same_at(rt, &wanted.get(count), &Some(&key), &count);
         count = count.saturating_add(1);
     }
-    assert_eq!(rt; count, wanted.len());
+    same(rt, &count, &wanted.len());
 }
 
 /// The keys that the iterator gives are set, and those between them are not.
@@ -46,13 +47,13 @@ fn assert_keys_are_set(rt: &impl Abort, scan: Scan) {
     for key in scan.keys() {
         assert!(rt; next <= key && key < 96);
         for between in next..key {
-            assert!(rt; !scan.has(between), "key {between}");
+            holds_at(rt, !scan.has(between), &between);
         }
-        assert!(rt; scan.has(key), "key {key}");
+        holds_at(rt, scan.has(key), &key);
         next = key + 1;
     }
     for between in next..96 {
-        assert!(rt; !scan.has(between), "key {between}");
+        holds_at(rt, !scan.has(between), &between);
     }
 }
 
@@ -75,24 +76,22 @@ fn the_keys_of_a_scan_rise(rt: HostRuntime) {
 #[test]
 fn the_planes_count_to_five(rt: HostRuntime) {
     let mut keys = Debouncer::new();
-    assert_eq!(rt; *keys.planes(), [[0; 6]; 3]);
+    same(&rt, keys.planes(), &[[0; 6]; 3]);
     for _ in 0..3 {
         let _ = keys.feed(NONE);
     }
     let _ = keys.feed(KEY_0);
-    assert_eq!(rt;
-        *keys.planes(),
-        [
-            [0x0001, 0, 0, 0, 0, 0],
-            [0x0000; 6],
-            [0xFFFE, 0xFFFF, 0xFFFF, 0xFFFF, 0xFFFF, 0xFFFF],
-        ]
-    );
+    let counted = [
+        [0x0001, 0, 0, 0, 0, 0],
+        [0x0000; 6],
+        [0xFFFE, 0xFFFF, 0xFFFF, 0xFFFF, 0xFFFF, 0xFFFF],
+    ];
+    same(&rt, keys.planes(), &counted);
     // Five and more are five.
     for _ in 0..9 {
         let _ = keys.feed(KEY_0);
     }
-    assert_eq!(rt; *keys.planes(), [[0xFFFF; 6], [0x0000; 6], [0xFFFF; 6]]);
+    same(&rt, keys.planes(), &[[0xFFFF; 6], [0x0000; 6], [0xFFFF; 6]]);
 }
 
 // Four samples, one that differs, four more: no run of five. The fifth in a row presses.
@@ -100,18 +99,18 @@ fn the_planes_count_to_five(rt: HostRuntime) {
 fn five_in_a_row_press(rt: HostRuntime) {
     let mut keys = Debouncer::new();
     for _ in 0..4 {
-        assert_eq!(rt; keys.feed(KEY_0).pressed, NONE);
+        same(&rt, &keys.feed(KEY_0).pressed, &NONE);
     }
-    assert_eq!(rt; keys.feed(NONE).pressed, NONE);
+    same(&rt, &keys.feed(NONE).pressed, &NONE);
     for _ in 0..4 {
-        assert_eq!(rt; keys.feed(KEY_0).pressed, NONE);
+        same(&rt, &keys.feed(KEY_0).pressed, &NONE);
     }
-    assert!(rt; !keys.is_down(0));
+    holds(&rt, !keys.is_down(0));
     let edges = keys.feed(KEY_0);
-    assert_eq!(rt; edges.pressed, KEY_0);
-    assert_eq!(rt; edges.released, NONE);
-    assert!(rt; keys.is_down(0));
-    assert!(rt; !keys.is_down(1));
+    same(&rt, &edges.pressed, &KEY_0);
+    same(&rt, &edges.released, &NONE);
+    holds(&rt, keys.is_down(0));
+    holds(&rt, !keys.is_down(1));
 }
 
 #[test]
@@ -120,15 +119,11 @@ fn only_a_bounce_of_five_samples_or_more_counts(rt: HostRuntime) {
         let mut keys = Debouncer::new();
         for k in 1..=length {
             let pressed = if k == 5 { KEY_0 } else { NONE };
-            assert_eq!(rt; keys.feed(KEY_0).pressed, pressed, "sample {k} of {length}");
+            same_at(&rt, &keys.feed(KEY_0).pressed, &pressed, &(k, length));
         }
         for k in 1..=9u8 {
             let released = if k == 5 && length >= 5 { KEY_0 } else { NONE };
-            assert_eq!(rt;
-                keys.feed(NONE).released,
-                released,
-                "sample {k} after {length}"
-            );
+            same_at(&rt, &keys.feed(NONE).released, &released, &(k, length));
         }
     }
 }
@@ -143,9 +138,9 @@ fn one_scan_presses_and_releases(rt: HostRuntime) {
         let _ = keys.feed(KEY_95);
     }
     let edges = keys.feed(KEY_95);
-    assert_eq!(rt; edges.released, KEY_0);
-    assert_eq!(rt; edges.pressed, KEY_95);
-    assert!(rt; keys.is_down(95));
+    same(&rt, &edges.released, &KEY_0);
+    same(&rt, &edges.pressed, &KEY_95);
+    holds(&rt, keys.is_down(95));
 }
 
 const SCANS: usize = 80;
@@ -178,12 +173,9 @@ fn compare_planes(rt: &impl Abort, planes: &[[u16; 6]; 3], key: u8, count: u8, s
     requires { key < 96 }
 {
     for (bit, plane) in planes.iter().enumerate() {
-        let word = plane[key as usize / 16];
-        assert_eq!(rt;
-            (word >> (key % 16)) & 1,
-            ((count >> (bit % 8)) & 1) as u16,
-            "plane {bit}, key {key}, seed {seed}"
-        );
+        let told = (plane[key as usize / 16] >> (key % 16)) & 1;
+        let wanted = ((count >> (bit % 8)) & 1) as u16;
+        same_at(rt, &told, &wanted, &(bit, key, seed));
     }
 }
 
@@ -200,17 +192,13 @@ fn compare_key(
 {
     let before = plain::debounced(samples.get(1..).unwrap_or(&[]));
     let now = plain::debounced(samples);
-    assert_eq!(rt; keys.is_down(key), now, "key {key}, seed {seed}");
-    assert_eq!(rt;
+    let told = (
+        keys.is_down(key),
         edges.pressed.has(key),
-        now && !before,
-        "key {key}, seed {seed}"
-    );
-    assert_eq!(rt;
         edges.released.has(key),
-        before && !now,
-        "key {key}, seed {seed}"
     );
+    let wanted = (now, now && !before, before && !now);
+    same_at(rt, &told, &wanted, &(key, seed));
     compare_planes(rt, keys.planes(), key, plain::equal_latest(samples), seed);
 }
 

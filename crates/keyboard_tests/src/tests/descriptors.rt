@@ -1,5 +1,6 @@
 //! The bytes of single items, the limit of 256 bytes, and the served descriptors.
 
+use crate::tests::asserts::{same, same_at};
 use descriptor_build::*;
 use std::test::Fail;
 
@@ -14,43 +15,43 @@ const REPORT: [u8; 99] = [
     0xB1, 0x02, 0xC0,
 ];
 
+/// Items, each with its bytes.
+const ITEMS: &[(ReportSpec, &[u8])] = &[
+    (ReportSpec::UsagePage(0x01), &[0x05, 0x01]),
+    (ReportSpec::UsagePage(0xFF00), &[0x06, 0x00, 0xFF]),
+    (ReportSpec::Usage(0xFF), &[0x09, 0xFF]),
+    (ReportSpec::Usage(0x100), &[0x0A, 0x00, 0x01]),
+    (ReportSpec::UsageMin(0xE0), &[0x19, 0xE0]),
+    (ReportSpec::UsageMax(164), &[0x29, 0xA4]),
+    (ReportSpec::LogicalMin(0), &[0x15, 0x00]),
+    (ReportSpec::LogicalMin(-128), &[0x15, 0x80]),
+    (ReportSpec::LogicalMin(-129), &[0x16, 0x7F, 0xFF]),
+    (ReportSpec::LogicalMin(-32768), &[0x16, 0x00, 0x80]),
+    (
+        ReportSpec::LogicalMin(-32769),
+        &[0x17, 0xFF, 0x7F, 0xFF, 0xFF],
+    ),
+    (ReportSpec::LogicalMax(127), &[0x25, 0x7F]),
+    (ReportSpec::LogicalMax(128), &[0x26, 0x80, 0x00]),
+    (
+        ReportSpec::LogicalMax(32768),
+        &[0x27, 0x00, 0x80, 0x00, 0x00],
+    ),
+    (ReportSpec::ReportSize(8), &[0x75, 0x08]),
+    (ReportSpec::ReportCount(256), &[0x96, 0x00, 0x01]),
+    (ReportSpec::ReportId(3), &[0x85, 0x03]),
+    (ReportSpec::Collection(1), &[0xA1, 0x01]),
+    (ReportSpec::EndCollection, &[0xC0]),
+    (ReportSpec::Input(2), &[0x81, 0x02]),
+    (ReportSpec::Output(3), &[0x91, 0x03]),
+    (ReportSpec::Feature(2), &[0xB1, 0x02]),
+];
+
 #[test]
 fn items_take_the_fewest_bytes(rt: HostRuntime) -> Result<(), Fail> {
-    for (spec, want) in [
-        (ReportSpec::UsagePage(0x01), [0x05, 0x01].as_slice()),
-        (ReportSpec::UsagePage(0xFF00), [0x06, 0x00, 0xFF].as_slice()),
-        (ReportSpec::Usage(0xFF), [0x09, 0xFF].as_slice()),
-        (ReportSpec::Usage(0x100), [0x0A, 0x00, 0x01].as_slice()),
-        (ReportSpec::UsageMin(0xE0), [0x19, 0xE0].as_slice()),
-        (ReportSpec::UsageMax(164), [0x29, 0xA4].as_slice()),
-        (ReportSpec::LogicalMin(0), [0x15, 0x00].as_slice()),
-        (ReportSpec::LogicalMin(-128), [0x15, 0x80].as_slice()),
-        (ReportSpec::LogicalMin(-129), [0x16, 0x7F, 0xFF].as_slice()),
-        (
-            ReportSpec::LogicalMin(-32768),
-            [0x16, 0x00, 0x80].as_slice(),
-        ),
-        (
-            ReportSpec::LogicalMin(-32769),
-            [0x17, 0xFF, 0x7F, 0xFF, 0xFF].as_slice(),
-        ),
-        (ReportSpec::LogicalMax(127), [0x25, 0x7F].as_slice()),
-        (ReportSpec::LogicalMax(128), [0x26, 0x80, 0x00].as_slice()),
-        (
-            ReportSpec::LogicalMax(32768),
-            [0x27, 0x00, 0x80, 0x00, 0x00].as_slice(),
-        ),
-        (ReportSpec::ReportSize(8), [0x75, 0x08].as_slice()),
-        (ReportSpec::ReportCount(256), [0x96, 0x00, 0x01].as_slice()),
-        (ReportSpec::ReportId(3), [0x85, 0x03].as_slice()),
-        (ReportSpec::Collection(1), [0xA1, 0x01].as_slice()),
-        (ReportSpec::EndCollection, [0xC0].as_slice()),
-        (ReportSpec::Input(2), [0x81, 0x02].as_slice()),
-        (ReportSpec::Output(3), [0x91, 0x03].as_slice()),
-        (ReportSpec::Feature(2), [0xB1, 0x02].as_slice()),
-    ] {
-        let built = build(&[spec])?;
-        assert_eq!(rt; built.as_slice(), want, "of {spec:?}");
+    for (spec, want) in ITEMS.iter() {
+        let built = build(&[*spec])?;
+        same_at(&rt, &built.as_slice(), want, spec);
     }
     Ok(())
 }
@@ -60,31 +61,35 @@ fn a_descriptor_has_at_most_256_bytes(rt: HostRuntime) -> Result<(), Fail> {
     let mut items = [ReportSpec::UsagePage(0xFF00); 87];
     items[85] = ReportSpec::EndCollection;
     items[86] = ReportSpec::EndCollection;
-    assert_eq!(rt; build(&items[..86])?.len(), 256);
-    assert_eq!(rt; build(&items), Err(TooLong));
-    assert_eq!(rt; build(&[])?.len(), 0);
+    same(&rt, &build(&items[..86])?.len(), &256);
+    same(&rt, &build(&items), &Err(TooLong));
+    same(&rt, &build(&[])?.len(), &0);
     Ok(())
 }
 
+/// The served device descriptor.
+const SERVED_DEVICE: [u8; 18] = [
+    0x12, 0x01, 0x00, 0x02, 0x00, 0x00, 0x00, 0x08, 0x09, 0x12, 0x01, 0x00, 0x00, 0x01, 0x00, 0x00,
+    0x00, 0x01,
+];
+
+/// The served configuration, with its interface, its HID descriptor and its endpoint.
+const SERVED_CONFIGURATION: [u8; 34] = [
+    0x09, 0x02, 0x22, 0x00, 0x01, 0x01, 0x00, 0x80, 0x32, 0x09, 0x04, 0x00, 0x00, 0x01, 0x03, 0x01,
+    0x01, 0x00, 0x09, 0x21, 0x11, 0x01, 0x00, 0x01, 0x22, 0x63, 0x00, 0x07, 0x05, 0x81, 0x03, 0x20,
+    0x00, 0x0A,
+];
+
 #[test]
 fn serves_its_descriptors(rt: HostRuntime) {
-    assert_eq!(rt; served_report().as_slice(), REPORT.as_slice());
-    assert_eq!(rt; SERVED_REPORT, REPORT);
-    assert_eq!(rt; usize::from(SERVED_REPORT_LEN), REPORT.len());
-    assert_eq!(rt;
-        DEVICE,
-        [
-            0x12, 0x01, 0x00, 0x02, 0x00, 0x00, 0x00, 0x08, 0x09, 0x12, 0x01, 0x00, 0x00, 0x01,
-            0x00, 0x00, 0x00, 0x01,
-        ]
+    same(&rt, &served_report().as_slice(), &REPORT.as_slice());
+    same(&rt, &SERVED_REPORT, &REPORT);
+    same(&rt, &usize::from(SERVED_REPORT_LEN), &REPORT.len());
+    same(&rt, &DEVICE, &SERVED_DEVICE);
+    same(&rt, &CONFIGURATION, &SERVED_CONFIGURATION);
+    same(
+        &rt,
+        &HID,
+        &[0x09, 0x21, 0x11, 0x01, 0x00, 0x01, 0x22, 0x63, 0x00],
     );
-    assert_eq!(rt;
-        CONFIGURATION,
-        [
-            0x09, 0x02, 0x22, 0x00, 0x01, 0x01, 0x00, 0x80, 0x32, 0x09, 0x04, 0x00, 0x00, 0x01,
-            0x03, 0x01, 0x01, 0x00, 0x09, 0x21, 0x11, 0x01, 0x00, 0x01, 0x22, 0x63, 0x00, 0x07,
-            0x05, 0x81, 0x03, 0x20, 0x00, 0x0A,
-        ]
-    );
-    assert_eq!(rt; HID, [0x09, 0x21, 0x11, 0x01, 0x00, 0x01, 0x22, 0x63, 0x00]);
 }

@@ -1,5 +1,6 @@
 //! Transfers call by call, as texts of rows (`rows`), and calls against a plain program (`look_back`).
 
+use crate::tests::asserts::{same, same_in};
 use control_ep::*;
 use layers::KeymapError;
 use row_text::first_wrong;
@@ -270,14 +271,14 @@ const TRANSFERS: &str = "
 fn answers_call_by_call(rt: HostRuntime) {
     for transfer in TRANSFERS.split("\n\n") {
         let mut endpoint = Endpoint(ControlEp::new());
-        assert_eq!(rt; first_wrong(&mut endpoint, transfer), None, "in {transfer}");
+        same_in(&rt, &first_wrong(&mut endpoint, transfer), &None, transfer);
     }
 }
 
 #[test]
 fn numbers_its_reasons(rt: HostRuntime) {
     for (why, number) in REASONS.iter().zip(1..=16u8) {
-        assert_eq!(rt; why.number(), number);
+        same(&rt, &why.number(), &number);
     }
 }
 
@@ -289,8 +290,6 @@ fn names_what_is_bad_in_a_feature_report(rt: HostRuntime) {
         Why::from(KeymapError::BadKey),
         Why::from(KeymapError::BadCode),
     ];
-    assert_eq!(rt;
-        whys,
-        [Why::BadOperation, Why::BadLayer, Why::BadKey, Why::BadCode]
-    );
+    let wanted = [Why::BadOperation, Why::BadLayer, Why::BadKey, Why::BadCode];
+    same(&rt, &whys, &wanted);
 }

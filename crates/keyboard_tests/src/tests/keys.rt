@@ -15,11 +15,13 @@
 //! Codes, usages and bytes are hex digits, all else is decimal. `#` begins a comment. Each part between blank lines has
 //! keys of its own, and the default keymap.
 
-use super::text::{Told, answer_of, id, of_bytes, protocol, sent};
+use super::codes::set_of;
+use super::text::{Told, answer_of, counted, id, idle_of, of_bytes, protocol, sent};
+use crate::tests::asserts::same_in;
 use debounce::Scan;
-use key_reports::{IdleId, KeyReports, Protocol, Report};
-use layers::{Command, Keymap};
-use row_text::{RunsRows, byte, first_wrong_of_each, hex16, number, pressed};
+use key_reports::{KeyReports, Protocol};
+use layers::Keymap;
+use row_text::{RunsRows, byte, first_wrong_of_each, hex16, pressed};
 use std::alloc::{AllocError, Global};
 use std::process::Abort;
 
@@ -41,7 +43,7 @@ impl<'a> RunsRows<'a> for Device {
         let (word, rest) = call.split_once(' ').unwrap_or((call, ""));
         match word {
             "protocol" => self.protocol = protocol(rest)?,
-            "entry" => self.keymap.apply(command(rest)?),
+            "entry" => self.keymap.apply(set_of(rest)?),
             "scans" => return self.scans(rest),
             "poll" => return Some(self.poll()),
             "boot" => return Some(of_bytes(&self.keys.boot())),
@@ -50,7 +52,10 @@ impl<'a> RunsRows<'a> for Device {
             "usage" => return Some(yes(self.keys.usages().has_key(byte(rest)?))),
             "consumes" => return Some(yes(self.keys.usages().has_consumer(hex16(rest)?))),
             "idle" => return Some(of_bytes(&[self.keys.idle(id(rest)?)])),
-            "set" => return self.set(rest),
+            "set" => {
+                let (id, value) = idle_of(rest)?;
+                self.keys.set_idle(id, value);
+            }
             "forget" => self.keys.forget_sent(),
             "reset" => self.keys.bus_reset(),
             "restart" => self.keys.restart(),
@@ -74,11 +79,10 @@ impl Device {
     }
 
     fn scans(&mut self, rest: &str) -> Option<Told> {
-        let (count, keys) = rest.split_once(' ')?;
-        let scan = Scan {
-            rows: pressed(keys)?,
-        };
-        for _ in 0..number(count)? {
+        let (count, keys) = counted(rest)?;
+        let rows = pressed(keys)?;
+        let scan = Scan { rows };
+        for _ in 0..count {
             self.keys.scan(scan, &self.keymap, self.protocol);
         }
         Some(Told::Done)
@@ -87,21 +91,6 @@ impl Device {
     fn poll(&mut self) -> Told {
         sent(self.keys.poll(self.protocol))
     }
-
-    fn set(&mut self, rest: &str) -> Option<Told> {
-        let (name, value) = rest.split_once(' ')?;
-        self.keys.set_idle(id(name)?, byte(value)?);
-        Some(Told::Done)
-    }
-}
-
-/// The command that sets an entry: its layer, its key, its code.
-fn command(text: &str) -> Option<Command> {
-    let (layer, rest) = text.split_once(' ')?;
-    let (key, code) = rest.split_once(' ')?;
-    let layer = u8::try_from(number(layer)?).ok()?;
-    let key = u8::try_from(number(key)?).ok()?;
-    Command::read(1, layer, key, hex16(code)?).ok()
 }
 
 fn yes(is: bool) -> Told {
@@ -112,7 +101,7 @@ fn yes(is: bool) -> Told {
 fn expect_rows<R: AllocGlobal + Abort>(rt: &R, rows: &str) {
     for part in rows.split("\n\n") {
         let mut device = Device::start(rt.alloc()).ok().expect(rt, "memory");
-        assert_eq!(rt; first_wrong_of_each(&mut device, part), None, "in {part}");
+        same_in(rt, &first_wrong_of_each(&mut device, part), &None, part);
     }
 }
 

@@ -15,31 +15,16 @@
 //! Counts are decimal; codes and bytes are hex digits. `-` stands for no keys, and `#` begins a comment. Each part
 //! between blank lines has a poller of its own.
 
-use super::text::{Told, answer_of, id, of_bytes, protocol, sent};
-use layers::{Command, Held, KeyNo, Keymap, Usages};
-use reports::{IdleId, Poller, Protocol, Report, bitmap, boot, consumer};
-use row_text::{RunsRows, byte, first_wrong_of_each, hex16, number};
+use super::codes::usages_of;
+use super::text::{Told, answer_of, counted, id, idle_of, of_bytes, protocol, sent};
+use crate::tests::asserts::same_in;
+use layers::Usages;
+use reports::{Poller, Protocol, bitmap, boot, consumer};
+use row_text::{RunsRows, first_wrong_of_each};
 use std::alloc::{AllocError, Global};
 use std::process::Abort;
 
 mod histories;
-
-/// The usages of held keys with these codes.
-pub(crate) fn usages(codes: &[u16]) -> Option<Usages> {
-    let mut keymap = Keymap::standard();
-    let mut held = Held::new();
-    for (key, code) in (0..96u8).zip(codes) {
-        press(&mut keymap, &mut held, key, *code)?;
-    }
-    Some(held.usages())
-}
-
-/// Gives a key this code, and presses it.
-fn press(keymap: &mut Keymap, held: &mut Held, key: u8, code: u16) -> Option<()> {
-    keymap.apply(Command::read(1, 0, key, code).ok()?);
-    held.press(keymap, KeyNo::read(key).ok()?);
-    Some(())
-}
 
 /// A poller, and the protocol of its scans and polls.
 #[derive(Drop)]
@@ -54,19 +39,18 @@ impl<'a> RunsRows<'a> for Session {
     fn told(&mut self, call: &'a str) -> Option<Told> {
         let (word, rest) = call.split_once(' ').unwrap_or((call, ""));
         match word {
-            "boot" => return Some(of_bytes(&boot(&keys(rest)?))),
-            "bitmap" => return Some(of_bytes(&bitmap(&keys(rest)?))),
-            "consumer" => return Some(of_bytes(&consumer(&keys(rest)?))),
-            "poll" => return Some(self.poll(&keys(rest)?)),
             "rounds" => return self.rounds(rest),
             "idle" => return Some(of_bytes(&[self.poller.idle(id(rest)?)])),
             "protocol" => self.protocol = protocol(rest)?,
             "wait" => return self.wait(rest),
             "turn" => return self.turn(rest),
-            "set" => return self.set(rest),
+            "set" => {
+                let (id, value) = idle_of(rest)?;
+                self.poller.set_idle(id, value);
+            }
             "forget" => self.poller.forget_sent(),
             "reset" => self.poller.reset(),
-            _ => return None,
+            _ => return self.reported(word, &usages_of(rest)?),
         }
         Some(Told::Done)
     }
@@ -84,24 +68,34 @@ impl Session {
         })
     }
 
+    /// The report that is asked for while these keys are held.
+    fn reported(&mut self, word: &str, held: &Usages) -> Option<Told> {
+        match word {
+            "boot" => Some(of_bytes(&boot(held))),
+            "bitmap" => Some(of_bytes(&bitmap(held))),
+            "consumer" => Some(of_bytes(&consumer(held))),
+            "poll" => Some(self.poll(held)),
+            _ => None,
+        }
+    }
+
     fn poll(&mut self, held: &Usages) -> Told {
         sent(self.poller.poll(held, self.protocol))
     }
 
     fn wait(&mut self, rest: &str) -> Option<Told> {
-        let (count, held) = rest.split_once(' ')?;
-        let held = keys(held)?;
-        for _ in 0..number(count)? {
+        let (count, held) = counted_keys(rest)?;
+        for _ in 0..count {
             self.poller.tick(&held, &held, self.protocol);
         }
         Some(Told::Done)
     }
 
     fn turn(&mut self, rest: &str) -> Option<Told> {
-        let (count, rest) = rest.split_once(' ')?;
-        let (before, after) = rest.split_once(" > ")?;
-        let (before, after) = (keys(before)?, keys(after)?);
-        for n in 0..number(count)? {
+        let (keys, after) = rest.split_once(" > ")?;
+        let (count, before) = counted_keys(keys)?;
+        let after = usages_of(after)?;
+        for n in 0..count {
             if n % 2 == 0 {
                 self.poller.tick(&before, &after, self.protocol);
             } else {
@@ -112,9 +106,8 @@ impl Session {
     }
 
     fn rounds(&mut self, rest: &str) -> Option<Told> {
-        let (count, held) = rest.split_once(' ')?;
-        let held = keys(held)?;
-        for _ in 0..count.parse::<u32>().ok()? {
+        let (count, held) = counted_keys(rest)?;
+        for _ in 0..count {
             self.poller.tick(&held, &held, self.protocol);
             let told = self.poll(&held);
             if told != Told::Nothing {
@@ -123,33 +116,19 @@ impl Session {
         }
         Some(Told::Nothing)
     }
-
-    fn set(&mut self, rest: &str) -> Option<Told> {
-        let (name, value) = rest.split_once(' ')?;
-        self.poller.set_idle(id(name)?, byte(value)?);
-        Some(Told::Done)
-    }
 }
 
-/// The usages of held keys with these codes.
-fn keys(text: &str) -> Option<Usages> {
-    if text == "-" {
-        return usages(&[]);
-    }
-    let mut codes: [u16; 16] = [0; 16];
-    let mut count = 0usize;
-    for word in text.split(' ') {
-        *codes.get_mut(count)? = hex16(word)?;
-        count = count.wrapping_add(1);
-    }
-    usages(codes.get(..count)?)
+/// A count, and the usages of the keys that are held.
+fn counted_keys(text: &str) -> Option<(u32, Usages)> {
+    let (count, codes) = counted(text)?;
+    Some((count, usages_of(codes)?))
 }
 
 /// Makes the calls of these rows, and compares what they answer.
 fn expect_rows<R: AllocGlobal + Abort>(rt: &R, rows: &str) {
     for part in rows.split("\n\n") {
         let mut session = Session::start(rt.alloc()).ok().expect(rt, "memory");
-        assert_eq!(rt; first_wrong_of_each(&mut session, part), None, "in {part}");
+        same_in(rt, &first_wrong_of_each(&mut session, part), &None, part);
     }
 }
 

@@ -1,8 +1,10 @@
-//! What the rows of a poller and those of keys share, and numbers that look random.
+//! What the rows of a poller and those of keys share, and what histories do: calls, and numbers that look random.
 
 ghost use Rattle.std.specs.Prelude.{◌<◌};
 
+use reports::plain::Call;
 use reports::{IdleId, Protocol, Report};
+use std::process::Abort;
 
 /// The Report ID of an idle value.
 pub fn id(text: &str) -> Option<IdleId> {
@@ -12,6 +14,12 @@ pub fn id(text: &str) -> Option<IdleId> {
         "2" => Some(IdleId::Two),
         _ => None,
     }
+}
+
+/// A Report ID, and the idle value that it gets.
+pub fn idle_of(text: &str) -> Option<(IdleId, u8)> {
+    let (name, value) = text.split_once(' ')?;
+    id(name).zip(row_text::byte(value))
 }
 
 pub fn protocol(text: &str) -> Option<Protocol> {
@@ -55,6 +63,17 @@ pub fn answer_of(text: &str) -> Option<Told> {
         "nothing" => Some(Told::Nothing),
         _ => Some(Told::Bytes(row_text::bytes(text)?)),
     }
+}
+
+/// A count, below 2^32, and what comes behind it.
+pub fn counted(text: &str) -> Option<(u32, &str)> {
+    let (count, rest) = text.split_once(' ')?;
+    Some((count.parse::<u32>().ok()?, rest))
+}
+
+/// Puts the newest call before those that were made.
+pub fn put_first(rt: &impl Abort, calls: &mut Vec<Call>, newest: Call) {
+    calls.insert(0, newest).ok().expect(rt, "memory");
 }
 
 /// Numbers that look random, the same in each run.

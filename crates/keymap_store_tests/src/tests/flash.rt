@@ -1,5 +1,7 @@
 //! What a flash in memory does, whole and torn.
 
+use super::slots::blank;
+use crate::tests::asserts::{holds, same};
 use flash_model::{FlashError, Mask, NorFlash, SimFlash};
 use rows::expect_rows;
 use std::alloc::Global;
@@ -9,7 +11,7 @@ mod rows;
 
 /// Rows over a new flash of so many pages.
 fn on_blank(rt: &impl Abort, alloc: Global, pages: usize, script: &str) {
-    let mut flash = SimFlash::new(alloc, pages).expect(rt, "a flash");
+    let mut flash = blank(rt, alloc, pages);
     expect_rows(rt, &mut flash, script);
 }
 
@@ -30,7 +32,7 @@ fn of_image(
 }
 
 fn expect_error(rt: &impl Abort, flash: Result<SimFlash, FlashError>, wanted: FlashError) {
-    assert_eq!(rt; flash.err(), Some(wanted));
+    same(rt, &flash.err(), &Some(wanted));
 }
 
 #[test]
@@ -84,23 +86,19 @@ fn an_image_is_held_as_it_is(rt: HostRuntime) {
     );
 }
 
-fn compare(rt: &impl Abort, one: &SimFlash, other: &SimFlash, equal: bool) {
-    assert_eq!(rt; one == other, equal);
-}
-
 #[test]
 fn equal_flashes_have_equal_bytes_mask_and_counts(rt: HostRuntime) {
-    let mut one = SimFlash::new(rt.alloc(), 2).expect(&rt, "a flash");
-    let mut other = SimFlash::new(rt.alloc(), 2).expect(&rt, "a flash");
-    compare(&rt, &one, &other, true);
+    let mut one = blank(&rt, rt.alloc(), 2);
+    let mut other = blank(&rt, rt.alloc(), 2);
+    holds(&rt, one == other);
     one.fault_next(Mask::new());
-    compare(&rt, &one, &other, false);
+    holds(&rt, one != other);
     one.disarm();
-    compare(&rt, &one, &other, true);
+    holds(&rt, one == other);
     let _erased = one.erase_page(0);
-    compare(&rt, &one, &other, false);
+    holds(&rt, one != other);
     let _erased = other.erase_page(1);
-    compare(&rt, &one, &other, true);
+    holds(&rt, one == other);
 }
 
 #[test]

@@ -1,5 +1,6 @@
 //! Which lines are rows, and which rows `row_text` finds wrong, for all crates of tests.
 
+use crate::tests::asserts::{holds, holds_at, holds_in, same, same_at, same_in};
 use row_text::{
     Numbers, Row, RunsRows, first_wrong, first_wrong_of_each, placed, push_bytes, push_drawn,
     put_slot,
@@ -37,20 +38,25 @@ impl<'a> RunsRows<'a> for Count {
 
 /// Compares the row of a line with the one that is to be.
 fn expect_row(rt: &impl Abort, line: &str, wanted: Option<Row<'_>>) {
-    assert_eq!(rt; Row::of(line), wanted);
+    same_in(rt, &Row::of(line), &wanted, line);
 }
+
+const NO_ROWS: &[&str] = &["", "  ", "# a comment", "  #add 1 = 2"];
+
+/// Lines, and what they ask and want.
+const ROWS: &[(&str, &str, &str)] = &[
+    ("add 1", "add 1", ""),
+    ("count = 1", "count", "1"),
+    ("count = x = 3", "count", "x = 3"),
+    ("= 3", "= 3", ""),
+];
 
 #[test]
 fn rows_are_the_lines_with_something_in_them(rt: HostRuntime) {
-    for line in ["", "  ", "# a comment", "  #add 1 = 2"] {
+    for line in NO_ROWS.iter() {
         expect_row(&rt, line, None);
     }
-    for (line, ask, answer) in [
-        ("add 1", "add 1", ""),
-        ("count = 1", "count", "1"),
-        ("count = x = 3", "count", "x = 3"),
-        ("= 3", "= 3", ""),
-    ] {
+    for (line, ask, answer) in ROWS.iter() {
         expect_row(&rt, line, Some(Row { line, ask, answer }));
     }
     let (line, ask) = ("add 2", "add 2");
@@ -67,16 +73,13 @@ fn rows_are_the_lines_with_something_in_them(rt: HostRuntime) {
 
 /// Compares the first row that is wrong with the one that is to be.
 fn expect(rt: &impl Abort, text: &str, wanted: Option<(&str, Option<Option<u16>>)>) {
-    assert_eq!(rt; first_wrong(&mut Count(0), text), wanted, "in {text}");
+    same_in(rt, &first_wrong(&mut Count(0), text), &wanted, text);
 }
 
 /// The same where each row may want several answers.
 fn expect_of_each(rt: &impl Abort, text: &str, wanted: Option<(&str, Option<Option<u16>>)>) {
-    assert_eq!(rt;
-        first_wrong_of_each(&mut Count(0), text),
-        wanted,
-        "in {text}"
-    );
+    let found = first_wrong_of_each(&mut Count(0), text);
+    same_in(rt, &found, &wanted, text);
 }
 
 #[test]
@@ -130,54 +133,59 @@ fn each_answer_has_a_call_of_its_own(rt: HostRuntime) {
 
 /// Compares bytes that were added with those that are to be.
 fn expect_bytes(rt: &impl Abort, found: &[u8], wanted: &[u8]) {
-    assert_eq!(rt; found, wanted);
+    same(rt, &found, &wanted);
 }
+
+/// Texts that are no bytes.
+const NO_BYTES: &[&str] = &["0", "0g", "+5", "00 1"];
 
 #[test]
 fn bytes_are_two_digits_each(rt: HostRuntime) {
     let mut all = Vec::new(rt.alloc());
-    assert_eq!(rt; push_bytes(&mut all, "00ffA4"), Some(()));
-    assert_eq!(rt; push_bytes(&mut all, ""), Some(()));
+    same(&rt, &push_bytes(&mut all, "00ffA4"), &Some(()));
+    same(&rt, &push_bytes(&mut all, ""), &Some(()));
     expect_bytes(&rt, all.as_slice(), &[0x00, 0xFF, 0xA4]);
-    for text in ["0", "0g", "+5", "00 1"] {
-        assert_eq!(rt; push_bytes(&mut all, text), None, "{text}");
-        assert!(rt; row_text::bytes::<4>(text).is_none(), "{text}");
+    for text in NO_BYTES.iter() {
+        same_in(&rt, &push_bytes(&mut all, text), &None, text);
+        holds_in(&rt, row_text::bytes::<4>(text).is_none(), text);
     }
     let few = row_text::bytes::<2>("05fe").unwrap_or_default();
     expect_bytes(&rt, few.as_slice(), &[0x05, 0xFE]);
-    assert!(rt; row_text::bytes::<2>("000000").is_none());
+    holds(&rt, row_text::bytes::<2>("000000").is_none());
 }
 
 #[test]
 fn slots_are_named_and_written(rt: HostRuntime) {
     let slot = [0, 1, 2, 3, 4, 5, 6, 7];
-    assert_eq!(rt; placed("1 511 0001020304050607"), Some((1, 511, slot)));
-    assert_eq!(rt; placed("1 0001020304050607"), None);
+    same(
+        &rt,
+        &placed("1 511 0001020304050607"),
+        &Some((1, 511, slot)),
+    );
+    same(&rt, &placed("1 0001020304050607"), &None);
     let mut image = [0xFF; 24];
-    assert!(rt; put_slot(&mut image, 0, 1, slot));
-    assert!(rt; !put_slot(&mut image, 0, 3, slot));
+    holds(&rt, put_slot(&mut image, 0, 1, slot));
+    holds(&rt, !put_slot(&mut image, 0, 3, slot));
     expect_bytes(&rt, &image[..8], &[0xFF; 8]);
     expect_bytes(&rt, &image[8..16], &slot);
     expect_bytes(&rt, &image[16..], &[0xFF; 8]);
 }
 
-/// Compares the word of a slot of a full page.
-fn expect_word(rt: &impl Abort, slot: u32, wanted: u32) {
-    assert_eq!(rt; row_text::full_word(slot), wanted, "slot {slot}");
-}
+/// Slots of a full page, and their words.
+const FULL_WORDS: &[(u32, u32)] = &[
+    (1, 0x1000_0000),
+    (96, 0x105F_0000),
+    (97, 0x1100_0000),
+    (384, 0x135F_0000),
+    (385, 0x1000_0005),
+    (386, 0x1000_0000),
+    (511, 0x1000_0005),
+];
 
 #[test]
 fn a_full_page_sets_each_entry(rt: HostRuntime) {
-    for (slot, word) in [
-        (1, 0x1000_0000),
-        (96, 0x105F_0000),
-        (97, 0x1100_0000),
-        (384, 0x135F_0000),
-        (385, 0x1000_0005),
-        (386, 0x1000_0000),
-        (511, 0x1000_0005),
-    ] {
-        expect_word(&rt, slot, word);
+    for (slot, word) in FULL_WORDS.iter() {
+        same_at(&rt, &row_text::full_word(*slot), word, slot);
     }
 }
 
@@ -187,11 +195,12 @@ fn one_of_some_bytes_is_drawn(rt: HostRuntime) {
     let mut all = Vec::new(rt.alloc());
     for _ in 0..40 {
         let pushed = push_drawn(&mut numbers, &mut all, "A1 0F,1E,2D");
-        assert_eq!(rt; pushed, Some(()));
+        same(&rt, &pushed, &Some(()));
     }
     for byte in [0x0F, 0x1E, 0x2D] {
-        assert!(rt; all.contains(&byte), "{byte} is never drawn");
+        holds_at(&rt, all.contains(&byte), &("of what is drawn", byte));
     }
-    assert_eq!(rt; (all.len(), all.first().copied()), (80, Some(0xA1)));
-    assert_eq!(rt; push_drawn(&mut numbers, &mut all, "x,y"), None);
+    same(&rt, &all.len(), &80);
+    same(&rt, &all.first().copied(), &Some(0xA1));
+    same(&rt, &push_drawn(&mut numbers, &mut all, "x,y"), &None);
 }

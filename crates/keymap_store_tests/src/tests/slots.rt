@@ -3,6 +3,13 @@
 use super::text::{bytes_of, number, place_of};
 use flash_model::{NorFlash, PAGE_SLOTS, SimFlash};
 use row_text::{good, hex};
+use std::alloc::Global;
+use std::process::Abort;
+
+/// A blank flash of so many pages.
+pub fn blank(rt: &impl Abort, alloc: Global, pages: usize) -> SimFlash {
+    SimFlash::new(alloc, pages).expect(rt, "a flash")
+}
 
 /// Programs a slot; whether the flash has it.
 pub fn program(flash: &mut SimFlash, page: usize, slot: usize, bytes: [u8; 8]) -> bool {

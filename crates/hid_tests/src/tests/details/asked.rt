@@ -1,8 +1,9 @@
 //! The calls over what is told, beside a plain program that looks over all of it at every question, and beside rows.
 
-use super::super::{same, two};
+use super::super::{add, two};
 use super::plain::{items_of, names};
 use super::{bytes, kind_name};
+use crate::tests::asserts::{made, same_at, same_text};
 use descriptor_parse::{Item, Kind};
 use field_details::{Detail, Details, Naming, PlacedFields, details_of, namings};
 use std::alloc::Global;
@@ -13,14 +14,11 @@ pub(crate) fn check_asked(rt: &impl Abort, alloc: Global, told: &Details, text: 
     let given = given(rt, alloc, told, text);
     let items = items_of(rt, alloc, text);
     let wanted = wanted(rt, alloc, told, &items);
-    assert_eq!(rt; given.as_str(), wanted.as_str(), "of {text:?}");
+    same_at(rt, &given.as_str(), &wanted.as_str(), &text);
 }
 
 fn say(rt: &impl Abort, alloc: Global, all: &mut String, word: &str, number: u64) {
-    let more = format!(in alloc; "{word} {number} ")
-        .ok()
-        .expect(rt, "memory");
-    all.push_str(more.as_str()).ok().expect(rt, "memory");
+    add(rt, all, format!(in alloc; "{word} {number} "));
 }
 
 /// All that the calls give, one after the other.
@@ -114,7 +112,7 @@ fn wanted(rt: &impl Abort, alloc: Global, told: &Details, items: &[Item<'_>]) ->
     want_reports(rt, alloc, &mut all, told);
     want_applications(rt, alloc, &mut all, told);
     for (place, detail) in told.fields.iter().enumerate() {
-        let around = told.around(alloc, place).ok().expect(rt, "memory");
+        let around = made(rt, told.around(alloc, place));
         want_numbers(rt, alloc, &mut all, "around", &around);
         want_names(rt, alloc, &mut all, items, detail.offset);
     }
@@ -242,9 +240,9 @@ fn want_names(rt: &impl Abort, alloc: Global, all: &mut String, items: &[Item<'_
 fn check_row<R: AllocGlobal + Abort>(rt: &R, row: &str) {
     let (text, wanted) = two(rt, row, " = ");
     let text = bytes(rt, text);
-    let told = details_of(rt.alloc(), &text).ok().expect(rt, "memory");
+    let told = made(rt, details_of(rt.alloc(), &text));
     let given = given(rt, rt.alloc(), &told, &text);
-    same(rt, given.as_str().trim_end(), wanted, row);
+    same_text(rt, given.as_str().trim_end(), wanted, row);
 }
 
 #[test]

@@ -1,6 +1,7 @@
 //! The bits of an item, and the digits of a unit.
 
-use super::super::{same, two};
+use super::super::{add, two};
+use crate::tests::asserts::{made, same_text};
 use descriptor_parse::Kind;
 use field_details::{Detail, Dimension};
 use std::alloc::Global;
@@ -32,43 +33,30 @@ fn number(rt: &impl Abort, digits: &str) -> u32 {
     }
 }
 
-fn letter(set: bool, letter: &'static str) -> &'static str {
-    if set { letter } else { "-" }
+/// Adds the letter of a bit that is set, or `-`.
+fn push_bit(rt: &impl Abort, bits: &mut String, set: bool, letter: &str) {
+    made(rt, bits.push_str(if set { letter } else { "-" }));
 }
 
 /// A letter for each bit that is set, the lowest first.
-fn low_bits(alloc: Global, rt: &impl Abort, detail: &Detail) -> String {
-    format!(in alloc;
-        "{}{}{}{}{}",
-        letter(detail.is_constant(), "c"),
-        letter(detail.is_variable(), "v"),
-        letter(detail.is_relative(), "r"),
-        letter(detail.wraps(), "w"),
-        letter(detail.is_nonlinear(), "n")
-    )
-    .ok()
-    .expect(rt, "memory")
-}
-
-fn high_bits(alloc: Global, rt: &impl Abort, detail: &Detail) -> String {
-    format!(in alloc;
-        "{}{}{}{}",
-        letter(detail.has_no_preferred_state(), "p"),
-        letter(detail.has_null_state(), "u"),
-        letter(detail.is_volatile(), "o"),
-        letter(detail.is_buffered(), "b")
-    )
-    .ok()
-    .expect(rt, "memory")
+fn bits_of(rt: &impl Abort, alloc: Global, detail: &Detail) -> String {
+    let mut bits = String::new(alloc);
+    push_bit(rt, &mut bits, detail.is_constant(), "c");
+    push_bit(rt, &mut bits, detail.is_variable(), "v");
+    push_bit(rt, &mut bits, detail.is_relative(), "r");
+    push_bit(rt, &mut bits, detail.wraps(), "w");
+    push_bit(rt, &mut bits, detail.is_nonlinear(), "n");
+    push_bit(rt, &mut bits, detail.has_no_preferred_state(), "p");
+    push_bit(rt, &mut bits, detail.has_null_state(), "u");
+    push_bit(rt, &mut bits, detail.is_volatile(), "o");
+    push_bit(rt, &mut bits, detail.is_buffered(), "b");
+    bits
 }
 
 fn check_bits(rt: &impl Abort, alloc: Global, row: &str) {
     let (flags, wanted) = two(rt, row, " = ");
-    let detail = with(number(rt, flags), 0);
-    let low = low_bits(alloc, rt, &detail);
-    let high = high_bits(alloc, rt, &detail);
-    let told = format!(in alloc; "{low}{high}").ok().expect(rt, "memory");
-    same(rt, told.as_str(), wanted, row);
+    let told = bits_of(rt, alloc, &with(number(rt, flags), 0));
+    same_text(rt, told.as_str(), wanted, row);
 }
 
 #[test]
@@ -94,24 +82,23 @@ FFFFFE00 = ---------
 FFFFFFFF = cvrwnpuob
 142 = -v----u-b";
 
+/// Adds a number, with a blank before it.
+fn push_number(rt: &impl Abort, alloc: Global, to: &mut String, number: i64) {
+    add(rt, to, format!(in alloc; " {number}"));
+}
+
 /// The system, the exponents of the six dimensions, and the reserved digit.
 fn check_unit(rt: &impl Abort, alloc: Global, row: &str) {
     let (unit, wanted) = two(rt, row, " = ");
     let detail = with(0, number(rt, unit));
-    let mut told = format!(in alloc; "{}", detail.unit_system())
-        .ok()
-        .expect(rt, "memory");
+    let mut told = String::new(alloc);
+    push_number(rt, alloc, &mut told, detail.unit_system() as i64);
     for dimension in Dimension::ALL {
-        let more = format!(in alloc; " {}", detail.unit_exponent_of(dimension))
-            .ok()
-            .expect(rt, "memory");
-        told.push_str(more.as_str()).ok().expect(rt, "memory");
+        let exponent = detail.unit_exponent_of(dimension);
+        push_number(rt, alloc, &mut told, exponent as i64);
     }
-    let last = format!(in alloc; " {}", detail.unit_reserved())
-        .ok()
-        .expect(rt, "memory");
-    told.push_str(last.as_str()).ok().expect(rt, "memory");
-    same(rt, told.as_str(), wanted, row);
+    push_number(rt, alloc, &mut told, detail.unit_reserved() as i64);
+    same_text(rt, told.as_str().trim_start(), wanted, row);
 }
 
 #[test]

@@ -3,15 +3,16 @@
 use super::asked::check_asked;
 use super::plain::{application, around, collection, detail, items_of};
 use super::push_byte;
+use crate::tests::asserts::{made, same, same_at};
 use descriptor_parse::Item;
-use field_details::{Collection, Detail, Details, details_of};
+use field_details::{Details, details_of};
 use row_text::{Numbers, push_drawn};
 use std::alloc::Global;
 use std::process::Abort;
 
 /// Compares all that is told of a text.
 pub(crate) fn check(rt: &impl Abort, alloc: Global, text: &[u8]) {
-    let told = details_of(alloc, text).ok().expect(rt, "memory");
+    let told = made(rt, details_of(alloc, text));
     let items = items_of(rt, alloc, text);
     check_fields(rt, alloc, &told, &items, text);
     check_collections(rt, alloc, &told, &items, text);
@@ -22,35 +23,20 @@ fn check_fields(rt: &impl Abort, alloc: Global, told: &Details, items: &[Item<'_
     let mut number = 0usize;
     for place in 0..items.len() {
         if let Some(wanted) = detail(rt, alloc, items, place) {
-            same_detail(rt, told.fields.get(number).copied(), wanted, text);
+            same_at(rt, &told.fields.get(number).copied(), &Some(wanted), &text);
             check_around(rt, alloc, told, number, &around(rt, alloc, items, place));
             number = number.wrapping_add(1);
         }
     }
-    same_number(rt, told.fields.len(), number, text);
+    same_at(rt, &told.fields.len(), &number, &text);
 }
 
 /// Compares the collections around a data item, and its application.
 fn check_around(rt: &impl Abort, alloc: Global, told: &Details, number: usize, wanted: &[usize]) {
-    let numbers = told.around(alloc, number).ok().expect(rt, "memory");
-    same_numbers(rt, &numbers, wanted);
-    same_application(
-        rt,
-        told.application(number),
-        application(&told.collections, wanted),
-    );
-}
-
-fn same_numbers(rt: &impl Abort, told: &[usize], wanted: &[usize]) {
-    assert_eq!(rt; told, wanted);
-}
-
-fn same_application(rt: &impl Abort, told: Option<usize>, wanted: Option<usize>) {
-    assert_eq!(rt; told, wanted);
-}
-
-fn same_detail(rt: &impl Abort, told: Option<Detail>, wanted: Detail, text: &[u8]) {
-    assert_eq!(rt; told, Some(wanted), "of {text:?}");
+    let numbers = made(rt, told.around(alloc, number));
+    same(rt, &numbers.as_slice(), &wanted);
+    let found = application(&told.collections, wanted);
+    same(rt, &told.application(number), &found);
 }
 
 fn check_collections(
@@ -63,19 +49,12 @@ fn check_collections(
     let mut number = 0usize;
     for place in 0..items.len() {
         if let Some(wanted) = collection(rt, alloc, items, place) {
-            same_collection(rt, told.collections.get(number).copied(), wanted, text);
+            let given = told.collections.get(number).copied();
+            same_at(rt, &given, &Some(wanted), &text);
             number = number.wrapping_add(1);
         }
     }
-    same_number(rt, told.collections.len(), number, text);
-}
-
-fn same_collection(rt: &impl Abort, told: Option<Collection>, wanted: Collection, text: &[u8]) {
-    assert_eq!(rt; told, Some(wanted), "of {text:?}");
-}
-
-fn same_number(rt: &impl Abort, told: usize, wanted: usize, text: &[u8]) {
-    assert_eq!(rt; told, wanted, "of {text:?}");
+    same_at(rt, &told.collections.len(), &number, &text);
 }
 
 /// Items that often go well with others, one or two a row (`push_drawn`).

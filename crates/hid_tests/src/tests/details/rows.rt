@@ -1,8 +1,9 @@
 //! Texts beside what is told of them, and a real one beside the plain program.
 
-use super::super::{same, two};
+use super::super::{add, two};
 use super::made_up::check;
 use super::{bytes, kind_name};
+use crate::tests::asserts::{made, same_text};
 use descriptor_parse::Kind;
 use field_details::{Collection, Detail, Details, details_of};
 use std::alloc::Global;
@@ -66,26 +67,18 @@ impl fmt::Display for Grouped<'_> {
 fn words(rt: &impl Abort, alloc: Global, told: &Details) -> String {
     let mut all = String::new(alloc);
     for detail in &told.fields {
-        let more = format!(in alloc; "{} ", Told(detail))
-            .ok()
-            .expect(rt, "memory");
-        all.push_str(more.as_str()).ok().expect(rt, "memory");
+        add(rt, &mut all, format!(in alloc; "{} ", Told(detail)));
     }
     for collection in &told.collections {
-        let more = format!(in alloc; "{} ", Grouped(collection))
-            .ok()
-            .expect(rt, "memory");
-        all.push_str(more.as_str()).ok().expect(rt, "memory");
+        add(rt, &mut all, format!(in alloc; "{} ", Grouped(collection)));
     }
     all
 }
 
 fn check_row<R: AllocGlobal + Abort>(rt: &R, row: &str) {
     let (text, wanted) = two(rt, row, " = ");
-    let told = details_of(rt.alloc(), &bytes(rt, text))
-        .ok()
-        .expect(rt, "memory");
-    same(rt, words(rt, rt.alloc(), &told).trim_end(), wanted, row);
+    let told = made(rt, details_of(rt.alloc(), &bytes(rt, text)));
+    same_text(rt, words(rt, rt.alloc(), &told).trim_end(), wanted, row);
 }
 
 #[test]

@@ -4,72 +4,72 @@ use super::rows::check;
 
 #[test]
 fn usages_of_an_array(rt: HostRuntime) {
-    check(&rt, rt.alloc(), KEYBOARD, KEYBOARD_ROWS);
+    check(&rt, KEYBOARD, KEYBOARD_ROWS);
 }
 
 #[test]
 fn a_value_that_does_not_fit(rt: HostRuntime) {
-    check(&rt, rt.alloc(), FIRST_IS_ONE, FIRST_IS_ONE_ROWS);
+    check(&rt, FIRST_IS_ONE, FIRST_IS_ONE_ROWS);
 }
 
 #[test]
 fn an_array_that_cannot_be_empty(rt: HostRuntime) {
-    check(&rt, rt.alloc(), NONE_IS_UNUSED, NONE_IS_UNUSED_ROWS);
+    check(&rt, NONE_IS_UNUSED, NONE_IS_UNUSED_ROWS);
 }
 
 #[test]
 fn id_zero_is_no_usage(rt: HostRuntime) {
-    check(&rt, rt.alloc(), ID_ZERO_AT_0, ID_ZERO_AT_0_ROWS);
+    check(&rt, ID_ZERO_AT_0, ID_ZERO_AT_0_ROWS);
 }
 
 #[test]
 fn id_zero_is_listed_second(rt: HostRuntime) {
-    check(&rt, rt.alloc(), ID_ZERO_AT_1, ID_ZERO_AT_1_ROWS);
+    check(&rt, ID_ZERO_AT_1, ID_ZERO_AT_1_ROWS);
 }
 
 #[test]
 fn a_usage_past_the_maximum(rt: HostRuntime) {
-    check(&rt, rt.alloc(), PAST_THE_MAXIMUM, PAST_THE_MAXIMUM_ROWS);
+    check(&rt, PAST_THE_MAXIMUM, PAST_THE_MAXIMUM_ROWS);
 }
 
 #[test]
 fn a_new_report_is_filled_field_by_field(rt: HostRuntime) {
-    check(&rt, rt.alloc(), HAT_AND_ARRAY, HAT_AND_ARRAY_ROWS);
+    check(&rt, HAT_AND_ARRAY, HAT_AND_ARRAY_ROWS);
 }
 
 #[test]
 fn the_first_value_that_says_none(rt: HostRuntime) {
-    check(&rt, rt.alloc(), THREE_ID_ZEROS, THREE_ID_ZEROS_ROWS);
+    check(&rt, THREE_ID_ZEROS, THREE_ID_ZEROS_ROWS);
 }
 
 #[test]
 fn id_zero_comes_before_a_null(rt: HostRuntime) {
-    check(&rt, rt.alloc(), ID_ZERO_AND_NULLS, ID_ZERO_AND_NULLS_ROWS);
+    check(&rt, ID_ZERO_AND_NULLS, ID_ZERO_AND_NULLS_ROWS);
 }
 
 #[test]
 fn id_zero_is_listed_first_below_zero(rt: HostRuntime) {
-    check(&rt, rt.alloc(), ID_ZERO_BELOW_ZERO, ID_ZERO_BELOW_ZERO_ROWS);
+    check(&rt, ID_ZERO_BELOW_ZERO, ID_ZERO_BELOW_ZERO_ROWS);
 }
 
 #[test]
 fn a_value_past_the_list(rt: HostRuntime) {
-    check(&rt, rt.alloc(), SHORT_LIST, SHORT_LIST_ROWS);
+    check(&rt, SHORT_LIST, SHORT_LIST_ROWS);
 }
 
 #[test]
 fn a_usage_that_is_listed_twice(rt: HostRuntime) {
-    check(&rt, rt.alloc(), LISTED_TWICE, LISTED_TWICE_ROWS);
+    check(&rt, LISTED_TWICE, LISTED_TWICE_ROWS);
 }
 
 #[test]
 fn an_array_has_no_nulls(rt: HostRuntime) {
-    check(&rt, rt.alloc(), ARRAY_WITH_NULLS, ARRAY_WITH_NULLS_ROWS);
+    check(&rt, ARRAY_WITH_NULLS, ARRAY_WITH_NULLS_ROWS);
 }
 
 #[test]
 fn a_usage_in_two_arrays(rt: HostRuntime) {
-    check(&rt, rt.alloc(), TWO_ARRAYS, TWO_ARRAYS_ROWS);
+    check(&rt, TWO_ARRAYS, TWO_ARRAYS_ROWS);
 }
 
 /// A keyboard: modifiers, LEDs, an Array of six.

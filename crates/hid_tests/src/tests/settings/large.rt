@@ -1,8 +1,10 @@
 //! Reports as large as the limits let them be: 256 fields, 65,535 places, 8,192 bytes.
 
 use super::rows::null_states;
+use crate::tests::asserts::same;
+use crate::tests::parsed;
 use arrayvec::ArrayVec;
-use descriptor_parse::{Descriptor, Kind, parse};
+use descriptor_parse::Kind;
 use field_values::Asked;
 use report_write::{Setting, Target, WriteError, write};
 use std::alloc::Global;
@@ -59,13 +61,6 @@ fn many_nulls(rt: &impl Abort) -> ArrayVec<u8, 2048> {
     text
 }
 
-fn parsed(rt: &impl Abort, alloc: Global, text: &[u8]) -> Descriptor {
-    match parse(alloc, text) {
-        Ok(descriptor) => descriptor,
-        Err(error) => panic!(rt; "{error}"),
-    }
-}
-
 fn written(
     rt: &impl Abort,
     alloc: Global,
@@ -76,6 +71,28 @@ fn written(
     let descriptor = parsed(rt, alloc, text);
     let states = null_states(alloc, text).expect(rt, "memory");
     write(alloc, &descriptor, &states, Kind::Input, 0, settings, onto)
+}
+
+/// The report that is written.
+fn report(
+    rt: &impl Abort,
+    alloc: Global,
+    text: &[u8],
+    settings: &[Setting],
+    onto: Option<&[u8]>,
+) -> Vec<u8> {
+    let report = written(rt, alloc, text, settings, onto);
+    report.ok().expect(rt, "a report")
+}
+
+/// The refusal of settings.
+fn refusal(
+    rt: &impl Abort,
+    alloc: Global,
+    text: &[u8],
+    settings: &[Setting],
+) -> Option<WriteError> {
+    written(rt, alloc, text, settings, None).err()
 }
 
 fn at_place(field: usize, place: usize, value: i64) -> Setting {
@@ -103,97 +120,80 @@ fn count(bytes: &[u8], wanted: u8) -> usize {
     found
 }
 
+fn put(rt: &impl Abort, settings: &mut Vec<Setting>, setting: Setting) {
+    settings.push(setting).ok().expect(rt, "memory");
+}
+
 #[test]
 fn the_last_of_65535_places(rt: HostRuntime) {
     let alloc = rt.alloc();
     let text = many_places(&rt);
-    let report = written(&rt, alloc, &text, &[of_usage(0x1_0030, 65_534, 1)], None);
-    let report = report.ok().expect(&rt, "a report");
-    assert_eq!(&rt; report.len(), 8_192);
-    assert_eq!(&rt; report.get(8_191).copied(), Some(0x40));
-    assert_eq!(&rt; count(&report, 0), 8_191);
-    let none = written(&rt, alloc, &text, &[of_usage(0x1_0030, 65_535, 1)], None);
-    assert!(&rt;
-        none.err() == Some(WriteError::Unknown(0)),
-        "a place too many"
-    );
-    let last = at_place(255, 254, 1);
-    let twice = written(
-        &rt,
-        alloc,
-        &text,
-        &[last, of_usage(0x1_0030, 65_534, 0)],
-        None,
-    );
-    assert!(&rt;
-        twice.err() == Some(WriteError::Twice(1)),
-        "the last place twice"
-    );
+    let report = report(&rt, alloc, &text, &[of_usage(0x1_0030, 65_534, 1)], None);
+    same(&rt, &report.len(), &8_192);
+    same(&rt, &report.get(8_191).copied(), &Some(0x40));
+    same(&rt, &count(&report, 0), &8_191);
+    let too_many = refusal(&rt, alloc, &text, &[of_usage(0x1_0030, 65_535, 1)]);
+    same(&rt, &too_many, &Some(WriteError::Unknown(0)));
+    let settings = [at_place(255, 254, 1), of_usage(0x1_0030, 65_534, 0)];
+    let last_twice = refusal(&rt, alloc, &text, &settings);
+    same(&rt, &last_twice, &Some(WriteError::Twice(1)));
+}
+
+/// A setting of each of 65,535 places.
+fn each_place(rt: &impl Abort, alloc: Global) -> Vec<Setting> {
+    let mut settings = Vec::new(alloc);
+    for field in 0..256usize {
+        for place in 0..256usize {
+            if field < 255 || place < 255 {
+                put(rt, &mut settings, at_place(field, place, 1));
+            }
+        }
+    }
+    settings
 }
 
 #[test]
 fn each_of_65535_places(rt: HostRuntime) {
     let alloc = rt.alloc();
     let text = many_places(&rt);
+    let mut settings = each_place(&rt, alloc);
+    same(&rt, &settings.len(), &65_535);
+    let report = report(&rt, alloc, &text, &settings, None);
+    same(&rt, &count(&report, 0xFF), &8_191);
+    same(&rt, &report.get(8_191).copied(), &Some(0x7F));
+    put(&rt, &mut settings, at_place(0, 0, 1));
+    let first_twice = refusal(&rt, alloc, &text, &settings);
+    same(&rt, &first_twice, &Some(WriteError::Twice(65_535)));
+}
+
+/// A setting of each key but the first one.
+fn each_key(rt: &impl Abort, alloc: Global) -> Vec<Setting> {
     let mut settings = Vec::new(alloc);
-    for field in 0..256usize {
-        for place in 0..256usize {
-            if field < 255 || place < 255 {
-                settings
-                    .push(at_place(field, place, 1))
-                    .ok()
-                    .expect(&rt, "memory");
-            }
-        }
+    for usage in 0x7_0001..0x7_0100u32 {
+        put(rt, &mut settings, of_usage(usage, 7, 1));
     }
-    assert_eq!(&rt; settings.len(), 65_535);
-    let report = written(&rt, alloc, &text, &settings, None);
-    let report = report.ok().expect(&rt, "a report");
-    assert_eq!(&rt; count(&report, 0xFF), 8_191);
-    assert_eq!(&rt; report.get(8_191).copied(), Some(0x7F));
-    settings.push(at_place(0, 0, 1)).ok().expect(&rt, "memory");
-    let twice = written(&rt, alloc, &text, &settings, None);
-    assert!(&rt;
-        twice.err() == Some(WriteError::Twice(65_535)),
-        "the first place twice"
-    );
+    settings
 }
 
 #[test]
 fn arrays_of_1024_places(rt: HostRuntime) {
     let alloc = rt.alloc();
     let text = many_keys(&rt);
-    let mut settings = Vec::new(alloc);
-    for usage in 0x7_0001..0x7_0100u32 {
-        settings
-            .push(of_usage(usage, 7, 1))
-            .ok()
-            .expect(&rt, "memory");
-    }
-    let report = written(&rt, alloc, &text, &settings, None);
-    let report = report.ok().expect(&rt, "a report");
-    assert_eq!(&rt; report.len(), 8_192);
-    assert_eq!(&rt; report.get(7_168).copied(), Some(1));
-    assert_eq!(&rt; report.get(7_422).copied(), Some(255));
-    assert_eq!(&rt; count(&report, 0), 7_937);
-    let off = written(
-        &rt,
-        alloc,
-        &text,
-        &[of_usage(0x7_0081, 7, 0)],
-        Some(&report),
-    );
-    let off = off.ok().expect(&rt, "a report");
-    assert_eq!(&rt; count(&off, 0), 7_938);
-    assert_eq!(&rt; off.get(7_296).copied(), Some(0));
+    let all = report(&rt, alloc, &text, &each_key(&rt, alloc), None);
+    same(&rt, &all.len(), &8_192);
+    same(&rt, &all.get(7_168).copied(), &Some(1));
+    same(&rt, &all.get(7_422).copied(), &Some(255));
+    same(&rt, &count(&all, 0), &7_937);
+    let setting = of_usage(0x7_0081, 7, 0);
+    let off = report(&rt, alloc, &text, &[setting], Some(&all));
+    same(&rt, &count(&off, 0), &7_938);
+    same(&rt, &off.get(7_296).copied(), &Some(0));
 }
 
 #[test]
 fn nulls_in_8192_places(rt: HostRuntime) {
-    let alloc = rt.alloc();
     let text = many_nulls(&rt);
-    let report = written(&rt, alloc, &text, &[at_place(7, 1_023, 5)], None);
-    let report = report.ok().expect(&rt, "a report");
-    assert_eq!(&rt; count(&report, 0xFF), 8_191);
-    assert_eq!(&rt; report.get(8_191).copied(), Some(5));
+    let report = report(&rt, rt.alloc(), &text, &[at_place(7, 1_023, 5)], None);
+    same(&rt, &count(&report, 0xFF), &8_191);
+    same(&rt, &report.get(8_191).copied(), &Some(5));
 }

@@ -3,8 +3,9 @@
 //! A report is hex digits, and `new` stands for none. A setting is `USAGE@PLACE=VALUE`, the usage in hex,
 //! or `#FIELD.PLACE=VALUE`; a value is `n` for none.
 
+use crate::tests::parsed;
 use arrayvec::ArrayVec;
-use descriptor_parse::{Kind, parse};
+use descriptor_parse::{Descriptor, Kind};
 use field_details::details_of;
 use field_values::Asked;
 use report_write::{Setting, Target, WriteError, write};
@@ -22,39 +23,23 @@ enum Told {
 
 /// What runs the rows.
 #[derive(Drop)]
-struct Writer<'t> {
+struct Writer<'d> {
     alloc: Global,
-    /// The descriptor, in hex.
-    text: &'t str,
-    /// Whether it is told which fields have Null State.
-    tells_nulls: bool,
+    descriptor: &'d Descriptor,
+    /// What is told of the Null State of each field.
+    states: &'d [bool],
 }
 
-impl<'a, 't> RunsRows<'a> for Writer<'t> {
+impl<'a, 'd> RunsRows<'a> for Writer<'d> {
     type Told = Told;
 
     fn told(&mut self, ask: &'a str) -> Option<Told> {
         let (head, tail) = ask.split_once(" :")?;
-        let mut words = head.split_whitespace();
-        let text = bytes::<256>(self.text)?;
-        let kind = kind_of(words.next()?)?;
-        let id = words.next()?.parse::<u8>().ok()?;
-        let onto = words.next()?;
+        let (report, onto) = head_of(head)?;
         let settings = settings_of(self.alloc, tail.split_whitespace())?;
-        let states = self.states(&text)?;
-        if onto == "new" {
-            told_of(self.alloc, &text, &states, kind, id, &settings, None)
-        } else {
-            let given = bytes::<64>(onto)?;
-            told_of(
-                self.alloc,
-                &text,
-                &states,
-                kind,
-                id,
-                &settings,
-                Some(&given),
-            )
+        match onto {
+            "new" => self.told_of(report, &settings, None),
+            _ => self.told_of(report, &settings, Some(&bytes::<64>(onto)?)),
         }
     }
 
@@ -67,44 +52,44 @@ impl<'a, 't> RunsRows<'a> for Writer<'t> {
 }
 
 impl Writer<'_> {
-    /// What is told of the Null State of each field.
-    fn states(&self, text: &[u8]) -> Option<Vec<bool>> {
-        if self.tells_nulls {
-            null_states(self.alloc, text)
-        } else {
-            Some(Vec::new(self.alloc))
+    fn told_of(
+        &self,
+        report: (Kind, u8),
+        settings: &[Setting],
+        onto: Option<&[u8]>,
+    ) -> Option<Told> {
+        let (kind, id) = report;
+        let (descriptor, states) = (self.descriptor, self.states);
+        match write(self.alloc, descriptor, states, kind, id, settings, onto) {
+            Ok(report) => {
+                let mut copy = ArrayVec::new();
+                copy.try_extend_from_slice(&report).ok()?;
+                Some(Told::Report(copy))
+            }
+            Err(error) => Some(Told::Not(error)),
         }
     }
 }
 
 /// Compares rows of a descriptor, in hex, with what is written.
-pub(super) fn check(rt: &impl Abort, alloc: Global, text: &str, rows: &str) {
-    compare(
-        rt,
-        Writer {
-            alloc,
-            text,
-            tells_nulls: true,
-        },
-        rows,
-    );
+pub(super) fn check<R: AllocGlobal + Abort>(rt: &R, text: &str, rows: &str) {
+    let text = bytes::<256>(text).expect(rt, "a descriptor");
+    let states = null_states(rt.alloc(), &text).expect(rt, "memory");
+    compare(rt, rt.alloc(), &text, &states, rows);
 }
 
 /// The same, where it is not told which fields have Null State.
-pub(super) fn check_without_nulls(rt: &impl Abort, alloc: Global, text: &str, rows: &str) {
-    compare(
-        rt,
-        Writer {
-            alloc,
-            text,
-            tells_nulls: false,
-        },
-        rows,
-    );
+pub(super) fn check_without_nulls<R: AllocGlobal + Abort>(rt: &R, text: &str, rows: &str) {
+    let text = bytes::<256>(text).expect(rt, "a descriptor");
+    compare(rt, rt.alloc(), &text, &[], rows);
 }
 
-fn compare(rt: &impl Abort, writer: Writer<'_>, rows: &str) {
-    let mut writer = writer;
+fn compare(rt: &impl Abort, alloc: Global, text: &[u8], states: &[bool], rows: &str) {
+    let mut writer = Writer {
+        alloc,
+        descriptor: &parsed(rt, alloc, text),
+        states,
+    };
     if let Some((row, told)) = first_wrong(&mut writer, rows) {
         panic!(rt; "{row}: {told:?}");
     }
@@ -120,23 +105,15 @@ pub(super) fn null_states(alloc: Global, text: &[u8]) -> Option<Vec<bool>> {
     Some(states)
 }
 
-fn told_of(
-    alloc: Global,
-    text: &[u8],
-    states: &[bool],
-    kind: Kind,
-    id: u8,
-    settings: &[Setting],
-    onto: Option<&[u8]>,
-) -> Option<Told> {
-    let descriptor = parse(alloc, text).ok()?;
-    match write(alloc, &descriptor, states, kind, id, settings, onto) {
-        Ok(report) => {
-            let mut copy = ArrayVec::new();
-            copy.try_extend_from_slice(&report).ok()?;
-            Some(Told::Report(copy))
-        }
-        Err(error) => Some(Told::Not(error)),
+/// The kind and ID of a report, and what it is written onto.
+fn head_of(head: &str) -> Option<((Kind, u8), &str)> {
+    let mut words = head.split_whitespace();
+    match (words.next(), words.next(), words.next()) {
+        (Some(kind), Some(id), Some(onto)) => Some((
+            (kind_of(kind)?, id.parse::<u8>().ok()?),
+            onto,
+        )),
+        _ => None,
     }
 }
 

@@ -4,48 +4,48 @@ use super::rows::{check, check_without_nulls};
 
 #[test]
 fn places_of_variable_fields(rt: HostRuntime) {
-    check(&rt, rt.alloc(), GAMEPAD, GAMEPAD_ROWS);
+    check(&rt, GAMEPAD, GAMEPAD_ROWS);
 }
 
 #[test]
 fn reports_with_ids(rt: HostRuntime) {
-    check(&rt, rt.alloc(), TOUCH_SCREEN, TOUCH_SCREEN_ROWS);
+    check(&rt, TOUCH_SCREEN, TOUCH_SCREEN_ROWS);
 }
 
 #[test]
 fn a_usage_in_two_fields(rt: HostRuntime) {
-    check(&rt, rt.alloc(), TWO_FIELDS, TWO_FIELDS_ROWS);
+    check(&rt, TWO_FIELDS, TWO_FIELDS_ROWS);
 }
 
 #[test]
 fn new_reports_with_ids(rt: HostRuntime) {
-    check(&rt, rt.alloc(), WITH_IDS, WITH_IDS_ROWS);
+    check(&rt, WITH_IDS, WITH_IDS_ROWS);
 }
 
 #[test]
 fn signed_values_and_nulls(rt: HostRuntime) {
-    check(&rt, rt.alloc(), SIGNED, SIGNED_ROWS);
+    check(&rt, SIGNED, SIGNED_ROWS);
 }
 
 #[test]
 fn a_hat_is_null_in_a_new_report(rt: HostRuntime) {
-    check(&rt, rt.alloc(), HAT, HAT_ROWS);
+    check(&rt, HAT, HAT_ROWS);
 }
 
 #[test]
 fn a_hat_of_which_no_null_state_is_told(rt: HostRuntime) {
-    check_without_nulls(&rt, rt.alloc(), HAT, WITHOUT_NULLS_ROWS);
+    check_without_nulls(&rt, HAT, WITHOUT_NULLS_ROWS);
 }
 
 #[test]
 fn limits_that_are_inverted(rt: HostRuntime) {
-    check(&rt, rt.alloc(), INVERTED, INVERTED_ROWS);
+    check(&rt, INVERTED, INVERTED_ROWS);
 }
 
 #[test]
 fn values_of_32_bits(rt: HostRuntime) {
-    check(&rt, rt.alloc(), UNSIGNED_32, UNSIGNED_32_ROWS);
-    check(&rt, rt.alloc(), SIGNED_32, SIGNED_32_ROWS);
+    check(&rt, UNSIGNED_32, UNSIGNED_32_ROWS);
+    check(&rt, SIGNED_32, SIGNED_32_ROWS);
 }
 
 /// A game pad: ten buttons, a hat with Null State, four axes, two pedals.

@@ -1,8 +1,9 @@
 //! Usages of places and of values.
 
-use super::super::{same, two};
+use super::super::{add, parsed, two};
 use super::is_readable;
-use descriptor_parse::{FieldUsages, Kind, parse};
+use crate::tests::asserts::same_text;
+use descriptor_parse::{FieldUsages, Kind};
 use field_values::read_place;
 use row_text::bytes;
 use std::alloc::Global;
@@ -14,15 +15,12 @@ fn check_usages(rt: &impl Abort, alloc: Global, row: &str) {
     let (text, report) = two(rt, given, " < ");
     let text = bytes::<64>(text).expect(rt, "a text");
     let report = bytes::<16>(report).expect(rt, "bytes");
-    let descriptor = match parse(alloc, &text) {
-        Ok(descriptor) => descriptor,
-        Err(error) => panic!(rt; "{error}"),
-    };
+    let descriptor = parsed(rt, alloc, &text);
     let mut told = String::new(alloc);
     for field in descriptor.report(Kind::Input, 0) {
         tell(rt, alloc, &mut told, &field, &report);
     }
-    same(rt, told.as_str(), wanted, row);
+    same_text(rt, told.as_str(), wanted, row);
 }
 
 fn tell(rt: &impl Abort, alloc: Global, told: &mut String, field: &FieldUsages<'_>, report: &[u8]) {
@@ -35,9 +33,7 @@ fn tell(rt: &impl Abort, alloc: Global, told: &mut String, field: &FieldUsages<'
             Some(usage) => format!(in alloc; "{usage:x}.{:?};", read.within),
             None => format!(in alloc; "-.{:?};", read.within),
         };
-        told.push_str(word.ok().expect(rt, "memory").as_str())
-            .ok()
-            .expect(rt, "memory");
+        add(rt, told, word);
     }
 }
 

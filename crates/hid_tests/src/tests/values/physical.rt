@@ -1,7 +1,8 @@
 //! Physical values.
 
-use super::super::{same, two};
+use super::super::two;
 use super::number;
+use crate::tests::asserts::{made, same_text};
 use field_values::{Extents, physical_value};
 use std::alloc::Global;
 use std::process::Abort;
@@ -21,7 +22,7 @@ fn check_physical(rt: &impl Abort, alloc: Global, row: &str) {
     let exponent = number(rt, &mut words);
     let value = number(rt, &mut words);
     let told = told(rt, alloc, logical, physical, exponent, value);
-    same(rt, told.as_str(), wanted, row);
+    same_text(rt, told.as_str(), wanted, row);
 }
 
 fn told(
@@ -36,7 +37,7 @@ fn told(
         Ok(p) => format!(in alloc; "{}/{} e{}", p.numerator, p.denominator, p.exponent),
         Err(error) => format!(in alloc; "{error:?}"),
     };
-    told.ok().expect(rt, "memory")
+    made(rt, told)
 }
 
 #[test]

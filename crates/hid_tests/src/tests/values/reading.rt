@@ -1,7 +1,8 @@
 //! Values in the bits of bytes.
 
-use super::super::{same, two};
-use super::{field_of, is_readable, number};
+use super::super::two;
+use super::{field_and_place, is_readable};
+use crate::tests::asserts::{made, same_text};
 use field_values::{raw_at, where_is};
 use row_text::bytes;
 use std::alloc::Global;
@@ -11,28 +12,26 @@ use std::process::Abort;
 fn check_read(rt: &impl Abort, alloc: Global, row: &str) {
     let (given, wanted) = two(rt, row, " = ");
     let (field, report) = two(rt, given, " < ");
-    let mut words = field.split_whitespace();
-    let field = field_of(rt, &mut words);
-    let place = u16::try_from(number(rt, &mut words))
-        .ok()
-        .expect(rt, "a place");
+    let (field, place) = field_and_place(rt, field);
     let report = bytes::<16>(report).expect(rt, "bytes");
     if !is_readable(&field) || place >= field.count {
         panic!(rt; "no such place: {row}");
     }
     let raw = raw_at(&field, &report, place);
     let within = where_is(&field, true, raw);
-    let told = format!(in alloc; "{raw} {within:?}")
-        .ok()
-        .expect(rt, "memory");
-    same(rt, told.as_str(), wanted, row);
+    let told = made(rt, format!(in alloc; "{raw} {within:?}"));
+    same_text(rt, told.as_str(), wanted, row);
+}
+
+fn check_rows(rt: &impl Abort, alloc: Global, rows: &str) {
+    for row in rows.lines() {
+        check_read(rt, alloc, row);
+    }
 }
 
 #[test]
 fn values_of_each_size(rt: HostRuntime) {
-    for row in SIZES.lines() {
-        check_read(&rt, rt.alloc(), row);
-    }
+    check_rows(&rt, rt.alloc(), SIZES);
 }
 
 const SIZES: &str = "\
@@ -59,9 +58,7 @@ const SIZES: &str = "\
 
 #[test]
 fn places_over_bytes(rt: HostRuntime) {
-    for row in PLACES.lines() {
-        check_read(&rt, rt.alloc(), row);
-    }
+    check_rows(&rt, rt.alloc(), PLACES);
 }
 
 const PLACES: &str = "\
@@ -77,9 +74,7 @@ const PLACES: &str = "\
 
 #[test]
 fn values_outside_the_limits(rt: HostRuntime) {
-    for row in OUTSIDE.lines() {
-        check_read(&rt, rt.alloc(), row);
-    }
+    check_rows(&rt, rt.alloc(), OUTSIDE);
 }
 
 const OUTSIDE: &str = "\

@@ -1,7 +1,8 @@
 //! Values and nulls into the bits of bytes.
 
-use super::super::{same, two};
-use super::{field_of, is_readable, number, value};
+use super::super::two;
+use super::{field_and_place, is_readable, value};
+use crate::tests::asserts::{made, same_text};
 use descriptor_parse::Field;
 use field_values::{Asked, set_place};
 use row_text::bytes;
@@ -35,21 +36,16 @@ fn check_written(rt: &impl Abort, alloc: Global, null_state: bool, row: &str) {
     let (given, wanted) = two(rt, row, " = ");
     let (given, value) = two(rt, given, " <- ");
     let (field, report) = two(rt, given, " < ");
-    let mut words = field.split_whitespace();
-    let field = field_of(rt, &mut words);
-    let place = u16::try_from(number(rt, &mut words))
-        .ok()
-        .expect(rt, "a place");
-    let told = written(
-        rt,
-        alloc,
-        &field,
-        null_state,
-        place,
-        report,
-        asked(rt, value),
-    );
-    same(rt, told.as_str(), wanted, row);
+    let (field, place) = field_and_place(rt, field);
+    let asked = asked(rt, value);
+    let told = written(rt, alloc, &field, null_state, place, report, asked);
+    same_text(rt, told.as_str(), wanted, row);
+}
+
+fn check_rows(rt: &impl Abort, alloc: Global, rows: &str) {
+    for row in rows.lines() {
+        check_written(rt, alloc, true, row);
+    }
 }
 
 fn written(
@@ -70,14 +66,12 @@ fn written(
         Ok(()) => format!(in alloc; "{}", Hex(&report)),
         Err(error) => format!(in alloc; "{error:?}"),
     };
-    told.ok().expect(rt, "memory")
+    made(rt, told)
 }
 
 #[test]
 fn values_and_nulls_are_written(rt: HostRuntime) {
-    for row in WRITTEN.lines() {
-        check_written(&rt, rt.alloc(), true, row);
-    }
+    check_rows(&rt, rt.alloc(), WRITTEN);
 }
 
 const WRITTEN: &str = "\
@@ -101,9 +95,7 @@ const WRITTEN: &str = "\
 
 #[test]
 fn refusals_in_order(rt: HostRuntime) {
-    for row in REFUSED.lines() {
-        check_written(&rt, rt.alloc(), true, row);
-    }
+    check_rows(&rt, rt.alloc(), REFUSED);
 }
 
 const REFUSED: &str = "\

@@ -1,6 +1,7 @@
 //! `parse` beside the definitions, over texts that are made up, and over the served text.
 
 use super::{bytes, check, push_byte};
+use crate::tests::asserts::same;
 use descriptor_parse::parse;
 use row_text::{Numbers, push_drawn};
 use std::alloc::Global;
@@ -117,7 +118,7 @@ const CHANGES: [u8; 14] = [
 #[test]
 fn the_served_text_with_a_byte_changed(rt: HostRuntime) {
     let mut text = bytes(&rt, "SERVED");
-    assert_eq!(rt; text.len(), 99);
+    same(&rt, &text.len(), &99);
     for place in 0..99 {
         for change in CHANGES {
             change_byte(&rt, &mut text, place, change);

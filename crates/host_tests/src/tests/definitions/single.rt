@@ -1,6 +1,7 @@
 //! One text, its items and what they show, counted by hand.
 
 use super::{bytes, same_number};
+use crate::tests::asserts::{made, same};
 use descriptor_parse::{Kind, ParseError, ParseFault};
 use descriptor_plain::{
     Plain, PlainField, PlainText, cut, field_usages, fields, first_fault, has_report_id,
@@ -15,7 +16,7 @@ const TEXT: &str = "05 07 19 04 29 06 75 03 95 06 81 02 85 02 B4 26 FF";
 #[test]
 fn one_text(rt: HostRuntime) {
     let text = bytes(&rt, TEXT);
-    let cut_up = cut(rt.alloc(), &text).ok().expect(&rt, "memory");
+    let cut_up = made(&rt, cut(rt.alloc(), &text));
     ends_within_an_item(&rt, &cut_up);
     one_field(&rt, rt.alloc(), &cut_up.items);
     one_pair(&rt, rt.alloc(), &cut_up.items);
@@ -28,11 +29,11 @@ fn ends_within_an_item(rt: &impl Abort, text: &PlainText<'_>) {
         fault: ParseFault::Truncated,
         offset: 15,
     };
-    assert_eq!(rt; (text.items.len(), text.cut_off), (8, Some(cut_off)));
+    same(rt, &(text.items.len(), text.cut_off), &(8, Some(cut_off)));
 }
 
 fn one_field(rt: &impl Abort, alloc: Global, items: &[Plain<'_>]) {
-    let declared = fields(alloc, items).ok().expect(rt, "memory");
+    let declared = made(rt, fields(alloc, items));
     let field = PlainField {
         kind: Kind::Input,
         id: 0,
@@ -43,14 +44,15 @@ fn one_field(rt: &impl Abort, alloc: Global, items: &[Plain<'_>]) {
         max: 0,
         array: false,
     };
-    assert_eq!(rt; declared.as_slice(), [field].as_slice());
+    same(rt, &declared.as_slice(), &[field].as_slice());
 }
 
 fn one_pair(rt: &impl Abort, alloc: Global, items: &[Plain<'_>]) {
-    let usages = field_usages(alloc, items).ok().expect(rt, "memory");
+    let usages = made(rt, field_usages(alloc, items));
     same_number(rt, usages.len(), 1, "lists of usages");
     for ranges in &usages {
-        assert_eq!(rt; ranges.as_slice(), [(0x0007_0004, 0x0007_0006)].as_slice());
+        let pair = [(0x0007_0004, 0x0007_0006)];
+        same(rt, &ranges.as_slice(), &pair.as_slice());
     }
 }
 
@@ -59,7 +61,7 @@ fn one_report(rt: &impl Abort, items: &[Plain<'_>]) {
         report_bits(Kind::Input, 0, items),
         report_bits(Kind::Output, 0, items),
     );
-    assert_eq!(rt; (bits, has_report_id(items)), ((18, 0), true));
+    same(rt, &(bits, has_report_id(items)), &((18, 0), true));
 }
 
 fn ids_are_mixed(rt: &impl Abort, alloc: Global, text: &[u8]) {
@@ -67,16 +69,13 @@ fn ids_are_mixed(rt: &impl Abort, alloc: Global, text: &[u8]) {
         fault: ParseFault::MixedIds,
         offset: 12,
     };
-    assert_eq!(rt;
-        first_fault(alloc, text).ok().expect(rt, "memory"),
-        Some(first)
-    );
+    same(rt, &made(rt, first_fault(alloc, text)), &Some(first));
 }
 
 #[test]
 fn what_the_newest_item_shows(rt: HostRuntime) {
     let text = bytes(&rt, TEXT);
-    let cut_up = cut(rt.alloc(), &text).ok().expect(&rt, "memory");
+    let cut_up = made(&rt, cut(rt.alloc(), &text));
     newest_shows(&rt, &cut_up.items);
 }
 
@@ -89,5 +88,5 @@ fn newest_shows(rt: &impl Abort, items: &[Plain<'_>]) {
         shows(before, pop, ParseFault::PushDeep),
         shows(before, pop, ParseFault::Truncated),
     );
-    assert_eq!(rt; (pop.offset, shown), (14, (true, false, false)));
+    same(rt, &(pop.offset, shown), &(14, (true, false, false)));
 }

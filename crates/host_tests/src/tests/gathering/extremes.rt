@@ -1,6 +1,7 @@
 //! The longest fetch, and a report that names each usage that it can.
 
 use super::{bytes, hand};
+use crate::tests::asserts::same;
 use host::{Host, Reading};
 use reports::Protocol;
 use std::process::Abort;
@@ -22,19 +23,11 @@ fn reads_all(rt: &impl Abort, reading: &Reading) {
     let Reading::Usages(usages) = reading else {
         panic!(rt; "not read");
     };
-    same_count(rt, usages.as_slice().len(), 169);
+    same(rt, &usages.as_slice().len(), &169);
     let mut wanted = 0x0007_0004u32;
     for usage in usages.as_slice() {
-        same_usage(rt, *usage, wanted);
+        same(rt, usage, &wanted);
         let is_last = wanted == 0x0007_00A4;
         wanted = wanted.wrapping_add(if is_last { 0x3C } else { 1 });
     }
-}
-
-fn same_count(rt: &impl Abort, count: usize, wanted: usize) {
-    assert_eq!(rt; count, wanted);
-}
-
-fn same_usage(rt: &impl Abort, usage: u32, wanted: u32) {
-    assert_eq!(rt; usage, wanted);
 }

@@ -1,10 +1,9 @@
 //! The items of a text.
 
-use super::{bytes, same, two};
+use super::{bytes, shows, two};
+use crate::tests::asserts::{holds, same};
 use descriptor_parse::{Items, ParseFault};
-use std::alloc::Global;
 use std::fmt;
-use std::process::Abort;
 
 /// Each item of a text as `OFFSET PREFIX DATA;`, and the error at which they end.
 #[derive(Drop)]
@@ -22,16 +21,12 @@ impl fmt::Display for Cut<'_> {
     }
 }
 
-fn check_items(rt: &impl Abort, alloc: Global, text: &[u8], wanted: &str, row: &str) {
-    let told = format!(in alloc; "{}", Cut(text)).ok().expect(rt, "memory");
-    same(rt, told.as_str(), wanted, row);
-}
-
 #[test]
 fn items_of_a_text(rt: HostRuntime) {
     for row in ROWS.lines() {
         let (words, wanted) = two(&rt, row, " = ");
-        check_items(&rt, rt.alloc(), &bytes(&rt, words), wanted, row);
+        let text = bytes(&rt, words);
+        shows(&rt, rt.alloc(), &Cut(&text), wanted, row);
     }
 }
 
@@ -44,10 +39,10 @@ const ROWS: &str = "\
 fn items_end_at_a_fault(rt: HostRuntime) {
     let mut items = Items::new(&[0x87, 1, 2, 3]);
     let first = items.next().is_some_and(|item| item.is_err());
-    assert!(rt; first && items.next().is_none());
+    holds(&rt, first && items.next().is_none());
 }
 
 #[test]
 fn the_number_of_the_last_fault(rt: HostRuntime) {
-    assert_eq!(rt; ParseFault::Memory.number(), 17);
+    same(&rt, &ParseFault::Memory.number(), &17);
 }

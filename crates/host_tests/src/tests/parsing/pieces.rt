@@ -1,7 +1,8 @@
 //! Texts that come in pieces, cut texts, and large ones.
 
-use super::{bytes, check_cuttings, push_byte, push_words, same, same_answer, same_ranges, two};
-use descriptor_parse::{Descriptor, Field, Kind, ParseError, Parser, parse};
+use super::{Answer, bytes, check_cuttings, push_byte, push_words, same_ranges, shows, two};
+use crate::tests::asserts::{made, same, same_at, same_text};
+use descriptor_parse::{Descriptor, Kind, ParseError, Parser, parse};
 use std::alloc::Global;
 use std::process::Abort;
 
@@ -13,7 +14,7 @@ fn feeds<R: AllocGlobal + Abort>(rt: &R, rows: &str) {
     for row in pieces.lines() {
         feed(rt, &mut parser, row);
     }
-    same_answer(rt, rt.alloc(), &parser.finish(), end, rows);
+    shows(rt, rt.alloc(), &Answer(&parser.finish()), end, rows);
 }
 
 fn feed<R: AllocGlobal + Abort>(rt: &R, parser: &mut Parser, row: &str) {
@@ -24,10 +25,10 @@ fn feed<R: AllocGlobal + Abort>(rt: &R, parser: &mut Parser, row: &str) {
 
 fn answers(rt: &impl Abort, alloc: Global, told: Result<(), ParseError>, wanted: &str, row: &str) {
     match told {
-        Ok(()) => same(rt, "ok", wanted, row),
+        Ok(()) => same_text(rt, "ok", wanted, row),
         Err(error) => {
             let told = format!(in alloc; "{} at {}", error.fault.number(), error.offset);
-            same(rt, told.ok().expect(rt, "memory").as_str(), wanted, row);
+            same_text(rt, made(rt, told).as_str(), wanted, row);
         }
     }
 }
@@ -89,17 +90,12 @@ fn the_empty_piece_ends_nothing(rt: HostRuntime) {
         takes(&rt, &mut parser, &[*byte]);
         takes(&rt, &mut parser, &[]);
     }
-    let fields = parser
-        .finish()
-        .ok()
-        .expect(&rt, "a descriptor")
-        .fields()
-        .len();
-    assert_eq!(rt; fields, 5);
+    let descriptor = parser.finish().ok().expect(&rt, "a descriptor");
+    same(&rt, &descriptor.fields().len(), &5);
 }
 
 fn takes(rt: &impl Abort, parser: &mut Parser, piece: &[u8]) {
-    assert_eq!(rt; parser.feed(piece), Ok(()));
+    same(rt, &parser.feed(piece), &Ok(()));
 }
 
 /// What is said of the first 0, 1, 2 and so on bytes of the served text: the number of fields, or a fault.
@@ -121,11 +117,12 @@ fn each_prefix_of_the_served_text(rt: HostRuntime) {
     for (len, wanted) in PREFIXES.split_whitespace().enumerate() {
         check_prefix(&rt, text.get(..len).unwrap_or(&[]), len, wanted);
     }
-    assert_eq!(rt; PREFIXES.split_whitespace().count(), text.len() + 1);
+    let prefixes = PREFIXES.split_whitespace().count();
+    same(&rt, &prefixes, &(text.len() + 1));
 }
 
 fn check_prefix<R: AllocGlobal + Abort>(rt: &R, text: &[u8], len: usize, wanted: &str) {
-    assert_eq!(rt; text.len(), len);
+    same(rt, &text.len(), &len);
     let whole = parse(rt.alloc(), text);
     said_of_prefix(rt, rt.alloc(), &whole, wanted);
     check_cuttings(rt, rt.alloc(), text, &whole);
@@ -141,7 +138,7 @@ fn said_of_prefix(
         Ok(descriptor) => format!(in alloc; "{}", descriptor.fields().len()),
         Err(error) => format!(in alloc; "{}at{}", error.fault.number(), error.offset),
     };
-    same(rt, told.ok().expect(rt, "memory").as_str(), wanted, wanted);
+    same_text(rt, made(rt, told).as_str(), wanted, wanted);
 }
 
 /// 4,096 bytes: eight Pushes, 256 fields of up to three usages in all kinds of ID 255, and usages of one field more than
@@ -170,19 +167,23 @@ fn push_large(rt: &impl Abort, text: &mut Vec<u8>) {
 fn a_large_text(rt: HostRuntime) {
     let mut text = Vec::new(rt.alloc());
     push_large(&rt, &mut text);
-    assert_eq!(rt; text.len(), 4096);
+    same(&rt, &text.len(), &4096);
     let whole = parse(rt.alloc(), &text);
     check_cuttings(&rt, rt.alloc(), &text, &whole);
     check_large(&rt, &whole.ok().expect(&rt, "a descriptor"));
 }
 
 fn check_large(rt: &impl Abort, large: &Descriptor) {
-    assert_eq!(rt; (large.fields().len(), large.ranges(0).len()), (256, 1300));
+    same(
+        rt,
+        &(large.fields().len(), large.ranges(0).len()),
+        &(256, 1300),
+    );
     for place in 0..1300 {
-        has_usage(rt, large, place, Some(0x0007_0000));
+        same_at(rt, &large.usage(0, place), &Some(0x0007_0000), &place);
     }
     for (place, field) in large.fields().iter().enumerate() {
-        is_of_two_bits(rt, field);
+        same(rt, &(field.id, field.size, field.count), &(255, 1, 2));
         if place > 0 {
             let first = 0x0007_0000 + place.min(255) as u32;
             same_ranges(
@@ -199,14 +200,6 @@ fn check_large(rt: &impl Abort, large: &Descriptor) {
     has_length(rt, large, Kind::Input, 254, None);
 }
 
-fn has_usage(rt: &impl Abort, large: &Descriptor, place: usize, wanted: Option<u32>) {
-    assert_eq!(rt; large.usage(0, place), wanted, "of place {place}");
-}
-
-fn is_of_two_bits(rt: &impl Abort, field: &Field) {
-    assert_eq!(rt; (field.id, field.size, field.count), (255, 1, 2));
-}
-
 fn has_length(rt: &impl Abort, large: &Descriptor, kind: Kind, id: u8, wanted: Option<usize>) {
-    assert_eq!(rt; large.report_len(kind, id), wanted, "of {kind:?} {id}");
+    same_at(rt, &large.report_len(kind, id), &wanted, &(kind, id));
 }

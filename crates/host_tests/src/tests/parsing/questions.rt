@@ -1,7 +1,8 @@
 //! What is asked of a descriptor.
 
-use super::{Ranges, bytes, number, same, two};
-use descriptor_parse::{Descriptor, FieldUsages, Kind, Parser, parse};
+use super::{Ranges, bytes, descriptor_of, logs, number, shows, two};
+use crate::tests::asserts::{made, same, same_at, same_text};
+use descriptor_parse::{Descriptor, FieldUsages, Kind, Parser};
 use std::alloc::Global;
 use std::fmt;
 use std::process::Abort;
@@ -32,7 +33,7 @@ impl fmt::Display for Places<'_> {
     fn fmt<W: fmt::Write>(&self, f: &mut fmt::Formatter<W>) -> fmt::Result {
         for place in 0..self.count {
             let usage = self.of.usage(self.field, self.first.wrapping_add(place));
-            write!(f, "{}", Usage(usage))?;
+            fmt::Display::fmt(&Usage(usage), f)?;
         }
         Ok(())
     }
@@ -76,32 +77,26 @@ fn ask_each(rt: &impl Abort, alloc: Global, of: &Descriptor, rows: &str) {
     }
 }
 
-fn descriptor_of(rt: &impl Abort, alloc: Global, text: &[u8]) -> Descriptor {
-    match parse(alloc, text) {
-        Ok(descriptor) => descriptor,
-        Err(error) => panic!(rt; "{error}"),
-    }
-}
-
 fn ask(rt: &impl Abort, alloc: Global, of: &Descriptor, row: &str) {
     let (question, wanted) = two(rt, row, " =");
     let (word, rest) = question.split_once(' ').unwrap_or((question, ""));
     match word {
-        "ids" => same(rt, if of.uses_ids() { " yes" } else { " no" }, wanted, row),
-        "fields" => told(rt, alloc, of.fields().len(), wanted, row),
+        "ids" => same_text(rt, if of.uses_ids() { " yes" } else { " no" }, wanted, row),
+        "fields" => told(rt, alloc, &of.fields().len(), wanted, row),
         "input" => ask_lengths(rt, alloc, of, Kind::Input, rest, wanted),
         "output" => ask_lengths(rt, alloc, of, Kind::Output, rest, wanted),
         "feature" => ask_lengths(rt, alloc, of, Kind::Feature, rest, wanted),
         "usages" => ask_usages(rt, alloc, of, rest, wanted),
-        "ranges" => ask_ranges(rt, alloc, of.ranges(number(rt, rest)), wanted, row),
-        "counts" => told(rt, alloc, of.counts(number(rt, rest)).len(), wanted, row),
+        "ranges" => told(rt, alloc, &Ranges(of.ranges(number(rt, rest))), wanted, row),
+        "counts" => told(rt, alloc, &of.counts(number(rt, rest)).len(), wanted, row),
         _ => panic!(rt; "no question: {row}"),
     }
 }
 
-fn told(rt: &impl Abort, alloc: Global, told: usize, wanted: &str, row: &str) {
-    let told = format!(in alloc; " {told}").ok().expect(rt, "memory");
-    same(rt, told.as_str(), wanted, row);
+/// Compares one thing that is told, after a space.
+fn told<T: fmt::Display>(rt: &impl Abort, alloc: Global, told: &T, wanted: &str, row: &str) {
+    let told = made(rt, format!(in alloc; " {told}"));
+    same_text(rt, told.as_str(), wanted, row);
 }
 
 fn ask_lengths(
@@ -121,8 +116,7 @@ fn ask_lengths(
         first,
         count,
     };
-    let told = format!(in alloc; "{lengths}").ok().expect(rt, "memory");
-    same(rt, told.as_str(), wanted, rest);
+    shows(rt, alloc, &lengths, wanted, rest);
 }
 
 fn ask_usages(rt: &impl Abort, alloc: Global, of: &Descriptor, rest: &str, wanted: &str) {
@@ -134,15 +128,7 @@ fn ask_usages(rt: &impl Abort, alloc: Global, of: &Descriptor, rest: &str, wante
         first: number(rt, first),
         count: number(rt, count),
     };
-    let told = format!(in alloc; "{places}").ok().expect(rt, "memory");
-    same(rt, told.as_str(), wanted, rest);
-}
-
-fn ask_ranges(rt: &impl Abort, alloc: Global, of: &[(u32, u32)], wanted: &str, row: &str) {
-    let told = format!(in alloc; " {}", Ranges(of))
-        .ok()
-        .expect(rt, "memory");
-    same(rt, told.as_str(), wanted, row);
+    shows(rt, alloc, &places, wanted, rest);
 }
 
 #[test]
@@ -177,7 +163,7 @@ ranges 5 = -";
 #[test]
 fn a_copy_answers_as_its_original(rt: HostRuntime) {
     let served = descriptor_of(&rt, rt.alloc(), &bytes(&rt, "SERVED"));
-    let copy = served.clone().expect(&rt, "memory");
+    let copy = made(&rt, served.clone());
     ask_each(&rt, rt.alloc(), &copy, SERVED_REPORTS);
     ask_each(&rt, rt.alloc(), &copy, SERVED_USAGES);
 }
@@ -186,16 +172,14 @@ fn a_copy_answers_as_its_original(rt: HostRuntime) {
 #[test]
 fn a_descriptor_and_its_parser_in_a_log(rt: HostRuntime) {
     let text = bytes(&rt, "05 07 09 01 19 05 29 07 15 00 25 01 75 01 95 06 81 02");
-    let shown = format!(in rt.alloc(); "{:?}", descriptor_of(&rt, rt.alloc(), &text));
-    assert_eq!(rt; shown.expect(&rt, "memory").as_str(), SHOWN);
+    let descriptor = descriptor_of(&rt, rt.alloc(), &text);
+    logs(&rt, rt.alloc(), &descriptor, SHOWN, "the descriptor");
     let mut parser = Parser::new(rt.alloc());
-    assert_eq!(rt; parser.feed(&text), Ok(()));
-    let shown = format!(in rt.alloc(); "{parser:?}");
-    assert_eq!(rt;
-        shown.expect(&rt, "memory").as_str(),
-        "Parser { offset: 18, refused: None, .. }"
-    );
+    same(&rt, &parser.feed(&text), &Ok(()));
+    logs(&rt, rt.alloc(), &parser, SHOWN_PARSER, "the parser");
 }
+
+const SHOWN_PARSER: &str = "Parser { offset: 18, refused: None, .. }";
 
 const SHOWN: &str =
     "Descriptor { fields: [Field { kind: Input, id: 0, bit: 0, size: 1, count: 6, min: 0, max: 1, array: false }], \
@@ -257,18 +241,16 @@ fn four_in_turn(rt: &impl Abort, descriptor: &Descriptor) {
             _ => 0x0007_0007,
         };
         let told = (descriptor.usage(0, place), descriptor.usage(1, place));
-        assert_eq!(rt; told, (Some(wanted), Some(wanted)), "of place {place}");
+        same_at(rt, &told, &(Some(wanted), Some(wanted)), &place);
     }
 }
 
 fn counts_of_four_in_turn(rt: &impl Abort, counts: &[u32]) {
-    assert_eq!(rt; counts.get(..4), Some([1, 4, 5, 8].as_slice()));
-    assert_eq!(rt; counts.last(), Some(&400));
+    same(rt, &counts.get(..4), &Some([1, 4, 5, 8].as_slice()));
+    same(rt, &counts.last(), &Some(&400));
 }
 
 fn last_usages(rt: &impl Abort, field: &FieldUsages<'_>) {
-    assert_eq!(rt;
-        (field.nth(399), field.nth(400), field.usage(398)),
-        (Some(0x0007_0007), None, Some(0x0007_0006))
-    );
+    let told = (field.nth(399), field.nth(400), field.usage(398));
+    same(rt, &told, &(Some(0x0007_0007), None, Some(0x0007_0006)));
 }

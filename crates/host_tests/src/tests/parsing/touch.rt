@@ -1,6 +1,7 @@
 //! The report descriptor of a touch screen, as it was read off a real one.
 
-use super::{Answer, bytes, check_cuttings, same};
+use super::{Answer, bytes, check_cuttings};
+use crate::tests::asserts::{made, same, same_text};
 use descriptor_parse::{Descriptor, ParseError, parse};
 use std::alloc::Global;
 use std::process::Abort;
@@ -8,7 +9,7 @@ use std::process::Abort;
 #[test]
 fn a_touch_screen(rt: HostRuntime) {
     let text = bytes(&rt, TEXT);
-    assert_eq!(rt; text.len(), 1103);
+    same(&rt, &text.len(), &1103);
     let whole = parse(rt.alloc(), &text);
     same_lines(&rt, rt.alloc(), &whole, FIELDS);
     check_cuttings(&rt, rt.alloc(), &text, &whole);
@@ -16,13 +17,11 @@ fn a_touch_screen(rt: HostRuntime) {
 
 /// Compares the fields of a descriptor one by one, and their number.
 fn same_lines(rt: &impl Abort, alloc: Global, told: &Result<Descriptor, ParseError>, wanted: &str) {
-    let told = format!(in alloc; "{}", Answer(told))
-        .ok()
-        .expect(rt, "memory");
+    let told = made(rt, format!(in alloc; "{}", Answer(told)));
     for (line, wanted) in told.split("; ").zip(wanted.lines()) {
-        same(rt, line, wanted, wanted);
+        same_text(rt, line, wanted, wanted);
     }
-    assert_eq!(rt; told.split("; ").count(), wanted.lines().count());
+    same(rt, &told.split("; ").count(), &wanted.lines().count());
 }
 
 const TEXT: &str =

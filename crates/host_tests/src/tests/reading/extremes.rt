@@ -1,7 +1,8 @@
 //! The largest report and the largest descriptor that the limits allow.
 
 use super::super::answers::same_answers;
-use super::{descriptor_of, push_byte, push_large, push_words, same_counts, same_found};
+use super::{descriptor_of, push_byte, push_large, push_words, same_counts};
+use crate::tests::asserts::{made, same};
 use descriptor_parse::parse;
 use host_extract::{Found, extract};
 use std::process::Abort;
@@ -39,7 +40,7 @@ fn all_of_wide(rt: &impl Abort, found: &[Found]) {
     let mut usage = 1u32;
     for reading in found {
         let value = 0xFFFF_FFFF;
-        same_found(rt, reading, Found { usage, value });
+        same(rt, reading, &Found { usage, value });
         let is_last = usage % 0x1_0000 == 0x0400;
         usage = usage.wrapping_add(if is_last { 0xFC01 } else { 1 });
     }
@@ -60,6 +61,6 @@ fn a_copy_of_256_fields(rt: HostRuntime) {
     let mut text = Vec::new(rt.alloc());
     push_large(&rt, &mut text);
     let descriptor = descriptor_of(&rt, rt.alloc(), &text);
-    let copy = descriptor.clone().ok().expect(&rt, "memory");
+    let copy = made(&rt, descriptor.clone());
     same_answers(&rt, &Ok(copy), &parse(rt.alloc(), &text), &text);
 }

@@ -1,6 +1,7 @@
 //! A flash that is told what a unit is to be: lines of what it was programmed with, is to read as after the program, and after
 //! an erase; `error` is an error.
 
+use crate::tests::asserts::same_in;
 use ecc_flash::EccFlash;
 use ecc_flash::reading::{BLANK, is_blank};
 use ecc_sim::ChosenEccFlash;
@@ -8,29 +9,18 @@ use ecc_sim::chosen::ChosenUnit;
 use row_text::eight;
 use std::process::Abort;
 
-/// What the last unit of page 1 reads as after a program and after an erase, by a line.
-fn read(flash: &mut ChosenEccFlash, line: &str) -> Option<(Option<[u8; 8]>, Option<[u8; 8]>)> {
+/// What a unit reads as, if it is no error.
+type Reads = Option<[u8; 8]>;
+
+/// What a line says: the bytes, and what they are to read as after a program and after an erase.
+fn row(line: &str) -> Option<([u8; 8], Reads, Reads)> {
     let (word, rest) = line.split_once(' ')?;
     let (first, second) = rest.split_once(' ')?;
-    let bytes = eight(word)?;
-    if flash.pages() < 2 || !is_blank(flash.read_unit(1, 1023)) {
-        return None;
-    }
-    let then = ChosenUnit {
-        meant: bytes,
-        reads: reading(first)?,
-    };
-    flash.program_to(1, 1023, bytes, then);
-    let programmed = flash.read_unit(1, 1023);
-    flash.erase_to(1, 1023, reading(second)?);
-    let erased = flash.read_unit(1, 1023);
-    // For the next line.
-    flash.erase_to(1, 1023, Some(BLANK));
-    Some((programmed, erased))
+    Some((eight(word)?, reading(first)?, reading(second)?))
 }
 
 /// What a word of a line says.
-fn reading(text: &str) -> Option<Option<[u8; 8]>> {
+fn reading(text: &str) -> Option<Reads> {
     if text == "error" {
         Some(None)
     } else {
@@ -38,15 +28,37 @@ fn reading(text: &str) -> Option<Option<[u8; 8]>> {
     }
 }
 
-/// What a line wants.
-fn wanted(line: &str) -> Option<(Option<[u8; 8]>, Option<[u8; 8]>)> {
-    let (_, rest) = line.split_once(' ')?;
-    let (first, second) = rest.split_once(' ')?;
-    Some((reading(first)?, reading(second)?))
+/// What the last unit of page 1 reads as after a program to that reading and after an erase to this one.
+fn read(
+    flash: &mut ChosenEccFlash,
+    bytes: [u8; 8],
+    first: Reads,
+    second: Reads,
+) -> Option<(Reads, Reads)> {
+    if flash.pages() < 2 || !is_blank(flash.read_unit(1, 1023)) {
+        return None;
+    }
+    let then = ChosenUnit {
+        meant: bytes,
+        reads: first,
+    };
+    flash.program_to(1, 1023, bytes, then);
+    let programmed = flash.read_unit(1, 1023);
+    flash.erase_to(1, 1023, second);
+    let erased = flash.read_unit(1, 1023);
+    // For the next line.
+    flash.erase_to(1, 1023, Some(BLANK));
+    Some((programmed, erased))
 }
 
 fn expect_reached(rt: &impl Abort, flash: &mut ChosenEccFlash, line: &str) {
-    assert_eq!(rt; read(flash, line), wanted(line), "{line}");
+    let (bytes, first, second) = row(line).expect(rt, line);
+    same_in(
+        rt,
+        &read(flash, bytes, first, second),
+        &Some((first, second)),
+        line,
+    );
 }
 
 fn expect_lines(rt: &impl Abort, flash: &mut ChosenEccFlash, lines: &str) {

@@ -4,7 +4,9 @@ ghost use Rattle.std.specs.Prelude.{◌<◌};
 
 use super::super::random::{mask, packet, scan, setup};
 use super::super::session::SET_FEATURE;
+use super::super::text::{put, put_bytes};
 use super::*;
+use crate::tests::asserts::{holds_at, same};
 use layers::{KeyNo, LayerNo};
 use row_text::{drawn, good};
 use world::{Reading, Work};
@@ -18,39 +20,38 @@ const LISTS: usize = 14;
 const HISTORIES: usize = 400;
 
 /// So many IN tokens.
-fn ins(events: &mut Vec<Event>, count: u32) -> Result<(), Fail> {
+fn ins(rt: &impl Abort, events: &mut Vec<Event>, count: u32) {
     for _ in 0..count {
-        events.push(Event::InPacket)?;
+        put(rt, events, Event::InPacket);
     }
-    Ok(())
 }
 
 /// A fetch of the report descriptor, of any length, and mostly to its end.
-fn fetch(events: &mut Vec<Event>, state: &mut u32) -> Result<(), Fail> {
+fn fetch(rt: &impl Abort, events: &mut Vec<Event>, state: &mut u32) {
     let length = match drawn(state) % 4 {
         0 => (drawn(state) % 301) as u16,
         1 => 104,
         _ => 99,
     };
     let [low, high] = length.to_le_bytes();
-    events.push(Event::Setup([0x81, 6, 0, 0x22, 0, 0, low, high]))?;
+    put(
+        rt,
+        events,
+        Event::Setup([0x81, 6, 0, 0x22, 0, 0, low, high]),
+    );
     let whole = u32::from(length.min(99)) / 8 + 1;
     match drawn(state) % 4 {
-        0 => {
-            let count = drawn(state) % 16;
-            ins(events, count)
-        }
+        0 => ins(rt, events, drawn(state) % 16),
         1 => {
-            ins(events, whole)?;
-            events.push(Event::OutPacket(ArrayVec::new()))?;
-            Ok(())
+            ins(rt, events, whole);
+            put(rt, events, Event::OutPacket(ArrayVec::new()));
         }
-        _ => ins(events, whole),
+        _ => ins(rt, events, whole),
     }
 }
 
 /// Some steps of the flash work.
-fn works(events: &mut Vec<Event>, state: &mut u32) -> Result<(), Fail> {
+fn works(rt: &impl Abort, events: &mut Vec<Event>, state: &mut u32) {
     let count = match drawn(state) % 8 {
         0 => 0,
         1 => 14,
@@ -58,140 +59,134 @@ fn works(events: &mut Vec<Event>, state: &mut u32) -> Result<(), Fail> {
     };
     for _ in 0..count {
         match drawn(state) % 16 {
-            0 | 1 => events.push(Event::WorkFault(mask(state).ok_or("a mask")?))?,
-            2 => events.push(Event::CutInWork(mask(state).ok_or("a mask")?))?,
-            3 => events.push(Event::InPacket)?,
-            _ => events.push(Event::Work)?,
+            0 | 1 => put(rt, events, Event::WorkFault(mask(rt, state))),
+            2 => put(rt, events, Event::CutInWork(mask(rt, state))),
+            3 => put(rt, events, Event::InPacket),
+            _ => put(rt, events, Event::Work),
         }
     }
-    Ok(())
 }
 
 /// A command, and steps of its work.
-fn command(events: &mut Vec<Event>, state: &mut u32) -> Result<(), Fail> {
-    events.push(Event::Setup(SET_FEATURE))?;
-    events.push(Event::OutPacket(packet(state)))?;
-    works(events, state)?;
-    events.push(Event::InPacket)?;
-    Ok(())
+fn command(rt: &impl Abort, events: &mut Vec<Event>, state: &mut u32) {
+    put(rt, events, Event::Setup(SET_FEATURE));
+    put(rt, events, Event::OutPacket(packet(state)));
+    works(rt, events, state);
+    put(rt, events, Event::InPacket);
 }
 
 /// LEDs of either protocol, and a look at them.
-fn leds(events: &mut Vec<Event>, state: &mut u32) -> Result<(), Fail> {
+fn leds(rt: &impl Abort, events: &mut Vec<Event>, state: &mut u32) {
     let [a, b, _, _] = drawn(state).to_le_bytes();
     let mut packet = ArrayVec::from([0x01, b, 0, 0, 0, 0, 0, 0]);
     if a % 4 == 0 {
-        events.push(Event::Setup([0x21, 9, 0, 2, 0, 0, 1, 0]))?;
+        put(rt, events, Event::Setup([0x21, 9, 0, 2, 0, 0, 1, 0]));
         packet.truncate(1);
     } else {
-        events.push(Event::Setup([0x21, 9, 1, 2, 0, 0, 2, 0]))?;
+        put(rt, events, Event::Setup([0x21, 9, 1, 2, 0, 0, 2, 0]));
         packet.truncate(2);
     }
-    events.push(Event::OutPacket(packet))?;
-    events.push(Event::Leds)?;
-    ins(events, 1)
+    put(rt, events, Event::OutPacket(packet));
+    put(rt, events, Event::Leds);
+    ins(rt, events, 1);
 }
 
 /// A transfer without data, or a read.
-fn request(events: &mut Vec<Event>, state: &mut u32) -> Result<(), Fail> {
-    events.push(Event::Setup(setup(state)))?;
+fn request(rt: &impl Abort, events: &mut Vec<Event>, state: &mut u32) {
+    put(rt, events, Event::Setup(setup(state)));
     let count = drawn(state) % 4;
-    ins(events, count)?;
+    ins(rt, events, count);
     if count == 3 {
-        events.push(Event::OutPacket(ArrayVec::new()))?;
+        put(rt, events, Event::OutPacket(ArrayVec::new()));
     }
-    Ok(())
 }
 
 /// A protocol is chosen.
-fn protocol(events: &mut Vec<Event>, state: &mut u32) -> Result<(), Fail> {
+fn protocol(rt: &impl Abort, events: &mut Vec<Event>, state: &mut u32) {
     let chosen = (drawn(state) % 2) as u8;
-    events.push(Event::Setup([0x21, 0x0B, chosen, 0, 0, 0, 0, 0]))?;
-    ins(events, 1)
+    put(
+        rt,
+        events,
+        Event::Setup([0x21, 0x0B, chosen, 0, 0, 0, 0, 0]),
+    );
+    ins(rt, events, 1);
 }
 
 /// Keys that bounce, and are debounced after it, mostly; then polls.
-fn keys(events: &mut Vec<Event>, state: &mut u32) -> Result<(), Fail> {
+fn keys(rt: &impl Abort, events: &mut Vec<Event>, state: &mut u32) {
     let bounces = drawn(state) % 3;
     for _ in 0..bounces {
-        events.push(Event::Scan(scan(state)))?;
+        put(rt, events, Event::Scan(scan(state)));
     }
     let settled = scan(state);
     let times = drawn(state) % 3 + 4;
     for _ in 0..times {
-        events.push(Event::Scan(settled))?;
+        put(rt, events, Event::Scan(settled));
     }
-    polls(events, state)
+    polls(rt, events, state);
 }
 
-fn polls(events: &mut Vec<Event>, state: &mut u32) -> Result<(), Fail> {
+fn polls(rt: &impl Abort, events: &mut Vec<Event>, state: &mut u32) {
     let count = drawn(state) % 3 + 1;
     for _ in 0..count {
-        events.push(Event::Poll)?;
+        put(rt, events, Event::Poll);
     }
-    Ok(())
 }
 
 /// A look at an entry, or at a slot.
-fn look(events: &mut Vec<Event>, state: &mut u32) -> Result<(), Fail> {
+fn look(rt: &impl Abort, events: &mut Vec<Event>, state: &mut u32) {
     let [a, b, c, _] = drawn(state).to_le_bytes();
-    events.push(Event::SlotAt {
+    let slot = Event::SlotAt {
         page: a % 9,
         slot: u16::from(b) * 2 + u16::from(c % 2),
-    })?;
+    };
+    put(rt, events, slot);
     if let (Ok(layer), Ok(key)) = (LayerNo::read(b % 2), KeyNo::read(c % 8)) {
-        events.push(Event::Entry(layer, key))?;
+        put(rt, events, Event::Entry(layer, key));
     }
-    Ok(())
 }
 
 /// A packet that belongs to nothing.
-fn stray(events: &mut Vec<Event>, state: &mut u32) -> Result<(), Fail> {
-    events.push(match drawn(state) % 4 {
+fn stray(rt: &impl Abort, events: &mut Vec<Event>, state: &mut u32) {
+    let event = match drawn(state) % 4 {
         0 => Event::OutPacket(packet(state)),
         1 => Event::Setup(setup(state)),
         2 => Event::InPacket,
         _ => Event::Work,
-    })?;
-    Ok(())
+    };
+    put(rt, events, event);
 }
 
 /// Appends some events that belong together.
-fn add(events: &mut Vec<Event>, state: &mut u32) -> Result<(), Fail> {
+fn add(rt: &impl Abort, events: &mut Vec<Event>, state: &mut u32) {
     match drawn(state) % 32 {
-        0 | 1 => fetch(events, state),
-        2..=8 => command(events, state),
-        9 | 10 => leds(events, state),
-        11..=13 => request(events, state),
-        14 | 15 => protocol(events, state),
-        16..=19 => keys(events, state),
-        20..=22 => polls(events, state),
-        23 | 24 => look(events, state),
-        25..=27 => stray(events, state),
-        28 => works(events, state),
-        29 => {
-            events.push(Event::BusReset)?;
-            Ok(())
-        }
-        30 => {
-            events.push(Event::CutInWork(mask(state).ok_or("a mask")?))?;
-            Ok(())
-        }
+        0 | 1 => fetch(rt, events, state),
+        2..=8 => command(rt, events, state),
+        9 | 10 => leds(rt, events, state),
+        11..=13 => request(rt, events, state),
+        14 | 15 => protocol(rt, events, state),
+        16..=19 => keys(rt, events, state),
+        20..=22 => polls(rt, events, state),
+        23 | 24 => look(rt, events, state),
+        25..=27 => stray(rt, events, state),
+        28 => works(rt, events, state),
+        29 => put(rt, events, Event::BusReset),
+        30 => put(rt, events, Event::CutInWork(mask(rt, state))),
         _ => {
-            events.push(Event::Cut)?;
-            look(events, state)
+            put(rt, events, Event::Cut);
+            look(rt, events, state);
         }
     }
 }
 
 /// A list of events: what belongs together may be cut by the end of the list before.
-fn list(alloc: Global, state: &mut u32) -> Result<Vec<Event>, Fail> {
+fn list(rt: &impl Abort, alloc: Global, state: &mut u32) -> Vec<Event> {
     let mut events = Vec::new(alloc);
     let bursts = drawn(state) % 3;
     for _ in 0..bursts + 1 {
-        add(&mut events, state)?;
+        add(rt, &mut events, state);
     }
-    Ok(events)
+    events
 }
 
 /// The bytes of a slot of a flash of this kind.
@@ -217,27 +212,27 @@ fn slot_bytes(state: &mut u32, kind: u32, page: usize, slot: usize) -> [u8; 8] {
 }
 
 /// The bytes of a flash of so many pages: of some kind, or blank.
-fn image(alloc: Global, state: &mut u32, pages: usize) -> Result<Vec<u8>, Fail> {
+fn image(rt: &impl Abort, alloc: Global, state: &mut u32, pages: usize) -> Vec<u8> {
     let kind = drawn(state) % 10;
     let mut bytes = Vec::new(alloc);
     for page in 0..pages {
         for slot in 0..512 {
-            bytes.extend_from_slice(&slot_bytes(state, kind, page, slot))?;
+            put_bytes(rt, &mut bytes, &slot_bytes(state, kind, page, slot));
         }
     }
-    Ok(bytes)
+    bytes
 }
 
 /// Worlds on a flash of so many pages, armed or not.
-fn begin(alloc: Global, state: &mut u32, pages: usize) -> Result<Rig, Fail> {
-    let image = image(alloc, state, pages)?;
-    let armed = mask(state).ok_or("a mask")?;
+fn begin(rt: &impl Abort, alloc: Global, state: &mut u32, pages: usize) -> Rig {
+    let image = image(rt, alloc, state, pages);
+    let armed = mask(rt, state);
     let mask = if drawn(state) % 4 == 0 {
         Some(armed.as_slice())
     } else {
         None
     };
-    Rig::start(alloc, image.as_slice(), mask)
+    Rig::start(rt, alloc, image.as_slice(), mask)
 }
 
 /// What a step shows: the place of the first of the things below that it is.
@@ -275,19 +270,17 @@ fn shown(step: &RecordedStep) -> usize
 }
 
 /// Some lists of events: each step is judged right.
-fn goes_on(rt: &impl Abort, alloc: Global, state: &mut u32, rig: &mut Rig) -> Result<(), Fail> {
+fn goes_on(rt: &impl Abort, alloc: Global, state: &mut u32, rig: &mut Rig) {
     for _ in 0..LISTS {
-        let events = list(alloc, state)?;
+        let events = list(rt, alloc, state);
         let from = rig.steps().len();
-        let same = rig.take(alloc, events)?;
+        let alike = rig.take(rt, alloc, events);
         assert!(rt;
-            same,
+            alike,
             "one by one and as a list, the events after step {from} were answered otherwise"
         );
     }
-    let wrong = rig.judged(alloc)?;
-    assert_eq!(rt; wrong, None);
-    Ok(())
+    same(rt, &rig.judged(rt, alloc), &None);
 }
 
 /// A history on a flash of so many pages: how many events it has; and what it shows is counted.
@@ -297,11 +290,11 @@ fn history(
     state: &mut u32,
     pages: usize,
     all: &mut [u32; 12],
-) -> Result<usize, Fail> {
-    let mut rig = begin(alloc, state, pages)?;
-    goes_on(rt, alloc, state, &mut rig)?;
+) -> usize {
+    let mut rig = begin(rt, alloc, state, pages);
+    goes_on(rt, alloc, state, &mut rig);
     count(all, rig.steps());
-    Ok(rig.steps().len())
+    rig.steps().len()
 }
 
 /// One more of each thing that a history showed.
@@ -313,44 +306,43 @@ fn count(all: &mut [u32; 12], steps: &[RecordedStep]) {
 }
 
 /// Histories on flashes of so many pages in turn, of 20,000 events and more: each thing was shown often.
-fn histories(rt: &impl Abort, alloc: Global, pages: [usize; 3], from: u32) -> Result<(), Fail> {
+fn histories(rt: &impl Abort, alloc: Global, pages: [usize; 3], from: u32) {
     let mut state = from;
     let mut taken = 0usize;
     let mut all = [0u32; 12];
     for turn in 0..HISTORIES {
         if taken < EVENTS {
-            let more = history(rt, alloc, &mut state, pages[turn % 3], &mut all)?;
+            let more = history(rt, alloc, &mut state, pages[turn % 3], &mut all);
             taken = taken.saturating_add(more);
         }
     }
-    assert!(rt; taken >= EVENTS, "{taken} events");
+    holds_at(rt, taken >= EVENTS, &taken);
     for number in all {
-        assert!(rt; number > 20, "{all:?}");
+        holds_at(rt, number > 20, &all);
     }
-    Ok(())
 }
 
 #[test]
-fn on_two_pages(rt: HostRuntime) -> Result<(), Fail> {
-    histories(&rt, rt.alloc(), [2, 2, 2], 1)
+fn on_two_pages(rt: HostRuntime) {
+    histories(&rt, rt.alloc(), [2, 2, 2], 1);
 }
 
 #[test]
-fn on_two_and_three_pages(rt: HostRuntime) -> Result<(), Fail> {
-    histories(&rt, rt.alloc(), [2, 3, 2], 2)
+fn on_two_and_three_pages(rt: HostRuntime) {
+    histories(&rt, rt.alloc(), [2, 3, 2], 2);
 }
 
 #[test]
-fn on_three_to_five_pages(rt: HostRuntime) -> Result<(), Fail> {
-    histories(&rt, rt.alloc(), [3, 4, 5], 3)
+fn on_three_to_five_pages(rt: HostRuntime) {
+    histories(&rt, rt.alloc(), [3, 4, 5], 3);
 }
 
 #[test]
-fn on_two_to_six_pages(rt: HostRuntime) -> Result<(), Fail> {
-    histories(&rt, rt.alloc(), [2, 4, 6], 2026)
+fn on_two_to_six_pages(rt: HostRuntime) {
+    histories(&rt, rt.alloc(), [2, 4, 6], 2026);
 }
 
 #[test]
-fn on_two_to_eight_pages(rt: HostRuntime) -> Result<(), Fail> {
-    histories(&rt, rt.alloc(), [2, 7, 8], 11)
+fn on_two_to_eight_pages(rt: HostRuntime) {
+    histories(&rt, rt.alloc(), [2, 7, 8], 11);
 }

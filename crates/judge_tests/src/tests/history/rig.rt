@@ -1,7 +1,9 @@
 //! A world and a recorder.
 
-use super::super::text::mask_of;
+use super::super::text::{blank, flash_of, mask_of, put};
+use super::lines::events;
 use super::*;
+use crate::tests::asserts::made;
 use judge::history::fetched::gathering;
 use judge::history::restart::is_legal;
 use judge::history::sessions::{advance, at_start};
@@ -31,46 +33,42 @@ impl Model for Rig {
 
 impl Rig {
     /// Worlds on a flash of these bytes, whose first operation is torn by this mask, if there is one.
-    pub fn start(alloc: Global, image: &[u8], armed: Option<&[u8]>) -> Result<Rig, Fail> {
-        let one = world_on(alloc, image, armed)?;
-        let many = world_on(alloc, image, armed)?;
-        let start = start_on(alloc, image, armed)?;
-        Ok(Rig {
-            one,
-            many,
-            start,
+    pub fn start(rt: &impl Abort, alloc: Global, image: &[u8], armed: Option<&[u8]>) -> Rig {
+        Rig {
+            one: world_on(rt, alloc, image, armed),
+            many: world_on(rt, alloc, image, armed),
+            start: start_on(rt, alloc, image, armed),
             steps: Vec::new(alloc),
-        })
+        }
     }
 
-    /// Worlds on a blank flash.
-    pub fn blank(alloc: Global, pages: usize) -> Result<Rig, Fail> {
-        let flash = SimFlash::new(alloc, pages)?;
-        Rig::start(alloc, flash.image(), None)
+    /// Worlds on a blank flash of two pages.
+    pub fn blank(rt: &impl Abort, alloc: Global) -> Rig {
+        let flash = blank(rt, alloc, 2);
+        Rig::start(rt, alloc, flash.image(), None)
     }
 
-    /// Begins anew on a blank flash of two pages.
-    pub fn begin(&mut self, alloc: Global) -> Result<(), Fail> {
-        *self = Rig::blank(alloc, 2)?;
-        Ok(())
+    /// Takes the events of a line: the two worlds tell the same of them.
+    pub fn goes(&mut self, rt: &impl Abort, alloc: Global, line: &str) {
+        let events = events(rt, alloc, line);
+        let same = self.take(rt, alloc, events);
+        assert!(rt; same, "two worlds tell two things: {line}");
     }
 
     /// Takes events: whether the two worlds told the same of them, one answer for each, and have the
     /// same flash then.
-    pub fn take(&mut self, alloc: Global, events: Vec<Event>) -> Result<bool, Fail> {
+    pub fn take(&mut self, rt: &impl Abort, alloc: Global, events: Vec<Event>) -> bool {
         let mut answers = Vec::new(alloc);
-        self.many.run(events.as_slice(), &mut answers)?;
+        made(rt, self.many.run(events.as_slice(), &mut answers));
         let all = all_told(events.len(), answers.len(), true);
         for event in events {
-            self.record(alloc, event)?;
+            self.record(rt, alloc, event);
         }
-        let rig = &*self;
-        let same = rig.told_last(answers.as_slice());
-        Ok(all && same && rig.one.flash().image() == rig.many.flash().image())
+        all && self.is_alike(answers.as_slice())
     }
 
-    /// Whether the newest steps have these answers, the oldest first.
-    fn told_last(&self, answers: &[Answer]) -> bool {
+    /// Whether the newest steps have these answers, the oldest first, and the flashes are the same then.
+    fn is_alike(&self, answers: &[Answer]) -> bool {
         let steps = self.steps.as_slice();
         let before = steps.len().saturating_sub(answers.len());
         let newest = steps.get(before..).unwrap_or(&[]);
@@ -79,39 +77,36 @@ impl Rig {
                 return false;
             }
         }
-        newest.len() == answers.len()
+        newest.len() == answers.len() && self.one.flash().image() == self.many.flash().image()
     }
 
     /// Takes an event by itself, and notes it.
-    fn record(&mut self, alloc: Global, event: Event) -> Result<(), Fail> {
-        let mut answers = Vec::new(alloc);
-        self.one.run(from_ref(&event), &mut answers)?;
-        let flash = flash_of(alloc, self.one.flash().image())?;
-        let answer = answers.pop().ok_or("an event has no answer")?;
-        self.steps.push(RecordedStep {
+    fn record(&mut self, rt: &impl Abort, alloc: Global, event: Event) {
+        let answer = answer_to(rt, alloc, &mut self.one, &event);
+        let step = RecordedStep {
             event,
             answer,
             refused: false,
-            flash,
-        })?;
-        Ok(())
+            flash: flash_of(rt, alloc, self.one.flash().image()),
+        };
+        put(rt, &mut self.steps, step);
     }
 
     /// How many steps came before the first that does not pass.
-    pub fn judged(&mut self, alloc: Global) -> Result<Option<usize>, Fail> {
+    pub fn judged(&mut self, rt: &impl Abort, alloc: Global) -> Option<usize> {
         self.steps.reverse();
         let rig = &*self;
-        let found = first_wrong(alloc, &rig.start, rig.steps.as_slice())?;
+        let found = first_wrong(alloc, &rig.start, rig.steps.as_slice());
         self.steps.reverse();
-        Ok(found)
+        made(rt, found)
     }
 
     /// Whether a text of the descriptor is being gathered after the steps.
-    pub fn gathers(&mut self, alloc: Global) -> Result<bool, Fail> {
+    pub fn gathers(&mut self, rt: &impl Abort, alloc: Global) -> bool {
         self.steps.reverse();
-        let found = gathering(alloc, self.steps.as_slice())?;
+        let found = gathering(alloc, self.steps.as_slice());
         self.steps.reverse();
-        Ok(found.is_some())
+        made(rt, found).is_some()
     }
 
     /// The steps, the oldest first.
@@ -134,10 +129,9 @@ impl Rig {
     }
 
     /// Puts an answer in the place of a step's.
-    pub fn tell(&mut self, index: usize, answer: Answer) -> Result<(), Fail> {
-        let step = self.steps.get_mut(index).ok_or("no such step")?;
+    pub fn tell(&mut self, rt: &impl Abort, index: usize, answer: Answer) {
+        let step = self.steps.get_mut(index).expect(rt, "a step");
         step.answer = answer;
-        Ok(())
     }
 
     /// The flash after the steps.
@@ -146,45 +140,43 @@ impl Rig {
     }
 
     /// Whether a restart on this flash is legal after the steps, in which the power was not cut.
-    pub fn restarts(&self, alloc: Global, found: &SimFlash) -> Result<bool, Fail> {
-        let mut session = at_start(alloc, &self.start)?;
+    pub fn restarts(&self, rt: &impl Abort, alloc: Global, found: &SimFlash) -> bool {
+        let mut session = made(rt, at_start(alloc, &self.start));
         for step in self.steps.as_slice() {
-            advance(alloc, &mut session, step)?;
+            made(rt, advance(alloc, &mut session, step));
         }
-        let legal = is_legal(alloc, &session.first, session.calls.as_slice(), found)?;
-        Ok(legal)
+        made(
+            rt,
+            is_legal(alloc, &session.first, session.calls.as_slice(), found),
+        )
     }
+}
+
+/// The answer of a world to an event.
+fn answer_to(rt: &impl Abort, alloc: Global, world: &mut World, event: &Event) -> Answer {
+    let mut answers = Vec::new(alloc);
+    made(rt, world.run(from_ref(event), &mut answers));
+    answers.pop().expect(rt, "an answer")
 }
 
 /// A world on a flash of these bytes.
-fn world_on(alloc: Global, image: &[u8], armed: Option<&[u8]>) -> Result<Box<World>, Fail> {
-    let mut flash = flash_of(alloc, image)?;
+fn world_on(rt: &impl Abort, alloc: Global, image: &[u8], armed: Option<&[u8]>) -> Box<World> {
+    let mut flash = flash_of(rt, alloc, image);
     if let Some(mask) = armed {
-        flash.fault_next(mask_of(mask).ok_or("a mask")?);
+        flash.fault_next(mask_of(rt, mask));
     }
-    let world = Box::new(alloc, World::new(alloc, flash)?)?;
-    Ok(world)
+    let world = made(rt, World::new(alloc, flash));
+    Box::new(alloc, world).ok().expect(rt, "memory")
 }
 
 /// What is noted of that flash.
-fn start_on(alloc: Global, image: &[u8], armed: Option<&[u8]>) -> Result<Box<Start>, Fail> {
-    let flash = flash_of(alloc, image)?;
-    let armed = masked(armed)?;
-    let start = Box::new(alloc, Start { flash, armed })?;
-    Ok(start)
-}
-
-fn masked(armed: Option<&[u8]>) -> Result<Option<Mask>, Fail> {
-    let Some(bytes) = armed else {
-        return Ok(None);
+fn start_on(rt: &impl Abort, alloc: Global, image: &[u8], armed: Option<&[u8]>) -> Box<Start> {
+    let start = Start {
+        flash: flash_of(rt, alloc, image),
+        armed: match armed {
+            Some(bytes) => Some(mask_of(rt, bytes)),
+            None => None,
+        },
     };
-    Ok(Some(mask_of(bytes).ok_or("a mask")?))
-}
-
-/// A flash of these bytes.
-pub fn flash_of(alloc: Global, image: &[u8]) -> Result<SimFlash, Fail> {
-    let mut bytes = Vec::new(alloc);
-    bytes.extend_from_slice(image)?;
-    let flash = SimFlash::from_image(bytes)?;
-    Ok(flash)
+    Box::new(alloc, start).ok().expect(rt, "memory")
 }

@@ -1,8 +1,9 @@
 //! Histories that are refused: each is a right one with its last step changed.
 
 use super::super::text::with_slots;
-use super::lines::{answer_of, events};
+use super::lines::answer_of;
 use super::*;
+use crate::tests::asserts::{holds, holds_in, same_at};
 
 /// On a blank flash of two pages each: the way there, and the last event with what it was answered
 /// instead; then, after `with`, slots of the flash after it that were changed: page, number and bytes of
@@ -258,102 +259,78 @@ const RESTARTS: &str = "
     yes
     no 0 3 07000210f8fffdef";
 
-/// Takes the events of a line: the two worlds tell the same of them.
-fn goes(rt: &impl Abort, alloc: Global, rig: &mut Rig, line: &str) -> Result<(), Fail> {
-    let events = events(alloc, line)?;
-    let same = rig.take(alloc, events)?;
-    assert!(rt; same, "two worlds tell two things: {line}");
-    Ok(())
-}
-
 /// Compares how many steps come before the first that is judged wrong, after a line.
 fn expect_judged(rt: &impl Abort, found: Option<usize>, wanted: Option<usize>, line: &str) {
     assert_eq!(rt; found, wanted, "the first wrong step after: {line}");
 }
 
-/// Changes the newest step to what a line tells: whether it tells an answer.
-fn change(rig: &mut Rig, alloc: Global, told: &str) -> Result<bool, Fail> {
+/// Changes the newest step to what a line tells.
+fn change(rt: &impl Abort, alloc: Global, rig: &mut Rig, told: &str) {
     let (told, slots) = told.split_once(" with ").unwrap_or((told, ""));
-    let flash = with_slots(alloc, rig.flash(), slots)?;
+    let flash = with_slots(rt, alloc, rig.flash(), slots);
     let answer = told.strip_prefix("refused ").unwrap_or(told);
-    Ok(match answer_of(alloc, answer) {
-        Some(answer) => rig.change(answer, told.starts_with("refused "), flash),
-        None => false,
-    })
+    let answer = answer_of(rt, alloc, answer);
+    holds_in(
+        rt,
+        rig.change(answer, told.starts_with("refused "), flash),
+        told,
+    );
 }
 
 /// Takes an event and changes its step: it is judged right before, and is the first wrong one then.
-fn refuse(rt: &impl Abort, alloc: Global, rig: &mut Rig, line: &str) -> Result<(), Fail> {
+fn refuse(rt: &impl Abort, alloc: Global, rig: &mut Rig, line: &str) {
     let (last, told) = line.split_once(" != ").unwrap_or((line, ""));
-    goes(rt, alloc, rig, last)?;
-    expect_judged(rt, rig.judged(alloc)?, None, line);
-    let changed = change(rig, alloc, told)?;
-    assert!(rt; changed, "no answer is told: {line}");
+    rig.goes(rt, alloc, last);
+    expect_judged(rt, rig.judged(rt, alloc), None, line);
+    change(rt, alloc, rig, told);
     let newest = rig.steps().len().checked_sub(1);
-    expect_judged(rt, rig.judged(alloc)?, newest, line);
-    Ok(())
+    expect_judged(rt, rig.judged(rt, alloc), newest, line);
 }
 
 /// Takes a line of wrong histories; a new history begins after each wrong one.
-fn take(rt: &impl Abort, alloc: Global, rig: &mut Rig, line: &str) -> Result<(), Fail> {
+fn take(rt: &impl Abort, alloc: Global, rig: &mut Rig, line: &str) {
     if line.starts_with('#') {
-        return Ok(());
+        return;
     }
-    if !line.contains(" != ") {
-        return goes(rt, alloc, rig, line);
+    if line.contains(" != ") {
+        refuse(rt, alloc, rig, line);
+        *rig = Rig::blank(rt, alloc);
+    } else {
+        rig.goes(rt, alloc, line);
     }
-    refuse(rt, alloc, rig, line)?;
-    rig.begin(alloc)
-}
-
-fn each_line(rt: &impl Abort, alloc: Global, rig: &mut Rig) -> Result<(), Fail> {
-    for line in WRONG.lines() {
-        take(rt, alloc, rig, line.trim())?;
-    }
-    Ok(())
 }
 
 #[test]
-fn changed_histories_are_refused(rt: HostRuntime) -> Result<(), Fail> {
-    let mut rig = Rig::blank(rt.alloc(), 2)?;
-    each_line(&rt, rt.alloc(), &mut rig)
+fn changed_histories_are_refused(rt: HostRuntime) {
+    let mut rig = Rig::blank(&rt, rt.alloc());
+    for line in WRONG.lines() {
+        take(&rt, rt.alloc(), &mut rig, line.trim());
+    }
 }
 
 /// Compares whether a restart on the rig's flash with these slots is legal.
-fn restarts(
-    rt: &impl Abort,
-    alloc: Global,
-    rig: &Rig,
-    slots: &str,
-    is_legal: bool,
-) -> Result<(), Fail> {
-    let found = with_slots(alloc, rig.flash(), slots)?;
-    let judged = rig.restarts(alloc, &found)?;
+fn restarts(rt: &impl Abort, alloc: Global, rig: &Rig, slots: &str, is_legal: bool) {
+    let found = with_slots(rt, alloc, rig.flash(), slots);
+    let judged = rig.restarts(rt, alloc, &found);
     assert_eq!(rt; judged, is_legal, "a restart on: {slots}");
-    Ok(())
 }
 
 /// Takes a line of restarts.
-fn take_restart(rt: &impl Abort, alloc: Global, rig: &mut Rig, line: &str) -> Result<(), Fail> {
+fn take_restart(rt: &impl Abort, alloc: Global, rig: &mut Rig, line: &str) {
     let (word, slots) = line.split_once(' ').unwrap_or((line, ""));
     match word {
         "yes" => restarts(rt, alloc, rig, slots, true),
         "no" => restarts(rt, alloc, rig, slots, false),
-        _ => goes(rt, alloc, rig, line),
+        _ => rig.goes(rt, alloc, line),
     }
-}
-
-fn each_restart(rt: &impl Abort, alloc: Global, rig: &mut Rig) -> Result<(), Fail> {
-    for line in RESTARTS.lines() {
-        take_restart(rt, alloc, rig, line.trim())?;
-    }
-    Ok(())
 }
 
 #[test]
-fn restarts_are_judged(rt: HostRuntime) -> Result<(), Fail> {
-    let mut rig = Rig::blank(rt.alloc(), 2)?;
-    each_restart(&rt, rt.alloc(), &mut rig)
+fn restarts_are_judged(rt: HostRuntime) {
+    let mut rig = Rig::blank(&rt, rt.alloc());
+    for line in RESTARTS.lines() {
+        take_restart(&rt, rt.alloc(), &mut rig, line.trim());
+    }
 }
 
 /// Events, and whether a text of the descriptor is being gathered after them.
@@ -390,28 +367,22 @@ const GATHERED: &str = "no
     no";
 
 /// Takes a line of events, or compares what is gathered after those before it.
-fn gather(rt: &impl Abort, alloc: Global, rig: &mut Rig, line: &str) -> Result<(), Fail> {
+fn gather(rt: &impl Abort, alloc: Global, rig: &mut Rig, line: &str) {
     match line {
         "yes" | "no" => {
-            let gathers = rig.gathers(alloc)?;
-            assert_eq!(rt; gathers, line == "yes", "after {} steps", rig.steps().len());
-            Ok(())
+            let gathers = rig.gathers(rt, alloc);
+            same_at(rt, &gathers, &(line == "yes"), &rig.steps().len());
         }
-        _ => goes(rt, alloc, rig, line),
+        _ => rig.goes(rt, alloc, line),
     }
-}
-
-fn each_gathered(rt: &impl Abort, alloc: Global, rig: &mut Rig) -> Result<(), Fail> {
-    for line in GATHERED.lines() {
-        gather(rt, alloc, rig, line.trim())?;
-    }
-    Ok(())
 }
 
 #[test]
-fn a_text_is_gathered_until_it_ends_or_is_dropped(rt: HostRuntime) -> Result<(), Fail> {
-    let mut rig = Rig::blank(rt.alloc(), 2)?;
-    each_gathered(&rt, rt.alloc(), &mut rig)
+fn a_text_is_gathered_until_it_ends_or_is_dropped(rt: HostRuntime) {
+    let mut rig = Rig::blank(&rt, rt.alloc());
+    for line in GATHERED.lines() {
+        gather(&rt, rt.alloc(), &mut rig, line.trim());
+    }
 }
 
 /// A command, told whole.
@@ -422,38 +393,36 @@ const TOLD: &str = "setup 2109030300000600
     leds";
 
 /// Each answer from the second one on is moved to the event before it.
-fn shift(rig: &mut Rig) -> Result<(), Fail> {
+fn shift(rt: &impl Abort, rig: &mut Rig) {
     for k in 1..5usize {
-        let answer = answer_at(rig, k + 1).ok_or("an answer that is not of this test")?;
-        rig.tell(k, answer)?;
+        let answer = answer_at(rig, k + 1).expect(rt, "an answer of this test");
+        rig.tell(rt, k, answer);
     }
-    Ok(())
-}
-
-/// Judges the command with all answers, and with the second one missing.
-fn judge_twice(rt: &impl Abort, alloc: Global, rig: &mut Rig) -> Result<(), Fail> {
-    for line in TOLD.lines() {
-        goes(rt, alloc, rig, line.trim())?;
-    }
-    expect_judged(rt, rig.judged(alloc)?, None, TOLD);
-    shift(rig)?;
-    expect_judged(rt, rig.judged(alloc)?, Some(1), "an answer that is missing");
-    Ok(())
 }
 
 /// Where an answer is missing, those after it stand beside other events.
 #[test]
-fn a_missing_answer_is_refused(rt: HostRuntime) -> Result<(), Fail> {
-    let mut rig = Rig::blank(rt.alloc(), 2)?;
-    judge_twice(&rt, rt.alloc(), &mut rig)
+fn a_missing_answer_is_refused(rt: HostRuntime) {
+    let mut rig = Rig::blank(&rt, rt.alloc());
+    for line in TOLD.lines() {
+        rig.goes(&rt, rt.alloc(), line.trim());
+    }
+    expect_judged(&rt, rig.judged(&rt, rt.alloc()), None, TOLD);
+    shift(&rt, &mut rig);
+    expect_judged(
+        &rt,
+        rig.judged(&rt, rt.alloc()),
+        Some(1),
+        "an answer that is missing",
+    );
 }
 
 #[test]
 fn answers_are_counted(rt: HostRuntime) {
-    assert!(rt; all_told(6, 6, true));
-    assert!(rt; !all_told(6, 5, true));
-    assert!(rt; all_told(6, 5, false));
-    assert!(rt; !all_told(6, 7, false));
+    holds(&rt, all_told(6, 6, true));
+    holds(&rt, !all_told(6, 5, true));
+    holds(&rt, all_told(6, 5, false));
+    holds(&rt, !all_told(6, 7, false));
 }
 
 /// The answer of a step, where it is one of this test.

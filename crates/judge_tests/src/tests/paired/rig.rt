@@ -1,6 +1,7 @@
 //! A keyboard on flash with error correction, and what is recorded of it.
 
-use arrayvec::ArrayVec;
+use super::super::text::{flash_from, packet_of, put_bytes};
+use crate::tests::asserts::made;
 use ecc_flash::{EccFlash, PairedFlash};
 use ecc_law::work_cut;
 use flash_model::{NorFlash, SimFlash};
@@ -8,7 +9,7 @@ use judge::session::{Recorded, cut_leaves, first_misstep, first_wrong};
 use keyboard::{Keyboard, Scan, Work};
 use std::alloc::Global;
 use std::marker::Model;
-use std::test::Fail;
+use std::process::Abort;
 
 /// What became of commands, and how many cuts of the power were inside a step of the flash work that changed the flash.
 #[derive(Clone, Copy, Debug, Default, PartialEq, Eq)]
@@ -44,21 +45,21 @@ impl<F: EccFlash + Drop> Model for Rig<F> {
 
 impl<F: EccFlash + Drop> Rig<F> {
     /// A keyboard that starts on a flash, after others that reached so much.
-    pub fn start(alloc: Global, flash: PairedFlash<F>, counts: Counts) -> Result<Rig<F>, Fail> {
-        let start = slots(alloc, &flash)?;
-        let keyboard = Box::new(alloc, Keyboard::start(alloc, &flash)?)?;
-        Ok(Rig {
-            keyboard,
+    pub fn start(rt: &impl Abort, alloc: Global, flash: PairedFlash<F>, counts: Counts) -> Rig<F> {
+        let start = slots(rt, alloc, &flash);
+        let keyboard = Keyboard::start(alloc, &flash).expect(rt, "memory");
+        Rig {
+            keyboard: Box::new(alloc, keyboard).ok().expect(rt, "memory"),
             flash,
             start,
             past: Vec::new(alloc),
             counts,
-        })
+        }
     }
 
     /// The power is cut inside the next step of the flash work, in its unit write after so many others: whether it may leave
     /// what it left. A new session begins.
-    pub fn cut_in_work(self, alloc: Global, whole: u32) -> Result<(Rig<F>, bool), Fail> {
+    pub fn cut_in_work(self, rt: &impl Abort, alloc: Global, whole: u32) -> (Rig<F>, bool) {
         let Rig {
             mut keyboard,
             flash,
@@ -66,13 +67,13 @@ impl<F: EccFlash + Drop> Rig<F> {
             past,
             mut counts,
         } = self;
-        let before = slots(alloc, &flash)?;
+        let before = slots(rt, alloc, &flash);
         let flash = work_cut(&mut keyboard, flash, whole);
-        let left = slots(alloc, &flash)?;
+        let left = slots(rt, alloc, &flash);
         if left.image() != before.image() {
             counts.cuts = counts.cuts.wrapping_add(1);
         }
-        let right = cut_leaves(alloc, &start, past.as_slice(), &left)?;
+        let right = made(rt, cut_leaves(alloc, &start, past.as_slice(), &left));
         keyboard.restart(&flash);
         let rig = Rig {
             keyboard,
@@ -81,62 +82,58 @@ impl<F: EccFlash + Drop> Rig<F> {
             past: Vec::new(alloc),
             counts,
         };
-        Ok((rig, right))
+        (rig, right)
     }
 
     /// The first call that does not pass, or the first step of the flash work that is not the next one.
-    pub fn judged(&self, alloc: Global) -> Result<Option<usize>, Fail> {
+    pub fn judged(&self, rt: &impl Abort, alloc: Global) -> Option<usize> {
         let past = self.past.as_slice();
-        if let Some(index) = first_wrong(alloc, &self.start, past)? {
-            return Ok(Some(index));
+        if let Some(index) = made(rt, first_wrong(alloc, &self.start, past)) {
+            return Some(index);
         }
-        let found = first_misstep(alloc, &self.start, past)?;
-        Ok(found)
+        made(rt, first_misstep(alloc, &self.start, past))
     }
 
-    fn record(&mut self, call: Recorded) -> Result<(), Fail> {
-        self.past.insert(0, call)?;
-        Ok(())
+    fn record(&mut self, rt: &impl Abort, call: Recorded) {
+        self.past.insert(0, call).ok().expect(rt, "memory");
     }
 
-    pub fn scan(&mut self, scan: Scan) -> Result<(), Fail> {
+    pub fn scan(&mut self, rt: &impl Abort, scan: Scan) {
         self.keyboard.scan(scan);
-        self.record(Recorded::Scanned(scan))
+        self.record(rt, Recorded::Scanned(scan));
     }
 
-    pub fn setup(&mut self, setup: [u8; 8]) -> Result<(), Fail> {
+    pub fn setup(&mut self, rt: &impl Abort, setup: [u8; 8]) {
         self.keyboard.setup(setup);
-        self.record(Recorded::SetUp(setup))
+        self.record(rt, Recorded::SetUp(setup));
     }
 
-    pub fn out(&mut self, packet: [u8; 6]) -> Result<(), Fail> {
+    pub fn out(&mut self, rt: &impl Abort, packet: [u8; 6]) {
         let answer = self.keyboard.out(&packet);
-        let mut copy = ArrayVec::new();
-        copy.try_extend_from_slice(&packet).ok().ok_or("a packet")?;
-        self.record(Recorded::Out(copy, answer))
+        self.record(rt, Recorded::Out(packet_of(rt, &packet), answer));
     }
 
-    pub fn in_packet(&mut self) -> Result<(), Fail> {
+    pub fn in_packet(&mut self, rt: &impl Abort) {
         let answer = self.keyboard.in_packet();
-        self.record(Recorded::In(answer))
+        self.record(rt, Recorded::In(answer));
     }
 
-    pub fn poll(&mut self) -> Result<(), Fail> {
+    pub fn poll(&mut self, rt: &impl Abort) {
         let answer = self.keyboard.poll();
-        self.record(Recorded::Polled(answer))
+        self.record(rt, Recorded::Polled(answer));
     }
 
-    pub fn reset(&mut self) -> Result<(), Fail> {
+    pub fn reset(&mut self, rt: &impl Abort) {
         self.keyboard.bus_reset();
-        self.record(Recorded::BusReset)
+        self.record(rt, Recorded::BusReset);
     }
 
     /// A step of the flash work.
-    pub fn work(&mut self, alloc: Global) -> Result<(), Fail> {
+    pub fn work(&mut self, rt: &impl Abort, alloc: Global) {
         let work = self.keyboard.work(&mut self.flash);
         self.counts = counted(self.counts, work);
-        let flash = slots(alloc, &self.flash)?;
-        self.record(Recorded::Worked(work, flash))
+        let flash = slots(rt, alloc, &self.flash);
+        self.record(rt, Recorded::Worked(work, flash));
     }
 
     pub fn counts(&self) -> Counts {
@@ -156,13 +153,12 @@ fn counted(counts: Counts, work: Work) -> Counts {
 }
 
 /// The slots of a flash, in one without error correction.
-fn slots<F: NorFlash>(alloc: Global, flash: &F) -> Result<SimFlash, Fail> {
+fn slots<F: NorFlash>(rt: &impl Abort, alloc: Global, flash: &F) -> SimFlash {
     let mut bytes = Vec::new(alloc);
     for page in 0..flash.pages() {
         for slot in 0..512 {
-            bytes.extend_from_slice(&flash.read_slot(page, slot))?;
+            put_bytes(rt, &mut bytes, &flash.read_slot(page, slot));
         }
     }
-    let slots = SimFlash::from_image(bytes)?;
-    Ok(slots)
+    flash_from(rt, bytes)
 }

@@ -4,6 +4,7 @@ use super::super::session::SET_FEATURE;
 use super::cells::TornCells;
 use super::choices::ToldUnits;
 use super::rig::{Counts, Rig};
+use crate::tests::asserts::{holds_at, same};
 use ecc_flash::{EccFlash, PairedFlash};
 use ecc_sim::{ChosenEccFlash, SimEccFlash};
 use flash_model::NorFlash;
@@ -11,7 +12,6 @@ use keyboard::Scan;
 use row_text::{drawn, full_word, good};
 use std::alloc::Global;
 use std::process::Abort;
-use std::test::Fail;
 
 /// How many flashes there are, how many sessions each has, and how many calls a session, of which some are two.
 const FLASHES: u32 = 80;
@@ -24,18 +24,18 @@ const CALLS: u32 = 25;
 const GET_FEATURE: [u8; 8] = [0xA1, 0x01, 0x03, 0x03, 0x00, 0x00, 0x06, 0x00];
 
 /// Makes a call, or two of them for a command. Commands and the flash work come more often than the others.
-fn call<F: EccFlash + Drop>(rig: &mut Rig<F>, alloc: Global, state: &mut u32) -> Result<(), Fail> {
+fn call<F: EccFlash + Drop>(rt: &impl Abort, alloc: Global, rig: &mut Rig<F>, state: &mut u32) {
     match drawn(state) % 16 {
         0..=3 => {
-            rig.setup(SET_FEATURE)?;
-            rig.out(command(state))
+            rig.setup(rt, SET_FEATURE);
+            rig.out(rt, command(state));
         }
-        4 => rig.in_packet(),
-        5 => rig.poll(),
-        6 => rig.scan(scan(state)),
-        7 => rig.setup(GET_FEATURE),
-        8 => rig.reset(),
-        _ => rig.work(alloc),
+        4 => rig.in_packet(rt),
+        5 => rig.poll(rt),
+        6 => rig.scan(rt, scan(state)),
+        7 => rig.setup(rt, GET_FEATURE),
+        8 => rig.reset(rt),
+        _ => rig.work(rt, alloc),
     }
 }
 
@@ -58,15 +58,17 @@ fn scan(state: &mut u32) -> Scan {
     }
 }
 
+/// Some calls: the first that is judged wrong.
 fn calls<F: EccFlash + Drop>(
-    rig: &mut Rig<F>,
+    rt: &impl Abort,
     alloc: Global,
+    rig: &mut Rig<F>,
     state: &mut u32,
-) -> Result<Option<usize>, Fail> {
+) -> Option<usize> {
     for _ in 0..CALLS {
-        call(rig, alloc, state)?;
+        call(rt, alloc, rig, state);
     }
-    rig.judged(alloc)
+    rig.judged(rt, alloc)
 }
 
 fn expect_right(rt: &impl Abort, wrong: Option<usize>, cut: bool) {
@@ -79,12 +81,12 @@ fn session<F: EccFlash + Drop>(
     alloc: Global,
     rig: Rig<F>,
     state: &mut u32,
-) -> Result<Rig<F>, Fail> {
+) -> Rig<F> {
     let mut then = rig;
-    let wrong = calls(&mut then, alloc, state)?;
-    let (then, right) = then.cut_in_work(alloc, drawn(state) % 3)?;
+    let wrong = calls(rt, alloc, &mut then, state);
+    let (then, right) = then.cut_in_work(rt, alloc, drawn(state) % 3);
     expect_right(rt, wrong, right);
-    Ok(then)
+    then
 }
 
 /// Sessions on a flash, each on what the one before it left.
@@ -94,12 +96,12 @@ fn sessions<F: EccFlash + Drop>(
     flash: PairedFlash<F>,
     counts: Counts,
     state: &mut u32,
-) -> Result<Counts, Fail> {
-    let mut rig = Rig::start(alloc, flash, counts)?;
+) -> Counts {
+    let mut rig = Rig::start(rt, alloc, flash, counts);
     for _ in 0..SESSIONS {
-        rig = session(rt, alloc, rig, state)?;
+        rig = session(rt, alloc, rig, state);
     }
-    Ok(rig.counts())
+    rig.counts()
 }
 
 /// Programs a slot of a flash, if it is there.
@@ -122,23 +124,24 @@ fn fill<F: NorFlash>(flash: &mut F, state: &mut u32) {
 }
 
 /// A flash of cells, two units of which refuse programs.
-fn torn_cells(alloc: Global, state: &mut u32) -> Result<PairedFlash<TornCells>, Fail> {
-    let mut cells = SimEccFlash::new(alloc, 2)?;
+fn torn_cells(rt: &impl Abort, alloc: Global, state: &mut u32) -> PairedFlash<TornCells> {
+    let mut cells = SimEccFlash::new(alloc, 2).expect(rt, "a flash");
     for _ in 0..2 {
         let unit = drawn(state) as usize % 1024;
         if cells.pages() > 1 {
             cells.refuse(1, unit);
         }
     }
-    let mut flash = PairedFlash::format(cells)?;
+    let mut flash = PairedFlash::format(cells).expect(rt, "erased");
     fill(&mut flash, state);
-    Ok(PairedFlash::mount(TornCells::new(flash.into_flash(), drawn(state))))
+    PairedFlash::mount(TornCells::new(flash.into_flash(), drawn(state)))
 }
 
-fn told_units(alloc: Global, state: &mut u32) -> Result<PairedFlash<ToldUnits>, Fail> {
-    let mut flash = PairedFlash::format(ChosenEccFlash::new(alloc, 3)?)?;
+fn told_units(rt: &impl Abort, alloc: Global, state: &mut u32) -> PairedFlash<ToldUnits> {
+    let units = ChosenEccFlash::new(alloc, 3).expect(rt, "a flash");
+    let mut flash = PairedFlash::format(units).expect(rt, "erased");
     fill(&mut flash, state);
-    Ok(PairedFlash::mount(ToldUnits::new(flash.into_flash(), drawn(state))))
+    PairedFlash::mount(ToldUnits::new(flash.into_flash(), drawn(state)))
 }
 
 /// What was reached: commands that were settled, that failed, steps of turnovers, and cuts inside an operation.
@@ -147,66 +150,59 @@ fn expect_reached(rt: &impl Abort, counts: Counts) {
         && counts.failed > 5 * FLASHES
         && counts.working > 5 * FLASHES
         && counts.cuts > 5 * FLASHES;
-    assert!(rt; reached, "{counts:?}");
+    holds_at(rt, reached, &counts);
 }
 
 #[test]
-fn sessions_on_torn_cells(rt: HostRuntime) -> Result<(), Fail> {
+fn sessions_on_torn_cells(rt: HostRuntime) {
     let mut state = 34;
     let mut counts = Counts::default();
     for _ in 0..FLASHES {
-        let flash = torn_cells(rt.alloc(), &mut state)?;
-        counts = sessions(&rt, rt.alloc(), flash, counts, &mut state)?;
+        let flash = torn_cells(&rt, rt.alloc(), &mut state);
+        counts = sessions(&rt, rt.alloc(), flash, counts, &mut state);
     }
     expect_reached(&rt, counts);
-    Ok(())
 }
 
 #[test]
-fn sessions_on_units_that_read_as_they_are_told(rt: HostRuntime) -> Result<(), Fail> {
+fn sessions_on_units_that_read_as_they_are_told(rt: HostRuntime) {
     let mut state = 2026;
     let mut counts = Counts::default();
     for _ in 0..FLASHES {
-        let flash = told_units(rt.alloc(), &mut state)?;
-        counts = sessions(&rt, rt.alloc(), flash, counts, &mut state)?;
+        let flash = told_units(&rt, rt.alloc(), &mut state);
+        counts = sessions(&rt, rt.alloc(), flash, counts, &mut state);
     }
     expect_reached(&rt, counts);
-    Ok(())
 }
 
 /// A full page that sets every entry to 0, and key 0 in turn to 5 and 0, and a page after it that is not blank.
-fn all_set(alloc: Global) -> Result<PairedFlash<SimEccFlash>, Fail> {
-    let mut flash = PairedFlash::format(SimEccFlash::new(alloc, 2)?)?;
+fn all_set(rt: &impl Abort, alloc: Global) -> PairedFlash<SimEccFlash> {
+    let cells = SimEccFlash::new(alloc, 2).expect(rt, "a flash");
+    let mut flash = PairedFlash::format(cells).expect(rt, "erased");
     program(&mut flash, 0, 0, 0x1000_0001);
     for slot in 1..512u32 {
         program(&mut flash, 0, slot as usize, full_word(slot));
     }
     program(&mut flash, 1, 9, 0x1000_0000);
-    Ok(flash)
-}
-
-fn expect_counts(rt: &impl Abort, counts: Counts, wanted: Counts) {
-    assert_eq!(rt; counts, wanted);
+    flash
 }
 
 /// The command that sets key 0 to 0: an erase, a copy of each entry, a header and its record.
 #[test]
-fn the_longest_command_takes_387_steps(rt: HostRuntime) -> Result<(), Fail> {
+fn the_longest_command_takes_387_steps(rt: HostRuntime) {
     let alloc = rt.alloc();
-    let mut rig = Rig::start(alloc, all_set(alloc)?, Counts::default())?;
-    rig.setup(SET_FEATURE)?;
-    rig.out([0x03, 0x01, 0x00, 0x00, 0x00, 0x00])?;
+    let mut rig = Rig::start(&rt, alloc, all_set(&rt, alloc), Counts::default());
+    rig.setup(&rt, SET_FEATURE);
+    rig.out(&rt, [0x03, 0x01, 0x00, 0x00, 0x00, 0x00]);
     for _ in 0..400 {
-        rig.work(alloc)?;
+        rig.work(&rt, alloc);
     }
-    let wrong = rig.judged(alloc)?;
-    expect_right(&rt, wrong, true);
+    same(&rt, &rig.judged(&rt, alloc), &None);
     let wanted = Counts {
         settled: 1,
         failed: 0,
         working: 386,
         cuts: 0,
     };
-    expect_counts(&rt, rig.counts(), wanted);
-    Ok(())
+    same(&rt, &rig.counts(), &wanted);
 }

@@ -3,64 +3,71 @@
 //! `nak`, `data BYTES`, `stall NUMBER`, the bytes of a report, or `idle`, `working`, `settled`, `failed`. `cut` cuts the
 //! power, `cut in work MASK` inside a step.
 
-use super::super::text::reason;
+use super::super::text::{reason, told_bytes, told_eight, told_keys, told_number};
 use super::*;
-use row_text::{bytes, eight, number, pressed};
+use crate::tests::asserts::{holds_in, same_in};
+use row_text::{bytes, number};
 
 impl Rig {
     /// Takes each of these lines.
-    fn take_all(&mut self, rt: &impl Abort, alloc: Global, script: &str) -> Result<(), Fail> {
+    fn take_all(&mut self, rt: &impl Abort, alloc: Global, script: &str) {
         for line in script.lines() {
-            self.take(rt, alloc, line.trim())?;
+            self.take(rt, alloc, line.trim());
         }
-        Ok(())
     }
 
     /// Takes a line, `ASK = ANSWER`, or `ASK` where any answer will do.
-    pub fn take(&mut self, rt: &impl Abort, alloc: Global, line: &str) -> Result<(), Fail> {
+    pub fn take(&mut self, rt: &impl Abort, alloc: Global, line: &str) {
         let (ask, told) = line.split_once(" = ").unwrap_or((line, ""));
-        if ask == "cut" {
-            expect_judged(rt, self.judged(alloc)?, None, line);
-            return self.cut(alloc);
-        }
-        if let Some(mask) = ask.strip_prefix("cut in work ") {
-            expect_judged(rt, self.judged(alloc)?, None, line);
-            let mask = bytes::<32>(mask).ok_or("a mask")?;
-            let may_leave = self.cut_in_work(alloc, mask.as_slice())?;
-            assert!(rt; may_leave, "{line} leaves what no cut may leave");
-            return Ok(());
+        if ask.starts_with("cut") {
+            self.take_cut(rt, alloc, line);
+            return;
         }
         let (word, rest) = ask.split_once(' ').unwrap_or((ask, ""));
-        self.ask(alloc, word, rest)?;
+        self.ask(rt, word, rest);
         if !told.is_empty() {
             self.expect_told(rt, told, line);
         }
-        Ok(())
+    }
+
+    /// Takes a line that cuts the power: what came before is judged right.
+    fn take_cut(&mut self, rt: &impl Abort, alloc: Global, line: &str) {
+        expect_judged(rt, self.judged(rt, alloc), None, line);
+        match line.strip_prefix("cut in work ") {
+            Some(mask) => {
+                let mask = told_bytes(rt, mask);
+                let may_leave = self.cut_in_work(rt, alloc, mask.as_slice());
+                assert!(rt; may_leave, "{line} leaves what no cut may leave");
+            }
+            None => {
+                holds_in(rt, line == "cut", line);
+                self.cut(rt, alloc);
+            }
+        }
     }
 
     /// Makes a call by its word.
-    fn ask(&mut self, alloc: Global, word: &str, rest: &str) -> Result<(), Fail> {
+    fn ask(&mut self, rt: &impl Abort, word: &str, rest: &str) {
         match word {
-            "setup" => self.setup(eight(rest).ok_or("eight bytes")?),
-            "out" => self.out(bytes::<32>(rest).ok_or("a packet")?.as_slice()),
-            "in" => self.in_packet(),
-            "scans" => self.scans(rest),
-            "poll" => self.poll(),
-            "work" => self.work(alloc, bytes::<32>(rest).ok_or("a mask")?.as_slice()),
-            "reset" => self.reset(),
-            "" => Ok(()),
-            _ => None.ok_or("a word that is none")?,
+            "setup" => self.setup(rt, told_eight(rt, rest)),
+            "out" => self.out(rt, told_bytes(rt, rest).as_slice()),
+            "in" => self.in_packet(rt),
+            "scans" => self.scans(rt, rest),
+            "poll" => self.poll(rt),
+            "work" => self.work(rt, told_bytes(rt, rest).as_slice()),
+            "reset" => self.reset(rt),
+            // An empty line makes none.
+            _ => holds_in(rt, word.is_empty(), word),
         }
     }
 
     /// So many scans with these keys.
-    fn scans(&mut self, rest: &str) -> Result<(), Fail> {
+    fn scans(&mut self, rt: &impl Abort, rest: &str) {
         let (times, keys) = rest.split_once(' ').unwrap_or((rest, ""));
-        let rows = pressed(keys).ok_or("keys")?;
-        for _ in 0..number(times).ok_or("a count")? {
-            self.scan(Scan { rows })?;
+        let rows = told_keys(rt, keys);
+        for _ in 0..told_number(rt, times) {
+            self.scan(rt, Scan { rows });
         }
-        Ok(())
     }
 
     /// Compares how the newest call was answered with what a line tells.
@@ -86,30 +93,41 @@ impl Rig {
 
 /// Compares the first call that is judged wrong after a line.
 pub fn expect_judged(rt: &impl Abort, found: Option<usize>, wanted: Option<usize>, line: &str) {
-    assert_eq!(rt; found, wanted, "the first wrong call after: {line}");
+    expect_found(rt, "wrong call", found, wanted, line);
+}
+
+/// Compares the first call of a kind, such as a wrong one, after a line.
+pub fn expect_found(
+    rt: &impl Abort,
+    kind: &str,
+    found: Option<usize>,
+    wanted: Option<usize>,
+    line: &str,
+) {
+    assert_eq!(rt; found, wanted, "the first {kind} after: {line}");
 }
 
 /// Compares an answer of endpoint 0 with what a line tells, the reason of a STALL by its number.
 fn expect_answer(rt: &impl Abort, answer: &EpAnswer, told: &str, line: &str) {
     if let EpAnswer::Stall(why) = answer {
         let wanted = told.strip_prefix("stall ").unwrap_or("");
-        assert_eq!(rt; Some(u16::from(why.number())), number(wanted), "{line}");
+        same_in(rt, &Some(u16::from(why.number())), &number(wanted), line);
         return;
     }
     let wanted = answer_of(told);
-    assert_eq!(rt; Some(answer), wanted.as_ref(), "{line}");
+    same_in(rt, &Some(answer), &wanted.as_ref(), line);
 }
 
 /// Compares the report of a poll with what a line tells.
 fn expect_report(rt: &impl Abort, report: &Option<Report>, told: &str, line: &str) {
     let wanted = if told == "nak" { None } else { bytes(told) };
-    assert!(rt; told == "nak" || wanted.is_some(), "no report: {line}");
-    assert_eq!(rt; report, &wanted, "{line}");
+    holds_in(rt, told == "nak" || wanted.is_some(), line);
+    same_in(rt, report, &wanted, line);
 }
 
 /// Compares the answer of a step of the flash work with what a line tells.
 fn expect_work(rt: &impl Abort, work: Work, told: &str, line: &str) {
-    assert_eq!(rt; Some(work), work_of(told), "{line}");
+    same_in(rt, &Some(work), &work_of(told), line);
 }
 
 /// The answer of a step of the flash work.
@@ -317,18 +335,15 @@ const SETTINGS: &str = "
     in = data 030000000400";
 
 /// The lines of a session on a blank flash: each is answered as it says, and each call is judged right.
-fn session(rt: &impl Abort, alloc: Global, script: &str) -> Result<(), Fail> {
-    let flash = SimFlash::new(alloc, 2)?;
-    let mut rig = Rig::start(alloc, flash)?;
-    rig.take_all(rt, alloc, script)?;
-    expect_judged(rt, rig.judged(alloc)?, None, script);
-    Ok(())
+fn session(rt: &impl Abort, alloc: Global, script: &str) {
+    let mut rig = Rig::start(rt, alloc, blank(rt, alloc, 2));
+    rig.take_all(rt, alloc, script);
+    expect_judged(rt, rig.judged(rt, alloc), None, script);
 }
 
 #[test]
-fn sessions_are_judged_right(rt: HostRuntime) -> Result<(), Fail> {
+fn sessions_are_judged_right(rt: HostRuntime) {
     for script in [COMMANDS, CUTS, REFUSALS, BOOT, REPORTS, SETTINGS] {
-        session(&rt, rt.alloc(), script)?;
+        session(&rt, rt.alloc(), script);
     }
-    Ok(())
 }

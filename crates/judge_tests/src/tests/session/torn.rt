@@ -2,7 +2,8 @@
 
 use super::super::text::with_slots;
 use super::*;
-use judge::session::{cut_leaves, is_next_step, passes};
+use crate::tests::asserts::{holds_at, same, same_in};
+use judge::session::{is_next_step, passes};
 use row_text::{drawn, full_word};
 
 /// Masks of one byte.
@@ -12,9 +13,9 @@ const MASKS: [u8; 7] = [0x00, 0x01, 0x0f, 0x55, 0xaa, 0xfe, 0xff];
 const RANDOM: [usize; 3] = [1, 8, 4096];
 
 /// A mask: the ones of one byte come first.
-fn mask(number: usize, state: &mut u32) -> Option<Mask> {
+fn mask(rt: &impl Abort, number: usize, state: &mut u32) -> Mask {
     if let Some(byte) = MASKS.get(number) {
-        return mask_of(&[*byte]);
+        return mask_of(rt, &[*byte]);
     }
     let count = match RANDOM.get(number.wrapping_sub(7)) {
         Some(count) => *count,
@@ -23,9 +24,9 @@ fn mask(number: usize, state: &mut u32) -> Option<Mask> {
     let mut mask = Mask::new();
     for _ in 0..count {
         let [_, byte, _, _] = drawn(state).to_le_bytes();
-        mask.try_push(byte).ok()?;
+        mask.try_push(byte).ok().expect(rt, "a mask");
     }
-    Some(mask)
+    mask
 }
 
 /// The feature report that sets a key of layer 0.
@@ -34,86 +35,72 @@ fn sets(key: u8, code: u8) -> [u8; 6] {
 }
 
 /// A keyboard on a flash that accepted a command and made so many steps for it.
-fn worked(alloc: Global, flash: &SimFlash, report: &[u8], steps: usize) -> Result<Rig, Fail> {
-    let mut rig = Rig::start(alloc, flash.clone()?)?;
-    rig.setup(SET_FEATURE)?;
-    rig.out(report)?;
+fn worked(rt: &impl Abort, alloc: Global, flash: &SimFlash, report: &[u8], steps: usize) -> Rig {
+    let mut rig = Rig::start(rt, alloc, copy_of(rt, flash));
+    rig.setup(rt, SET_FEATURE);
+    rig.out(rt, report);
     for _ in 0..steps {
-        let _work = rig.step();
+        let _work = rig.step(rt, &[]);
     }
-    Ok(rig)
+    rig
 }
 
 /// The step after so many, torn by this mask, as it is recorded.
 fn torn_step(
+    rt: &impl Abort,
     alloc: Global,
     start: &SimFlash,
     report: &[u8],
     steps: usize,
     mask: &[u8],
-) -> Result<Option<Recorded>, Fail> {
-    let mut rig = worked(alloc, start, report, steps)?;
-    rig.work(alloc, mask)?;
-    Ok(rig.take_newest())
+) -> Option<Recorded> {
+    let mut rig = worked(rt, alloc, start, report, steps);
+    rig.work(rt, mask);
+    rig.take_newest()
 }
 
 /// Whether a torn step is judged right: by its answer, and as a cut inside it.
-fn is_right(alloc: Global, run: &Rig, call: &Recorded) -> Result<bool, Fail> {
+fn is_right(rt: &impl Abort, alloc: Global, run: &Rig, call: &Recorded) -> bool {
     let Recorded::Worked(_, flash) = call else {
-        return Ok(false);
+        return false;
     };
     let past = run.past.as_slice();
-    let step = is_next_step(alloc, &run.start, past, call)?;
-    let passes = passes(alloc, &run.start, past, call)?;
-    let cut = cut_leaves(alloc, &run.start, past, flash)?;
-    Ok(step && passes && cut)
+    let step = made(rt, is_next_step(alloc, &run.start, past, call));
+    let passes = made(rt, passes(alloc, &run.start, past, call));
+    step && passes && run.may_leave(rt, alloc, flash)
 }
 
 /// Whether the step after so many, torn by this mask, is judged right.
 fn is_torn_right(
+    rt: &impl Abort,
     alloc: Global,
     run: &Rig,
     report: &[u8],
     steps: usize,
     mask: &[u8],
-) -> Result<bool, Fail> {
-    match torn_step(alloc, &run.start, report, steps, mask)? {
-        Some(call) => is_right(alloc, run, &call),
-        None => Ok(false),
+) -> bool {
+    match torn_step(rt, alloc, &run.start, report, steps, mask) {
+        Some(call) => is_right(rt, alloc, run, &call),
+        None => false,
     }
 }
 
 /// Tears the step after so many by each of ten masks.
-fn tear(
-    rt: &impl Abort,
-    alloc: Global,
-    run: &Rig,
-    report: &[u8],
-    steps: usize,
-    state: &mut u32,
-) -> Result<(), Fail> {
+fn tear(rt: &impl Abort, alloc: Global, run: &Rig, report: &[u8], steps: usize, state: &mut u32) {
     for number in 0..10 {
-        let mask = mask(number, state).ok_or("a mask")?;
-        let right = is_torn_right(alloc, run, report, steps, mask.as_slice())?;
-        assert!(rt; right, "{steps} {number}");
+        let mask = mask(rt, number, state);
+        let right = is_torn_right(rt, alloc, run, report, steps, mask.as_slice());
+        holds_at(rt, right, &(steps, number));
     }
-    Ok(())
 }
 
 /// Tears each of so many steps in turn, and makes it whole.
-fn tear_each(
-    rt: &impl Abort,
-    alloc: Global,
-    run: &mut Rig,
-    report: &[u8],
-    count: usize,
-) -> Result<(), Fail> {
+fn tear_each(rt: &impl Abort, alloc: Global, run: &mut Rig, report: &[u8], count: usize) {
     let mut state = 1;
     for steps in 0..count {
-        tear(rt, alloc, run, report, steps, &mut state)?;
-        run.work(alloc, &[])?;
+        tear(rt, alloc, run, report, steps, &mut state);
+        run.work(rt, &[]);
     }
-    Ok(())
 }
 
 /// Tears each step of the command that sets a key of layer 0, which takes so many.
@@ -124,48 +111,45 @@ fn tear_each_step(
     key: u8,
     code: u8,
     count: usize,
-) -> Result<(), Fail> {
+) {
     let report = sets(key, code);
-    let mut run = worked(alloc, &flash, &report, 0)?;
-    tear_each(rt, alloc, &mut run, &report, count)?;
-    let wrong = run.judged(alloc)?;
-    assert_eq!(rt; wrong, None);
-    run.in_packet()?;
+    let mut run = worked(rt, alloc, &flash, &report, 0);
+    tear_each(rt, alloc, &mut run, &report, count);
+    same(rt, &run.judged(rt, alloc), &None);
+    run.in_packet(rt);
     run.expect_told(rt, "data -", "the status stage");
-    Ok(())
 }
 
 #[test]
-fn each_step_of_a_turnover_is_torn(rt: HostRuntime) -> Result<(), Fail> {
+fn each_step_of_a_turnover_is_torn(rt: HostRuntime) {
     let alloc = rt.alloc();
-    tear_each_step(&rt, alloc, full_page(alloc, &[])?, 0, 6, 3)?;
+    tear_each_step(&rt, alloc, full_page(&rt, alloc, &[]), 0, 6, 3);
     // A copy and a torn header of a turn that was cut.
     let begun = [
         (1, 1, good(0x1000_0005)),
         (1, 0, [0xaa, 0xaa, 0xaa, 0xaa, 0xff, 0xff, 0xff, 0xff]),
     ];
-    tear_each_step(&rt, alloc, full_page(alloc, &begun)?, 0, 6, 4)?;
+    tear_each_step(&rt, alloc, full_page(&rt, alloc, &begun), 0, 6, 4);
     // A page of format 1, whose copy has another code.
     let old = [(0, 0, good(0x1000_0001)), (0, 1, good(0x1000_400d))];
-    tear_each_step(&rt, alloc, slots_of(alloc, 2, &old)?, 1, 6, 3)
+    tear_each_step(&rt, alloc, slots_of(&rt, alloc, 2, &old), 1, 6, 3);
 }
 
 #[test]
-fn each_step_of_the_longest_turnover_is_torn(rt: HostRuntime) -> Result<(), Fail> {
-    let alloc = rt.alloc();
-    tear_each_step(&rt, alloc, all_set(alloc)?, 0, 0, 387)
+fn each_step_of_the_longest_turnover_is_torn(rt: HostRuntime) {
+    tear_each_step(&rt, rt.alloc(), all_set(&rt, rt.alloc()), 0, 0, 387);
 }
 
 /// A full page of format 1 that sets every entry to 0, and key 0 in turn to 5 and 0, and a page after
 /// it that is not blank.
-fn all_set(alloc: Global) -> Result<SimFlash, Fail> {
+fn all_set(rt: &impl Abort, alloc: Global) -> SimFlash {
     let mut slots = Vec::new(alloc);
-    slots.push((0, 0, good(0x1000_0001)))?;
+    put(rt, &mut slots, (0, 0, good(0x1000_0001)));
     for slot in 1..512u32 {
-        slots.push((0, slot as usize, good(full_word(slot))))?;
+        put(rt, &mut slots, (0, slot as usize, good(full_word(slot))));
     }
-    slots.push((1, 9, [0; 8]))?;
-    slots_of(alloc, 2, slots.as_slice())
+    put(rt, &mut slots, (1, 9, [0; 8]));
+    slots_of(rt, alloc, 2, slots.as_slice())
 }
 
 /// After a header, a record on its way: whether a cut may leave this slot, told by its page, its number
@@ -179,21 +163,22 @@ const CUTS: &str = "yes 0 1 ffffffffffffffff
     no 1 1 feffffffffffffff";
 
 /// Whether a cut inside the record of a command may leave the flash with this slot.
-fn may_leave(alloc: Global, slot: &str) -> Result<bool, Fail> {
-    let blank = SimFlash::new(alloc, 2)?;
-    let mut rig = worked(alloc, &blank, &sets(0, 5), 0)?;
-    rig.work(alloc, &[])?;
-    let cut = with_slots(alloc, &rig.flash, slot)?;
-    let left = cut_leaves(alloc, &rig.start, rig.past.as_slice(), &cut)?;
-    Ok(left)
+fn may_leave(rt: &impl Abort, alloc: Global, slot: &str) -> bool {
+    let mut rig = worked(rt, alloc, &blank(rt, alloc, 2), &sets(0, 5), 0);
+    rig.work(rt, &[]);
+    let left = with_slots(rt, alloc, &rig.flash, slot);
+    rig.may_leave(rt, alloc, &left)
 }
 
 #[test]
-fn cuts_leave_the_old_record_or_the_new(rt: HostRuntime) -> Result<(), Fail> {
+fn cuts_leave_the_old_record_or_the_new(rt: HostRuntime) {
     for line in CUTS.lines() {
         let (told, slot) = line.trim().split_once(' ').unwrap_or(("", ""));
-        let may = may_leave(rt.alloc(), slot)?;
-        assert_eq!(rt; may, told == "yes", "{line}");
+        same_in(
+            &rt,
+            &may_leave(&rt, rt.alloc(), slot),
+            &(told == "yes"),
+            line,
+        );
     }
-    Ok(())
 }

@@ -1,7 +1,7 @@
 //! Sessions that the definitions refuse: each is a right one with its last call changed.
 
 use super::super::text::with_slots;
-use super::rows::{answer_of, expect_judged, work_of};
+use super::rows::{answer_of, expect_found, expect_judged, work_of};
 use super::*;
 use row_text::bytes;
 
@@ -270,105 +270,98 @@ const WRONG: &str = "
     work 0f != failed with 0 511 ffffffffffffffff";
 
 /// The report of a poll, as a line tells it.
-fn report_of(told: &str) -> Result<Option<Report>, Fail> {
+fn report_of(rt: &impl Abort, told: &str) -> Option<Report> {
     if told == "nak" {
-        return Ok(None);
+        return None;
     }
-    let report = bytes(told).ok_or("a report")?;
-    Ok(Some(report))
+    Some(bytes(told).expect(rt, "a report"))
+}
+
+/// The answer of endpoint 0, as a line tells it.
+fn told_answer(rt: &impl Abort, told: &str) -> EpAnswer {
+    answer_of(told).expect(rt, "an answer")
 }
 
 /// A call with another answer, and another flash after it.
-fn changed(alloc: Global, call: Recorded, told: &str, slots: &str) -> Result<Recorded, Fail> {
-    Ok(match call {
-        Recorded::Out(packet, _) => Recorded::Out(packet, answer_of(told).ok_or("an answer")?),
-        Recorded::In(_) => Recorded::In(answer_of(told).ok_or("an answer")?),
-        Recorded::Polled(_) => Recorded::Polled(report_of(told)?),
+fn changed(rt: &impl Abort, alloc: Global, call: Recorded, told: &str, slots: &str) -> Recorded {
+    match call {
+        Recorded::Out(packet, _) => Recorded::Out(packet, told_answer(rt, told)),
+        Recorded::In(_) => Recorded::In(told_answer(rt, told)),
+        Recorded::Polled(_) => Recorded::Polled(report_of(rt, told)),
         Recorded::Worked(_, flash) => {
-            let work = work_of(told).ok_or("an answer of work")?;
-            Recorded::Worked(work, with_slots(alloc, &flash, slots)?)
+            let work = work_of(told).expect(rt, "an answer of work");
+            Recorded::Worked(work, with_slots(rt, alloc, &flash, slots))
         }
-        Recorded::Scanned(scan) => Recorded::Scanned(scan),
-        Recorded::SetUp(setup) => Recorded::SetUp(setup),
-        Recorded::BusReset => Recorded::BusReset,
-    })
+        other => other,
+    }
 }
 
 /// Makes a call and changes it: it is judged right before, and is the first wrong one then. A step of the flash work is then
 /// also the first that is not the next one. After a call more the same one is wrong, and it is the first unlawful one.
-fn refuse(rt: &impl Abort, alloc: Global, rig: &mut Rig, line: &str) -> Result<(), Fail> {
+fn refuse(rt: &impl Abort, alloc: Global, rig: &mut Rig, line: &str) {
     let (last, told) = line.split_once(" != ").unwrap_or((line, ""));
-    rig.take(rt, alloc, last)?;
-    expect_judged(rt, rig.judged(alloc)?, None, line);
-    let Some(call) = rig.take_newest() else {
-        panic!(rt; "no call: {line}");
-    };
-    let index = rig.count();
-    let (told, slots) = told.split_once(" with ").unwrap_or((told, ""));
-    rig.record(changed(alloc, call, told, slots)?)?;
-    expect_judged(rt, rig.judged(alloc)?, Some(index), line);
+    rig.take(rt, alloc, last);
+    expect_judged(rt, rig.judged(rt, alloc), None, line);
+    change(rt, alloc, rig, told);
+    let index = Some(rig.count().wrapping_sub(1));
+    expect_judged(rt, rig.judged(rt, alloc), index, line);
     if last.starts_with("work") {
-        assert_eq!(rt;
-            rig.misstep(alloc)?,
-            Some(index),
-            "the first misstep after: {line}"
-        );
+        expect_found(rt, "misstep", rig.misstep(rt, alloc), index, line);
     }
-    let wrong = rig.wrong(alloc)?;
-    rig.scan(Scan { rows: [0; 6] })?;
-    assert_eq!(rt; rig.wrong(alloc)?, wrong, "and after a call more: {line}");
-    assert_eq!(rt;
-        rig.unlawful(alloc)?,
-        Some(index),
-        "the first unlawful call after: {line}"
+    let wrong = rig.wrong(rt, alloc);
+    rig.scan(rt, Scan { rows: [0; 6] });
+    expect_found(
+        rt,
+        "wrong call, asked after one more,",
+        rig.wrong(rt, alloc),
+        wrong,
+        line,
     );
-    Ok(())
+    expect_found(rt, "unlawful call", rig.unlawful(rt, alloc), index, line);
 }
 
-/// A keyboard on a blank flash.
-fn blank(alloc: Global) -> Result<Rig, Fail> {
-    let flash = SimFlash::new(alloc, 2)?;
-    Rig::start(alloc, flash)
+/// Changes the newest call to what a line tells.
+fn change(rt: &impl Abort, alloc: Global, rig: &mut Rig, told: &str) {
+    let call = rig.take_newest().expect(rt, told);
+    let (told, slots) = told.split_once(" with ").unwrap_or((told, ""));
+    rig.record(rt, changed(rt, alloc, call, told, slots));
 }
 
-/// A keyboard on a flash of this name, if it is one.
-fn named(alloc: Global, name: &str) -> Result<Option<Rig>, Fail> {
-    let flash = match name {
-        "full" => full_page(alloc, &[])?,
-        "used" => full_page(alloc, &[(1, 9, [0; 8])])?,
-        _ => return Ok(None),
-    };
-    let rig = Rig::start(alloc, flash)?;
-    Ok(Some(rig))
+/// A flash of this name, if it is one.
+fn named(rt: &impl Abort, alloc: Global, name: &str) -> Option<SimFlash> {
+    match name {
+        "full" => Some(full_page(rt, alloc, &[])),
+        "used" => Some(full_page(rt, alloc, &[(1, 9, [0; 8])])),
+        _ => None,
+    }
 }
 
 /// Takes a line; a new session begins after each wrong one.
-fn take(rt: &impl Abort, alloc: Global, rig: &mut Rig, line: &str) -> Result<(), Fail> {
+fn take(rt: &impl Abort, alloc: Global, rig: &mut Rig, line: &str) {
     if line.starts_with('#') {
-        return Ok(());
+        return;
     }
-    if let Some(other) = named(alloc, line)? {
-        *rig = other;
-        return Ok(());
+    if let Some(flash) = named(rt, alloc, line) {
+        *rig = Rig::start(rt, alloc, flash);
+        return;
     }
-    if !line.contains(" != ") {
-        return rig.take(rt, alloc, line);
+    if line.contains(" != ") {
+        refuse(rt, alloc, rig, line);
+        *rig = Rig::start(rt, alloc, blank(rt, alloc, 2));
+    } else {
+        rig.take(rt, alloc, line);
     }
-    refuse(rt, alloc, rig, line)?;
-    *rig = blank(alloc)?;
-    Ok(())
 }
 
 /// Takes each line of wrong sessions.
-fn take_each(rt: &impl Abort, alloc: Global, rig: &mut Rig) -> Result<(), Fail> {
+fn take_each(rt: &impl Abort, alloc: Global, rig: &mut Rig) {
     for line in WRONG.lines() {
-        take(rt, alloc, rig, line.trim())?;
+        take(rt, alloc, rig, line.trim());
     }
-    Ok(())
 }
 
 #[test]
-fn changed_sessions_are_refused(rt: HostRuntime) -> Result<(), Fail> {
-    let mut rig = blank(rt.alloc())?;
-    take_each(&rt, rt.alloc(), &mut rig)
+fn changed_sessions_are_refused(rt: HostRuntime) {
+    let mut rig = Rig::start(&rt, rt.alloc(), blank(&rt, rt.alloc(), 2));
+    take_each(&rt, rt.alloc(), &mut rig);
 }

@@ -1,6 +1,7 @@
 //! Requests for memory that are refused. In a plain run none is; the test command can refuse one.
 
-use super::{same, so_ended, text_of};
+use super::{so_ended, text_of};
+use crate::tests::asserts::same_text;
 use arrayvec::ArrayVec;
 use parse_lines::{LinesError, items_bytes, items_text, parse_bytes, parse_text};
 use std::process::Abort;
@@ -28,7 +29,7 @@ fn is_told<R: Abort>(rt: &R, ended: Result<(), LinesError>, printed: &[u8], expe
         Ok(()) => (Ok(()), expected),
         Err(_) => (Err(LinesError::Memory), "fault memory\n"),
     };
-    same(rt, text_of(printed), expected, "the fault alone");
+    same_text(rt, text_of(printed), expected, "the fault alone");
     so_ended(rt, ended, ends, "the fault alone");
 }
 

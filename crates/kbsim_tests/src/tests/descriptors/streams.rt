@@ -1,6 +1,7 @@
 //! Readers and writers that fail, and the longest text.
 
-use super::{refused, same, so_ended, text_of};
+use super::{refused, so_ended, text_of};
+use crate::tests::asserts::same_text;
 use crate::tests::streams::{FailingWriter, KINDS, NeverFlushed, Repeated, before_it_fails};
 use descriptor_parse::ParseFault;
 use parse_lines::{LinesError, describe, items_text, parse_text};
@@ -38,7 +39,7 @@ fn items_of_a_reader_that_fails(rt: HostRuntime) {
             };
             let mut printed = Vec::new(rt.alloc());
             let ended = items_text(rt.alloc(), &mut reader, &mut printed);
-            same(&rt, text_of(printed.as_slice()), expected, expected);
+            same_text(&rt, text_of(printed.as_slice()), expected, expected);
             so_ended(&rt, ended, ends, expected);
         }
     }
@@ -60,7 +61,7 @@ fn a_reader_that_fails(rt: HostRuntime) {
             };
             let mut printed = Vec::new(rt.alloc());
             let ended = parse_text(rt.alloc(), &mut reader, &mut printed);
-            same(&rt, text_of(printed.as_slice()), expected, expected);
+            same_text(&rt, text_of(printed.as_slice()), expected, expected);
             so_ended(&rt, ended, ends, expected);
         }
     }
@@ -76,7 +77,7 @@ fn is_stopped<R: Abort>(
     printed: &str,
 ) {
     let front = before_it_fails(printed, writes);
-    same(rt, text_of(writer.taken()), front, printed);
+    same_text(rt, text_of(writer.taken()), front, printed);
     let is_whole = front.len() == printed.len();
     let ends = if is_whole {
         ends
@@ -86,22 +87,23 @@ fn is_stopped<R: Abort>(
     so_ended(rt, ended, ends, printed);
 }
 
+/// Prints the fields of a text to writers that fail, each at another write.
+fn stops<R: AllocGlobal + Abort>(rt: &R, text: &str, printed: &str, ends: Result<(), LinesError>) {
+    for writes in 0..14 {
+        for then in KINDS {
+            let mut writer = FailingWriter::new(writes, then);
+            let ended = parse_text(rt.alloc(), &mut text.as_bytes(), &mut writer);
+            is_stopped(rt, &writer, writes, ended, ends, printed);
+        }
+    }
+}
+
 #[test]
 fn nothing_is_printed_after_a_write_that_failed(rt: HostRuntime) {
     let unended = refused(ParseFault::EndWithoutCollection, 0);
-    for (text, printed, ends) in [
-        (TEXT, PRINTED, Ok(())),
-        ("C0", "fault parse 8 at 0\n", unended),
-        ("0", "fault hex\n", Err(LinesError::BadHexText)),
-    ] {
-        for writes in 0..14 {
-            for then in KINDS {
-                let mut writer = FailingWriter::new(writes, then);
-                let ended = parse_text(rt.alloc(), &mut text.as_bytes(), &mut writer);
-                is_stopped(&rt, &writer, writes, ended, ends, printed);
-            }
-        }
-    }
+    stops(&rt, TEXT, PRINTED, Ok(()));
+    stops(&rt, "C0", "fault parse 8 at 0\n", unended);
+    stops(&rt, "0", "fault hex\n", Err(LinesError::BadHexText));
 }
 
 #[test]
@@ -146,8 +148,8 @@ fn items_that_can_not_be_written(rt: HostRuntime) {
             let ended = items_text(rt.alloc(), &mut b"04 C0".as_slice(), &mut writer);
             let taken = text_of(writer.taken());
             let (first, second) = taken.split_at_checked(items.len()).unwrap_or((taken, ""));
-            same(&rt, first, items, "items");
-            same(&rt, second, last, "the line of the fault");
+            same_text(&rt, first, items, "items");
+            same_text(&rt, second, last, "the line of the fault");
             so_ended(&rt, ended, ends, "items");
         }
     }
@@ -163,20 +165,22 @@ fn a_writer_that_does_not_flush(rt: HostRuntime) {
     so_ended(&rt, describe(&mut NeverFlushed), refused, "the keyboard");
 }
 
+/// Reads so many digits of a reader that fails then.
+fn reads_digits<R: AllocGlobal + Abort>(rt: &R, left: usize, fault: LinesError, expected: &str) {
+    let mut reader = Repeated {
+        byte: b'0',
+        left,
+        most: usize::MAX,
+        fails: true,
+    };
+    let mut printed = Vec::new(rt.alloc());
+    let ended = parse_text(rt.alloc(), &mut reader, &mut printed);
+    same_text(rt, text_of(printed.as_slice()), expected, expected);
+    so_ended(rt, ended, Err(fault), expected);
+}
+
 #[test]
 fn the_longest_text_of_a_reader_that_fails(rt: HostRuntime) {
-    let too_long = (Err(LinesError::TooLong), "fault too long\n");
-    let failed = (Err(LinesError::Input), "fault input\n");
-    for (left, (ends, expected)) in [(2_000_000, too_long), (1_048_576, failed)] {
-        let mut reader = Repeated {
-            byte: b'0',
-            left,
-            most: usize::MAX,
-            fails: true,
-        };
-        let mut printed = Vec::new(rt.alloc());
-        let ended = parse_text(rt.alloc(), &mut reader, &mut printed);
-        same(&rt, text_of(printed.as_slice()), expected, expected);
-        so_ended(&rt, ended, ends, expected);
-    }
+    reads_digits(&rt, 2_000_000, LinesError::TooLong, "fault too long\n");
+    reads_digits(&rt, 1_048_576, LinesError::Input, "fault input\n");
 }

@@ -1,11 +1,11 @@
 //! Scripts on a blank flash of two pages that is armed.
 
-use super::{end_of, same, so_ended, text_of};
+use super::{end_of, so_ended, text_of};
+use crate::tests::asserts::same_text;
 use arrayvec::ArrayVec;
 use kbsim::{SimFlash, blank_flash, run_on};
 use row_text::add_rows;
 use std::process::Abort;
-use std::test::Fail;
 
 /// Each on a flash whose next operation writes nothing and fails.
 const SCRIPTS: &str = "\
@@ -37,21 +37,26 @@ fn prints_on<R: AllocGlobal + Abort>(rt: &R, flash: SimFlash, script: &str, expe
     let mut reader = script.as_bytes();
     let mut printed = Vec::new(rt.alloc());
     let ended = end_of(run_on(rt.alloc(), flash, &mut reader, &mut printed));
-    same(rt, text_of(printed.as_slice()), expected, script);
+    same_text(rt, text_of(printed.as_slice()), expected, script);
     so_ended(rt, ended, Ok(()), script);
 }
 
+/// A flash whose next operation writes nothing and fails.
+fn armed_flash<R: AllocGlobal + Abort>(rt: &R) -> SimFlash {
+    let mut flash = blank_flash(rt.alloc(), 2).ok().expect(rt, "a flash");
+    let mut mask = ArrayVec::new();
+    mask.try_push(0x00).ok().expect(rt, "room");
+    flash.fault_next(mask);
+    flash
+}
+
 #[test]
-fn on_a_flash_that_is_armed(rt: HostRuntime) -> Result<(), Fail> {
+fn on_a_flash_that_is_armed(rt: HostRuntime) {
     for rows in SCRIPTS.split("\n\n") {
-        let mut flash = blank_flash(rt.alloc(), 2).map_err(|_| "flash")?;
-        let mut mask = ArrayVec::new();
-        mask.try_push(0x00)?;
-        flash.fault_next(mask);
         let mut script = String::new(rt.alloc());
         let mut expected = String::new(rt.alloc());
-        add_rows(rt.alloc(), &mut script, &mut expected, rows).ok_or("memory")?;
-        prints_on(&rt, flash, script.as_str(), expected.as_str());
+        let added = add_rows(rt.alloc(), &mut script, &mut expected, rows);
+        added.expect(&rt, "memory");
+        prints_on(&rt, armed_flash(&rt), script.as_str(), expected.as_str());
     }
-    Ok(())
 }

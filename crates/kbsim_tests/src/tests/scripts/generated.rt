@@ -2,11 +2,13 @@
 //! answers to their events, in words of this module's own.
 
 use super::prints;
+use crate::tests::asserts::{holds, made};
+use crate::tests::push;
 use device::take_line;
-use kbsim::{SimFlash, World, blank_flash};
+use kbsim::{World, blank_flash};
 use script::{Line, read_lines};
-use std::alloc::{AllocError, Global};
-use std::test::Fail;
+use std::alloc::Global;
+use std::process::Abort;
 
 mod device;
 mod words;
@@ -213,71 +215,56 @@ fn next(number: &mut u32) -> usize {
 }
 
 /// Draws a script of 1 to 20 of these lines.
-fn drawn(alloc: Global, lines: &[&str], number: &mut u32) -> Result<String, AllocError> {
+fn drawn(rt: &impl Abort, alloc: Global, lines: &[&str], number: &mut u32) -> String {
     let mut script = String::new(alloc);
     let mut place = next(number);
     for _line in 0..1 + next(number) % 20 {
-        let line = lines.get(place % 200).copied().unwrap_or("");
-        script.push_str(line)?;
-        script.push_str("\n")?;
+        push(
+            rt,
+            &mut script,
+            lines.get(place % 200).copied().unwrap_or(""),
+        );
+        push(rt, &mut script, "\n");
         // Mostly the line after it comes next, so that transfers come to their ends.
         place = place.wrapping_add(1);
         if next(number) % 4 == 0 {
             place = next(number);
         }
     }
-    Ok(script)
+    script
 }
 
 /// What a script prints, by what a device answers.
-fn printed_by(alloc: Global, script: &[u8]) -> Result<String, Fail> {
-    if script.len() > 1000 {
-        return Err("script")?;
-    }
+fn printed_by(rt: &impl Abort, alloc: Global, script: &[u8]) -> String {
+    holds(rt, script.len() <= 1000);
+    let lines = read_lines(alloc, 2, script).ok().expect(rt, "lines");
+    let flash = blank_flash(alloc, 2).ok().expect(rt, "a flash");
+    let mut world = made(rt, World::new(alloc, flash));
+    take_lines(rt, alloc, &mut world, lines.as_slice())
+}
+
+/// Takes the events of these lines, and tells what they print.
+fn take_lines(rt: &impl Abort, alloc: Global, world: &mut World, lines: &[Line<'_>]) -> String {
     let mut text = String::new(alloc);
-    let lines = read_lines(alloc, 2, script)?;
-    let flash = blank_flash(alloc, 2)?;
-    run_lines(alloc, flash, lines.as_slice(), &mut text)?;
-    Ok(text)
-}
-
-/// Adds what these lines print on a flash to a text.
-fn run_lines(
-    alloc: Global,
-    flash: SimFlash,
-    lines: &[Line<'_>],
-    text: &mut String,
-) -> Result<(), AllocError> {
-    let mut world = World::new(alloc, flash)?;
-    take_lines(alloc, &mut world, lines, text)
-}
-
-/// Takes the events of these lines, and adds what they print to a text.
-fn take_lines(
-    alloc: Global,
-    world: &mut World,
-    lines: &[Line<'_>],
-    text: &mut String,
-) -> Result<(), AllocError> {
     let mut answers = Vec::new(alloc);
     for line in lines {
         let number = line.number;
-        let printed = format!(in alloc; "{number} ")?;
-        text.push_str(printed.as_str())?;
-        take_line(alloc, world, &mut answers, &line.statement, text)?;
-        text.push_str("\n")?;
+        let printed = made(rt, format!(in alloc; "{number} "));
+        push(rt, &mut text, printed.as_str());
+        take_line(rt, alloc, world, &mut answers, &line.statement, &mut text);
+        push(rt, &mut text, "\n");
     }
-    Ok(())
+    text
 }
 
 #[test]
-fn two_thousand_scripts(rt: HostRuntime) -> Result<(), Fail> {
-    let lines: Vec<&str> = LINES.lines().collect(rt.alloc())?;
+fn two_thousand_scripts(rt: HostRuntime) {
+    let alloc = rt.alloc();
+    let lines: Vec<&str> = made(&rt, LINES.lines().collect(alloc));
     let mut number = 1;
     for _script in 0..2000 {
-        let script = drawn(rt.alloc(), lines.as_slice(), &mut number)?;
-        let expected = printed_by(rt.alloc(), script.as_bytes())?;
+        let script = drawn(&rt, alloc, lines.as_slice(), &mut number);
+        let expected = printed_by(&rt, alloc, script.as_bytes());
         prints(&rt, 2, script.as_bytes(), Ok(()), expected.as_str());
     }
-    Ok(())
 }

@@ -1,9 +1,11 @@
 //! Runs from an image.
 
-use super::{same, so_ended, text_of};
+use super::{so_ended, text_of};
+use crate::tests::asserts::{same_in, same_text};
 use crate::tests::streams::Repeated;
 use kbsim::{RunError, image_flash, print_fault};
 use std::alloc::Global;
+use std::process::Abort;
 
 /// The length of an image, whether its reader `fails` after it, and the length of its flash, or the fault.
 const IMAGES: &str = "\
@@ -31,7 +33,7 @@ fn the_lengths_of_images(rt: HostRuntime) {
         let left = length.saturating_sub(32_769);
         let told = read_image(rt.alloc(), length, end == "fails");
         // One byte more than the largest image has is the last that is read.
-        assert_eq!(rt; told, (wanted_of(wanted), left), "{row}");
+        same_in(&rt, &told, &(wanted_of(wanted), left), row);
     }
 }
 
@@ -56,18 +58,18 @@ fn wanted_of(text: &str) -> Result<usize, RunError> {
     }
 }
 
+/// Prints a fault, and compares its line.
+fn is_line<R: AllocGlobal + Abort>(rt: &R, fault: RunError, line: &str) {
+    let mut printed = Vec::new(rt.alloc());
+    let told = print_fault(fault, &mut printed);
+    same_text(rt, text_of(printed.as_slice()), line, line);
+    so_ended(rt, Err(told), Err(fault), line);
+}
+
 #[test]
 fn the_lines_of_faults(rt: HostRuntime) {
-    let lines = [
-        (RunError::Image, "fault image\n"),
-        (RunError::Input, "fault input\n"),
-        (RunError::Memory, "fault memory\n"),
-        (RunError::PageCount, ""),
-    ];
-    for (fault, line) in lines {
-        let mut printed = Vec::new(rt.alloc());
-        let told = print_fault(fault, &mut printed);
-        same(&rt, text_of(printed.as_slice()), line, line);
-        so_ended(&rt, Err(told), Err(fault), line);
-    }
+    is_line(&rt, RunError::Image, "fault image\n");
+    is_line(&rt, RunError::Input, "fault input\n");
+    is_line(&rt, RunError::Memory, "fault memory\n");
+    is_line(&rt, RunError::PageCount, "");
 }

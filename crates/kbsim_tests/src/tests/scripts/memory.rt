@@ -1,6 +1,7 @@
 //! Requests for memory that are refused. In a plain run none is; the test command can refuse one.
 
 use super::text_of;
+use crate::tests::asserts::{holds_in, same_in};
 use arrayvec::ArrayVec;
 use kbsim::{RunError, run_script};
 
@@ -17,15 +18,13 @@ fn whole_lines_and_then_the_fault(rt: HostRuntime) {
     let mut printed: ArrayVec<u8, 128> = ArrayVec::new();
     let ended = run_script(rt.alloc(), 2, &mut reader, &mut printed);
     if ended == Ok(()) {
-        assert_eq!(rt; printed.as_slice(), PRINTED);
+        same_in(&rt, &printed.as_slice(), &PRINTED, "a whole run");
     } else {
-        assert_eq!(rt; ended, Err(RunError::Memory));
-        let front = printed.as_slice().strip_suffix(REFUSED);
         let text = text_of(printed.as_slice());
-        assert!(rt;
-            front.is_some_and(|lines| is_whole(lines) && PRINTED.starts_with(lines)),
-            "{text}"
-        );
+        same_in(&rt, &ended, &Err(RunError::Memory), text);
+        let front = printed.as_slice().strip_suffix(REFUSED);
+        let is_front = front.is_some_and(|lines| is_whole(lines) && PRINTED.starts_with(lines));
+        holds_in(&rt, is_front, text);
     }
 }
 

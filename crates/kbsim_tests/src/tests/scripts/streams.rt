@@ -1,6 +1,7 @@
 //! Readers and writers that fail, and the longest script.
 
-use super::{end_of, prints, same, so_ended, text_of};
+use super::{end_of, prints, so_ended, text_of};
+use crate::tests::asserts::same_text;
 use crate::tests::streams::{FailingWriter, KINDS, NeverFlushed, Repeated, before_it_fails};
 use kbsim::{LineFault, RunError, blank_flash, print_fault, run_on, run_script};
 use row_text::FailingReader;
@@ -26,27 +27,31 @@ fn run<R: Read, W: Write>(
     end_of(run_on(alloc, flash, reader, writer))
 }
 
+/// Runs the script of a reader that fails so after so many reads.
+fn reads<R: AllocGlobal + Abort>(rt: &R, reads_left: usize, kind: ErrorKind, is_given: bool) {
+    let mut reader = FailingReader {
+        text: SCRIPT.as_bytes(),
+        reads_left,
+        kind,
+    };
+    // Seven reads give the script, and one more its end.
+    let (ends, expected) = match reads_left {
+        8 => (Ok(()), PRINTED),
+        _ => (Err(RunError::Input), "fault input\n"),
+    };
+    let mut printed = Vec::new(rt.alloc());
+    let ended = run(rt.alloc(), is_given, &mut reader, &mut printed);
+    same_text(rt, text_of(printed.as_slice()), expected, expected);
+    so_ended(rt, ended, ends, expected);
+}
+
 #[test]
 fn a_reader_that_fails(rt: HostRuntime) {
-    // Seven reads give the script, and one more its end.
     for reads_left in 0..9 {
-        let (ends, expected) = match reads_left {
-            8 => (Ok(()), PRINTED),
-            _ => (Err(RunError::Input), "fault input\n"),
-        };
-        for kind in [ErrorKind::Other, ErrorKind::Interrupted] {
-            for is_given in [false, true] {
-                let mut reader = FailingReader {
-                    text: SCRIPT.as_bytes(),
-                    reads_left,
-                    kind,
-                };
-                let mut printed = Vec::new(rt.alloc());
-                let ended = run(rt.alloc(), is_given, &mut reader, &mut printed);
-                same(&rt, text_of(printed.as_slice()), expected, expected);
-                so_ended(&rt, ended, ends, expected);
-            }
-        }
+        reads(&rt, reads_left, ErrorKind::Other, false);
+        reads(&rt, reads_left, ErrorKind::Other, true);
+        reads(&rt, reads_left, ErrorKind::Interrupted, false);
+        reads(&rt, reads_left, ErrorKind::Interrupted, true);
     }
 }
 
@@ -60,7 +65,7 @@ fn is_stopped<R: Abort>(
     printed: &str,
 ) {
     let front = before_it_fails(printed, writes);
-    same(rt, text_of(writer.taken()), front, printed);
+    same_text(rt, text_of(writer.taken()), front, printed);
     let is_whole = front.len() == printed.len();
     let ends = if is_whole {
         ends
@@ -70,26 +75,34 @@ fn is_stopped<R: Abort>(
     so_ended(rt, ended, ends, printed);
 }
 
-#[test]
-fn nothing_is_printed_after_a_write_that_failed(rt: HostRuntime) {
-    let fault = LineFault::WrongWords;
-    let wrong_words = Err(RunError::Line { line: 1, fault });
+/// Runs a script to writers that fail, each at another write.
+fn stops<R: AllocGlobal + Abort>(
+    rt: &R,
+    is_given: bool,
+    script: &str,
+    printed: &str,
+    ends: Result<(), RunError>,
+) {
     // Eleven writes, and ten for the line of a fault.
-    for (script, printed, ends) in [
-        (SCRIPT, PRINTED, Ok(())),
-        ("in x", "fault line 1: wrong words\n", wrong_words),
-    ] {
-        for writes in 0..13 {
-            for then in KINDS {
-                for is_given in [false, true] {
-                    let mut writer = FailingWriter::new(writes, then);
-                    let mut reader = script.as_bytes();
-                    let ended = run(rt.alloc(), is_given, &mut reader, &mut writer);
-                    is_stopped(&rt, &writer, writes, ended, ends, printed);
-                }
-            }
+    for writes in 0..13 {
+        for then in KINDS {
+            let mut writer = FailingWriter::new(writes, then);
+            let mut reader = script.as_bytes();
+            let ended = run(rt.alloc(), is_given, &mut reader, &mut writer);
+            is_stopped(rt, &writer, writes, ended, ends, printed);
         }
     }
+}
+
+#[test]
+fn nothing_is_printed_after_a_write_that_failed(rt: HostRuntime) {
+    let line = "fault line 1: wrong words\n";
+    let fault = LineFault::WrongWords;
+    let ends = Err(RunError::Line { line: 1, fault });
+    stops(&rt, false, SCRIPT, PRINTED, Ok(()));
+    stops(&rt, true, SCRIPT, PRINTED, Ok(()));
+    stops(&rt, false, "in x", line, ends);
+    stops(&rt, true, "in x", line, ends);
 }
 
 #[test]
@@ -113,11 +126,10 @@ fn the_line_of_a_fault_that_can_not_be_written(rt: HostRuntime) {
 #[test]
 fn a_writer_that_does_not_flush(rt: HostRuntime) {
     let refused = Err(RunError::Output);
-    for is_given in [false, true] {
-        let mut reader = SCRIPT.as_bytes();
-        let ended = run(rt.alloc(), is_given, &mut reader, &mut NeverFlushed);
-        so_ended(&rt, ended, refused, SCRIPT);
-    }
+    let blank = run(rt.alloc(), false, &mut SCRIPT.as_bytes(), &mut NeverFlushed);
+    so_ended(&rt, blank, refused, SCRIPT);
+    let given = run(rt.alloc(), true, &mut SCRIPT.as_bytes(), &mut NeverFlushed);
+    so_ended(&rt, given, refused, SCRIPT);
     let ended = Err(print_fault(RunError::Image, &mut NeverFlushed));
     so_ended(&rt, ended, refused, "a fault");
 }
@@ -133,12 +145,8 @@ fn the_longest_script_of_a_reader_that_fails(rt: HostRuntime) {
     };
     let mut printed = Vec::new(rt.alloc());
     let ended = run_script(rt.alloc(), 2, &mut reader, &mut printed);
-    same(
-        &rt,
-        text_of(printed.as_slice()),
-        "fault input\n",
-        "a comment",
-    );
+    let printed = text_of(printed.as_slice());
+    same_text(&rt, printed, "fault input\n", "a comment");
     so_ended(&rt, ended, Err(RunError::Input), "a comment");
 }
 
@@ -155,5 +163,5 @@ fn is_not_read<R: AllocGlobal + Abort>(rt: &R, pages: usize) {
     let mut reader = SCRIPT.as_bytes();
     let mut printed = Vec::new(rt.alloc());
     let _ = run_script(rt.alloc(), pages, &mut reader, &mut printed);
-    same(rt, text_of(reader), SCRIPT, "what is left");
+    same_text(rt, text_of(reader), SCRIPT, "what is left");
 }

@@ -1,12 +1,12 @@
 //! What a listener hears of a text: each line that the writer has taken, once, and no other.
 
 use super::super::streams::{FailingWriter, KINDS, NeverFlushed, Then};
-use super::super::{same, text_of};
+use super::super::text_of;
+use crate::tests::asserts::{holds, same_at, same_text};
 use arrayvec::ArrayVec;
 use std::io;
 use std::io::{ErrorKind, Write};
 use std::process::Abort;
-use std::test::Fail;
 use text_io::{Listener, Tee};
 
 /// Keeps what it hears, with a bar behind each line.
@@ -68,17 +68,14 @@ fn expect_lines<R: Abort>(rt: &R, writes: usize, then: Then, is_again: bool) {
         &mut Tee::new(&mut writer, Hears { heard: &mut heard }),
         is_again,
     );
-    assert_eq!(rt; failures, usize::from(writes < WRITES), "at write {writes}");
+    same_at(rt, &failures, &usize::from(writes < WRITES), &writes);
     let taken = writer.taken();
     if is_again {
-        same(rt, text_of(taken), TEXT, "what was taken in the end");
+        same_text(rt, text_of(taken), TEXT, "what was taken in the end");
     }
-    same(
-        rt,
-        text_of(heard.as_slice()),
-        text_of(lines_of(taken).as_slice()),
-        text_of(taken),
-    );
+    let lines = lines_of(taken);
+    let wanted = text_of(lines.as_slice());
+    same_text(rt, text_of(heard.as_slice()), wanted, text_of(taken));
 }
 
 #[test]
@@ -104,20 +101,31 @@ fn heard_of_a_line(length: usize, piece: usize) -> ArrayVec<u8, 4096> {
     heard
 }
 
+/// Lengths of a line, and how much of it is heard.
+const LENGTHS: &[(usize, usize)] = &[
+    (2_047, 2_047),
+    (2_048, 2_048),
+    (2_049, 2_048),
+    (5_000, 2_048),
+];
+
+/// The lengths of the pieces that it comes in.
+const PIECES: &[usize] = &[1, 700, 2_048, 4_096];
+
+fn hears_beginning(rt: &impl Abort, length: usize, shown: usize, piece: usize) {
+    let heard = heard_of_a_line(length, piece);
+    let (line, rest) = heard.as_slice().split_at(heard.len().min(shown));
+    let letters = line.iter().take_while(|byte| **byte == b'a').count();
+    let wanted = shown.min(length.saturating_sub(1));
+    same_at(rt, &letters, &wanted, &(length, piece));
+    same_text(rt, text_of(rest), "|b\n|", "what follows the long line");
+}
+
 #[test]
 fn a_long_line_is_heard_from_its_beginning(rt: HostRuntime) {
-    for piece in [1, 700, 2_048, 4_096] {
-        for (length, shown) in [
-            (2_047, 2_047),
-            (2_048, 2_048),
-            (2_049, 2_048),
-            (5_000, 2_048),
-        ] {
-            let heard = heard_of_a_line(length, piece);
-            let (line, rest) = heard.as_slice().split_at(heard.len().min(shown));
-            let letters = line.iter().take_while(|byte| **byte == b'a').count();
-            assert_eq!(rt; letters, shown.min(length.saturating_sub(1)));
-            same(&rt, text_of(rest), "|b\n|", "what follows the long line");
+    for piece in PIECES.iter() {
+        for (length, shown) in LENGTHS.iter() {
+            hears_beginning(&rt, *length, *shown, *piece);
         }
     }
 }
@@ -126,5 +134,5 @@ fn a_long_line_is_heard_from_its_beginning(rt: HostRuntime) {
 fn a_flush_that_fails_is_told(rt: HostRuntime) {
     let mut heard = ArrayVec::new();
     let mut tee = Tee::new(NeverFlushed, Hears { heard: &mut heard });
-    assert_eq!(rt; tee.flush().is_err(), true);
+    holds(&rt, tee.flush().is_err());
 }

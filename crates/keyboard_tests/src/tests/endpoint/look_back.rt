@@ -2,6 +2,7 @@
 //! back over them at each packet.
 
 use super::calls::{Call, EMPTY, Told, told_by};
+use crate::tests::asserts::holds_at;
 use arrayvec::ArrayVec;
 use control_ep::*;
 use places::{Made, made_of};
@@ -59,7 +60,7 @@ fn answers_each_request(rt: HostRuntime) {
         for index in 0..2 {
             for more in 0..2 {
                 let setup = [kind, code, 0, more, index, 0, more, 0];
-                assert!(rt; answers_transfer(setup, more == 1, 1, &[]), "{setup:?}");
+                holds_at(&rt, answers_transfer(setup, more == 1, 1, &[]), &setup);
             }
         }
     }
@@ -88,7 +89,7 @@ fn answers_each_value(rt: HostRuntime) {
         let [low, high] = value.to_le_bytes();
         for (kind, code, length, booted) in SERVED {
             let setup = [kind, code, low, high, 0, 0, length, 0];
-            assert!(rt; answers_transfer(setup, booted, 1, &[]), "{setup:?}");
+            holds_at(&rt, answers_transfer(setup, booted, 1, &[]), &setup);
         }
     }
 }
@@ -99,16 +100,12 @@ fn answers_each_length_of_a_report(rt: HostRuntime) {
         let [low, high] = length.to_le_bytes();
         for id in [0x01, 0x00] {
             let setup = [0x21, 0x09, id, 0x02, 0, 0, low, high];
-            assert!(rt;
-                answers_transfer(setup, id == 0x00, 0, &[0x01, 0x02]),
-                "{setup:?}"
-            );
+            let right = answers_transfer(setup, id == 0x00, 0, &[0x01, 0x02]);
+            holds_at(&rt, right, &setup);
         }
         let setup = [0x21, 0x09, 0x03, 0x03, 0, 0, low, high];
-        assert!(rt;
-            answers_transfer(setup, false, 0, &[0x03, 0x01, 0, 0, 0, 0]),
-            "{setup:?}"
-        );
+        let right = answers_transfer(setup, false, 0, &[0x03, 0x01, 0, 0, 0, 0]);
+        holds_at(&rt, right, &setup);
     }
 }
 
@@ -127,7 +124,7 @@ fn answers_each_packet_of_a_read(rt: HostRuntime) {
             let [length_low, length_high] = length.to_le_bytes();
             let setup = [kind, code, low, high, 0, 0, length_low, length_high];
             let right = answers_read(setup, 16) && answers_read(setup, usize::from(length % 16));
-            assert!(rt; right, "{setup:?}");
+            holds_at(&rt, right, &setup);
         }
     }
 }
@@ -209,7 +206,7 @@ fn answers_random_calls(rt: HostRuntime) {
             let packet = random_packet(&mut seed);
             let call = random_call(&mut seed, packet.as_slice(), after_out);
             after_out = matches!(call, Call::Out(_));
-            assert!(rt; watched.answers(call), "round {round}");
+            holds_at(&rt, watched.answers(call), &round);
         }
     }
 }

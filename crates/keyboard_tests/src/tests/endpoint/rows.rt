@@ -87,7 +87,8 @@ fn effect(text: &str) -> Option<Effect> {
         return protocol(value);
     }
     let (id, value) = value.split_once(' ')?;
-    Some(Effect::Idle(id_of(id)?, byte(value)?))
+    let (id, value) = id_of(id).zip(byte(value))?;
+    Some(Effect::Idle(id, value))
 }
 
 fn protocol(text: &str) -> Option<Effect> {

@@ -1,6 +1,7 @@
 //! Codes, layers, keys, commands and the words that they are stored as.
 
 use super::rows::expect_rows;
+use crate::tests::asserts::same;
 use layers::{KeyNo, KeymapError, LayerNo};
 
 #[test]
@@ -31,20 +32,24 @@ fn the_codes(rt: HostRuntime) {
     );
 }
 
+/// The number of a layer that is read, or what is wrong.
+fn layer(number: u8) -> Result<u8, KeymapError> {
+    Ok(LayerNo::read(number)?.number())
+}
+
+/// The same of a key.
+fn key(number: u8) -> Result<u8, KeymapError> {
+    Ok(KeyNo::read(number)?.number())
+}
+
 #[test]
 fn layers_and_keys(rt: HostRuntime) {
-    let layers = [LayerNo::read(3), LayerNo::read(4)];
-    assert_eq!(rt;
-        layers.map(|layer| layer.map(|layer| layer.number())),
-        [Ok(3), Err(KeymapError::BadLayer)]
-    );
-    let keys = [KeyNo::read(95), KeyNo::read(96)];
-    assert_eq!(rt;
-        keys.map(|key| key.map(|key| key.number())),
-        [Ok(95), Err(KeymapError::BadKey)]
-    );
-    assert_eq!(rt; LayerNo::known(0).number(), 0);
-    assert_eq!(rt; Ok(KeyNo::known(95)), KeyNo::read(95));
+    same(&rt, &layer(3), &Ok(3));
+    same(&rt, &layer(4), &Err(KeymapError::BadLayer));
+    same(&rt, &key(95), &Ok(95));
+    same(&rt, &key(96), &Err(KeymapError::BadKey));
+    same(&rt, &LayerNo::known(0).number(), &0);
+    same(&rt, &Ok(KeyNo::known(95)), &KeyNo::read(95));
 }
 
 #[test]

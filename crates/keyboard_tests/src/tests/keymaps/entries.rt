@@ -2,6 +2,7 @@
 
 use super::plain;
 use super::rows::{command_of_word, expect_rows};
+use crate::tests::asserts::same_at;
 use layers::{Code, KeyNo, Keymap, LayerNo};
 use std::process::Abort;
 
@@ -92,11 +93,7 @@ fn the_table_is_the_look_back(rt: HostRuntime) {
         let mut keymap = Keymap::standard();
         for n in 0..WORDS.len() {
             let plainly = codes_plainly(&rt, format, &WORDS[..n]);
-            assert_eq!(rt;
-                codes_of(&rt, &keymap),
-                plainly,
-                "after {n} words of format {format}"
-            );
+            same_at(&rt, &codes_of(&rt, &keymap), &plainly, &(format, n));
             if let Some(command) = command_of_word(format, WORDS[n]) {
                 keymap.apply(command);
             }

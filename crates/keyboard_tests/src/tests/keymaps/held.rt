@@ -2,6 +2,7 @@
 
 use super::plain_held;
 use super::rows::{Session, expect_rows};
+use crate::tests::asserts::{same, same_at};
 use layers::{Code, Held, KeyNo, Keymap, LayerNo};
 use row_text::first_wrong;
 
@@ -263,14 +264,12 @@ fn the_held_codes_are_the_look_back(rt: HostRuntime) {
         set 3 2 0012
         set 2 0 0013",
     );
-    assert_eq!(rt; read, None);
+    same(&rt, &read, &None);
     for list in 0..1296u16 {
         let calls = calls_of(list);
         let layer = LayerNo::known((list % 4) as u8);
-        assert_eq!(rt;
-            after(&session.keymap, &calls, layer),
-            after_plainly(&session.keymap, &calls, layer),
-            "after list {list}"
-        );
+        let told = after(&session.keymap, &calls, layer);
+        let wanted = after_plainly(&session.keymap, &calls, layer);
+        same_at(&rt, &told, &wanted, &list);
     }
 }

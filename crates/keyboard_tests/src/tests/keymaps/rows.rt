@@ -26,7 +26,9 @@
 //! Layers, keys, places and counts are decimal; codes, usages, bytes and words are hex digits. `-` stands for no codes,
 //! and `#` begins a comment. Each part between blank lines has a keymap of its own, the default one, and no key held.
 
-use layers::{Code, Command, Held, KeyNo, Keymap, KeymapError, LayerNo, Usages};
+use super::super::codes::{byte_of, entry_of, key_of, layer_of, set_of, usages_of};
+use crate::tests::asserts::same_in;
+use layers::{Code, Command, Held, Keymap, KeymapError, Usages};
 use row_text::{RunsRows, byte, first_wrong, hex, hex16, number};
 use std::process::Abort;
 
@@ -67,7 +69,10 @@ impl<'a> RunsRows<'a> for Session {
             "format" => read_word(rest),
             "same" => same(rest),
             "empty" => Some(yes_or_no(Usages::none() == usages_of(rest)?)),
-            "press" | "release" | "fill" | "set" | "reset" => self.change(word, rest, call),
+            "press" => self.press(rest),
+            "release" => self.release(rest),
+            "fill" => self.fill(hex16(rest)?),
+            "set" | "reset" => self.apply(call),
             "copy" => Some(self.copy()),
             "changes" | "get" | "next" => self.ask_keymap(word, rest),
             "held" | "active" => self.ask_held(word, rest),
@@ -88,37 +93,32 @@ impl Session {
         }
     }
 
-    fn change(&mut self, word: &str, rest: &str, call: &str) -> Option<Told> {
-        match word {
-            "press" => self.press(rest)?,
-            "release" => self.release(rest)?,
-            "fill" => self.fill(hex16(rest)?)?,
-            _ => self.keymap.apply(command_of(call)?),
+    fn apply(&mut self, command: &str) -> Option<Told> {
+        self.keymap.apply(command_of(command)?);
+        Some(Told::Done)
+    }
+
+    fn press(&mut self, keys: &str) -> Option<Told> {
+        for key in keys.split(' ') {
+            self.held.press(&self.keymap, key_of(key)?);
         }
         Some(Told::Done)
     }
 
-    fn press(&mut self, keys: &str) -> Option<()> {
-        for key in keys.split(' ') {
-            self.held.press(&self.keymap, key_of(key)?);
-        }
-        Some(())
-    }
-
-    fn release(&mut self, keys: &str) -> Option<()> {
+    fn release(&mut self, keys: &str) -> Option<Told> {
         for key in keys.split(' ') {
             self.held.release(key_of(key)?);
         }
-        Some(())
+        Some(Told::Done)
     }
 
-    fn fill(&mut self, code: u16) -> Option<()> {
+    fn fill(&mut self, code: u16) -> Option<Told> {
         for layer in 0..4u8 {
             for key in 0..96u8 {
                 self.keymap.apply(Command::read(1, layer, key, code).ok()?);
             }
         }
-        Some(())
+        Some(Told::Done)
     }
 
     fn copy(&mut self) -> Told {
@@ -140,8 +140,8 @@ impl Session {
         match word {
             "changes" => Some(yes_or_no(self.keymap.changes(command_of(rest)?))),
             "get" => {
-                let (layer, key) = rest.split_once(' ')?;
-                let code = self.keymap.get(layer_of(layer)?, key_of(key)?);
+                let (layer, key) = entry_of(rest)?;
+                let code = self.keymap.get(layer, key);
                 Some(Told::Hex(u32::from(code.bits())))
             }
             "next" => Some(match self.keymap.next_changed(number(rest)?) {
@@ -196,11 +196,19 @@ fn read_command(rest: &str) -> Option<Told> {
     let (op, rest) = rest.split_once(' ')?;
     let (layer, rest) = rest.split_once(' ')?;
     let (key, code) = rest.split_once(' ')?;
-    let (op, layer, key) = (byte_of(op)?, byte_of(layer)?, byte_of(key)?);
-    Some(match Command::read(op, layer, key, hex16(code)?) {
+    match (byte_of(op), byte_of(layer), byte_of(key), hex16(code)) {
+        (Some(op), Some(layer), Some(key), Some(code)) => {
+            Some(read_or_bad(Command::read(op, layer, key, code)))
+        }
+        _ => None,
+    }
+}
+
+fn read_or_bad(read: Result<Command, KeymapError>) -> Told {
+    match read {
         Ok(command) => Told::Does(command),
         Err(error) => Told::Bad(error),
-    })
+    }
 }
 
 fn read_word(rest: &str) -> Option<Told> {
@@ -226,28 +234,8 @@ pub fn command_of_word(format: u8, word: u32) -> Option<Command> {
 
 fn same(rest: &str) -> Option<Told> {
     let (one, other) = rest.split_once(" > ")?;
-    Some(yes_or_no(usages_of(one)? == usages_of(other)?))
-}
-
-/// The usages of held keys with these codes.
-fn usages_of(codes: &str) -> Option<Usages> {
-    let mut session = Session::start();
-    hold(&mut session, codes)?;
-    Some(session.held.usages())
-}
-
-/// Gives keys these codes, from key 0 on, and presses them.
-fn hold(session: &mut Session, codes: &str) -> Option<()> {
-    if codes == "-" {
-        return Some(());
-    }
-    for (key, code) in (0..96u8).zip(codes.split(' ')) {
-        session
-            .keymap
-            .apply(Command::read(1, 0, key, hex16(code)?).ok()?);
-        session.held.press(&session.keymap, KeyNo::read(key).ok()?);
-    }
-    Some(())
+    let (one, other) = usages_of(one).zip(usages_of(other))?;
+    Some(yes_or_no(one == other))
 }
 
 fn yes_or_no(yes: bool) -> Told {
@@ -291,32 +279,10 @@ fn command_of(text: &str) -> Option<Command> {
     }
 }
 
-fn set_of(text: &str) -> Option<Command> {
-    let (layer, rest) = text.split_once(' ')?;
-    let (key, code) = rest.split_once(' ')?;
-    Some(Command::SetKey {
-        layer: layer_of(layer)?,
-        key: key_of(key)?,
-        code: Code::read(hex16(code)?).ok()?,
-    })
-}
-
-fn layer_of(text: &str) -> Option<LayerNo> {
-    LayerNo::read(byte_of(text)?).ok()
-}
-
-fn key_of(text: &str) -> Option<KeyNo> {
-    KeyNo::read(byte_of(text)?).ok()
-}
-
-fn byte_of(text: &str) -> Option<u8> {
-    text.parse::<u8>().ok()
-}
-
 /// Makes the calls of these rows, and compares what they answer.
 pub fn expect_rows(rt: &impl Abort, rows: &str) {
     for part in rows.split("\n\n") {
         let mut session = Session::start();
-        assert_eq!(rt; first_wrong(&mut session, part), None, "in {part}");
+        same_in(rt, &first_wrong(&mut session, part), &None, part);
     }
 }

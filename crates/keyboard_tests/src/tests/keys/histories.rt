@@ -1,15 +1,14 @@
 //! The keys beside the plain program, call by call, in many generated histories.
 
-use super::super::text::Random;
+use super::super::text::{Random, put_first};
 use super::plain;
+use crate::tests::asserts::{same, same_at};
 use debounce::Scan;
 use key_reports::{IdleId, KeyReports};
 use layers::{Command, KeyNo, Keymap};
 use reports::plain::{Call, Wanted, idle_value, poll_answer};
 use reports::{Input, Protocol, Report};
-use std::alloc::{AllocError, Global};
 use std::process::Abort;
-use std::test::Fail;
 
 /// The keys that the scans have: two of them on one row, one of them a modifier.
 const KEYS: [u8; 6] = [0, 1, 5, 17, 88, 95];
@@ -17,49 +16,43 @@ const KEYS: [u8; 6] = [0, 1, 5, 17, 88, 95];
 /// How many scans a history has.
 const SCANS: usize = 20;
 
-/// Momentary keys on the first layer and on others, consumer usages, and codes that only a layer gives.
+/// Momentary keys on the first layer and on others, consumer usages, and codes that only a layer gives: entries, each a
+/// layer, a key and a code.
+const ENTRIES: &[(u8, u8, u16)] = &[
+    (0, 0, 0x5001),
+    (1, 1, 0x5002),
+    (1, 5, 0x001E),
+    (2, 5, 0x43FF),
+    (2, 17, 0x4192),
+    (0, 17, 0x4001),
+    (1, 88, 0x0004),
+    (3, 95, 0x0021),
+];
+
+/// Those of another keymap.
+const OTHER_ENTRIES: &[(u8, u8, u16)] = &[
+    (0, 95, 0x5003),
+    (0, 17, 0x40E9),
+    (0, 5, 0x40EA),
+    (1, 0, 0x0004),
+    (3, 0, 0x0000),
+    (3, 88, 0x4003),
+    (3, 17, 0x4002),
+    (3, 1, 0x4009),
+    (3, 5, 0x4008),
+    (0, 1, 0x0001),
+];
+
 fn keymaps(rt: &impl Abort) -> [Keymap; 2] {
-    [
-        keymap_with(
-            rt,
-            &[
-                (0, 0, 0x5001),
-                (1, 1, 0x5002),
-                (1, 5, 0x001E),
-                (2, 5, 0x43FF),
-                (2, 17, 0x4192),
-                (0, 17, 0x4001),
-                (1, 88, 0x0004),
-                (3, 95, 0x0021),
-            ],
-        ),
-        keymap_with(
-            rt,
-            &[
-                (0, 95, 0x5003),
-                (0, 17, 0x40E9),
-                (0, 5, 0x40EA),
-                (1, 0, 0x0004),
-                (3, 0, 0x0000),
-                (3, 88, 0x4003),
-                (3, 17, 0x4002),
-                (3, 1, 0x4009),
-                (3, 5, 0x4008),
-                (0, 1, 0x0001),
-            ],
-        ),
-    ]
+    [keymap_with(rt, ENTRIES), keymap_with(rt, OTHER_ENTRIES)]
 }
 
 /// The default keymap, with these entries set.
 fn keymap_with(rt: &impl Abort, entries: &[(u8, u8, u16)]) -> Keymap {
     let mut keymap = Keymap::standard();
     for (layer, key, code) in entries {
-        keymap.apply(
-            Command::read(1, *layer, *key, *code)
-                .ok()
-                .expect(rt, "a command"),
-        );
+        let command = Command::read(1, *layer, *key, *code);
+        keymap.apply(command.ok().expect(rt, "a command"));
     }
     keymap
 }
@@ -200,25 +193,24 @@ struct History {
 }
 
 impl History {
-    fn start(alloc: Global, seed: u64) -> Result<History, AllocError> {
-        Ok(History {
+    fn start<R: AllocGlobal + Abort>(rt: &R, seed: u64) -> History {
+        History {
             random: Random(seed),
-            keys: KeyReports::new(alloc)?,
+            keys: KeyReports::new(rt.alloc()).ok().expect(rt, "memory"),
             protocol: if seed % 4 < 2 {
                 Protocol::Boot
             } else {
                 Protocol::Report
             },
-            calls: Vec::new(alloc),
+            calls: Vec::new(rt.alloc()),
             seed,
-        })
+        }
     }
 
     fn assert_wanted(&self, rt: &impl Abort, wanted: &Wanted) {
-        let seed = self.seed;
-        assert_eq!(rt; self.keys.boot(), wanted.boot, "seed {seed}");
-        assert_eq!(rt; self.keys.bitmap(), wanted.one, "seed {seed}");
-        assert_eq!(rt; self.keys.consumer(), wanted.two, "seed {seed}");
+        same_at(rt, &self.keys.boot(), &wanted.boot, &self.seed);
+        same_at(rt, &self.keys.bitmap(), &wanted.one, &self.seed);
+        same_at(rt, &self.keys.consumer(), &wanted.two, &self.seed);
     }
 
     /// A poll, and what it has to answer.
@@ -228,8 +220,7 @@ impl History {
             Some(bytes) => Report::try_from(bytes).ok(),
             None => None,
         };
-        let seed = self.seed;
-        assert_eq!(rt; answer, want, "seed {seed}");
+        same_at(rt, &answer, &want, &self.seed);
         Call::Polled(self.protocol, answer)
     }
 
@@ -282,18 +273,25 @@ impl History {
     }
 
     /// So many polls that what waits is sent, and what is due then.
-    fn poll_all(&mut self, rt: &impl Abort, wanted: &Wanted) -> Result<(), Fail> {
+    fn poll_all(&mut self, rt: &impl Abort, wanted: &Wanted) {
         for _ in 0..11u8 {
             let newest = self.poll(rt, wanted);
-            self.calls.insert(0, newest)?;
+            put_first(rt, &mut self.calls, newest);
         }
-        Ok(())
     }
 
     fn assert_idle(&self, rt: &impl Abort) {
         let calls = self.calls.as_slice();
-        assert_eq!(rt; self.keys.idle(IdleId::All), idle_value(Input::One, calls));
-        assert_eq!(rt; self.keys.idle(IdleId::Two), idle_value(Input::Two, calls));
+        same(
+            rt,
+            &self.keys.idle(IdleId::All),
+            &idle_value(Input::One, calls),
+        );
+        same(
+            rt,
+            &self.keys.idle(IdleId::Two),
+            &idle_value(Input::Two, calls),
+        );
     }
 }
 
@@ -306,8 +304,8 @@ fn keymap_of<'k>(random: &mut Random, keymaps: &'k [Keymap; 2]) -> &'k Keymap {
     }
 }
 
-fn compare<R: AllocGlobal + Abort>(rt: &R, keymaps: &[Keymap; 2], seed: u64) -> Result<(), Fail> {
-    let mut history = History::start(rt.alloc(), seed)?;
+fn compare<R: AllocGlobal + Abort>(rt: &R, keymaps: &[Keymap; 2], seed: u64) {
+    let mut history = History::start(rt, seed);
     let mut left = [0, 1, 2, 3, 4, 2u8];
     let mut scan = Scan::NONE;
     let mut scans: Vec<(Scan, &Keymap)> = Vec::new(rt.alloc());
@@ -323,50 +321,48 @@ fn compare<R: AllocGlobal + Abort>(rt: &R, keymaps: &[Keymap; 2], seed: u64) -> 
         scan = next_scan(&mut history.random, scan, &mut left, pace_of(seed));
         let keymap = keymap_of(&mut history.random, keymaps);
         history.keys.scan(scan, keymap, history.protocol);
-        scans.insert(0, (scan, keymap))?;
+        scans.insert(0, (scan, keymap)).ok().expect(rt, "memory");
         let now = if changes(scans.as_slice(), &mut down) {
             wanted(rt, scans.as_slice())
         } else {
             before
         };
-        history
-            .calls
-            .insert(0, Call::Ticked(history.protocol, before, now))?;
+        let ticked = Call::Ticked(history.protocol, before, now);
+        put_first(rt, &mut history.calls, ticked);
         history.assert_wanted(rt, &now);
         if let Some(newest) = history.call(rt, &now) {
-            history.calls.insert(0, newest)?;
+            put_first(rt, &mut history.calls, newest);
         }
         before = now;
     }
     history.assert_idle(rt);
-    history.poll_all(rt, &before)
+    history.poll_all(rt, &before);
 }
 
 /// 5,000 histories, from this number on.
-fn compare_from<R: AllocGlobal + Abort>(rt: &R, first: u64) -> Result<(), Fail> {
+fn compare_from<R: AllocGlobal + Abort>(rt: &R, first: u64) {
     let keymaps = keymaps(rt);
     for n in 0..5000u64 {
-        compare(rt, &keymaps, first.wrapping_add(n))?;
+        compare(rt, &keymaps, first.wrapping_add(n));
     }
-    Ok(())
 }
 
 #[test]
-fn histories_are_as_defined_1(rt: HostRuntime) -> Result<(), Fail> {
-    compare_from(&rt, 1)
+fn histories_are_as_defined_1(rt: HostRuntime) {
+    compare_from(&rt, 1);
 }
 
 #[test]
-fn histories_are_as_defined_2(rt: HostRuntime) -> Result<(), Fail> {
-    compare_from(&rt, 5001)
+fn histories_are_as_defined_2(rt: HostRuntime) {
+    compare_from(&rt, 5001);
 }
 
 #[test]
-fn histories_are_as_defined_3(rt: HostRuntime) -> Result<(), Fail> {
-    compare_from(&rt, 10001)
+fn histories_are_as_defined_3(rt: HostRuntime) {
+    compare_from(&rt, 10001);
 }
 
 #[test]
-fn histories_are_as_defined_4(rt: HostRuntime) -> Result<(), Fail> {
-    compare_from(&rt, 15001)
+fn histories_are_as_defined_4(rt: HostRuntime) {
+    compare_from(&rt, 15001);
 }

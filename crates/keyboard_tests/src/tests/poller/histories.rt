@@ -1,12 +1,12 @@
 //! The poller beside the plain program, over many generated sequences of calls.
 
-use super::super::text::Random;
-use super::usages;
+use super::super::codes::usages;
+use super::super::text::{Random, put_first};
+use crate::tests::asserts::{same, same_at};
 use layers::Usages;
 use reports::plain::{self, Call, Wanted};
 use reports::{IdleId, Input, Poller, Protocol, Report};
 use std::process::Abort;
-use std::test::Fail;
 
 /// The codes of the keys that a sequence holds at times: too many for a boot report, some that change one
 /// report alone, and one that no report shows.
@@ -93,7 +93,7 @@ fn tick(rt: &impl Abort, random: &mut Random, poller: &mut Poller, now: &mut Sit
 fn poll(rt: &impl Abort, poller: &mut Poller, now: &Situation, past: &[Call]) -> Call {
     let (usages, wanted, protocol) = (now.usages, now.wanted, now.protocol);
     let answer = poller.poll(&usages, protocol);
-    assert_eq!(rt; answer, expected(protocol, &wanted, past));
+    same(rt, &answer, &expected(protocol, &wanted, past));
     Call::Polled(protocol, answer)
 }
 
@@ -138,11 +138,18 @@ fn call(
     }
 }
 
+/// The Report IDs of idle values, and the report that each is compared at.
+const IDLE_VALUES: &[(IdleId, Input)] = &[
+    (IdleId::All, Input::One),
+    (IdleId::One, Input::Boot),
+    (IdleId::Two, Input::Two),
+];
+
 #[test]
-fn the_poller_is_the_definition(rt: HostRuntime) -> Result<(), Fail> {
+fn the_poller_is_the_definition(rt: HostRuntime) {
     for seed in 1..=2000 {
         let mut random = Random(seed);
-        let mut poller = Poller::new(rt.alloc())?;
+        let mut poller = Poller::new(rt.alloc()).ok().expect(&rt, "memory");
         let mut past: Vec<Call> = Vec::new(rt.alloc());
         let mut now = Situation {
             usages: usages(&[]).expect(&rt, "usages"),
@@ -155,15 +162,11 @@ fn the_poller_is_the_definition(rt: HostRuntime) -> Result<(), Fail> {
         };
         for _ in 0..60 {
             let newest = call(&rt, &mut random, &mut poller, &mut now, past.as_slice());
-            past.insert(0, newest)?;
-            for (id, report) in [
-                (IdleId::All, Input::One),
-                (IdleId::One, Input::Boot),
-                (IdleId::Two, Input::Two),
-            ] {
-                assert_eq!(rt; poller.idle(id), plain::idle_value(report, past.as_slice()));
+            put_first(&rt, &mut past, newest);
+            for (id, report) in IDLE_VALUES.iter() {
+                let wanted = plain::idle_value(*report, past.as_slice());
+                same_at(&rt, &poller.idle(*id), &wanted, &seed);
             }
         }
     }
-    Ok(())
 }

@@ -2,6 +2,7 @@
 //! page 0, slot 1, and then a session.
 
 use super::session;
+use crate::tests::asserts::holds_in;
 use flash_model::SimFlash;
 use row_text::{full_word, good, placed, put_slot};
 use std::process::Abort;
@@ -22,7 +23,7 @@ fn put_line(image: &mut [u8], line: &str) -> Option<bool> {
 
 fn put_all(rt: &impl Abort, image: &mut [u8], slots: &str) {
     for line in slots.lines() {
-        assert!(rt; put_line(image, line.trim()) == Some(true), "{line}");
+        holds_in(rt, put_line(image, line.trim()) == Some(true), line);
     }
 }
 
@@ -128,12 +129,15 @@ fn a_page_of_format_1(rt: HostRuntime) {
     );
 }
 
+/// Cuts inside a step.
+const CUTS: &[&str] = &[
+    "cut 00", "cut 01", "cut 0f", "cut 55", "cut aa", "cut f0", "cut fe", "cut ff",
+];
+
 #[test]
 fn a_cut_in_a_turn_keeps_the_keymap(rt: HostRuntime) {
     // Inside the copy, and inside the header.
-    for cut in [
-        "cut 00", "cut 01", "cut 0f", "cut 55", "cut aa", "cut f0", "cut fe", "cut ff",
-    ] {
+    for cut in CUTS.iter() {
         for before in ["", "work = working"] {
             let begun = "setup 2109030300000600\nout 030100010600 = ack";
             let kept = "entry 0 0 = 4192\nentry 0 1 = 0005";

@@ -15,6 +15,7 @@
 //! slot PAGE SLOT = BYTES
 //! ```
 
+use super::super::codes::entry_of;
 use arrayvec::ArrayVec;
 use keyboard::{EpAnswer, Report, Scan};
 use layers::{KeyNo, LayerNo};
@@ -54,8 +55,14 @@ pub fn ask_of(text: &str) -> Option<Ask> {
         "reset" => Ask::Reset,
         "leds" => Ask::Leds,
         "usage" => Ask::Usage(byte(rest)?),
-        "entry" => return entry_of(rest),
-        "slot" => return slot_of(rest),
+        "entry" => {
+            let (layer, key) = entry_of(rest)?;
+            Ask::Entry(layer, key)
+        }
+        "slot" => {
+            let (page, slot) = two(rest)?;
+            Ask::Slot(page, slot)
+        }
         _ => return None,
     };
     Some(ask)
@@ -64,20 +71,8 @@ pub fn ask_of(text: &str) -> Option<Ask> {
 /// So many scans with these keys.
 fn scans_of(rest: &str) -> Option<Ask> {
     let (count, keys) = rest.split_once(' ').unwrap_or((rest, ""));
-    let rows = pressed(keys)?;
-    Some(Ask::Scans(number(count)?, Scan { rows }))
-}
-
-fn entry_of(rest: &str) -> Option<Ask> {
-    let (layer, key) = two(rest)?;
-    let layer = LayerNo::read(u8::try_from(layer).ok()?).ok()?;
-    let key = KeyNo::read(u8::try_from(key).ok()?).ok()?;
-    Some(Ask::Entry(layer, key))
-}
-
-fn slot_of(rest: &str) -> Option<Ask> {
-    let (page, slot) = two(rest)?;
-    Some(Ask::Slot(page, slot))
+    let (count, rows) = number(count).zip(pressed(keys))?;
+    Some(Ask::Scans(count, Scan { rows }))
 }
 
 /// What came of a line.

@@ -1,6 +1,7 @@
 //! A keyboard and its flash, which take lines.
 
 use super::lines::{Ask, Told, answered, ask_of, hex, polled, repeated, wanted_of};
+use crate::tests::asserts::same_in;
 use flash_model::{Mask, NorFlash, SimFlash};
 use keyboard::{Keyboard, Room, Scan, Work};
 use layers::{KeyNo, LayerNo};
@@ -56,7 +57,7 @@ impl Rig {
     fn expect_part(&mut self, rt: &impl Abort, case: &str, part: &str) {
         let (times, lines) = repeated(part);
         for _ in 0..times {
-            assert_eq!(rt; first_wrong(self, lines), None, "{case}");
+            same_in(rt, &first_wrong(self, lines), &None, case);
         }
     }
 

@@ -17,6 +17,7 @@
 
 use super::super::slots::{slot, slot_of};
 use super::super::text::{bytes_of, mask_of, number, place_of};
+use crate::tests::asserts::same;
 use flash_model::{Mask, NorFlash, SimFlash};
 use row_text::{RunsRows, byte, first_wrong};
 use std::process::Abort;
@@ -39,7 +40,7 @@ impl<'a> RunsRows<'a> for Asked<'_> {
 
 /// Each of these lines is answered as it says.
 pub fn expect_rows(rt: &impl Abort, flash: &mut SimFlash, script: &str) {
-    assert_eq!(rt; first_wrong(&mut Asked(flash), script), None);
+    same(rt, &first_wrong(&mut Asked(flash), script), &None);
 }
 
 /// What came of a line.

@@ -1,6 +1,7 @@
 //! The kernels beside the plain definition.
 
 use super::{FREE, HEADER, OLD_HEADER, RECORD, TORN_RECORD};
+use crate::tests::asserts::{holds, same, same_at};
 use records::{Kinds, Slot, all_ones, classify, kinds8};
 use std::process::Abort;
 
@@ -26,20 +27,15 @@ fn check(rt: &impl Abort, slots: [[u8; 8]; 8]) {
         }
         bit = bit.wrapping_mul(2);
     }
-    assert_eq!(rt; kinds8(&block_of(slots)), want);
+    same_at(rt, &kinds8(&block_of(slots)), &want, &slots);
 }
 
 #[test]
 fn a_header_a_record_and_a_torn_one(rt: HostRuntime) {
     for header in [HEADER, OLD_HEADER] {
         let slots = [header, RECORD, TORN_RECORD, FREE, FREE, FREE, FREE, FREE];
-        assert_eq!(rt;
-            kinds8(&block_of(slots)),
-            Kinds {
-                good: 0x03,
-                free: 0xf8
-            }
-        );
+        let (good, free) = (0x03, 0xf8);
+        same(&rt, &kinds8(&block_of(slots)), &Kinds { good, free });
     }
 }
 
@@ -68,11 +64,11 @@ fn each_place_has_its_own_bit(rt: HostRuntime) {
 fn one_clear_bit_is_seen_at_each_place(rt: HostRuntime) {
     let mut bytes = [0xff; 130];
     for len in 0..131 {
-        assert!(rt; all_ones(&bytes[..len]));
+        holds(&rt, all_ones(&bytes[..len]));
         for k in 0..len {
             for bit in [0xfe, 0xfd, 0xfb, 0xf7, 0xef, 0xdf, 0xbf, 0x7f] {
                 bytes[k] = bit;
-                assert!(rt; !all_ones(&bytes[..len]));
+                holds(&rt, !all_ones(&bytes[..len]));
                 bytes[k] = 0xff;
             }
         }
@@ -84,7 +80,7 @@ fn bytes_behind_do_not_count(rt: HostRuntime) {
     let mut bytes = [0xff; 130];
     for len in 0..130 {
         bytes[len] = 0x7f;
-        assert!(rt; all_ones(&bytes[..len]));
+        holds(&rt, all_ones(&bytes[..len]));
         bytes[len] = 0xff;
     }
 }

@@ -1,7 +1,8 @@
 //! Images of any bytes: what a log reads of them, compared with a plain second reading.
 
-use super::super::slots::{halves, program};
+use super::super::slots::{blank, halves, program};
 use super::rows::Seen;
+use crate::tests::asserts::{same, same_at};
 use flash_model::{NorFlash, SimFlash};
 use page_turnover::{Log, Unsound};
 use row_text::{good, next};
@@ -126,25 +127,21 @@ fn plain_log(flash: &SimFlash) -> Seen {
 /// A log reads of this flash what the plain reading finds.
 fn expect_plain(rt: &impl Abort, flash: &SimFlash, seed: u32) {
     let log = Log::mount(flash);
-    assert_eq!(rt; Seen::of(&log), plain_log(flash), "seed {seed}");
+    same_at(rt, &Seen::of(&log), &plain_log(flash), &seed);
     let mut words = log.words(flash);
     if let Some((page, _)) = active_page(flash) {
         for slot in 1..512 {
             if let Some(word) = good_word(flash, page, slot) {
-                expect_word(rt, words.next(), Some(word), seed);
+                same_at(rt, &words.next(), &Some(word), &seed);
             }
         }
     }
-    expect_word(rt, words.next(), None, seed);
-}
-
-fn expect_word(rt: &impl Abort, found: Option<u32>, wanted: Option<u32>, seed: u32) {
-    assert_eq!(rt; found, wanted, "seed {seed}");
+    same_at(rt, &words.next(), &None, &seed);
 }
 
 /// A flash of random slots is read as it stands.
 fn random_image(rt: &impl Abort, alloc: Global, pages: usize, seed: u32) {
-    let mut flash = SimFlash::new(alloc, pages).expect(rt, "a flash");
+    let mut flash = blank(rt, alloc, pages);
     fill(&mut flash, seed);
     expect_plain(rt, &flash, seed);
 }
@@ -174,12 +171,12 @@ fn fill_with_bytes(flash: &mut SimFlash, seed: u32) -> u32 {
 fn expect_no_log(rt: &impl Abort, flash: &SimFlash) {
     let mut none = Seen::nothing();
     none.usable = Err(Unsound { page: 0 });
-    assert_eq!(rt; Seen::of(&Log::mount(flash)), none);
+    same(rt, &Seen::of(&Log::mount(flash)), &none);
 }
 
 /// A flash of random bytes has no log; answers the last number.
 fn image_of_bytes(rt: &impl Abort, alloc: Global, pages: usize, seed: u32) -> u32 {
-    let mut flash = SimFlash::new(alloc, pages).expect(rt, "a flash");
+    let mut flash = blank(rt, alloc, pages);
     let last = fill_with_bytes(&mut flash, seed);
     expect_plain(rt, &flash, last);
     expect_no_log(rt, &flash);

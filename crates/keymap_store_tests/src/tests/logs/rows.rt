@@ -20,8 +20,9 @@
 
 ghost use Rattle.std.specs.Prelude.{◌≡◌};
 
-use super::super::slots::{fill, put, slot_of};
+use super::super::slots::{blank, fill, put, slot_of};
 use super::super::text::{bytes_of, mask_of, number};
+use crate::tests::asserts::same;
 use flash_model::{Mask, SimFlash};
 use page_turnover::{Log, Step, TurnRefusal, Unsound};
 use row_text::{RunsRows, first_wrong, hex};
@@ -76,7 +77,7 @@ impl<'a> RunsRows<'a> for Bench {
 impl Bench {
     /// The log of a blank flash.
     pub fn blank(rt: &impl Abort, alloc: Global, pages: usize) -> Bench {
-        Bench::on(SimFlash::new(alloc, pages).expect(rt, "a flash"))
+        Bench::on(blank(rt, alloc, pages))
     }
 
     /// The log of this flash.
@@ -89,7 +90,7 @@ impl Bench {
 
     /// Each of these lines is answered as it says.
     pub fn rows(&mut self, rt: &impl Abort, script: &str) {
-        assert_eq!(rt; first_wrong(self, script), None);
+        same(rt, &first_wrong(self, script), &None);
     }
 
     /// Takes a line of one word.

@@ -1,8 +1,9 @@
 //! Operations that are torn: by a fault, which the log reads back, and by a cut of the power, after
 //! which the flash is mounted again.
 
-use super::super::slots::program;
+use super::super::slots::{blank, program};
 use super::rows::{Bench, on_blank};
+use crate::tests::asserts::{same, same_at};
 use flash_model::SimFlash;
 use page_turnover::Step;
 use row_text::{good, next};
@@ -178,7 +179,7 @@ fn expect_turn(rt: &impl Abort, bench: &mut Bench, torn: usize, mask: &[u8], fai
 }
 
 fn expect_committed(rt: &impl Abort, bench: &mut Bench, step: Step) {
-    assert_eq!(rt; step, Step::Committed);
+    same(rt, &step, &Step::Committed);
     bench.rows(rt, TURNED);
 }
 
@@ -194,11 +195,8 @@ fn each_step_of_a_turn_is_torn_by_each_mask(rt: HostRuntime) {
     for mask in MASKS {
         for torn in 0..5 {
             let turned = full_turn(&rt, rt.alloc(), torn, mask);
-            assert_eq!(rt;
-                turned,
-                torn == 4 || mask == 0xff,
-                "step {torn}, mask {mask}"
-            );
+            let whole = torn == 4 || mask == 0xff;
+            same_at(&rt, &turned, &whole, &(torn, mask));
         }
     }
 }
@@ -219,7 +217,7 @@ fn random_bytes<const N: usize>(seed: u32) -> [u8; N] {
 
 /// A flash with one word on page 0, whose page 1 has random bytes.
 fn random_flash(rt: &impl Abort, alloc: Global, pages: usize, seed: u32) -> SimFlash {
-    let mut flash = SimFlash::new(alloc, pages).expect(rt, "a flash");
+    let mut flash = blank(rt, alloc, pages);
     program(&mut flash, 0, 0, good(0x2000_0001));
     program(&mut flash, 0, 1, good(0x1000_0005));
     for slot in 1..512 {

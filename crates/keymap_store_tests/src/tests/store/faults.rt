@@ -3,8 +3,9 @@
 use super::LONGEST;
 use super::plain_image::{are_headers_sound, table_of, write};
 use super::rows::{Device, expect_rows};
+use crate::tests::asserts::{holds_in, same, same_at};
 use flash_model::Mask;
-use keymap_store::{SubmitRefusal, Taken, Work};
+use keymap_store::{Taken, Work};
 use layers::Command;
 use row_text::next;
 use std::alloc::Global;
@@ -224,24 +225,17 @@ pub fn expect_keymap(rt: &impl Abort, device: &Device, table: &[u16; 384]) {
     let flash = table_of(&device.flash);
     for place in 0..384 {
         let ram = device.entry((place / 96) as u8, (place % 96) as u8);
-        expect_entry(rt, place, (flash[place], ram), table[place]);
+        let wanted = (table[place], Some(table[place]));
+        same_at(rt, &(flash[place], ram), &wanted, &place);
     }
-}
-
-fn expect_entry(rt: &impl Abort, place: usize, found: (u16, Option<u16>), wanted: u16) {
-    assert_eq!(rt; found, (wanted, Some(wanted)), "place {place}");
 }
 
 /// Takes a command, and makes all its operations before this one.
 fn work_up_to(rt: &impl Abort, device: &mut Device, command: &Command, operation: usize) {
-    expect_taken(rt, device.submit(*command));
+    same(rt, &device.submit(*command), &Ok(Taken::Working));
     for _ in 1..operation {
         device.rows(rt, "work = working");
     }
-}
-
-fn expect_taken(rt: &impl Abort, taken: Result<Taken, SubmitRefusal>) {
-    assert_eq!(rt; taken, Ok(Taken::Working));
 }
 
 /// Takes a command on a device, with one of its operations torn, by a fault or inside a cut. The
@@ -284,17 +278,19 @@ fn torn_once(
 }
 
 fn expect_some(rt: &impl Abort, operations: Option<usize>) {
-    assert!(rt;
+    holds_in(
+        rt,
         operations.is_some(),
-        "the command was refused, failed, or took too many operations"
+        "a command that was refused, failed, or took too many operations",
     );
 }
 
 /// Slot 0 of each page is sound.
 pub fn expect_sound(rt: &impl Abort, device: &Device) {
-    assert!(rt;
+    holds_in(
+        rt,
         are_headers_sound(&device.flash),
-        "slot 0 of a page is not sound"
+        "slot 0 of each page, which is to be sound",
     );
 }
 

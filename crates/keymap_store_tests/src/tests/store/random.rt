@@ -1,10 +1,11 @@
 //! Random commands on flashes of all kinds, with operations that are torn, by faults or by cuts of
 //! the power inside them.
 
-use super::super::slots::program;
+use super::super::slots::{blank, program};
 use super::faults::{expect_keymap, expect_sound, torn_mask};
 use super::plain_image::{are_headers_sound, expected, table_of, write};
 use super::rows::Device;
+use crate::tests::asserts::{same, same_at};
 use flash_model::SimFlash;
 use keymap_store::{SubmitRefusal, Taken, Work};
 use layers::Command;
@@ -85,7 +86,7 @@ fn random_record(filled: Filled, random: u32) -> [u8; 8] {
 
 /// A flash whose pages are filled up to a slot; two in three are full.
 fn flash_of(rt: &impl Abort, alloc: Global, filled: Filled, pages: usize, seed: u32) -> SimFlash {
-    let mut flash = SimFlash::new(alloc, pages).expect(rt, "a flash");
+    let mut flash = blank(rt, alloc, pages);
     let end = match (filled, seed / 256 % 3) {
         (Filled::Blank, _) => 0,
         (_, 0) => seed as usize / 1024 % 512,
@@ -134,21 +135,17 @@ fn work_torn(rt: &impl Abort, device: &mut Device, operations: usize, random: u3
         match work {
             Work::Working if operation != cut => {}
             Work::Settled => {
-                expect_operation(rt, operation, operations);
+                same(rt, &operation, &operations);
                 return true;
             }
             Work::Failed => {
-                expect_operation(rt, operation, torn);
+                same(rt, &operation, &torn);
                 return false;
             }
             Work::Working | Work::Idle => return false,
         }
     }
     false
-}
-
-fn expect_operation(rt: &impl Abort, operation: usize, wanted: usize) {
-    assert_eq!(rt; operation, wanted);
 }
 
 /// Takes a command, maybe with an operation torn or cut short; the keymap is then changed by it
@@ -181,7 +178,7 @@ fn expect_taken(
         Ok(_) => Ok(Taken::Working),
         Err(refusal) => Err(refusal),
     };
-    assert_eq!(rt; taken, wanted);
+    same(rt, &taken, &wanted);
 }
 
 /// Random commands, 1,500 on each of 25 flashes of 2, 3 or 8 pages.
@@ -229,10 +226,10 @@ fn take_commands(rt: &impl Abort, device: &mut Device, seed: u32) -> u32 {
 
 /// The flash has the bytes that it began with; else its first other byte is told.
 fn expect_same(rt: &impl Abort, flash: &SimFlash, begun: &SimFlash) {
-    assert_eq!(rt; flash.image().len(), begun.image().len());
+    same(rt, &flash.image().len(), &begun.image().len());
     let bytes = flash.image().iter().zip(begun.image().iter());
     for (at, (byte, was)) in bytes.enumerate() {
-        assert!(rt; byte == was, "byte {at} is {byte:02x}, and was {was:02x}");
+        same_at(rt, byte, was, &at);
     }
 }
 

@@ -19,8 +19,9 @@
 
 ghost use Rattle.std.specs.Prelude.{◌≡◌};
 
-use super::super::slots::{fill, program, put, slot_of};
+use super::super::slots::{blank, fill, program, put, slot_of};
 use super::super::text::{bytes_of, mask_of, number, place_of};
+use crate::tests::asserts::same;
 use flash_model::{Mask, SimFlash};
 use keymap_store::{Store, SubmitRefusal, Taken, Work};
 use layers::{Command, KeyNo, LayerNo};
@@ -79,7 +80,7 @@ impl<'a> RunsRows<'a> for Device {
 impl Device {
     /// A device on a blank flash.
     pub fn blank(rt: &impl Abort, alloc: Global, pages: usize) -> Device {
-        Device::start(SimFlash::new(alloc, pages).expect(rt, "a flash"))
+        Device::start(blank(rt, alloc, pages))
     }
 
     /// A device on a flash of two pages, after these lines.
@@ -98,7 +99,7 @@ impl Device {
 
     /// Each of these lines is answered as it says.
     pub fn rows(&mut self, rt: &impl Abort, script: &str) {
-        assert_eq!(rt; first_wrong(self, script), None);
+        same(rt, &first_wrong(self, script), &None);
     }
 
     /// Takes a line with the word of a command.

@@ -1,44 +1,47 @@
 //! What a device answers to the events of a line, as a text.
 
 use super::words::push_answer;
+use crate::tests::asserts::made;
+use crate::tests::push;
 use arrayvec::ArrayVec;
 use kbsim::{Answer, Event, Work, World};
 use script::{Action, Statement};
-use std::alloc::{AllocError, Global};
+use std::alloc::Global;
+use std::process::Abort;
 use std::slice;
 
 /// Takes one event.
-fn taken(
-    world: &mut World,
-    answers: &mut Vec<Answer>,
-    event: &Event,
-) -> Result<Answer, AllocError> {
+fn taken(rt: &impl Abort, world: &mut World, answers: &mut Vec<Answer>, event: &Event) -> Answer {
     answers.clear();
-    world.run(slice::from_ref(event), answers)?;
-    answers.pop().ok_or(AllocError)
+    made(rt, world.run(slice::from_ref(event), answers));
+    answers.pop().expect(rt, "an answer")
 }
 
 /// Takes the events of a line, and adds what it prints to a text.
 pub fn take_line(
+    rt: &impl Abort,
     alloc: Global,
     world: &mut World,
     answers: &mut Vec<Answer>,
     statement: &Statement<'_>,
     text: &mut String,
-) -> Result<(), AllocError> {
-    let answer = match statement {
-        Statement::One(action) => taken(world, answers, &event_of(action))?,
+) {
+    match statement {
+        Statement::One(action) => {
+            push_answer(rt, text, &taken(rt, world, answers, &event_of(action)));
+        }
         Statement::Scans { count, scan } => {
             let event = Event::Scan(*scan);
             for _again in 1..count.get() {
-                taken(world, answers, &event)?;
+                taken(rt, world, answers, &event);
             }
-            taken(world, answers, &event)?
+            push_answer(rt, text, &taken(rt, world, answers, &event));
         }
-        Statement::Set { layer, key, code } => set(world, answers, [*layer, *key], *code)?,
-        Statement::Fetch => return fetched(alloc, world, answers, text),
-    };
-    push_answer(text, &answer)
+        Statement::Set { layer, key, code } => {
+            push_answer(rt, text, &set(rt, world, answers, [*layer, *key], *code));
+        }
+        Statement::Fetch => fetched(rt, alloc, world, answers, text),
+    }
 }
 
 /// The event of a line of one event.
@@ -72,30 +75,32 @@ fn packet_of(bytes: &[u8]) -> ArrayVec<u8, 8> {
 
 /// A feature transfer that sets an entry.
 fn set(
+    rt: &impl Abort,
     world: &mut World,
     answers: &mut Vec<Answer>,
     place: [u8; 2],
     code: u16,
-) -> Result<Answer, AllocError> {
-    taken(world, answers, &Event::Setup([0x21, 9, 3, 3, 0, 0, 6, 0]))?;
+) -> Answer {
+    let setup = Event::Setup([0x21, 9, 3, 3, 0, 0, 6, 0]);
+    taken(rt, world, answers, &setup);
     let [layer, key] = place;
     let [low, high] = code.to_le_bytes();
     let report = packet_of(&[3, 1, layer, key, low, high]);
-    let told = taken(world, answers, &Event::OutPacket(report))?;
+    let told = taken(rt, world, answers, &Event::OutPacket(report));
     if !matches!(told, Answer::Ack) {
-        return Ok(told);
+        return told;
     }
     for _step in 0..500 {
-        let worked = taken(world, answers, &Event::Work)?;
+        let worked = taken(rt, world, answers, &Event::Work);
         if !matches!(worked, Answer::Worked(Work::Working)) {
             break;
         }
     }
-    let status = taken(world, answers, &Event::InPacket)?;
-    Ok(match length(&status) {
+    let status = taken(rt, world, answers, &Event::InPacket);
+    match length(&status) {
         Some(0) => Answer::Ack,
         _ => status,
-    })
+    }
 }
 
 /// How many bytes a packet of data has.
@@ -108,31 +113,29 @@ fn length(answer: &Answer) -> Option<usize> {
 
 /// A transfer of the report descriptor. What its line prints is added to a text.
 fn fetched(
+    rt: &impl Abort,
     alloc: Global,
     world: &mut World,
     answers: &mut Vec<Answer>,
     text: &mut String,
-) -> Result<(), AllocError> {
-    taken(
-        world,
-        answers,
-        &Event::Setup([0x81, 6, 0, 0x22, 0, 0, 0xFF, 0]),
-    )?;
+) {
+    let setup = Event::Setup([0x81, 6, 0, 0x22, 0, 0, 0xFF, 0]);
+    taken(rt, world, answers, &setup);
     let mut count = 0usize;
     for _packet in 0..99 {
-        let told = taken(world, answers, &Event::InPacket)?;
+        let told = taken(rt, world, answers, &Event::InPacket);
         let Some(length) = length(&told) else {
-            return push_answer(text, &told);
+            return push_answer(rt, text, &told);
         };
         count = count.wrapping_add(length);
         if length < 8 {
             break;
         }
     }
-    let told = taken(world, answers, &Event::OutPacket(ArrayVec::new()))?;
+    let told = taken(rt, world, answers, &Event::OutPacket(ArrayVec::new()));
     if !matches!(told, Answer::Ack) {
-        return push_answer(text, &told);
+        return push_answer(rt, text, &told);
     }
-    let printed = format!(in alloc; "fetched {count}")?;
-    text.push_str(printed.as_str())
+    let printed = made(rt, format!(in alloc; "fetched {count}"));
+    push(rt, text, printed.as_str());
 }

@@ -1,18 +1,19 @@
 //! The words of answers.
 
+use crate::tests::asserts::made;
+use crate::tests::push;
 use arrayvec::ArrayVec;
 use kbsim::{Answer, Reading, Why, Work};
-use std::alloc::AllocError;
+use std::process::Abort;
 
 /// Adds the words of an answer to a text, the bytes in it in hex, and what the host reads in a report.
-pub fn push_answer(text: &mut String, answer: &Answer) -> Result<(), AllocError> {
-    text.push_str(words(answer))?;
+pub fn push_answer(rt: &impl Abort, text: &mut String, answer: &Answer) {
+    push(rt, text, words(answer));
     for byte in bytes_in(answer).as_slice() {
-        push_byte(text, *byte)?;
+        push_byte(rt, text, *byte);
     }
-    match answer {
-        Answer::Sent { reading, .. } => push_reading(text, reading),
-        _ => Ok(()),
+    if let Answer::Sent { reading, .. } = answer {
+        push_reading(rt, text, reading);
     }
 }
 
@@ -50,35 +51,39 @@ fn bytes_in(answer: &Answer) -> ArrayVec<u8, 32> {
     bytes
 }
 
-fn push_byte(text: &mut String, byte: u8) -> Result<(), AllocError> {
-    text.push(digit(byte / 16))?;
-    text.push(digit(byte % 16))
+fn push_byte(rt: &impl Abort, text: &mut String, byte: u8) {
+    made(rt, text.push(digit(byte / 16)));
+    made(rt, text.push(digit(byte % 16)));
 }
 
 fn digit(value: u8) -> char {
     char::from_digit(u32::from(value), 16).unwrap_or('?')
 }
 
-fn push_reading(text: &mut String, reading: &Reading) -> Result<(), AllocError> {
+fn push_reading(rt: &impl Abort, text: &mut String, reading: &Reading) {
     match reading {
-        Reading::Unread => text.push_str(" unread"),
-        Reading::NoMemory => Err(AllocError),
-        Reading::Usages(usages) => push_usages(text, usages.as_slice()),
+        Reading::Unread => push(rt, text, " unread"),
+        Reading::NoMemory => panic!(rt; "memory"),
+        Reading::Usages(usages) => push_usages(rt, text, usages.as_slice()),
     }
 }
 
-fn push_usages(text: &mut String, usages: &[u32]) -> Result<(), AllocError> {
-    if usages.is_empty() {
-        return text.push_str(" read none");
-    }
-    text.push_str(" read")?;
+fn push_usages(rt: &impl Abort, text: &mut String, usages: &[u32]) {
+    push(
+        rt,
+        text,
+        if usages.is_empty() {
+            " read none"
+        } else {
+            " read"
+        },
+    );
     for usage in usages {
-        text.push_str(" ")?;
+        push(rt, text, " ");
         for byte in usage.to_be_bytes() {
-            push_byte(text, byte)?;
+            push_byte(rt, text, byte);
         }
     }
-    Ok(())
 }
 
 fn stall(why: Why) -> &'static str {

@@ -1,0 +1,30 @@
+//! What ends a test: a function is proved once, and what a macro writes at each place.
+
+use std::alloc::AllocError;
+use std::fmt::Debug;
+use std::process::Abort;
+
+/// Ends the test where what is told is not what is wanted.
+pub fn same<T: PartialEq + Debug>(rt: &impl Abort, told: &T, wanted: &T) {
+    assert_eq!(rt; *told, *wanted);
+}
+
+/// The same, for a row, which is named then.
+pub fn same_in<T: PartialEq + Debug>(rt: &impl Abort, told: &T, wanted: &T, row: &str) {
+    assert_eq!(rt; *told, *wanted, "in {row}");
+}
+
+/// The same, at what is named then.
+pub fn same_at<T: PartialEq + Debug, A: Debug>(rt: &impl Abort, told: &T, wanted: &T, at: &A) {
+    assert_eq!(rt; *told, *wanted, "at {at:?}");
+}
+
+/// The same, of texts.
+pub fn same_text(rt: &impl Abort, told: &str, wanted: &str, row: &str) {
+    assert_eq!(rt; told, wanted, "in {row}");
+}
+
+/// What was made; the test ends where there was no memory for it.
+pub fn made<T>(rt: &impl Abort, it: Result<T, AllocError>) -> T {
+    it.expect(rt, "memory")
+}
