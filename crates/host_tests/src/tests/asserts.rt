@@ -11,7 +11,7 @@ pub fn same<T: PartialEq + Debug>(rt: &impl Abort, told: &T, wanted: &T) {
 
 /// The same, for a row, which is named then.
 pub fn same_in<T: PartialEq + Debug>(rt: &impl Abort, told: &T, wanted: &T, row: &str) {
-    assert_eq!(rt; *told, *wanted, "in {row}");
+    same_at(rt, told, wanted, &row);
 }
 
 /// The same, at what is named then.

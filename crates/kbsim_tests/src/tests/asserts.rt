@@ -6,7 +6,7 @@ use std::process::Abort;
 
 /// Ends the test where what is told is not what a row wants, and names the row.
 pub fn same_in<T: PartialEq + Debug>(rt: &impl Abort, told: &T, wanted: &T, row: &str) {
-    assert_eq!(rt; *told, *wanted, "in {row}");
+    same_at(rt, told, wanted, &row);
 }
 
 /// The same, at what is named then.

@@ -10,7 +10,7 @@ pub fn same<T: PartialEq + Debug>(rt: &impl Abort, told: &T, wanted: &T) {
 
 /// The same, for a row, which is named then.
 pub fn same_in<T: PartialEq + Debug>(rt: &impl Abort, told: &T, wanted: &T, row: &str) {
-    assert_eq!(rt; *told, *wanted, "in {row}");
+    same_at(rt, told, wanted, &row);
 }
 
 /// The same, at what is named then.
@@ -25,7 +25,7 @@ pub fn holds(rt: &impl Abort, it: bool) {
 
 /// The same, for a row, which is named then.
 pub fn holds_in(rt: &impl Abort, it: bool, row: &str) {
-    assert!(rt; it, "in {row}");
+    holds_at(rt, it, &row);
 }
 
 /// The same, at what is named then.
