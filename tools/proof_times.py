@@ -3,7 +3,8 @@ and its must-fail edits.
 
 Five times a second it looks what each process of Rattle below the command has used, so a process counts at most that less than it
 took. What was begun or ended by an earlier run on this machine is no number of the crate, and is left out; `rt ci --anew` leaves
-nothing out. --write puts the numbers into the table of docs/MEASUREMENTS.md, where rows that were not measured stay as they are.
+nothing out. What other machines of the host take of the processors is in no process's seconds, but these grow with it: on a quiet
+machine it is 0 %. --write puts the numbers into the table of docs/MEASUREMENTS.md, where rows that were not measured stay as they are.
 """
 
 import argparse
@@ -103,6 +104,20 @@ def watched(command):
     return status, watch.sums(), kept
 
 
+def taken_by_others(before, after):
+    """The percentage of what was asked of the processors that other machines of the host took, between two readings of /proc/stat."""
+    spans = [int(last) - int(first) for first, last in zip(before.split()[1:9], after.split()[1:9])]
+    user, nice, system, _idle, _waiting, irq, softirq, steal = spans
+    asked = user + nice + system + irq + softirq + steal
+    return 100 * steal / asked if asked else 0
+
+
+def processors():
+    """What the processors have done since the machine started, as /proc/stat says it."""
+    with open("/proc/stat", encoding="utf-8") as file:
+        return file.read()
+
+
 def rows_of(document):
     """The rows of the table: what stands for the proof and the edits of each crate."""
     shown = document.split(BEGIN)[1].split(END)[0]
@@ -150,11 +165,13 @@ def main():
     words.add_argument("--write", action="store_true", help="puts the numbers into docs/MEASUREMENTS.md")
     words.add_argument("command", nargs=argparse.REMAINDER, help="the command and its words (rt ci)")
     given = words.parse_args()
+    before = processors()
     status, seconds, kept = watched(given.command or ["rt", "ci"])
+    others = taken_by_others(before, processors())
     numbers = {task: number for task, number in seconds.items() if task not in kept}
     for (name, what), number in sorted(numbers.items()):
         print(f"proof-times: {name}: {what}: {number:.0f} s of processor")
-    print(f"proof-times: {sum(seconds.values()):.0f} s in all")
+    print(f"proof-times: {sum(seconds.values()):.0f} s in all; other machines of the host took {others:.0f} % of what was asked of the processors")
     if given.write and status == 0:
         write(numbers)
     return status

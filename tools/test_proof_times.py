@@ -33,6 +33,12 @@ class ProofTimes(unittest.TestCase):
         stat = "7 (a (b) c) R 1 2 3 4 5 6 7 8 9 10 250 50 0 0 20 0 1 0 991 5 6"
         self.assertEqual(proof_times.used(stat), (300 / proof_times.TICKS, "991"))
 
+    def test_what_others_of_the_host_took(self):
+        # user nice system idle iowait irq softirq steal guest guest_nice: idle and waiting processors asked for nothing
+        before, after = "cpu  100 0 50 900 9 0 5 20 0 0\ncpu0 1 2", "cpu  160 0 65 990 19 1 9 40 0 0\n"
+        self.assertEqual(proof_times.taken_by_others(before, after), 20)
+        self.assertEqual(proof_times.taken_by_others(before, before), 0)
+
     def test_a_command(self):
         with tempfile.TemporaryDirectory() as folder:
             os.symlink(sys.executable, f"{folder}/rattle")
