@@ -3,7 +3,7 @@ and its must-fail edits.
 
 Five times a second it looks what each process of Rattle below the command has used, so a process counts at most that less than it
 took. What was begun or ended by an earlier run on this machine is no number of the crate, and is left out; `rt ci --anew` leaves
-nothing out. What other machines of the host take of the processors is in no process's seconds, but these grow with it: on a quiet
+nothing out. What other machines of the host take of the processors is in no process's seconds, but these may grow with it: on a quiet
 machine it is 0 %. --write puts the numbers into the table of docs/MEASUREMENTS.md, where rows that were not measured stay as they are.
 """
 
