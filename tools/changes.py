@@ -11,3 +11,36 @@ def replace_once(path, old, new):
     with open(path, "w", encoding="utf-8") as file:
         file.write(text.replace(old, new))
     return text
+
+
+def read_edit(path):
+    """The changes of an edit: file, old and new text of each."""
+    changes, file, parts = [], None, None
+    with open(path, encoding="utf-8") as lines:
+        for line in lines:
+            word, _, text = line.partition(": ")
+            if word == "file":
+                file, parts = text.rstrip("\n"), None
+            elif word == "old":
+                parts = [file, text, ""]
+                changes.append(parts)
+            elif word == "new" and parts:
+                parts[2] = text
+            elif word in ("refused", "alone") and file is None:
+                pass  # (what tools/wrong_bodies.py reads)
+            elif parts:
+                parts[2 if parts[2] else 1] += line
+            else:
+                raise ValueError(f"{path}: no change begins with {line.strip()!r}")
+    if not changes or any(not old or not new or name is None for name, old, new in changes):
+        raise ValueError(f"{path}: no file, no old or no new text")
+    return [(name, old.rstrip("\n"), new.rstrip("\n")) for name, old, new in changes]
+
+
+def apply(path, crate):
+    """Applies an edit to a copy of its crate."""
+    for name, old, new in read_edit(path):
+        try:
+            replace_once(f"{crate}/{name}", old, new)
+        except ValueError as why:
+            raise ValueError(f"{path}: {why}") from why

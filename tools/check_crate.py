@@ -2,12 +2,13 @@
 
 1. `rt check` proves the crate, over what was proved of it before. Libraries below it are built where they changed.
 2. `rt test` proves and runs the crate of tests that has its tests (README.md's table of crates), if one has.
-3. `rt must-fail` tries its must-fail edits, if it has any: each has to be refused.
+3. `tools/wrong_bodies.py` and `rt must-fail` try its edits in wrong-bodies/ and must-fail/, if it has any: each has to be refused.
 
 It says nothing of the crates above: that is `rt ci`, or bin/test. It ends at the first step that fails.
 """
 
 import argparse
+import glob
 import os
 import re
 import subprocess
@@ -48,10 +49,10 @@ def steps(root, name, tests, edits):
         made.append(Step("its tests", f"{root}/crates/{name}", ["rt", "test"]))
     elif tester and tests:
         made.append(Step(f"its tests, in {tester}", f"{root}/crates/{tester}", ["rt", "test"]))
-    folder = f"{root}/crates/{name}/must-fail"
-    count = len([edit for edit in os.listdir(folder) if edit.endswith(".edit")]) if os.path.isdir(folder) else 0
-    if count and edits:
-        made.append(Step(f"its {count} edits are refused", root, ["rt", "must-fail", name]))
+    for folder, command in [("wrong-bodies", ["python3", "-B", "tools/wrong_bodies.py"]), ("must-fail", ["rt", "must-fail"])]:
+        count = len(glob.glob(f"{root}/crates/{name}/{folder}/*.edit"))
+        if count and edits:
+            made.append(Step(f"its {count} edits in {folder}/ are refused", root, [*command, name]))
     return made
 
 

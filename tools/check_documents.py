@@ -199,19 +199,23 @@ def contracts(tree):
             yield f"docs/CONTRACTS.md: {listed[after]} stands behind {listed[before]}, and not so in crates.txt"
 
 
+# The folders of edits that the gate tries.
+OF_THE_GATE = ["must-fail", "wrong-bodies"]
+
+
 def wrong_bodies(tree):
     """Wrong bodies that stand elsewhere than their row says, and edits of the gate without a row."""
     page = tree.read("docs/WRONG_BODIES.md")
     edits = {os.path.basename(path)[:-5] for path in tree.files("crates/*/*/*.edit")}
     for listed, places in re.findall(r"((?:`\w+`(?:, )?)+) \(([^()]*)\)", page):
         for place in places.split(";"):
-            folder = "more-edits" if "more-edits" in place else "must-fail"
+            folders = ["more-edits"] if "more-edits" in place else OF_THE_GATE
             for crate, name in itertools.product(re.findall(r"`(\w+)`", place), re.findall(r"\w+", listed)):
                 # Other names are those of tests.
-                if name in edits and not tree.exists(f"crates/{crate}/{folder}/{name}.edit"):
-                    yield f"docs/WRONG_BODIES.md: {name}.edit is not in crates/{crate}/{folder}"
+                if name in edits and not any(tree.exists(f"crates/{crate}/{folder}/{name}.edit") for folder in folders):
+                    yield f"docs/WRONG_BODIES.md: {name}.edit is not in crates/{crate}/{' or '.join(folders)}"
     mentioned = set(re.findall(r"`(\w+)`", page))
-    for path in tree.files("crates/*/must-fail/*.edit"):
+    for path in tree.files(*[f"crates/*/{folder}/*.edit" for folder in OF_THE_GATE]):
         if os.path.basename(path)[:-5] not in mentioned:
             yield f"docs/WRONG_BODIES.md: {path} is not named"
 
@@ -229,7 +233,7 @@ def definitions(tree):
 
 def edits(tree):
     """Edits whose old text does not stand once in its file, after the pairs of lines before it."""
-    for path in tree.files("crates/*/must-fail/*.edit", "crates/*/more-edits/*.edit"):
+    for path in tree.files(*[f"crates/*/{folder}/*.edit" for folder in [*OF_THE_GATE, "more-edits"]]):
         crate, file, text, old = path.rsplit("/", 2)[0], None, {}, None
         for line in tree.read(path).splitlines():
             word, _, rest = line.partition(": ")

@@ -82,7 +82,7 @@ def stated_by(path, text):
     if parts[0] != "crates" or len(parts) < 3:
         return
     crate = parts[1]
-    if parts[2] in ("must-fail", "more-edits"):
+    if parts[2] in ("must-fail", "wrong-bodies", "more-edits"):
         yield "edit", f"{crate} {parts[-1].removesuffix('.edit')}"
     elif parts[2] == "specs" and "declared" not in parts:
         yield from (("definition", name) for name in definitions(crate, text))

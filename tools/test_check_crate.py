@@ -19,7 +19,7 @@ class Commands(unittest.TestCase):
         return ran.stdout.splitlines() if ran.returncode == 0 else ran.stderr.splitlines()[-1]
 
     def test_a_crate_with_tests_and_edits(self):
-        whole = ["cd crates/records && rt check", "cd crates/keymap_store_tests && rt test", "cd . && rt must-fail records"]
+        whole = ["cd crates/records && rt check", "cd crates/keymap_store_tests && rt test", "cd . && python3 -B tools/wrong_bodies.py records"]
         self.assertEqual(self.listed("records"), whole)
         self.assertEqual(self.listed("--no-tests", "records"), whole[::2])
         self.assertEqual(self.listed("--no-edits", "records"), whole[:2])
@@ -40,7 +40,8 @@ class Commands(unittest.TestCase):
             self.assertIn(name, below[tester])
 
     def test_each_crate_with_edits_is_listed(self):
-        edited = {name for name in os.listdir(f"{ROOT}/crates") if os.path.isdir(f"{ROOT}/crates/{name}/must-fail")}
+        folders = [os.path.join(f"{ROOT}/crates", name, folder) for name in os.listdir(f"{ROOT}/crates") for folder in ("must-fail", "wrong-bodies")]
+        edited = {folder.split("/")[-2] for folder in folders if os.path.isdir(folder)}
         with open(f"{ROOT}/crates.txt", encoding="utf-8") as file:
             listed = set(check_crate.crates(file.read()))
         self.assertEqual(edited - listed, set())

@@ -1,4 +1,4 @@
-"""Tries wrong bodies on the tests: edits of must-fail/ and more-edits/, and says which test tells each.
+"""Tries wrong bodies on the tests: edits of must-fail/, wrong-bodies/ and more-edits/, and says which test tells each.
 
 An edit is applied to a clone of the last commit, whose source is written as plain Rust with its tests. The body is told where one
 of these tests fails, or a row of tests/ or a command line on the program that is built of it, or where one hangs: one to two
@@ -17,7 +17,7 @@ import sys
 import tempfile
 import threading
 
-import right_bodies
+import changes
 from debian_crates import OF_PROGRAM, environment
 
 ROOT = os.path.dirname(os.path.dirname(os.path.abspath(__file__)))
@@ -31,7 +31,7 @@ MEMORY = 4 << 20  # what a run of the program may take, in KiB
 
 def turned_by(path):
     """The files of code that an edit turns."""
-    return [name for name, _, _ in right_bodies.read_edit(path) if name.startswith("src/")]
+    return [name for name, _, _ in changes.read_edit(path) if name.startswith("src/")]
 
 
 def edits_of(word):
@@ -39,7 +39,7 @@ def edits_of(word):
     crate, _, name = word.partition("/")
     if not any(crate in of.crates + of.tests for of in rules.WORKSPACE):
         raise ValueError(f"plain Rust has no {crate}")
-    found = [path for path in sorted(glob.glob(f"{ROOT}/crates/{crate}/m*/{name or '*'}.edit")) if turned_by(path)]
+    found = [path for path in sorted(glob.glob(f"{ROOT}/crates/{crate}/[mw]*-*/{name or '*'}.edit")) if turned_by(path)]
     if not found:
         raise ValueError(f"no edit that turns code is called {word}")
     return found
@@ -69,7 +69,7 @@ class Worker(threading.Thread):
         try:
             self.needed(["git", "checkout", "-q", "--", "."])
             if path:
-                right_bodies.apply(path, f"{self.work}/clone/crates/{path.split('/')[-3]}")
+                changes.apply(path, f"{self.work}/clone/crates/{path.split('/')[-3]}")
             return True, self.plain()
         except Exception as why:  # (whatever it is, who waits for this edit has to hear of it)
             return False, str(why)

@@ -97,7 +97,7 @@ def built(room, source, *crates):
     name = source.removesuffix(".rattle")
     program = room.path(name)
     with tempfile.TemporaryDirectory() as top:
-        folder = laid_out(f"{top}/sources", source, crates, "out", "must-fail", "more-edits")
+        folder = laid_out(f"{top}/sources", source, crates, "out", "must-fail", "wrong-bodies", "more-edits")
         shutil.copy(f"{ROOT}/HANDLES", f"{top}/sources")
         told = subprocess.run(["rt", "ci"], cwd=f"{top}/sources", capture_output=True, text=True)
         if not os.path.exists(f"{folder}/out/{name}"):
@@ -120,7 +120,7 @@ def keyboard(room):
 def sizes(room):
     """Bytes of the device's values on a 64-bit machine, as the toolchain's unproved run of a program prints them."""
     needs("rt")
-    folder = laid_out(room.path("rattle-sizes"), "sizes.rattle", PARTS, "out", "proofs", "must-fail", "more-edits")
+    folder = laid_out(room.path("rattle-sizes"), "sizes.rattle", PARTS, "out", "proofs", "must-fail", "wrong-bodies", "more-edits")
     told = room.run(["rt", "try", "--steps", "1"], folder).decode()
     return [Row("sizes", f"{name}, bytes", int(number), None) for name, number in re.findall(r"^([A-Z]\w+) (\d+)$", told, re.M)]
 

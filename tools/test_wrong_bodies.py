@@ -1,0 +1,168 @@
+"""Tests of tools/wrong_bodies.py: which edits are tried together, and what a check says of them."""
+
+import sys
+import tempfile
+import unittest
+
+sys.dont_write_bytecode = True
+import prover
+import wrong_bodies
+from wrong_bodies import Edit, together, try_all, verdict
+
+FILES = {"src/lib.rt": "one two three four five\n", "src/more.rt": "six\n"}
+
+# What a check says of a crate of which all is proved.
+PROVED = "fn a::one: proved\nfn a::two: proved\nfn a::three: proved, may abort\nlogic=proved functions=3\n"
+
+
+def edit(name, *refused, alone=False, file="src/lib.rt"):
+    """An edit that turns the word of its name."""
+    return Edit(name, refused or (name,), alone, [(file, name, name.upper())])
+
+
+def said(**lines):
+    """What a check says of a crate, with these words for some functions."""
+    told = {"one": "proved", "two": "proved", "three": "proved", **lines}
+    return "".join(f"fn a::{name}: {word}\n" for name, word in told.items()) + "logic=not-proved\n"
+
+
+NO_PROOF = "no proof: expected answers in ./proofs/one/Answers.antt; `search` did not prove `returns-then`"
+CALLS_ONE = "no proof: it calls `a::one`, which is not proved"
+
+
+class Together(unittest.TestCase):
+    """What one check tries."""
+
+    def names(self, *edits):
+        taken, texts = together(edits, FILES.__getitem__)
+        return [it.name for it in taken], texts
+
+    def test_edits_of_different_functions(self):
+        self.assertEqual(self.names(edit("one"), edit("two"), edit("six", file="src/more.rt")),
+                         (["one", "two", "six"], {"src/lib.rt": "ONE TWO three four five\n", "src/more.rt": "SIX\n"}))
+
+    def test_a_second_edit_of_a_function_waits(self):
+        self.assertEqual(self.names(edit("one"), edit("two", "one"), edit("three"))[0], ["one", "three"])
+
+    def test_an_edit_of_a_text_that_is_turned_waits(self):
+        self.assertEqual(self.names(edit("one"), Edit("later", ("two",), False, [("src/lib.rt", "one two", "2")]))[0], ["one"])
+
+    def test_an_edit_is_tried_by_itself(self):
+        self.assertEqual(self.names(edit("one"), edit("two", alone=True), edit("three"))[0], ["one", "three"])
+        self.assertEqual(self.names(edit("two", alone=True), edit("one"))[0], ["two"])
+
+    def test_a_text_that_is_not_there(self):
+        with self.assertRaisesRegex(ValueError, "seven: an old text does not stand once"):
+            self.names(edit("one"), edit("seven"))
+
+
+class Verdicts(unittest.TestCase):
+    """What a check says of edits."""
+
+    def judged(self, told, *edits):
+        return verdict("a", edits, told)
+
+    def test_a_goal_of_its_own(self):
+        found = self.judged(said(one=NO_PROOF), edit("one"))
+        self.assertEqual(found, ({"one": "one at `returns-then`"}, [], []))
+
+    def test_a_goal_that_an_answer_does_not_prove(self):
+        told = "./proofs/one/Answers.antt:5:23: error: `returns-in-Some`: `search`: no proof\n" + said(one="not proved")
+        self.assertEqual(self.judged(told, edit("one")).refused, {"one": "one at `returns-in-Some`"})
+
+    def test_a_body_that_is_proved(self):
+        for told in (said(two=NO_PROOF), PROVED):
+            self.assertEqual(self.judged(told, edit("one"), edit("two", "two")).wrong[0], "one: NOT REFUSED: one is still proved with this edit")
+
+    def test_a_caller_of_a_function_that_another_edit_turned(self):
+        found = self.judged(said(one=NO_PROOF, two=CALLS_ONE), edit("one"), edit("two"))
+        self.assertEqual((list(found.refused), found.pending, found.wrong), (["one"], ["two"], []))
+
+    def test_a_caller_with_a_goal_that_may_want_what_it_calls(self):
+        told = said(one=NO_PROOF, two=NO_PROOF + "; it calls `a::one`, which is not proved")
+        self.assertEqual(self.judged(told, edit("one"), edit("two")).pending, ["two"])
+
+    def test_a_function_that_no_edit_names(self):
+        found = self.judged(said(one=NO_PROOF, two=NO_PROOF), edit("one"), edit("three"))
+        self.assertIn("two: refused with one, three, none of which names it", found.wrong)
+        self.assertEqual(self.judged(said(one=NO_PROOF, two=NO_PROOF), edit("one", alone=True)).wrong, [])
+
+    def test_every_function_that_is_named_is_refused(self):
+        self.assertEqual(self.judged(said(one=NO_PROOF), edit("one", "one", "two")).wrong, ["one: NOT REFUSED: two is still proved with this edit"])
+
+    def test_names_that_are_gone(self):
+        told = "./proofs/one/Answers.antt:1:2: error: `it` is not in scope\n" + said(one="not proved")
+        wrong = ["one: refused only because a proof names what the edit took away"]
+        self.assertEqual(self.judged(told, edit("one")).wrong, wrong)
+        self.assertEqual(self.judged(told, edit("one"), edit("two")).wrong[0], wrong[0])
+        goal = "note: src/lib.rt:7:1: it is not proved that what the function ensures holds when it returns (`returns-else`); no\n"
+        self.assertEqual(self.judged(told.replace("fn a::one", goal + "fn a::one"), edit("one"), edit("two")).refused, {"one": "one at `returns-else`"})
+        self.assertEqual(self.judged(goal + told, edit("one"), edit("two")).refused, {"one": "one at `returns-else`"})
+        self.assertEqual(self.judged(told.replace("fn a::two", goal + "fn a::two"), edit("one"), edit("two")).wrong[0], wrong[0])
+        lemma = "./proofs/Law.antt:1:2: error: `sums`: the two types differ\n"
+        self.assertEqual(list(self.judged(lemma + told, edit("one", alone=True)).refused), ["one"])
+
+    def test_what_does_not_reach_the_prover(self):
+        self.assertEqual(self.judged("error: expected `;`\n", edit("one")).wrong, ["one: it did not reach the prover: error: expected `;`"])
+
+    def test_a_function_that_is_not_there_or_undecided(self):
+        self.assertEqual(self.judged(said(), edit("four")).wrong, ["four: the crate has no function four"])
+        self.assertEqual(self.judged(said(one="could not tell: steps"), edit("one")).wrong, ["one: one: the prover could not tell"])
+
+
+class All(unittest.TestCase):
+    """A crate's edits, over a check that refuses what is turned, and what calls it."""
+
+    def run_on(self, calls, *edits):
+        """What comes of edits where each function calls the one that is named, and how often the crate is checked."""
+        checks = []
+
+        def check(texts):
+            checks.append(texts)
+            turned = {name for name in ("one", "two", "three") if name.upper() in texts.get("src/lib.rt", "")}
+            words = {name: NO_PROOF for name in turned} | {name: CALLS_ONE for name, callee in calls.items() if callee in turned}
+            return said(**words)
+
+        return *try_all("a", edits, check, FILES.__getitem__), len(checks)
+
+    def test_callers_are_tried_later(self):
+        lines, wrong, checks = self.run_on({"two": "one"}, edit("one"), edit("two"), edit("three"))
+        self.assertEqual((len(lines), wrong, checks), (3, [], 2))
+
+    def test_functions_that_call_each_other(self):
+        lines, wrong, checks = self.run_on({"two": "one", "one": "two"}, edit("one"), edit("two"))
+        self.assertEqual((len(lines), wrong, checks), (2, [], 3))
+
+    def test_what_is_tried_by_itself_comes_last(self):
+        lines, wrong, checks = self.run_on({}, edit("one", alone=True), edit("two"), edit("three"))
+        self.assertEqual((len(lines), wrong, checks), (3, [], 2))
+        self.assertIn("/one: ", lines[-1])
+
+
+class Files(unittest.TestCase):
+    """Edits and libraries."""
+
+    def test_an_edit_says_where_it_is_refused(self):
+        with tempfile.TemporaryDirectory() as folder:
+            path = f"{folder}/wrong.edit"
+            with open(path, "w", encoding="utf-8") as file:
+                file.write("refused: log::Log::plan\nrefused: made\nalone: it turns a constant\nfile: src/lib.rt\nold: refused: 1\nnew: 2\n")
+            self.assertEqual(wrong_bodies.edit_of(path), Edit("wrong", ("log::Log::plan", "made"), True, [("src/lib.rt", "refused: 1", "2")]))
+            with open(path, "w", encoding="utf-8") as file:
+                file.write("file: src/lib.rt\nold: refused: 1\nnew: 2\n")
+            with self.assertRaisesRegex(ValueError, "no line 'refused: FUNCTION'"):
+                wrong_bodies.edit_of(path)
+
+    def test_every_edit_of_the_repository_can_be_read(self):
+        found = wrong_bodies.named([])
+        self.assertGreater(sum(map(len, found.values())), 100)
+        with self.assertRaisesRegex(ValueError, "no edit in wrong-bodies/ is called records/none"):
+            wrong_bodies.named(["records/none"])
+
+    def test_the_libraries_below_stand_lowest_first(self):
+        self.assertEqual(prover.Kit("", {"a": [], "b": ["a", "std"], "c": ["b", "a"]}).below("c"), ["a", "b"])
+        self.assertFalse(prover.is_built("none"))
+
+
+if __name__ == "__main__":
+    unittest.main()
