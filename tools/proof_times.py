@@ -1,10 +1,11 @@
-"""Runs a command that proves crates, by default the gate `rt ci`, and says how many seconds of processor each crate's proof took,
-and its must-fail edits.
+"""Runs a command that proves crates, by default the gate, `rt ci` and then tools/wrong_bodies.py, and says how many seconds of
+processor each crate's proof took, and its edits.
 
 Five times a second it looks what each process of Rattle below the command has used, so a process counts at most that less than it
-took. What was begun or ended by an earlier run on this machine is no number of the crate, and is left out; `rt ci --anew` leaves
-nothing out. What other machines of the host take of the processors is in no process's seconds, but these may grow with it: on a quiet
-machine it is 0 %. --write puts the numbers into the table of docs/MEASUREMENTS.md, where rows that were not measured stay as they are.
+took. What was begun or ended by an earlier run on this machine is no number of the crate, and is left out; with a toolchain that has
+the word, `sh -c 'rt ci --anew && python3 -B tools/wrong_bodies.py'` leaves nothing out. What other machines of the host take of the
+processors is in no process's seconds, but these may grow with it: on a quiet machine it is 0 %. --write puts the numbers into the
+table of docs/MEASUREMENTS.md, where rows that were not measured stay as they are.
 """
 
 import argparse
@@ -21,6 +22,7 @@ DOCUMENT = f"{ROOT}/docs/MEASUREMENTS.md"
 BEGIN, END = "<!-- proofs: table -->\n", "<!-- end -->\n"
 HEAD = "\n| Crate | Proof | Edits |\n|---|---|---|\n"
 TICKS = os.sysconf("SC_CLK_TCK")
+GATE = ["sh", "-c", "rt ci && python3 -B tools/wrong_bodies.py"]
 MARK = "PROOF_TIMES"  # a variable that each process below the command has
 PAUSE = 0.2
 
@@ -164,10 +166,10 @@ def write(numbers):
 def main():
     words = argparse.ArgumentParser(prog="proof-times", description=__doc__, formatter_class=argparse.RawDescriptionHelpFormatter)
     words.add_argument("--write", action="store_true", help="puts the numbers into docs/MEASUREMENTS.md")
-    words.add_argument("command", nargs=argparse.REMAINDER, help="the command and its words (rt ci)")
+    words.add_argument("command", nargs=argparse.REMAINDER, help="the command and its words (the gate)")
     given = words.parse_args()
     before = processors()
-    status, seconds, kept = watched(given.command or ["rt", "ci"])
+    status, seconds, kept = watched(given.command or GATE)
     others = taken_by_others(before, processors())
     numbers = {task: number for task, number in seconds.items() if task not in kept}
     for (name, what), number in sorted(numbers.items()):
