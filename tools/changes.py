@@ -44,3 +44,15 @@ def apply(path, crate):
             replace_once(f"{crate}/{name}", old, new)
         except ValueError as why:
             raise ValueError(f"{path}: {why}") from why
+
+
+def changed(texts, changes, read):
+    """The texts of files with some changes, each of a text that stands once in its file. `read` gives the text of a file that is not
+    among them. ValueError where one stands there more often, or not at all."""
+    made = dict(texts)
+    for name, old, new in changes:
+        text = made[name] if name in made else read(name)
+        if text.count(old) != 1:
+            raise ValueError(f"{name} has {text.count(old)} times, not once: {old}")
+        made[name] = text.replace(old, new)
+    return made

@@ -13,7 +13,7 @@ import os
 import re
 import sys
 
-from changes import read_edit
+from changes import changed, read_edit
 from prover import ROOT, Room, build, kit, room_of
 
 BODIES = f"{ROOT}/tests/right_bodies"
@@ -28,15 +28,14 @@ def edits_of(crate, names):
     return [path for path in found if not names or os.path.basename(path).removesuffix(".edit") in names]
 
 
-def texts_of(crate, paths, read):
+def texts_of(paths, read):
     """The texts of files that right bodies make. `read` gives a file's text."""
     texts = {}
     for path in paths:
-        for name, old, new in read_edit(path):
-            text = texts[name] if name in texts else read(name)
-            if text.count(old) != 1:
-                raise ValueError(f"{path}: crates/{crate}/{name} has {text.count(old)} times, not once: {old}")
-            texts[name] = text.replace(old, new)
+        try:
+            texts = changed(texts, read_edit(path), read)
+        except ValueError as why:
+            raise ValueError(f"{path}: {why}") from why
     return texts
 
 
@@ -50,7 +49,7 @@ def try_crate(crate, paths, tools, each):
     failed = 0
     with room_of(crate) as room:
         for group in [[path] for path in paths] if each else [paths]:
-            said = tools.check(room.made_of(texts_of(crate, group, room.read)))
+            said = tools.check(room.made_of(texts_of(group, room.read)))
             proved = re.search(r"^logic=proved", said, re.MULTILINE)
             names = ", ".join(os.path.basename(path).removesuffix(".edit") for path in group)
             print(f"{crate}: {'proved' if proved else 'NOT PROVED'}: {names}", flush=True)
@@ -74,7 +73,7 @@ def main():
         paths = edits_of(crate, args.only)
         count += len(paths)
         if args.apply:
-            texts_of(crate, paths, Room(crate, "", "").read)
+            texts_of(paths, Room(crate, "", "").read)
         elif paths:
             build([crate], tools)
             failed += try_crate(crate, paths, tools, args.each)

@@ -52,8 +52,8 @@ class Together(unittest.TestCase):
         self.assertEqual(self.names(edit("two", alone=True), edit("one"))[0], ["two"])
 
     def test_a_text_that_is_not_there(self):
-        with self.assertRaisesRegex(ValueError, "seven: an old text does not stand once"):
-            self.names(edit("one"), edit("seven"))
+        faults = list(wrong_bodies.bad({"records": [edit("seven")]}, {"records": []}))
+        self.assertRegex(faults[0], "wrong-bodies records/seven: BAD EDIT: src/lib.rt has 0 times, not once: seven")
 
 
 class Verdicts(unittest.TestCase):
@@ -105,6 +105,16 @@ class Verdicts(unittest.TestCase):
     def test_what_does_not_reach_the_prover(self):
         self.assertEqual(self.judged("error: expected `;`\n", edit("one")).wrong, ["one: it did not reach the prover: error: expected `;`"])
 
+    def test_a_function_without_a_goal_of_its_own(self):
+        found = self.judged(said(one="no proof: it calls `a::added`, which is not proved"), edit("one", alone=True))
+        self.assertRegex(found.wrong[0], "one: one: refused without a goal of its own: it calls")
+        found = self.judged(said(one="not proved; it passes the block `a::added`, which is not proved", two=NO_PROOF), edit("one"), edit("two"))
+        self.assertEqual((list(found.refused), found.pending), (["two"], ["one"]))
+
+    def test_what_breaks_with_an_edit_that_is_tried_alone_is_said(self):
+        found = self.judged(said(one=NO_PROOF, two=NO_PROOF), edit("one", alone=True))
+        self.assertEqual(found.refused, {"one": "one at `returns-then`; not proved either: two"})
+
     def test_a_function_that_is_not_there_or_undecided(self):
         self.assertEqual(self.judged(said(), edit("four")).wrong, ["four: the crate has no function four"])
         self.assertEqual(self.judged(said(one="could not tell: steps"), edit("one")).wrong, ["one: one: the prover could not tell"])
@@ -132,6 +142,12 @@ class All(unittest.TestCase):
     def test_functions_that_call_each_other(self):
         lines, wrong, checks = self.run_on({"two": "one", "one": "two"}, edit("one"), edit("two"))
         self.assertEqual((len(lines), wrong, checks), (2, [], 3))
+
+    def test_an_edit_that_is_no_program_does_not_hide_the_others(self):
+        told = lambda texts: "error: no program\n" if "ONE" in texts["src/lib.rt"] else said(two=NO_PROOF)
+        lines, wrong = try_all("a", [edit("one"), edit("two")], told, FILES.__getitem__)
+        self.assertEqual((len(lines), len(wrong)), (1, 1))
+        self.assertIn("/one: it did not reach the prover", wrong[0])
 
     def test_what_is_tried_by_itself_comes_last(self):
         lines, wrong, checks = self.run_on({}, edit("one", alone=True), edit("two"), edit("three"))

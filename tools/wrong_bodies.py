@@ -26,22 +26,22 @@ from concurrent.futures import ThreadPoolExecutor, as_completed
 from typing import NamedTuple
 
 import right_bodies
-from changes import read_edit
-from prover import ROOT, build, kit, room_of, size_of
+from changes import changed, read_edit
+from prover import ROOT, Room, build, kit, room_of, size_of
 from run_tests import A_CHECK, free_memory, processors, text_of
 
 FOLDER = "wrong-bodies"
 
 # What a check says of a function, and of one that calls functions that are not proved.
 SAID = re.compile(r"fn (\w+)::(\S+): (proved|no proof|not proved|could not tell)\b(.*)")
-CALLS = re.compile(r"\bit calls `")
+CALLS = re.compile(r"\bit (?:calls|passes the block) `")
 
 # Above it: a goal that nothing proved. What it says of other items.
 GOAL = re.compile(r"note: src/\S+: it is not proved that .*\((`[^`]+`)\)")
 ITEM = re.compile(r"(fn|impl|struct|enum|trait|const) \w+::")
 
 # An error of a proof that only names what an edit took away.
-NAMES = re.compile(r"has no field|is not in scope|has no `|was not admitted")
+NAMES = re.compile(r"has no field|is not in scope|has no `|was not admitted|was rejected|missing field")
 
 
 class Edit(NamedTuple):
@@ -63,29 +63,21 @@ def edit_of(path):
     return Edit(os.path.basename(path).removesuffix(".edit"), refused, any(word == "alone" for word, _ in said), read_edit(path))
 
 
-def changed(texts, edit, read):
-    """The texts of files with an edit; none where an old text does not stand once in its file. `read` gives a file's text."""
-    made = dict(texts)
-    for name, old, new in edit.changes:
-        text = made[name] if name in made else read(name)
-        if text.count(old) != 1:
-            return None
-        made[name] = text.replace(old, new)
-    return made
-
-
 def together(edits, read):
     """Those of some edits that are tried in one check, and the texts that they make: at most one of each function; or one by itself."""
     taken, texts, named = [], {}, set()
     for edit in edits:
-        made = changed(texts, edit, read)
-        if made is None and changed({}, edit, read) is None:
-            raise ValueError(f"{edit.name}: an old text does not stand once in its file")
-        if made is None or named & set(edit.refused) or (edit.alone and taken):
+        if named & set(edit.refused) or (edit.alone and taken):
             continue
-        taken, texts, named = [*taken, edit], made, named | set(edit.refused)
+        try:
+            texts = changed(texts, edit.changes, read)
+        except ValueError:
+            continue  # (another one turned its text)
+        taken, named = [*taken, edit], named | set(edit.refused)
         if edit.alone:
             break
+    if edits and not taken:
+        raise ValueError(f"{edits[0].name}: it can't be applied")
     return taken, texts
 
 
@@ -140,12 +132,13 @@ def errors_of(said, path=""):
 
 def verdict(crate, edits, said):
     """The verdict of a check of a crate with these edits, by what it said."""
-    if not re.search(r"^logic=", said, re.MULTILINE):
+    if not reached(said):
         return Verdict({}, [], [f"{edit.name}: it did not reach the prover: {first_lines(said)}" for edit in edits])
     told, alone = told_of(crate, said), len(edits) == 1
     refused, pending, wrong = {}, [], []
-    # (an edit that is tried alone may turn what stands in a lemma)
-    is_lemma = alone and any(not NAMES.search(error) for error in errors_of(said))
+    # (an edit that is said to be tried alone may turn what a lemma says)
+    own = {error for of in told.values() for error in of.errors}
+    is_lemma = any(edit.alone for edit in edits) and any(not NAMES.search(error) for error in errors_of(said) if error not in own)
     for edit in edits:
         lacks = [path for path in edit.refused if path not in told]
         found = {path: told[path] for path in edit.refused if path in told}
@@ -157,15 +150,24 @@ def verdict(crate, edits, said):
             wrong.append(f"{edit.name}: {unsure[0]}: the prover could not tell")
         elif not alone and any(CALLS.search(of.rest) for of in found.values()):
             pending.append(edit.name)
+        elif bare := [path for path, of in found.items() if not of.goals and not of.errors]:
+            wrong.append(f"{edit.name}: {bare[0]}: refused without a goal of its own{found[bare[0]].rest}")
         elif not is_lemma and any(of.only_names for of in found.values()):
             wrong.append(f"{edit.name}: refused only because a proof names what the edit took away")
         else:
             refused[edit.name] = ", ".join(f"{path}{of.goal}" for path, of in found.items())
     named = {path for edit in edits for path in edit.refused}
-    others = [path for path, of in told.items() if of.word != "proved" and path not in named and not CALLS.search(of.rest)]
-    if others and not any(edit.alone for edit in edits):
+    others = [path for path, of in told.items() if of.word != "proved" and path not in named and (of.goals or of.errors or not CALLS.search(of.rest))]
+    if others and any(edit.alone for edit in edits):
+        refused = {name: f"{where}; not proved either: {', '.join(others)}" for name, where in refused.items()}
+    elif others:
         wrong.append(f"{', '.join(others)}: refused with {', '.join(edit.name for edit in edits)}, none of which names it")
     return Verdict(refused, pending, wrong)
+
+
+def reached(said):
+    """Whether a check came to a verdict."""
+    return bool(re.search(r"^logic=", said, re.MULTILINE))
 
 
 def first_lines(said):
@@ -178,10 +180,11 @@ def try_all(crate, edits, check, read):
     lines, wrong, left = [], [], sorted(edits, key=lambda edit: (edit.alone, edit.name))
     while left:
         taken, texts = together(left, read)
-        found = verdict(crate, taken, check(texts))
-        if len(found.pending) == len(taken):
-            # (each calls what another one turned: the first one by itself tells more)
-            taken, texts = together([taken[0]._replace(alone=True)], read)
+        said = check(texts)
+        found = verdict(crate, taken, said)
+        if len(taken) > 1 and (len(found.pending) == len(taken) or not reached(said)):
+            # (each calls what another one turned, or one of them is no program: the first one by itself)
+            taken, texts = together(taken[:1], read)
             found = verdict(crate, taken, check(texts))
         lines += [f"wrong-bodies {crate}/{name}: refused at {where}" for name, where in found.refused.items()]
         wrong += [f"wrong-bodies {crate}/{what}" for what in found.wrong]
@@ -193,12 +196,13 @@ def try_crate(crate, edits, tools, right):
     """The same, by the toolchain. Over what it proved, the crate's right bodies have to be proved, all of them at once."""
     with room_of(crate) as room:
         lines, wrong = try_all(crate, edits, lambda texts: tools.check(room.made_of(texts)), room.read)
-        said = tools.check(room.made_of(right_bodies.texts_of(crate, right, room.read))) if right else "logic=proved"
-    names = ", ".join(os.path.basename(path).removesuffix(".edit") for path in right)
-    if not re.search(r"^logic=proved", said, re.MULTILINE):
-        wrong.append(f"wrong-bodies {crate}: NOT PROVED, with the right bodies {names}: {first_lines(right_bodies.refusals(said))}")
-    elif right:
-        lines.append(f"wrong-bodies {crate}: proved with the right bodies {names}")
+        if right:
+            said = tools.check(room.made_of(right_bodies.texts_of(right, room.read)))
+            names = ", ".join(os.path.basename(path).removesuffix(".edit") for path in right)
+            if re.search(r"^logic=proved", said, re.MULTILINE):
+                lines.append(f"wrong-bodies {crate}: proved with the right bodies {names}")
+            else:
+                wrong.append(f"wrong-bodies {crate}: NOT PROVED, with the right bodies {names}:\n{right_bodies.refusals(said)}")
     return lines, wrong
 
 
@@ -215,21 +219,40 @@ def named(words):
     return found
 
 
+def bad(edits, right):
+    """What can't be applied, of edits and of right bodies by crate."""
+    for crate, of in edits.items():
+        read = Room(crate, "", "").read
+        for what, change in [*((edit.name, lambda edit=edit: changed({}, edit.changes, read)) for edit in of), ("", lambda: right_bodies.texts_of(right[crate], read))]:
+            try:
+                change()
+            except (ValueError, OSError) as why:
+                yield f"wrong-bodies {crate}/{what}: BAD EDIT: {why}"
+
+
+def lanes():
+    """How many checks run at once: one a processor, as far as memory goes."""
+    groups = "/sys/fs/cgroup"
+    free = free_memory(text_of("/proc/meminfo"), text_of(f"{groups}/memory.max"))
+    return max(1, min(processors(text_of(f"{groups}/cpu.max")), free // A_CHECK))
+
+
 def main():
     words = argparse.ArgumentParser(prog="wrong_bodies.py", description=__doc__, formatter_class=argparse.RawDescriptionHelpFormatter)
     words.add_argument("names", metavar="CRATE[/EDIT]", nargs="*", help="a crate, or one of its edits (all)")
     given = words.parse_args()
     try:
         edits = named(given.names)
+        right = {crate: [] if any(word.startswith(f"{crate}/") for word in given.names) else right_bodies.edits_of(crate, []) for crate in edits}
     except ValueError as why:
         words.error(str(why))
+    if faults := list(bad(edits, right)):
+        print("\n".join(faults))
+        return 1
     tools = kit()
     build(edits, tools)
-    groups = "/sys/fs/cgroup"
-    lanes = min(processors(text_of(f"{groups}/cpu.max")), free_memory(text_of("/proc/meminfo"), text_of(f"{groups}/memory.max")) // A_CHECK)
     failed = 0
-    with ThreadPoolExecutor(max(1, lanes)) as pool:
-        right = {crate: [] if any("/" in word for word in given.names) else right_bodies.edits_of(crate, []) for crate in edits}
+    with ThreadPoolExecutor(lanes()) as pool:
         tried = [pool.submit(try_crate, crate, edits[crate], tools, right[crate]) for crate in sorted(edits, key=size_of, reverse=True)]
         for lines, wrong in (done.result() for done in as_completed(tried)):
             print("\n".join([*lines, *wrong]), flush=True)
