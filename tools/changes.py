@@ -25,6 +25,8 @@ def read_edit(path):
                 parts = [file, text, ""]
                 changes.append(parts)
             elif word == "new" and parts:
+                if parts[2]:
+                    raise ValueError(f"{path}: two new texts in the place of one: {text.strip()}")
                 parts[2] = text
             elif word in ("refused", "alone") and file is None:
                 pass  # (what tools/wrong_bodies.py reads)
