@@ -1,5 +1,9 @@
 """Changes of copies of the sources, for those tools that try them."""
 
+import re
+
+from check_shape import RUST, bare, body_of, closing
+
 
 def replace_once(path, old, new):
     """Puts a text into the place of another one, which has to stand once in the file. Gives what the file held; ValueError where the
@@ -28,8 +32,8 @@ def read_edit(path):
                 if parts[2]:
                     raise ValueError(f"{path}: two new texts in the place of one: {text.strip()}")
                 parts[2] = text
-            elif word in ("refused", "alone") and file is None:
-                pass  # (what tools/wrong_bodies.py reads)
+            elif word in ("refused", "alone", "proved") and file is None:
+                pass  # (what tools/wrong_bodies.py and tools/right_bodies.py read)
             elif parts:
                 parts[2 if parts[2] else 1] += line
             else:
@@ -58,3 +62,29 @@ def changed(texts, changes, read):
             raise ValueError(f"{name} has {text.count(old)} times, not once: {old}")
         made[name] = text.replace(old, new)
     return made
+
+
+def turns_more(texts, functions, read):
+    """The files in which some texts turn more than functions, which are named by their paths below the crate: than their bodies and
+    their proofs, imports, and functions that the texts add. What else the crate has is proved with them if it was without them."""
+    names = {path.rpartition("::")[2] for path in functions}
+    proofs = tuple(f"proofs/{path.replace('::', '/')}/" for path in functions)
+    return [name for name, text in texts.items() if not name.startswith(proofs) and (not name.endswith(".rt") or is_turned(text, read(name), names))]
+
+
+def is_turned(text, old, names):
+    """Whether a source differs from an old one in more than imports, functions that it adds, and the bodies of functions of these names."""
+    added = {begun[1] for begun in RUST.finditer(text)} - {begun[1] for begun in RUST.finditer(old)}
+    return rest_of(text, names, added) != rest_of(old, names, added)
+
+
+def rest_of(text, names, added):
+    """The words of a source without comments, imports, the bodies of its functions of some names, and the whole of those of others."""
+    clean, _ = bare(text, ".rt")
+    kept, at = [], 0
+    for begun in RUST.finditer(clean):
+        opening = body_of(clean, begun.end(), ".rt")
+        if opening is not None and opening >= at and begun[1] in names | added:
+            kept.append(text[at : begun.start() if begun[1] in added else opening])
+            at = closing(clean, opening) + 1
+    return re.sub(r"//[^\n]*|\b(ghost )?use [^;]*;", " ", "".join([*kept, text[at:]])).split()

@@ -3,8 +3,10 @@
 A wrong body that is refused shows what the contract refuses only where a right body of the same shape is proved.
 tests/right_bodies/CRATE/NAME.edit stands beside NAME.edit in must-fail/, wrong-bodies/ or more-edits/ of crates/CRATE, and is written as that: a
 file of the crate, a text that stands there once, and what takes its place, maybe several times; a text may go on over several
-lines. All of a crate's are applied to a copy of it, and the crate has to be proved with them. The gate does so too, for crates with
-wrong-bodies/ (tools/wrong_bodies.py). A crate takes half a minute of processor and more.
+lines. Before it stands a line `proved: FUNCTION` for each function that it turns, by its path below the crate. All of a crate's are
+applied to a copy of it, and these functions have to be proved, with those that they call; the whole crate, where a right body turns
+more than it names. The gate does so too, for crates with wrong-bodies/ (tools/wrong_bodies.py). A crate takes half a minute of
+processor and more.
 """
 
 import argparse
@@ -13,7 +15,7 @@ import os
 import re
 import sys
 
-from changes import changed, read_edit
+from changes import changed, read_edit, turns_more
 from prover import ROOT, Room, build, kit, room_of
 
 BODIES = f"{ROOT}/tests/right_bodies"
@@ -39,6 +41,19 @@ def texts_of(paths, read):
     return texts
 
 
+def named_by(path):
+    """The functions that a right body says it turns."""
+    with open(path, encoding="utf-8") as file:
+        return re.findall(r"^proved: (.+)$", file.read().split("\nfile: ")[0], re.MULTILINE)
+
+
+def to_prove(paths, read):
+    """The functions that right bodies turn; none, which stands for all of the crate, where one turns more than it names."""
+    if any(turns_more(texts_of([path], read), named_by(path), read) for path in paths):
+        return []
+    return sorted({function for path in paths for function in named_by(path)})
+
+
 def refusals(said):
     """What a check says of what is not proved."""
     return "\n".join([line for line in said.splitlines() if "error" in line or "not proved" in line or "no proof" in line][:20])
@@ -49,8 +64,7 @@ def try_crate(crate, paths, tools, each):
     failed = 0
     with room_of(crate) as room:
         for group in [[path] for path in paths] if each else [paths]:
-            said = tools.check(room.made_of(texts_of(group, room.read)))
-            proved = re.search(r"^logic=proved", said, re.MULTILINE)
+            proved, said = tools.proves(room.made_of(texts_of(group, room.read)), to_prove(group, room.read))
             names = ", ".join(os.path.basename(path).removesuffix(".edit") for path in group)
             print(f"{crate}: {'proved' if proved else 'NOT PROVED'}: {names}", flush=True)
             if not proved:

@@ -6,7 +6,9 @@ import unittest
 
 sys.dont_write_bytecode = True
 import prover
+import right_bodies
 import wrong_bodies
+from changes import turns_more
 from wrong_bodies import Edit, together, try_all, verdict
 
 FILES = {"src/lib.rt": "one two three four five\n", "src/more.rt": "six\n"}
@@ -127,32 +129,93 @@ class All(unittest.TestCase):
         """What comes of edits where each function calls the one that is named, and how often the crate is checked."""
         checks = []
 
-        def check(texts):
-            checks.append(texts)
+        def check(texts, functions):
+            checks.append(functions)
             turned = {name for name in ("one", "two", "three") if name.upper() in texts.get("src/lib.rt", "")}
             words = {name: NO_PROOF for name in turned} | {name: CALLS_ONE for name, callee in calls.items() if callee in turned}
             return said(**words)
 
-        return *try_all("a", edits, check, FILES.__getitem__), len(checks)
+        return *try_all("a", edits, check, FILES.__getitem__), checks
 
     def test_callers_are_tried_later(self):
         lines, wrong, checks = self.run_on({"two": "one"}, edit("one"), edit("two"), edit("three"))
-        self.assertEqual((len(lines), wrong, checks), (3, [], 2))
+        self.assertEqual((len(lines), wrong, checks), (3, [], [["one", "three", "two"], ["two"]]))
 
     def test_functions_that_call_each_other(self):
         lines, wrong, checks = self.run_on({"two": "one", "one": "two"}, edit("one"), edit("two"))
-        self.assertEqual((len(lines), wrong, checks), (2, [], 3))
+        self.assertEqual((len(lines), wrong, checks), (2, [], [["one", "two"], ["one"], ["two"]]))
 
     def test_an_edit_that_is_no_program_does_not_hide_the_others(self):
-        told = lambda texts: "error: no program\n" if "ONE" in texts["src/lib.rt"] else said(two=NO_PROOF)
+        told = lambda texts, _: "error: no program\n" if "ONE" in texts["src/lib.rt"] else said(two=NO_PROOF)
         lines, wrong = try_all("a", [edit("one"), edit("two")], told, FILES.__getitem__)
         self.assertEqual((len(lines), len(wrong)), (1, 1))
         self.assertIn("/one: it did not reach the prover", wrong[0])
 
     def test_what_is_tried_by_itself_comes_last(self):
         lines, wrong, checks = self.run_on({}, edit("one", alone=True), edit("two"), edit("three"))
-        self.assertEqual((len(lines), wrong, checks), (3, [], 2))
+        self.assertEqual((len(lines), wrong, checks), (3, [], [["three", "two"], ["one"]]))
         self.assertIn("/one: ", lines[-1])
+
+
+class Bodies(unittest.TestCase):
+    """What edits and right bodies turn beside the functions that they name."""
+
+    SOURCE = """
+const MOST: u8 = 3;
+
+/// Whether it is less.
+pub fn less(number: u8) -> bool
+    ensures { IsTrue result ↔ number < 3 }
+{
+    number < MOST
+}
+
+impl Log {
+    fn less(&self) -> bool { self.of < 1 } // fn more
+    fn more(&self) -> bool { !self.less() }
+}
+"""
+
+    def beyond(self, old, new, *functions, name="src/log.rt"):
+        self.assertEqual(self.SOURCE.count(old), 1)
+        return turns_more({name: self.SOURCE.replace(old, new)}, functions, lambda _: self.SOURCE)
+
+    def test_a_body(self):
+        self.assertEqual(self.beyond("number < MOST", "number <= MOST && { true }", "less"), [])
+        self.assertEqual(self.beyond("!self.less()", "self.less()", "log::Log::more"), [])
+        self.assertEqual(self.beyond("self.of < 1", "self.of < 2", "log::Log::less", "log::Log::more"), [])
+
+    def test_what_is_added_and_proved(self):
+        self.assertEqual(self.beyond("impl", "ghost use Rattle.std.specs.Prelude.{true, false}; use std::mem; fn added() -> bool ensures { result } { 1 < 2 } impl", "less"), [])
+        self.assertEqual(self.beyond("/// Whether", "fn added() { } /// If", "less", "more"), [])
+        self.assertEqual(self.beyond("number < MOST", "true", "log::Log::more", name="proofs/log/Log/more/Answers.antt"), [])
+
+    def test_a_body_of_another_function(self):
+        self.assertEqual(self.beyond("!self.less()", "self.less()", "log::Log::less"), ["src/log.rt"])
+        self.assertEqual(self.beyond("self.of < 1", "self.of < 2", "log::Log::more"), ["src/log.rt"])
+
+    def test_more_than_a_body(self):
+        for old, new in (("u8 = 3", "u8 = 4"), ("number < 3 }", "number < 4 }"), ("number: u8", "mut number: u8"), ("impl Log", "impl More"), ("impl", "const LEAST: u8 = 3; impl")):
+            self.assertEqual(self.beyond(old, new, "less"), ["src/log.rt"])
+
+    def test_other_proofs_and_definitions(self):
+        for name in ("proofs/Less.antt", "proofs/log/Log/less/Answers.antt", "specs/Less.antt"):
+            self.assertEqual(self.beyond("number < MOST", "true", "less", name=name), [name])
+
+    def test_an_edit_that_turns_a_constant_has_to_say_so(self):
+        edits = [it for it in wrong_bodies.named(["host"])["host"] if it.alone]
+        self.assertEqual(list(wrong_bodies.bad({"host": edits}, {"host": []})), [])
+        faults = list(wrong_bodies.bad({"host": [it._replace(alone=False) for it in edits]}, {"host": []}))
+        self.assertRegex(faults[0], "BAD EDIT: in src/.*rt it turns more than the bodies of .*, and has no line 'alone: WHY'")
+        self.assertEqual(len(faults), len(edits))
+
+    def test_right_bodies_are_proved_where_they_turn(self):
+        def turned(crate, *names):
+            return right_bodies.to_prove(right_bodies.edits_of(crate, names), prover.Room(crate, "", "").read)
+
+        self.assertEqual(turned("layers"), ["held::Held::put", "held::Held::release", "held::name"])
+        self.assertEqual(turned("keymap_store", "header_before_copies"), ["store::Store::turn", "store::offer_next"])
+        self.assertEqual(turned("judge"), [])
 
 
 class Files(unittest.TestCase):

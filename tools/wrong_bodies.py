@@ -6,12 +6,14 @@ crate:
 
     refused: log::Log::plan
 
-Edits of different functions are tried in one check of the crate, which tells of each function whether it is proved. Where a
-function calls one that another edit turned, the check tells nothing of it: its edit is tried in a later check, over what the first
-one proved. With a line `alone: WHY` an edit is tried by itself, since it turns more than a body.
+Edits of different functions are tried in one check of these functions and of those that they call, which tells of each whether it
+is proved. Where a function calls one that another edit turned, the check tells nothing of it: its edit is tried in a later check,
+over what the first one proved. An edit turns the bodies of the functions that it names, and nothing else, so that no other proof
+can break with it; with a line `alone: WHY` it may turn more, and is tried by itself.
 
 What is refused without an edit that names it is a fault too, and so is a refusal that only says that a proof names what is gone.
-Where a whole crate is tried, it has to be proved with its right bodies (tests/right_bodies), over what the edits left proved.
+Where a whole crate is tried, it has to be proved with its right bodies (tests/right_bodies), over what the edits left proved: the
+functions that these turn, as tools/right_bodies.py does it.
 
 The libraries below have to be there as `rt ci` leaves them; where one is missing, or older than its sources, `rt lib` builds it.
 A crate takes the seconds of a proof and some for each edit, and up to 4 GB.
@@ -26,7 +28,7 @@ from concurrent.futures import ThreadPoolExecutor, as_completed
 from typing import NamedTuple
 
 import right_bodies
-from changes import changed, read_edit
+from changes import turns_more, changed, read_edit
 from prover import ROOT, Room, build, kit, room_of, size_of
 from run_tests import A_CHECK, free_memory, processors, text_of
 
@@ -53,6 +55,11 @@ class Edit(NamedTuple):
     changes: list[tuple[str, str, str]]
 
 
+def name_of(path):
+    """The name of the edit that a file holds."""
+    return os.path.basename(path).removesuffix(".edit")
+
+
 def edit_of(path):
     """The edit that a file holds."""
     with open(path, encoding="utf-8") as file:
@@ -60,7 +67,7 @@ def edit_of(path):
     refused = tuple(text for word, text in said if word == "refused")
     if not refused:
         raise ValueError(f"{path}: no line 'refused: FUNCTION'")
-    return Edit(os.path.basename(path).removesuffix(".edit"), refused, any(word == "alone" for word, _ in said), read_edit(path))
+    return Edit(name_of(path), refused, any(word == "alone" for word, _ in said), read_edit(path))
 
 
 def together(edits, read):
@@ -156,8 +163,7 @@ def verdict(crate, edits, said):
             wrong.append(f"{edit.name}: refused only because a proof names what the edit took away")
         else:
             refused[edit.name] = ", ".join(f"{path}{of.goal}" for path, of in found.items())
-    named = {path for edit in edits for path in edit.refused}
-    others = [path for path, of in told.items() if of.word != "proved" and path not in named and (of.goals or of.errors or not CALLS.search(of.rest))]
+    others = [path for path, of in told.items() if of.word != "proved" and path not in named_by(edits) and (of.goals or of.errors or not CALLS.search(of.rest))]
     if others and any(edit.alone for edit in edits):
         refused = {name: f"{where}; not proved either: {', '.join(others)}" for name, where in refused.items()}
     elif others:
@@ -167,7 +173,7 @@ def verdict(crate, edits, said):
 
 def reached(said):
     """Whether a check came to a verdict."""
-    return bool(re.search(r"^logic=", said, re.MULTILINE))
+    return bool(re.search(r"^(logic|only)=", said, re.MULTILINE))
 
 
 def first_lines(said):
@@ -175,17 +181,23 @@ def first_lines(said):
     return " ".join(said.split())[:300]
 
 
+def named_by(edits):
+    """The functions that edits name."""
+    return sorted({path for edit in edits for path in edit.refused})
+
+
 def try_all(crate, edits, check, read):
-    """What comes of the edits of a crate: a line each, and those of them that are faults. `check` says what a check of some texts says."""
+    """What comes of the edits of a crate: a line each, and those of them that are faults. `check` says what a check of some texts says
+    of some functions."""
     lines, wrong, left = [], [], sorted(edits, key=lambda edit: (edit.alone, edit.name))
     while left:
         taken, texts = together(left, read)
-        said = check(texts)
+        said = check(texts, named_by(taken))
         found = verdict(crate, taken, said)
         if len(taken) > 1 and (len(found.pending) == len(taken) or not reached(said)):
             # (each calls what another one turned, or one of them is no program: the first one by itself)
             taken, texts = together(taken[:1], read)
-            found = verdict(crate, taken, check(texts))
+            found = verdict(crate, taken, check(texts, named_by(taken)))
         lines += [f"wrong-bodies {crate}/{name}: refused at {where}" for name, where in found.refused.items()]
         wrong += [f"wrong-bodies {crate}/{what}" for what in found.wrong]
         left = [edit for edit in left if edit.name in found.pending or edit.name not in {it.name for it in taken}]
@@ -195,11 +207,12 @@ def try_all(crate, edits, check, read):
 def try_crate(crate, edits, tools, right):
     """The same, by the toolchain. Over what it proved, the crate's right bodies have to be proved, all of them at once."""
     with room_of(crate) as room:
-        lines, wrong = try_all(crate, edits, lambda texts: tools.check(room.made_of(texts)), room.read)
+        lines, wrong = try_all(crate, edits, lambda texts, functions: tools.check(room.made_of(texts), functions), room.read)
         if right:
-            said = tools.check(room.made_of(right_bodies.texts_of(right, room.read)))
-            names = ", ".join(os.path.basename(path).removesuffix(".edit") for path in right)
-            if re.search(r"^logic=proved", said, re.MULTILINE):
+            texts = right_bodies.texts_of(right, room.read)
+            proved, said = tools.proves(room.made_of(texts), right_bodies.to_prove(right, room.read))
+            names = ", ".join(map(name_of, right))
+            if proved:
                 lines.append(f"wrong-bodies {crate}: proved with the right bodies {names}")
             else:
                 wrong.append(f"wrong-bodies {crate}: NOT PROVED, with the right bodies {names}:\n{right_bodies.refusals(said)}")
@@ -219,11 +232,18 @@ def named(words):
     return found
 
 
+def applied(edit, read):
+    """Applies an edit. ValueError where that can't be done, or where it turns more than it says."""
+    beyond = turns_more(changed({}, edit.changes, read), edit.refused, read)
+    if beyond and not edit.alone:
+        raise ValueError(f"in {beyond[0]} it turns more than the bodies of {', '.join(edit.refused)}, and has no line 'alone: WHY'")
+
+
 def bad(edits, right):
-    """What can't be applied, of edits and of right bodies by crate."""
+    """What can't be applied, of edits and of right bodies by crate, and what turns more than it says."""
     for crate, of in edits.items():
         read = Room(crate, "", "").read
-        for what, change in [*((edit.name, lambda edit=edit: changed({}, edit.changes, read)) for edit in of), ("", lambda: right_bodies.texts_of(right[crate], read))]:
+        for what, change in [*((edit.name, lambda edit=edit: applied(edit, read)) for edit in of), ("", lambda: right_bodies.texts_of(right[crate], read))]:
             try:
                 change()
             except (ValueError, OSError) as why:
