@@ -80,9 +80,15 @@ class Verdicts(unittest.TestCase):
         found = self.judged(said(one=NO_PROOF, two=CALLS_ONE), edit("one"), edit("two"))
         self.assertEqual((list(found.refused), found.pending, found.wrong), (["one"], ["two"], []))
 
-    def test_a_caller_with_a_goal_that_may_want_what_it_calls(self):
+    def test_a_caller_with_a_goal_of_its_own(self):
         told = said(one=NO_PROOF, two=NO_PROOF + "; it calls `a::one`, which is not proved")
-        self.assertEqual(self.judged(told, edit("one"), edit("two")).pending, ["two"])
+        found = self.judged(told, edit("one"), edit("two"))
+        self.assertEqual((list(found.refused), found.pending, found.wrong), (["one", "two"], [], []))
+
+    def test_a_caller_whose_proof_names_what_is_gone(self):
+        told = "./proofs/two/Answers.antt:5:23: error: record `a` has no field `b`\n" + said(one=NO_PROOF, two="not proved; it calls `a::one`, which is not proved")
+        found = self.judged(told, edit("one"), edit("two"))
+        self.assertEqual((list(found.refused), found.pending, found.wrong), (["one"], ["two"], []))
 
     def test_a_function_that_no_edit_names(self):
         found = self.judged(said(one=NO_PROOF, two=NO_PROOF), edit("one"), edit("three"))

@@ -7,8 +7,8 @@ crate:
     refused: log::Log::plan
 
 Edits of different functions are tried in one check of these functions and of those that they call, which tells of each whether it
-is proved. Where a function calls one that another edit turned, the check tells nothing of it: its edit is tried in a later check,
-over what the first one proved. An edit turns the bodies of the functions that it names, and nothing else, so that no other proof
+is proved. Where a function has no goal of its own that is refused, and calls one that another edit turned, the check tells nothing of
+it: its edit is tried in a later check, over what the first one proved. An edit turns the bodies of the functions that it names, and nothing else, so that no other proof
 can break with it; with a line `alone: WHY` it may turn more, and is tried by itself.
 
 What is refused without an edit that names it is a fault too, and so is a refusal that only says that a proof names what is gone.
@@ -105,9 +105,14 @@ class Told(NamedTuple):
     errors: list[str]
 
     @property
+    def has_goal(self):
+        """Whether a goal of its own is refused. It is one over the contracts of what the function calls, whatever their bodies are."""
+        return bool(self.goals) or any(not NAMES.search(error) for error in self.errors)
+
+    @property
     def only_names(self):
         """Whether it is refused only since a proof names what is gone."""
-        return bool(self.errors) and not self.goals and all(NAMES.search(error) for error in self.errors)
+        return bool(self.errors) and not self.has_goal
 
     @property
     def goal(self):
@@ -155,7 +160,7 @@ def verdict(crate, edits, said):
             wrong.append(f"{edit.name}: NOT REFUSED: {passed[0]} is still proved with this edit")
         elif unsure := [path for path, of in found.items() if of.word == "could not tell"]:
             wrong.append(f"{edit.name}: {unsure[0]}: the prover could not tell")
-        elif not alone and any(CALLS.search(of.rest) for of in found.values()):
+        elif not alone and any(CALLS.search(of.rest) and not of.has_goal for of in found.values()):
             pending.append(edit.name)
         elif bare := [path for path, of in found.items() if not of.goals and not of.errors]:
             wrong.append(f"{edit.name}: {bare[0]}: refused without a goal of its own{found[bare[0]].rest}")
