@@ -11,6 +11,7 @@ from typing import NamedTuple
 
 ROOT = os.path.dirname(os.path.dirname(os.path.abspath(__file__)))
 PARTS = ("src", "specs", "proofs")
+PASSED = "passed"  # in out/: the file that notes when `rt ci` passed
 
 
 class Room(NamedTuple):
@@ -110,11 +111,24 @@ def size_of(crate):
     return sum(map(os.path.getsize, files_of(crate)))
 
 
+def note_gate(root=ROOT):
+    """Notes that `rt ci` has passed: until a source changes the libraries that it left are as the sources are, also where it made them
+    in an earlier run, and in another checkout."""
+    os.makedirs(f"{root}/out", exist_ok=True)
+    with open(f"{root}/out/{PASSED}", "w", encoding="utf-8"):
+        pass
+
+
+def made_at(path):
+    """When a file was made; 0 where it is not there."""
+    return os.path.getmtime(path) if os.path.exists(path) else 0
+
+
 def is_built(crate, below=()):
-    """Whether a library is there, and newer than its sources and than the libraries below it."""
-    made = f"{place_of(crate)}/format"
+    """Whether a library is there, and it or the gate's end newer than its sources and than the libraries below it."""
+    made = made_at(f"{place_of(crate)}/format")
     parts = [*files_of(crate), *[f"{place_of(name)}/format" for name in below]]
-    return os.path.exists(made) and all(os.path.getmtime(path) <= os.path.getmtime(made) for path in parts)
+    return bool(made) and all(made_at(path) <= max(made, made_at(f"{ROOT}/out/{PASSED}")) for path in parts)
 
 
 def build(crates, tools):

@@ -14,6 +14,7 @@ import sys
 import time
 from typing import Callable, NamedTuple
 
+import prover
 from debian_crates import OF_PROGRAM, lacking
 
 ROOT = os.path.dirname(os.path.dirname(os.path.abspath(__file__)))
@@ -216,6 +217,7 @@ def run_gate(whole):
     if sources() != before:
         print("the sources changed while they were proved")
         return False
+    prover.note_gate()
     script = f'root=$1; . tools/sources.sh; keep crates/kbsim_cli/out/kbsim_cli "proved-{before}"'
     return subprocess.run(["bash", "-c", script, "-", ROOT], cwd=ROOT).returncode == 0
 

@@ -1,8 +1,11 @@
 """Tests of tools/wrong_bodies.py: which edits are tried together, and what a check says of them."""
 
+import os
 import sys
 import tempfile
+import time
 import unittest
+import unittest.mock
 
 sys.dont_write_bytecode = True
 import prover
@@ -247,6 +250,20 @@ class Files(unittest.TestCase):
     def test_the_libraries_below_stand_lowest_first(self):
         self.assertEqual(prover.Kit("", {"a": [], "b": ["a", "std"], "c": ["b", "a"]}).below("c"), ["a", "b"])
         self.assertFalse(prover.is_built("none"))
+
+    def test_a_library_that_the_gate_left_is_that_of_the_sources_until_one_changes(self):
+        with tempfile.TemporaryDirectory() as folder, unittest.mock.patch.object(prover, "ROOT", folder):
+            source, made = f"{folder}/crates/a/src/lib.rt", f"{folder}/crates/a/out/rlib/a.rlib/format"
+            for path in (source, made):
+                os.makedirs(os.path.dirname(path))
+                with open(path, "w", encoding="utf-8"):
+                    pass
+            os.utime(made, (1, 1))  # (one that `rt ci` kept from an earlier run)
+            self.assertFalse(prover.is_built("a"))
+            prover.note_gate(folder)
+            self.assertTrue(prover.is_built("a"))
+            os.utime(source, (time.time() + 1, time.time() + 1))
+            self.assertFalse(prover.is_built("a"))
 
 
 if __name__ == "__main__":
