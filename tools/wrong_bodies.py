@@ -7,9 +7,9 @@ crate:
     refused: log::Log::plan
 
 Edits of different functions are tried in one check of these functions and of those that they call, which tells of each whether it
-is proved. Where a function has no goal of its own that is refused, and calls one that another edit turned, the check tells nothing of
-it: its edit is tried in a later check, over what the first one proved. An edit turns the bodies of the functions that it names, and nothing else, so that no other proof
-can break with it; with a line `alone: WHY` it may turn more, and is tried by itself.
+is proved. Where a function has no goal of its own that is refused, and calls one that another edit turned, the check tells nothing
+of it: its edit is tried in a later check, over what the first one proved. An edit turns the bodies of the functions that it names,
+and nothing else, so that no other proof can break with it; with a line `alone: WHY` it may turn more, and is tried by itself.
 
 What is refused without an edit that names it is a fault too, and so is a refusal that only says that a proof names what is gone.
 Where a whole crate is tried, it has to be proved with its right bodies (tests/right_bodies), over what the edits left proved: the
