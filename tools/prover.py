@@ -26,6 +26,11 @@ class Room(NamedTuple):
         with open(f"{ROOT}/crates/{self.crate}/{name}", encoding="utf-8") as file:
             return file.read()
 
+    def proofs(self, path):
+        """The names of the files of a function's proof, by the function's path below the crate."""
+        folder = f"{ROOT}/crates/{self.crate}"
+        return sorted(os.path.relpath(name, folder) for name in glob.glob(f"{folder}/proofs/{path.replace('::', '/')}/*.antt"))
+
     def made_of(self, texts):
         """The copy, with these texts of some files in place of its own."""
         for part in PARTS:
@@ -33,6 +38,7 @@ class Room(NamedTuple):
             if os.path.isdir(f"{ROOT}/crates/{self.crate}/{part}"):
                 shutil.copytree(f"{ROOT}/crates/{self.crate}/{part}", f"{self.folder}/{part}")
         for name, text in texts.items():
+            os.makedirs(os.path.dirname(f"{self.folder}/{name}"), exist_ok=True)
             with open(f"{self.folder}/{name}", "w", encoding="utf-8") as file:
                 file.write(text)
         return self

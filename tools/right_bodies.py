@@ -14,11 +14,34 @@ import glob
 import os
 import re
 import sys
+from typing import NamedTuple
 
 from changes import changed, read_edit, turns_more
 from prover import ROOT, Room, build, kit, room_of
 
 BODIES = f"{ROOT}/tests/right_bodies"
+SUFFIX = "_right"  # of a copy with a right body (tools/copies.py)
+
+
+class Group(NamedTuple):
+    """Right bodies that turn functions in common: their paths."""
+
+    paths: tuple[str, ...]
+
+    @property
+    def names(self):
+        """Their names."""
+        return tuple(os.path.basename(path).removesuffix(".edit") for path in self.paths)
+
+    @property
+    def functions(self):
+        """The functions that they turn."""
+        return tuple(sorted({function for path in self.paths for function in named_by(path)}))
+
+    @property
+    def changes(self):
+        """What they change."""
+        return [change for path in self.paths for change in read_edit(path)]
 
 
 def edits_of(crate, names):
@@ -52,6 +75,15 @@ def to_prove(paths, read):
     if any(turns_more(texts_of([path], read), named_by(path), read) for path in paths):
         return []
     return sorted({function for path in paths for function in named_by(path)})
+
+
+def groups(paths):
+    """Right bodies, those that turn functions in common in one group."""
+    found = []
+    for path in paths:
+        shared = [group for group in found if set(group.functions) & set(named_by(path))]
+        found = [group for group in found if group not in shared] + [Group((*[one for group in shared for one in group.paths], path))]
+    return found
 
 
 def refusals(said):

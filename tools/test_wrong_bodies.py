@@ -1,4 +1,4 @@
-"""Tests of tools/wrong_bodies.py: which edits are tried together, and what a check says of them."""
+"""Tests of tools/wrong_bodies.py and tools/copies.py: which edits are tried together, and what a check says of them."""
 
 import os
 import sys
@@ -12,7 +12,8 @@ import prover
 import right_bodies
 import wrong_bodies
 from changes import turns_more
-from wrong_bodies import Edit, together, try_all, verdict
+from copies import copied
+from wrong_bodies import Edit, Trial, in_place, together, try_all, verdict
 
 FILES = {"src/lib.rt": "one two three four five\n", "src/more.rt": "six\n"}
 
@@ -39,8 +40,8 @@ class Together(unittest.TestCase):
     """What one check tries."""
 
     def names(self, *edits):
-        taken, texts = together(edits, FILES.__getitem__)
-        return [it.name for it in taken], texts
+        trial = in_place(edits, FILES.__getitem__)
+        return [it.name for it in trial.edits], trial.texts
 
     def test_edits_of_different_functions(self):
         self.assertEqual(self.names(edit("one"), edit("two"), edit("six", file="src/more.rt")),
@@ -65,7 +66,7 @@ class Verdicts(unittest.TestCase):
     """What a check says of edits."""
 
     def judged(self, told, *edits):
-        return verdict("a", edits, told)
+        return verdict("a", Trial(list(edits), {}, {}), told)
 
     def test_a_goal_of_its_own(self):
         found = self.judged(said(one=NO_PROOF), edit("one"))
@@ -144,7 +145,8 @@ class All(unittest.TestCase):
             words = {name: NO_PROOF for name in turned} | {name: CALLS_ONE for name, callee in calls.items() if callee in turned}
             return said(**words)
 
-        return *try_all("a", edits, check, FILES.__getitem__), checks
+        lines, wrong, _ = try_all("a", edits, [], check, FILES.__getitem__, lambda _: [])
+        return lines, wrong, checks
 
     def test_callers_are_tried_later(self):
         lines, wrong, checks = self.run_on({"two": "one"}, edit("one"), edit("two"), edit("three"))
@@ -156,7 +158,7 @@ class All(unittest.TestCase):
 
     def test_an_edit_that_is_no_program_does_not_hide_the_others(self):
         told = lambda texts, _: "error: no program\n" if "ONE" in texts["src/lib.rt"] else said(two=NO_PROOF)
-        lines, wrong = try_all("a", [edit("one"), edit("two")], told, FILES.__getitem__)
+        lines, wrong, _ = try_all("a", [edit("one"), edit("two")], [], told, FILES.__getitem__, lambda _: [])
         self.assertEqual((len(lines), len(wrong)), (1, 1))
         self.assertIn("/one: it did not reach the prover", wrong[0])
 
@@ -225,6 +227,107 @@ impl Log {
         self.assertEqual(turned("layers"), ["held::Held::put", "held::Held::release", "held::name"])
         self.assertEqual(turned("keymap_store", "header_before_copies"), ["store::Store::turn", "store::offer_next"])
         self.assertEqual(turned("judge"), [])
+
+
+class Copies(unittest.TestCase):
+    """Copies of functions, and what is tried on them."""
+
+    FILES = {
+        "src/log.rt": """use std::mem;
+
+impl Log {
+    /// Whether it is empty.
+    #[inline]
+    pub fn empty(&self) -> bool
+        ensures { IsTrue result }
+    {
+        self.of < 1
+    }
+}
+
+impl Clone for Log {
+    fn clone(&self) -> Log { *self }
+}
+""",
+        "proofs/log/Log/empty/Answers.antt": "use Rattle.a.proofs.log.Log.empty.Goals as goal\nanswer = one\n",
+    }
+
+    def read(self, name):
+        return self.FILES[name]
+
+    def proofs(self, path):
+        return [name for name in self.FILES if name.startswith(f"proofs/{path.replace('::', '/')}/")]
+
+    def made(self, *changes, texts=None, path="log::Log::empty", suffix="_wrong"):
+        return copied(texts or {}, (path,), suffix, [("src/log.rt", *change) if len(change) == 2 else change for change in changes], self.read, self.proofs)
+
+    def test_a_copy_has_the_contract_and_another_body_and_stands_beside_its_function(self):
+        texts, paths = self.made(("self.of < 1", "self.of < 2"))
+        self.assertEqual(paths, ("log::Log::empty_wrong",))
+        text = texts["src/log.rt"]
+        self.assertIn("self.of < 1", text)
+        self.assertRegex(text, r"#\[inline\]\n    pub fn empty_wrong\(&self\) -> bool\n        ensures \{ IsTrue result \}\n    \{\n        self.of < 2\n    \}\n\}\n\nimpl Clone")
+        self.assertEqual(texts["proofs/log/Log/empty_wrong/Answers.antt"], "use Rattle.a.proofs.log.Log.empty_wrong.Goals as goal\nanswer = one\n")
+
+    def test_a_proof_that_the_edit_gives(self):
+        texts, _ = self.made(("self.of < 1", "self.of < 2"), ("proofs/log/Log/empty/Answers.antt", "answer = one", "answer = two"))
+        self.assertIn("empty_wrong.Goals as goal\nanswer = two", texts["proofs/log/Log/empty_wrong/Answers.antt"])
+        self.assertNotIn("proofs/log/Log/empty/Answers.antt", texts)
+
+    def test_what_an_edit_adds_is_added(self):
+        texts, _ = self.made(("self.of < 1", "less(self.of)"), ("use std::mem;", "use std::{fmt, mem};"), ("impl Clone", "fn less(it: u8) -> bool { it < 1 } impl Clone"))
+        self.assertIn("use std::{fmt, mem};", texts["src/log.rt"])
+        self.assertTrue(texts["src/log.rt"].endswith("fn less_wrong(it: u8) -> bool { it < 1 }"))
+        self.assertIn("{\n        less_wrong(self.of)\n    }", texts["src/log.rt"])
+        both, _ = self.made(("self.of < 1", "Log::less(self.of)"), ("    /// Whether", "    fn less(it: u8) -> bool { it < 2 }    /// Whether"), texts=texts, suffix="_right")
+        self.assertRegex(both["src/log.rt"], r"Log::less_right\(self.of\)\n    \}\s*fn less_right\(it: u8\) -> bool \{ it < 2 \}\s+/// Whether")
+        self.assertTrue(both["src/log.rt"].endswith("fn less_wrong(it: u8) -> bool { it < 1 }"))
+
+    def test_several_copies_of_a_function(self):
+        first, _ = self.made(("self.of < 1", "self.of < 2"))
+        both, _ = self.made(("self.of < 1", "self.of < 3"), texts=first, suffix="_right")
+        for body in ("self.of < 1", "self.of < 2", "self.of < 3"):
+            self.assertEqual(both["src/log.rt"].count(body), 1)
+        self.assertEqual(both["src/log.rt"].count("fn empty"), 3)
+
+    def test_a_copy_of_a_function_as_it_is(self):
+        changes = [("src/log.rt", "self.of < 1", "less(self.of)"), ("src/log.rt", "use std::mem;", "fn less(it: u8) -> bool { it < 1 }")]
+        texts, _ = copied({}, ("log::Log::empty",), "_wrong", changes, self.read, self.proofs, unchanged=True)
+        self.assertEqual((texts["src/log.rt"].count("self.of < 1"), texts["src/log.rt"].count("less")), (2, 0))
+
+    def test_what_has_no_copy(self):
+        self.assertIsNone(self.made(("{ *self }", "{ Log::new() }"), path="log::LogClone::clone"))
+        self.assertIsNone(self.made(("self.of < 1", "self.of < 2"), path="log::Log::other"))
+        self.assertIsNone(self.made(("IsTrue result", "IsTrue self"), ("self.of < 1", "self.of < 2")))
+        changes = ("self.of < 1", "self.of < 2"), ("use std::mem;", "use std::fmt;")
+        self.assertIsNone(self.made(*changes, texts=self.made(*changes)[0], suffix="_right"))
+
+    def test_a_further_edit_of_a_function_is_tried_on_a_copy(self):
+        edits = [Edit(name, ("log::Log::empty",), False, [("src/log.rt", "self.of < 1", body)]) for name, body in (("first", "true"), ("second", "false"))]
+        trial = together(edits, [], self.read, self.proofs)
+        self.assertEqual(trial.functions, ["log::Log::empty", "log::Log::empty_second"])
+        found = verdict("a", trial, "fn a::log::Log::empty: no proof; `search` did not prove `returns`\nfn a::log::Log::empty_second: proved\nlogic=not-proved\n")
+        self.assertEqual((found.refused, found.wrong), ({"first": "log::Log::empty at `returns`"}, ["second: NOT REFUSED: log::Log::empty_second is still proved with this edit"]))
+
+    def test_right_bodies_stand_beside_the_wrong_ones(self):
+        class Right(right_bodies.Group):
+            """A right body that is in no file."""
+            names, functions, changes = ("wrong",), ("log::Log::empty",), [("src/log.rt", "self.of < 1", "self.of == 0")]
+
+        wrong = Edit("wrong", ("log::Log::empty",), False, [("src/log.rt", "self.of < 1", "true")])
+        trial = together([wrong], [Right(())], self.read, self.proofs)
+        self.assertEqual(trial.functions, ["log::Log::empty_wrong", "log::Log::empty_right"])
+        self.assertIn("self.of < 1", trial.texts["src/log.rt"])
+        refused = "fn a::log::Log::empty: proved\nfn a::log::Log::empty_wrong: no proof; `search` did not prove `returns`\n"
+        for word, faults in (("proved", 0), ("not proved", 1), ("no proof: it calls `a::b`, which is not proved", 1), ("could not tell", 1)):
+            found = verdict("a", trial, f"{refused}fn a::log::Log::empty_right: {word}\nlogic=not-proved\n")
+            self.assertEqual((found.refused, len(found.wrong)), ({"wrong": "log::Log::empty at `returns`"}, faults), word)
+        self.assertIn("NOT PROVED: log::Log::empty with the right bodies wrong: not there", verdict("a", trial, f"{refused}logic=not-proved\n").wrong)
+
+    def test_right_bodies_of_a_function_are_one(self):
+        found = right_bodies.groups(right_bodies.edits_of("keymap_store", []))
+        self.assertEqual([group.functions for group in found if len(group.paths) > 1],
+                         [("store::Store::turn", "store::offer_next"), ("store::Store::submit",), ("store::Store::work",)])
 
 
 class Files(unittest.TestCase):

@@ -1,4 +1,4 @@
-"""wrong_bodies.py [CRATE[/EDIT] ..]: tries the edits of crates/CRATE/wrong-bodies, those of all crates if none is named. A crate's
+"""wrong_bodies.py [--copies] [CRATE[/EDIT] ..]: tries the edits of crates/CRATE/wrong-bodies, those of all crates if none is named. A crate's
 contracts have to refuse each of them.
 
 An edit is written as one of must-fail/, behind lines that say at which functions it has to be refused, by their paths below the
@@ -7,13 +7,16 @@ crate:
     refused: log::Log::plan
 
 Edits of different functions are tried in one check of these functions and of those that they call, which tells of each whether it
-is proved. Where a function has no goal of its own that is refused, and calls one that another edit turned, the check tells nothing
-of it: its edit is tried in a later check, over what the first one proved. An edit turns the bodies of the functions that it names,
-and nothing else, so that no other proof can break with it; with a line `alone: WHY` it may turn more, and is tried by itself.
+is proved. A further edit of a function is tried on a copy of it (tools/copies.py), and so is each edit of a crate that has right bodies
+(tests/right_bodies): beside them stand the copies with the right bodies, which have to be proved. What can have no copy is tried
+later, and so is an edit whose function has no goal of its own that is refused and calls one that another edit turned, of which the
+check tells nothing. An edit turns the bodies of the functions that it names, and nothing else, so that no other proof can break with
+it; with a line `alone: WHY` it may turn more, and is tried by itself.
 
 What is refused without an edit that names it is a fault too, and so is a refusal that only says that a proof names what is gone.
-Where a whole crate is tried, it has to be proved with its right bodies (tests/right_bodies), over what the edits left proved: the
-functions that these turn, as tools/right_bodies.py does it.
+
+With --copies no edit is tried: copies of the functions as they are have to be proved, which shows that an edit is not refused because
+it is tried on a copy.
 
 The libraries below have to be there as `rt ci` leaves them; where one is missing, or older than its sources, `rt lib` builds it.
 A crate takes the seconds of a proof and some for each edit, and up to 4 GB.
@@ -29,6 +32,7 @@ from typing import NamedTuple
 
 import right_bodies
 from changes import turns_more, changed, read_edit
+from copies import copied
 from prover import ROOT, Room, build, kit, room_of, size_of
 from run_tests import A_CHECK, free_memory, processors, text_of
 
@@ -54,6 +58,11 @@ class Edit(NamedTuple):
     alone: bool
     changes: list[tuple[str, str, str]]
 
+    @property
+    def suffix(self):
+        """The suffix of the copies that it is tried on."""
+        return f"_{self.name}"
+
 
 def name_of(path):
     """The name of the edit that a file holds."""
@@ -70,7 +79,45 @@ def edit_of(path):
     return Edit(name_of(path), refused, any(word == "alone" for word, _ in said), read_edit(path))
 
 
-def together(edits, read):
+class Trial(NamedTuple):
+    """What one check tries: edits, each with the functions that have to be refused, the copies that have to be proved, by the right
+    bodies that they have, and the texts that all of them make."""
+
+    edits: list[Edit]
+    right: dict[tuple[str, ...], tuple[str, ...]]
+    texts: dict[str, str]
+
+    @property
+    def functions(self):
+        """The functions that it is a check of."""
+        return named_by(self.edits) + [path for paths in self.right.values() for path in paths]
+
+
+def together(edits, right, read, proofs):
+    """What is tried in one check of some edits and right bodies of a crate: beside the latter nothing in its place. `read` gives the
+    text of a file, and `proofs` the files of a function's proof."""
+    if right:
+        trial = on_copies(edits, Trial([], {}, {}), read, proofs)
+        for group in right if trial.edits else []:
+            if made := copied(trial.texts, group.functions, right_bodies.SUFFIX, group.changes, read, proofs):
+                trial = Trial(trial.edits, trial.right | {group.names: made[1]}, made[0])
+        if trial.edits:
+            return trial
+    trial = in_place(edits, read)
+    return trial if trial.edits[0].alone else on_copies(edits, trial, read, proofs)
+
+
+def on_copies(edits, trial, read, proofs):
+    """A trial with those of some edits that it does not have, on copies of their functions."""
+    taken, texts = [*trial.edits], trial.texts
+    for edit in edits:
+        if not edit.alone and edit.name not in {it.name for it in taken} and (made := copied(texts, edit.refused, edit.suffix, edit.changes, read, proofs)):
+            texts = made[0]
+            taken.append(edit._replace(refused=made[1]))
+    return Trial(taken, trial.right, texts)
+
+
+def in_place(edits, read):
     """Those of some edits that are tried in one check, and the texts that they make: at most one of each function; or one by itself."""
     taken, texts, named = [], {}, set()
     for edit in edits:
@@ -85,7 +132,7 @@ def together(edits, read):
             break
     if edits and not taken:
         raise ValueError(f"{edits[0].name}: it can't be applied")
-    return taken, texts
+    return Trial(taken, {}, texts)
 
 
 class Verdict(NamedTuple):
@@ -142,12 +189,13 @@ def errors_of(said, path=""):
     return re.findall(rf"^(?:\./)?proofs/{files}\.antt:\d+:\d+: error: (.*)$", said, re.MULTILINE)
 
 
-def verdict(crate, edits, said):
-    """The verdict of a check of a crate with these edits, by what it said."""
+def verdict(crate, trial, said):
+    """The verdict of a check of a crate, by what it said."""
+    edits = trial.edits
     if not reached(said):
         return Verdict({}, [], [f"{edit.name}: it did not reach the prover: {first_lines(said)}" for edit in edits])
     told, alone = told_of(crate, said), len(edits) == 1
-    refused, pending, wrong = {}, [], []
+    refused, pending, wrong = {}, [], [*not_proved(trial, told)]
     # (an edit that is said to be tried alone may turn what a lemma says)
     own = {error for of in told.values() for error in of.errors}
     is_lemma = any(edit.alone for edit in edits) and any(not NAMES.search(error) for error in errors_of(said) if error not in own)
@@ -167,13 +215,23 @@ def verdict(crate, edits, said):
         elif not is_lemma and any(of.only_names for of in found.values()):
             wrong.append(f"{edit.name}: refused only because a proof names what the edit took away")
         else:
-            refused[edit.name] = ", ".join(f"{path}{of.goal}" for path, of in found.items())
-    others = [path for path, of in told.items() if of.word != "proved" and path not in named_by(edits) and (of.goals or of.errors or not CALLS.search(of.rest))]
+            refused[edit.name] = ", ".join(f"{path.removesuffix(edit.suffix)}{of.goal}" for path, of in found.items())
+    others = [path for path, of in told.items() if of.word != "proved" and path not in trial.functions and (of.goals or of.errors or not CALLS.search(of.rest))]
     if others and any(edit.alone for edit in edits):
         refused = {name: f"{where}; not proved either: {', '.join(others)}" for name, where in refused.items()}
     elif others:
         wrong.append(f"{', '.join(others)}: refused with {', '.join(edit.name for edit in edits)}, none of which names it")
     return Verdict(refused, pending, wrong)
+
+
+def not_proved(trial, told):
+    """What has to be proved of a trial and is not, by what a check says of each function."""
+    for names, paths in trial.right.items():
+        for path in paths:
+            if path not in told or told[path].word != "proved":
+                of = told.get(path, Told("not there", "", [], []))
+                why = f"{of.word}{of.rest} {' '.join(of.errors)}".strip()
+                yield f"NOT PROVED: {path.removesuffix(right_bodies.SUFFIX)} with the right bodies {', '.join(names)}: {why}"
 
 
 def reached(said):
@@ -191,37 +249,51 @@ def named_by(edits):
     return sorted({path for edit in edits for path in edit.refused})
 
 
-def try_all(crate, edits, check, read):
-    """What comes of the edits of a crate: a line each, and those of them that are faults. `check` says what a check of some texts says
-    of some functions."""
+def try_all(crate, edits, right, check, read, proofs):
+    """What comes of the edits and the right bodies of a crate: a line each, those of them that are faults, and the right bodies that are
+    still to be proved. `check` says what a check of some texts says of some functions."""
     lines, wrong, left = [], [], sorted(edits, key=lambda edit: (edit.alone, edit.name))
     while left:
-        taken, texts = together(left, read)
-        said = check(texts, named_by(taken))
-        found = verdict(crate, taken, said)
-        if len(taken) > 1 and (len(found.pending) == len(taken) or not reached(said)):
+        trial = together(left, right, read, proofs)
+        said = check(trial.texts, trial.functions)
+        found = verdict(crate, trial, said)
+        if len(trial.edits) > 1 and (len(found.pending) == len(trial.edits) or not reached(said)):
             # (each calls what another one turned, or one of them is no program: the first one by itself)
-            taken, texts = together(taken[:1], read)
-            found = verdict(crate, taken, check(texts, named_by(taken)))
+            trial = in_place([edit for edit in left if edit.name == trial.edits[0].name], read)
+            found = verdict(crate, trial, check(trial.texts, trial.functions))
+        right = [group for group in right if group.names not in trial.right]
         lines += [f"wrong-bodies {crate}/{name}: refused at {where}" for name, where in found.refused.items()]
+        lines += [f"wrong-bodies {crate}: proved with the right bodies {', '.join(names)}" for names in trial.right if not found.wrong]
         wrong += [f"wrong-bodies {crate}/{what}" for what in found.wrong]
-        left = [edit for edit in left if edit.name in found.pending or edit.name not in {it.name for it in taken}]
-    return lines, wrong
+        left = [edit for edit in left if edit.name in found.pending or edit.name not in {it.name for it in trial.edits}]
+    return lines, wrong, right
 
 
 def try_crate(crate, edits, tools, right):
-    """The same, by the toolchain. Over what it proved, the crate's right bodies have to be proved, all of them at once."""
+    """The same, by the toolchain. Right bodies that were not tried beside edits are proved after them, all of them at once."""
     with room_of(crate) as room:
-        lines, wrong = try_all(crate, edits, lambda texts, functions: tools.check(room.made_of(texts), functions), room.read)
+        lines, wrong, right = try_all(crate, edits, right_bodies.groups(right), lambda texts, functions: tools.check(room.made_of(texts), functions), room.read, room.proofs)
         if right:
-            texts = right_bodies.texts_of(right, room.read)
-            proved, said = tools.proves(room.made_of(texts), right_bodies.to_prove(right, room.read))
-            names = ", ".join(map(name_of, right))
+            paths = [path for group in right for path in group.paths]
+            names = ", ".join(map(name_of, paths))
+            proved, said = tools.proves(room.made_of(right_bodies.texts_of(paths, room.read)), right_bodies.to_prove(paths, room.read))
             if proved:
                 lines.append(f"wrong-bodies {crate}: proved with the right bodies {names}")
             else:
                 wrong.append(f"wrong-bodies {crate}: NOT PROVED, with the right bodies {names}:\n{right_bodies.refusals(said)}")
     return lines, wrong
+
+
+def prove_copies(crate, edits, tools):
+    """What comes of copies of functions as they are: a line, or a fault."""
+    with room_of(crate) as room:
+        texts, copies = {}, []
+        for edit in edits:
+            if not edit.alone and (made := copied(texts, edit.refused, edit.suffix, edit.changes, room.read, room.proofs, unchanged=True)):
+                texts, copies = made[0], [*copies, *made[1]]
+        proved, said = tools.proves(room.made_of(texts), copies) if copies else (True, "")
+    what = f"wrong-bodies {crate}: {len(copies)} copies as they are"
+    return ([f"{what} are proved"], []) if proved else ([], [f"{what}: NOT PROVED:\n{right_bodies.refusals(said)}"])
 
 
 def named(words):
@@ -265,6 +337,7 @@ def lanes():
 def main():
     words = argparse.ArgumentParser(prog="wrong_bodies.py", description=__doc__, formatter_class=argparse.RawDescriptionHelpFormatter)
     words.add_argument("names", metavar="CRATE[/EDIT]", nargs="*", help="a crate, or one of its edits (all)")
+    words.add_argument("--copies", action="store_true", help="proves copies of the functions as they are, and tries no edit")
     given = words.parse_args()
     try:
         edits = named(given.names)
@@ -278,7 +351,8 @@ def main():
     build(edits, tools)
     failed = 0
     with ThreadPoolExecutor(lanes()) as pool:
-        tried = [pool.submit(try_crate, crate, edits[crate], tools, right[crate]) for crate in sorted(edits, key=size_of, reverse=True)]
+        call = (lambda crate: prove_copies(crate, edits[crate], tools)) if given.copies else lambda crate: try_crate(crate, edits[crate], tools, right[crate])
+        tried = [pool.submit(call, crate) for crate in sorted(edits, key=size_of, reverse=True)]
         for lines, wrong in (done.result() for done in as_completed(tried)):
             print("\n".join([*lines, *wrong]), flush=True)
             failed += len(wrong)

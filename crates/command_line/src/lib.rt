@@ -223,36 +223,29 @@ fn form_of(word: Option<&str>) -> Form {
 }
 
 fn kbsim<'a>(alloc: Global) -> Result<Command<'a>, AllocError> {
-    let run = run(alloc)?;
-    let first = program(alloc)?
-        .subcommand(run)?
-        .subcommand(describe(alloc))?;
-    let parse = parse(alloc)?;
-    first.subcommand(parse)
+    let commands = vec![in alloc; run(alloc)?, describe(alloc), parse(alloc)?]?;
+    program(alloc)?.subcommands(commands)
 }
 
 fn program<'a>(alloc: Global) -> Result<Command<'a>, AllocError> {
-    let command = Command::new(alloc, "kbsim").bin_name("kbsim")?;
-    Ok(
-        command
-            .version(VERSION)
-            .about("A simulated keyboard whose keymap is kept in flash")
-            .after_long_help(RUN_STATUS_HELP)
-            .subcommand_required(true),
-    )
+    Command::new(alloc, "kbsim")
+        .version(VERSION)
+        .about("A simulated keyboard whose keymap is kept in flash")
+        .after_long_help(RUN_STATUS_HELP)
+        .subcommand_required(true)
+        .bin_name("kbsim")
 }
 
 fn run<'a>(alloc: Global) -> Result<Command<'a>, AllocError> {
     let image = image(alloc)?;
-    Command::new(alloc, "run")
-        .about("Runs a script")
-        .long_about(RUN_HELP)
-        .after_long_help(RUN_STATUS_HELP)
-        .arg(pages(alloc))?
-        .arg(image)?
-        .arg(save(alloc))?
-        .arg(explain(alloc))?
-        .arg(file(alloc))
+    let args = vec![in alloc;
+        pages(alloc),
+        image,
+        save(alloc),
+        explain(alloc),
+        file(alloc),
+    ]?;
+    told(alloc, "run", "Runs a script", RUN_HELP, RUN_STATUS_HELP).args(args)
 }
 
 fn pages<'a>(alloc: Global) -> Arg<'a> {
@@ -293,28 +286,47 @@ fn file<'a>(alloc: Global) -> Arg<'a> {
 }
 
 fn describe<'a>(alloc: Global) -> Command<'a> {
-    Command::new(alloc, "describe")
-        .about("Prints the keyboard's descriptors")
-        .long_about(DESCRIBE_HELP)
-        .after_long_help(STATUS_HELP)
+    told(
+        alloc,
+        "describe",
+        "Prints the keyboard's descriptors",
+        DESCRIBE_HELP,
+        STATUS_HELP,
+    )
 }
 
 fn parse<'a>(alloc: Global) -> Result<Command<'a>, AllocError> {
-    let items = Arg::new(alloc, "items")
-        .long("items")
-        .help("Prints each item, up to the first fault, in place of the fields")
-        .action(ArgAction::SetTrue);
-    let from = Arg::new(alloc, "from")
+    let args = vec![in alloc; from(alloc), items(alloc), file(alloc)]?;
+    let about = "Prints the fields, or the items, of a report descriptor";
+    told(alloc, "parse", about, PARSE_HELP, STATUS_HELP).args(args)
+}
+
+fn from<'a>(alloc: Global) -> Arg<'a> {
+    Arg::new(alloc, "from")
         .long("from")
         .value_name("FORM")
         .help("How the text says the bytes")
         .value_parser(FORMS)
-        .default_value("hex");
-    Command::new(alloc, "parse")
-        .about("Prints the fields, or the items, of a report descriptor")
-        .long_about(PARSE_HELP)
-        .after_long_help(STATUS_HELP)
-        .arg(from)?
-        .arg(items)?
-        .arg(file(alloc))
+        .default_value("hex")
+}
+
+fn items<'a>(alloc: Global) -> Arg<'a> {
+    Arg::new(alloc, "items")
+        .long("items")
+        .help("Prints each item, up to the first fault, in place of the fields")
+        .action(ArgAction::SetTrue)
+}
+
+/// A command with the texts of its help: in a line, at length, and of its exit statuses.
+fn told<'a>(
+    alloc: Global,
+    name: &'a str,
+    line: &'a str,
+    text: &'a str,
+    statuses: &'a str,
+) -> Command<'a> {
+    Command::new(alloc, name)
+        .about(line)
+        .long_about(text)
+        .after_long_help(statuses)
 }
