@@ -66,15 +66,22 @@ def changed(texts, changes, read):
 
 def turns_more(texts, functions, read):
     """The files in which some texts turn more than functions, which are named by their paths below the crate: than their bodies and
-    their proofs, imports, and functions that the texts add. What else the crate has is proved with them if it was without them."""
+    their proofs, imports, and functions and constants that the texts add. What else the crate has is proved with them if it was without
+    them."""
     names = {path.rpartition("::")[2] for path in functions}
     proofs = tuple(f"proofs/{path.replace('::', '/')}/" for path in functions)
     return [name for name, text in texts.items() if not name.startswith(proofs) and (not name.endswith(".rt") or is_turned(text, read(name), names))]
 
 
+CONSTANT = re.compile(r"\b(?:pub(?:\(\w+\))? )?const (\w+):[^=]*=(?:\[[^\]]*\]|[^;\[])*;")
+
+
 def is_turned(text, old, names):
-    """Whether a source differs from an old one in more than imports, functions that it adds, and the bodies of functions of these names."""
+    """Whether a source differs from an old one in more than imports, functions and constants that it adds, and the bodies of functions of
+    these names."""
     added = {begun[1] for begun in RUST.finditer(text)} - {begun[1] for begun in RUST.finditer(old)}
+    had = {constant[1] for constant in CONSTANT.finditer(old)}
+    text = CONSTANT.sub(lambda constant: constant[0] if constant[1] in had else " ", text)
     return rest_of(text, names, added) != rest_of(old, names, added)
 
 

@@ -65,16 +65,17 @@ class Kit(NamedTuple):
                 found += [lower for lower in [*self.below(name), name] if lower not in found]
         return found
 
-    def check(self, room, functions=()):
-        """What a check of a room's copy says; of these functions and those that they call alone, if some are named."""
-        return self.checked(room, functions).stdout
+    def check(self, room, functions=(), is_last=False):
+        """What a check of a room's copy says; of these functions and those that they call alone, if some are named. The last one of a
+        room keeps nothing, which saves it a fortieth."""
+        return self.checked(room, functions, is_last).stdout
 
     def proves(self, room, functions=()):
         """Whether a check of a room's copy proves it, or these functions of it, and what it says."""
         ran = self.checked(room, functions)
         return ran.returncode == 0, ran.stdout
 
-    def checked(self, room, functions):
+    def checked(self, room, functions, is_last=False):
         """A check of a room's copy, which has ended."""
         crate, own = room.crate, self.libraries[room.crate]
         places = {name: place_of(name) if name in self.libraries else f"{self.folder}/rlibs/{name}.rlib" for name in ["std", *own]}
@@ -83,7 +84,7 @@ class Kit(NamedTuple):
         words += [word for name, place in places.items() for word in ("--extern", f"{name}={place}")]
         words += [word for folder in folders for word in ("-L", f"dependency={folder}")]
         words += ["--antt-project", f"{self.folder}/rattle/logic/antt-project.json", "--logic-built", f"{self.folder}/logic_built"]
-        words += ["--links", f"{crate}=", "--jobs", "1", "--incremental", room.kept]
+        words += ["--links", f"{crate}=", "--jobs", "1", *([] if is_last and not os.listdir(room.kept) else ["--incremental", room.kept])]
         words += [word for function in functions for word in ("--only", function)]
         how = {"stdin": subprocess.DEVNULL, "stdout": subprocess.PIPE, "stderr": subprocess.STDOUT}
         return subprocess.run(words, cwd=room.folder, text=True, errors="replace", **how)

@@ -20,7 +20,6 @@ from changes import changed, read_edit, turns_more
 from prover import ROOT, Room, build, kit, room_of
 
 BODIES = f"{ROOT}/tests/right_bodies"
-SUFFIX = "_right"  # of a copy with a right body (tools/copies.py)
 
 
 class Group(NamedTuple):
@@ -32,6 +31,11 @@ class Group(NamedTuple):
     def names(self):
         """Their names."""
         return tuple(os.path.basename(path).removesuffix(".edit") for path in self.paths)
+
+    @property
+    def suffix(self):
+        """The suffix of copies with them (tools/copies.py)."""
+        return f"_right_{self.names[0]}"
 
     @property
     def functions(self):

@@ -1,6 +1,7 @@
 """Tests of tools/wrong_bodies.py and tools/copies.py: which edits are tried together, and what a check says of them."""
 
 import os
+import re
 import sys
 import tempfile
 import time
@@ -139,7 +140,7 @@ class All(unittest.TestCase):
         """What comes of edits where each function calls the one that is named, and how often the crate is checked."""
         checks = []
 
-        def check(texts, functions):
+        def check(texts, functions, _):
             checks.append(functions)
             turned = {name for name in ("one", "two", "three") if name.upper() in texts.get("src/lib.rt", "")}
             words = {name: NO_PROOF for name in turned} | {name: CALLS_ONE for name, callee in calls.items() if callee in turned}
@@ -157,7 +158,7 @@ class All(unittest.TestCase):
         self.assertEqual((len(lines), wrong, checks), (2, [], [["one", "two"], ["one"], ["two"]]))
 
     def test_an_edit_that_is_no_program_does_not_hide_the_others(self):
-        told = lambda texts, _: "error: no program\n" if "ONE" in texts["src/lib.rt"] else said(two=NO_PROOF)
+        told = lambda texts, *_: "error: no program\n" if "ONE" in texts["src/lib.rt"] else said(two=NO_PROOF)
         lines, wrong, _ = try_all("a", [edit("one"), edit("two")], [], told, FILES.__getitem__, lambda _: [])
         self.assertEqual((len(lines), len(wrong)), (1, 1))
         self.assertIn("/one: it did not reach the prover", wrong[0])
@@ -199,6 +200,7 @@ impl Log {
     def test_what_is_added_and_proved(self):
         self.assertEqual(self.beyond("impl", "ghost use Rattle.std.specs.Prelude.{true, false}; use std::mem; fn added() -> bool ensures { result } { 1 < 2 } impl", "less"), [])
         self.assertEqual(self.beyond("/// Whether", "fn added() { } /// If", "less", "more"), [])
+        self.assertEqual(self.beyond("impl", "const LEAST: [u8; 2] = [3; 2]; const LESS: u8 = 2; impl", "less"), [])
         self.assertEqual(self.beyond("number < MOST", "true", "log::Log::more", name="proofs/log/Log/more/Answers.antt"), [])
 
     def test_a_body_of_another_function(self):
@@ -206,7 +208,7 @@ impl Log {
         self.assertEqual(self.beyond("self.of < 1", "self.of < 2", "log::Log::more"), ["src/log.rt"])
 
     def test_more_than_a_body(self):
-        for old, new in (("u8 = 3", "u8 = 4"), ("number < 3 }", "number < 4 }"), ("number: u8", "mut number: u8"), ("impl Log", "impl More"), ("impl", "const LEAST: u8 = 3; impl")):
+        for old, new in (("u8 = 3", "u8 = 4"), ("number < 3 }", "number < 4 }"), ("number: u8", "mut number: u8"), ("impl Log", "impl More"), ("impl", "static LEAST: u8 = 3; impl")):
             self.assertEqual(self.beyond(old, new, "less"), ["src/log.rt"])
 
     def test_other_proofs_and_definitions(self):
@@ -296,6 +298,10 @@ impl Clone for Log {
         self.assertEqual((texts["src/log.rt"].count("self.of < 1"), texts["src/log.rt"].count("less")), (2, 0))
 
     def test_what_has_no_copy(self):
+        for calls in ("self.empty()", "Self::empty(self)", "empty(self)"):
+            self.assertIsNone(self.made(("self.of < 1", calls)))
+        self.assertIsNotNone(self.made(("self.of < 1", "self.of.empty()")))
+        self.assertIsNone(self.made(("self.of < 1", "self.of.less()"), ("fn clone(", "fn less(&self) -> bool { true } fn clone(")))
         self.assertIsNone(self.made(("{ *self }", "{ Log::new() }"), path="log::LogClone::clone"))
         self.assertIsNone(self.made(("self.of < 1", "self.of < 2"), path="log::Log::other"))
         self.assertIsNone(self.made(("IsTrue result", "IsTrue self"), ("self.of < 1", "self.of < 2")))
@@ -316,13 +322,25 @@ impl Clone for Log {
 
         wrong = Edit("wrong", ("log::Log::empty",), False, [("src/log.rt", "self.of < 1", "true")])
         trial = together([wrong], [Right(())], self.read, self.proofs)
-        self.assertEqual(trial.functions, ["log::Log::empty_wrong", "log::Log::empty_right"])
+        self.assertEqual(trial.functions, ["log::Log::empty_wrong", "log::Log::empty_right_wrong"])
         self.assertIn("self.of < 1", trial.texts["src/log.rt"])
         refused = "fn a::log::Log::empty: proved\nfn a::log::Log::empty_wrong: no proof; `search` did not prove `returns`\n"
         for word, faults in (("proved", 0), ("not proved", 1), ("no proof: it calls `a::b`, which is not proved", 1), ("could not tell", 1)):
-            found = verdict("a", trial, f"{refused}fn a::log::Log::empty_right: {word}\nlogic=not-proved\n")
+            found = verdict("a", trial, f"{refused}fn a::log::Log::empty_right_wrong: {word}\nlogic=not-proved\n")
             self.assertEqual((found.refused, len(found.wrong)), ({"wrong": "log::Log::empty at `returns`"}, faults), word)
-        self.assertIn("NOT PROVED: log::Log::empty with the right bodies wrong: not there", verdict("a", trial, f"{refused}logic=not-proved\n").wrong)
+        self.assertIn("wrong: NOT PROVED: log::Log::empty with the right body: not there", verdict("a", trial, f"{refused}logic=not-proved\n").wrong)
+
+    def test_no_other_proof_stands_on_that_of_a_function_that_is_copied(self):
+        for crate, edits in wrong_bodies.named([]).items():
+            room = prover.Room(crate, "", "")
+            right = [(group.functions, group.changes) for group in right_bodies.groups(right_bodies.edits_of(crate, []))]
+            of_edits = [(edit.refused, edit.changes) for edit in edits if not edit.alone]
+            paths = {path for paths, changes in [*right, *of_edits] if copied({}, paths, "_copy", changes, room.read, room.proofs) for path in paths}
+            for file in prover.files_of(crate):
+                with open(file, encoding="utf-8") as text:
+                    names = re.findall(r"\.proofs\.([\w.]+)\.Goals\b", text.read())
+                for path in paths & {name.replace(".", "::") for name in names}:
+                    self.assertIn(f"/proofs/{path.replace('::', '/')}/", file)
 
     def test_right_bodies_of_a_function_are_one(self):
         found = right_bodies.groups(right_bodies.edits_of("keymap_store", []))

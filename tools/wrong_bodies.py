@@ -84,7 +84,7 @@ class Trial(NamedTuple):
     bodies that they have, and the texts that all of them make."""
 
     edits: list[Edit]
-    right: dict[tuple[str, ...], tuple[str, ...]]
+    right: dict[right_bodies.Group, tuple[str, ...]]
     texts: dict[str, str]
 
     @property
@@ -94,13 +94,13 @@ class Trial(NamedTuple):
 
 
 def together(edits, right, read, proofs):
-    """What is tried in one check of some edits and right bodies of a crate: beside the latter nothing in its place. `read` gives the
-    text of a file, and `proofs` the files of a function's proof."""
+    """What is tried in one check of some edits and right bodies of a crate. With right bodies no function of the crate is itself
+    turned. `read` gives the text of a file, and `proofs` the files of a function's proof."""
     if right:
         trial = on_copies(edits, Trial([], {}, {}), read, proofs)
         for group in right if trial.edits else []:
-            if made := copied(trial.texts, group.functions, right_bodies.SUFFIX, group.changes, read, proofs):
-                trial = Trial(trial.edits, trial.right | {group.names: made[1]}, made[0])
+            if made := copied(trial.texts, group.functions, group.suffix, group.changes, read, proofs):
+                trial = Trial(trial.edits, trial.right | {group: made[1]}, made[0])
         if trial.edits:
             return trial
     trial = in_place(edits, read)
@@ -226,12 +226,12 @@ def verdict(crate, trial, said):
 
 def not_proved(trial, told):
     """What has to be proved of a trial and is not, by what a check says of each function."""
-    for names, paths in trial.right.items():
+    for group, paths in trial.right.items():
         for path in paths:
-            if path not in told or told[path].word != "proved":
-                of = told.get(path, Told("not there", "", [], []))
-                why = f"{of.word}{of.rest} {' '.join(of.errors)}".strip()
-                yield f"NOT PROVED: {path.removesuffix(right_bodies.SUFFIX)} with the right bodies {', '.join(names)}: {why}"
+            of = told.get(path, Told("not there", "", [], []))
+            if of.word != "proved":
+                why = " ".join([of.word + of.rest, *of.errors])
+                yield f"{', '.join(group.names)}: NOT PROVED: {path.removesuffix(group.suffix)} with the right body: {why}"
 
 
 def reached(said):
@@ -251,19 +251,20 @@ def named_by(edits):
 
 def try_all(crate, edits, right, check, read, proofs):
     """What comes of the edits and the right bodies of a crate: a line each, those of them that are faults, and the right bodies that are
-    still to be proved. `check` says what a check of some texts says of some functions."""
+    still to be proved. `check` says what a check of some texts says of some functions, and is told whether it looks like the last one."""
     lines, wrong, left = [], [], sorted(edits, key=lambda edit: (edit.alone, edit.name))
     while left:
         trial = together(left, right, read, proofs)
-        said = check(trial.texts, trial.functions)
+        said = check(trial.texts, trial.functions, len(trial.edits) == len(left) and len(trial.right) == len(right))
         found = verdict(crate, trial, said)
-        if len(trial.edits) > 1 and (len(found.pending) == len(trial.edits) or not reached(said)):
+        if len(trial.edits) + len(trial.right) > 1 and (len(found.pending) == len(trial.edits) or not reached(said)):
             # (each calls what another one turned, or one of them is no program: the first one by itself)
             trial = in_place([edit for edit in left if edit.name == trial.edits[0].name], read)
-            found = verdict(crate, trial, check(trial.texts, trial.functions))
-        right = [group for group in right if group.names not in trial.right]
+            found = verdict(crate, trial, check(trial.texts, trial.functions, False))
+        right = [group for group in right if group not in trial.right]
         lines += [f"wrong-bodies {crate}/{name}: refused at {where}" for name, where in found.refused.items()]
-        lines += [f"wrong-bodies {crate}: proved with the right bodies {', '.join(names)}" for names in trial.right if not found.wrong]
+        if trial.right and not found.wrong:
+            lines.append(f"wrong-bodies {crate}: proved with the right bodies {', '.join(name for group in trial.right for name in group.names)}")
         wrong += [f"wrong-bodies {crate}/{what}" for what in found.wrong]
         left = [edit for edit in left if edit.name in found.pending or edit.name not in {it.name for it in trial.edits}]
     return lines, wrong, right
@@ -272,7 +273,7 @@ def try_all(crate, edits, right, check, read, proofs):
 def try_crate(crate, edits, tools, right):
     """The same, by the toolchain. Right bodies that were not tried beside edits are proved after them, all of them at once."""
     with room_of(crate) as room:
-        lines, wrong, right = try_all(crate, edits, right_bodies.groups(right), lambda texts, functions: tools.check(room.made_of(texts), functions), room.read, room.proofs)
+        lines, wrong, right = try_all(crate, edits, right_bodies.groups(right), lambda texts, *what: tools.check(room.made_of(texts), *what), room.read, room.proofs)
         if right:
             paths = [path for group in right for path in group.paths]
             names = ", ".join(map(name_of, paths))
@@ -292,8 +293,9 @@ def prove_copies(crate, edits, tools):
             if not edit.alone and (made := copied(texts, edit.refused, edit.suffix, edit.changes, room.read, room.proofs, unchanged=True)):
                 texts, copies = made[0], [*copies, *made[1]]
         proved, said = tools.proves(room.made_of(texts), copies) if copies else (True, "")
-    what = f"wrong-bodies {crate}: {len(copies)} copies as they are"
-    return ([f"{what} are proved"], []) if proved else ([], [f"{what}: NOT PROVED:\n{right_bodies.refusals(said)}"])
+    lacks = ", ".join(edit.name for edit in edits if not any(copy.endswith(edit.suffix) for copy in copies))
+    what = f"wrong-bodies {crate}: {len(copies)} copies of functions as they are"
+    return ([f"{what} are proved{lacks and f'; without a copy: {lacks}'}"], []) if proved else ([], [f"{what}: NOT PROVED:\n{right_bodies.refusals(said)}"])
 
 
 def named(words):
@@ -356,8 +358,8 @@ def main():
         for lines, wrong in (done.result() for done in as_completed(tried)):
             print("\n".join([*lines, *wrong]), flush=True)
             failed += len(wrong)
-    total = sum(len(of) for of in edits.values())
-    print(f"wrong-bodies: {total} edits in {len(edits)} crates, {failed or 'no'} fault{'' if failed == 1 else 's'}")
+    what = "copies" if given.copies else f"{sum(map(len, edits.values()))} edits"
+    print(f"wrong-bodies: {what} in {len(edits)} crates, {failed or 'no'} fault{'' if failed == 1 else 's'}")
     return 1 if failed else 0
 
 

@@ -115,7 +115,7 @@ Exit status:
   2  the command line was refused";
 
 /// The flash that a run starts on.
-#[derive(Clone, Copy, Debug, PartialEq, Eq)]
+#[derive(Clone, Copy)]
 pub enum Start<'a> {
     /// A blank flash of so many pages, 2 to 8.
     Blank { pages: usize },
@@ -124,7 +124,7 @@ pub enum Start<'a> {
 }
 
 /// What a text is read from.
-#[derive(Clone, Copy, Debug, PartialEq, Eq)]
+#[derive(Clone, Copy)]
 pub enum Source<'a> {
     /// Standard input, as without a word and with `-`.
     StandardInput,
@@ -133,7 +133,7 @@ pub enum Source<'a> {
 }
 
 /// How a text says the bytes of a report descriptor.
-#[derive(Clone, Copy, Debug, PartialEq, Eq)]
+#[derive(Clone, Copy)]
 pub enum Form {
     /// By hex digits.
     Hex,
@@ -144,7 +144,7 @@ pub enum Form {
 }
 
 /// What the command line asks for.
-#[derive(Clone, Copy, Debug, PartialEq, Eq)]
+#[derive(Clone, Copy)]
 pub enum Request<'a> {
     /// To run a script, to write the flash's bytes to the file with the path `save` after a run
     /// without a fault, and where `explain` is set to say what each answer means.
