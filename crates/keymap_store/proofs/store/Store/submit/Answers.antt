@@ -1,8 +1,6 @@
-use Rattle.std.proofs.Common.{rules}
 use Rattle.std.proofs.lemmas.Bool.{iff_false}
-use Rattle.keymap_store.specs.declared.store.Job.TheVariants.{Appending, Turning}
+use Rattle.keymap_store.specs.declared.store.Job.TheVariants.{Turning}
 use Rattle.keymap_store.proofs.Counting.{begun_needs, few_left}
-use Rattle.keymap_store.proofs.Offering.{resting}
 use Rattle.keymap_store.proofs.Ordering.{append_begins, turn_begins}
 use Rattle.keymap_store.proofs.Working.{begins_turn}
 use Rattle.keymap_store.proofs.store.Store.submit.Goals as goal
@@ -30,33 +28,3 @@ pub returns-then-room-clause-operations : goal.returns-then-room-clause-operatio
 returns-then-room-clause-operations c image m taken =
     let n = rw (← c.self.view_is) at m in
     append_begins image _ c.begin_append.new.self _ c.args.command n c.begin_append.ensures.pending ((c.room.ensures.room image n.log_is).0 c.if-room.true)
-
-pub returns-then-room-clause-submits : goal.returns-then-room-clause-submits
-returns-then-room-clause-submits c image m =
-    let n = rw (← c.self.view_is) at m in
-    rw (← c.self.view_is) (
-      record { idle = resting image _ _ n.job_is (c.busy.ensures.0 c.if-busy.false); usable = search rules },
-      rw c.if-not-changes.false at c.changes.ensures.entries _ n.keymap_is,
-      search rules,
-    )
-
-pub returns-then-room-clause-few : goal.returns-then-room-clause-few
-returns-then-room-clause-few c image = few_left image c.begin_append.new.self (Appending c.args.command)
-
-pub returns-in-Ok-clause-submits : goal.returns-in-Ok-clause-submits
-returns-in-Ok-clause-submits c image m =
-    let n = rw (← c.self.view_is) at m in
-    rw (← c.self.view_is) (
-      record { idle = resting image _ _ n.job_is (c.busy.ensures.0 c.if-busy.false); usable = search rules },
-      rw c.if-not-changes.false at c.changes.ensures.entries _ n.keymap_is,
-      search rules,
-    )
-
-pub returns-in-Err-clause-submits : goal.returns-in-Err-clause-submits
-returns-in-Err-clause-submits c image m =
-    let n = rw (← c.self.view_is) at m in
-    rw (← c.self.view_is) (
-      record { idle = resting image _ _ n.job_is (c.busy.ensures.0 c.if-busy.false); usable = search rules },
-      rw c.if-not-changes.false at c.changes.ensures.entries _ n.keymap_is,
-      search rules,
-    )
