@@ -108,6 +108,8 @@ class Verdicts(unittest.TestCase):
         wrong = ["one: refused only because a proof names what the edit took away"]
         self.assertEqual(self.judged(told, edit("one")).wrong, wrong)
         self.assertEqual(self.judged(told, edit("one"), edit("two")).wrong[0], wrong[0])
+        broken = told.replace("`it` is not in scope", "`returns`: record `a.Lts.After-self2`\n  has no field `b`\n  the fields are `c`")
+        self.assertEqual(self.judged(broken, edit("one")).wrong, wrong)
         goal = "note: src/lib.rt:7:1: it is not proved that what the function ensures holds when it returns (`returns-else`); no\n"
         self.assertEqual(self.judged(told.replace("fn a::one", goal + "fn a::one"), edit("one"), edit("two")).refused, {"one": "one at `returns-else`"})
         self.assertEqual(self.judged(goal + told, edit("one"), edit("two")).refused, {"one": "one at `returns-else`"})

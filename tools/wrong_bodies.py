@@ -184,9 +184,10 @@ def told_of(crate, said):
 
 
 def errors_of(said, path=""):
-    """The errors of the proofs of a function, or of all proofs."""
+    """The errors of the proofs of a function, or of all proofs: of each the line, and the one that goes on with it."""
     files = "".join(re.escape(part) + "/" for part in path.split("::")) + r"\w+" if path else r"[^:]+"
-    return re.findall(rf"^(?:\./)?proofs/{files}\.antt:\d+:\d+: error: (.*)$", said, re.MULTILINE)
+    found = re.findall(rf"^(?:\./)?proofs/{files}\.antt:\d+:\d+: error: (.*(?:\n  .*)?)$", said, re.MULTILINE)
+    return [" ".join(error.split()) for error in found]
 
 
 def verdict(crate, trial, said):
