@@ -62,9 +62,9 @@ head_end text i = i + prefix_len is_of_head (drop i text)
 abbrev pub IsDeclared : Bytes → ℕ → Type 0
 IsDeclared text i = (is_ascii_digit (slice_index text i) ≡ false) × IsAt text (head_end text i) 123
 
--- where the elements begin, and whether behind a brace
+-- where the elements begin, and whether behind a brace: a declaration begins behind all blanks and comments
 pub data Begins (text : Bytes) : ℕ → Bool → Type 0 where
-  declared : (i : ℕ) → IsGap text 0 i → IsDeclared text i → Begins text (head_end text i + 1) true
+  declared : (i : ℕ) → IsGap text 0 i → IsSolid text i → IsDeclared text i → Begins text (head_end text i + 1) true
   bare : (i : ℕ) → IsGap text 0 i → IsSolid text i → (IsDeclared text i → ⊥) → Begins text 0 false
 
 -- the text is an array of these bytes

@@ -5,7 +5,7 @@ pub returns-in-Some-clause-begins : goal.returns-in-Some-clause-begins
 returns-in-Some-clause-begins c =
     let (declared, same, low) = c.in-Some.ensures in
     let (gap, solid, from, within) = c.in_ok-at.ensures.gap in
-    rw same (Begins.declared c.in_ok-at.at gap declared)
+    rw same (Begins.declared c.in_ok-at.at gap solid declared)
 
 pub returns-in-None-clause-begins : goal.returns-in-None-clause-begins
 returns-in-None-clause-begins c =
