@@ -1,4 +1,4 @@
--- A word writes one byte, and no blank, no comment and no end begins with it.
+-- A word writes one byte at most, and no blank, no comment and no end begins with it.
 use Rattle.std.proofs.Common.{◌≡◌, ◌<◌, ◌≤◌, ◌+◌, ◌-◌, ◌∙◌, ◌∷◌, [], ℕ, Bool, true, false, cond, List, length, slice_index, take, drop, subst, sym, refl, ap, arith, inl, inr, true≢false, drop_of_length-le}
 use Rattle.std.proofs.lemmas.Bool.{cases_Bool, cases_lt}
 use Rattle.std.proofs.lemmas.Bool.Decides.{eqb_tells}

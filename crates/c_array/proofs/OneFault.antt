@@ -1,4 +1,4 @@
--- One fault of a text is so.
+-- But for Memory, one fault of a text at most is so.
 use Rattle.std.proofs.Common.{◌≡◌, ◌<◌, ◌+◌, ◌∙◌, ◌⊎◌, ℕ, Bool, true, false, List, length, subst, subst₂, sym, refl, ap, arith, inl, inr, le_refl, true≢false}
 use Rattle.c_array.specs.Gaps.{IsAt, IsGap, IsSolid}
 use Rattle.c_array.specs.Arrays.{Begins, Elements, IsByte, word_end, none, more}

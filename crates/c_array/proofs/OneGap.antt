@@ -1,4 +1,4 @@
--- From one place one gap goes to a place where nothing is skipped.
+-- Of the gaps from a place one at most ends where nothing is skipped.
 use Rattle.std.proofs.Common.{◌≡◌, ◌≤◌, ◌+◌, ◌∙◌, ◌⊎◌, ℕ, true, List, length, slice_index, subst, sym, refl, ap, arith, inl, inr, true≢false}
 use Rattle.std.proofs.lemmas.Bool.{cases_lt}
 use Rattle.c_array.specs.Gaps.{IsAt, IsGap, IsSkipped, IsSolid, IsStarSlash, NoStarSlash, is_blank, none, more, blank, line, block}

@@ -1,4 +1,4 @@
--- A text is an array in one way at most, and in none where a fault is so.
+-- A text is an array in one way at most, and in none where a fault other than Memory is so.
 use Rattle.std.proofs.Common.{◌≡◌, ◌+◌, ◌∷◌, ◌++◌, [], ℕ, Bool, true, List, length, subst, subst₂, sym, refl, ap, arith, inl, inr, append_assoc, append-nil, le_refl}
 use Rattle.c_array.specs.Gaps.{IsAt, IsGap, IsSolid}
 use Rattle.c_array.specs.Arrays.{Begins, Elements, IsArray, IsByte, IsDeclared, IsEnd, Says, head_end, word_end, none, more, ended, last, declared, bare}
@@ -164,7 +164,7 @@ no_comment text bytes i halt unsolid (element from braced begins after) array =
 no_comment text bytes i halt unsolid (comma from braced begins after) array =
     no_comma text bytes from braced i begins after halt (λ end. unsolid (end_solid braced text i end)) (λ here. unsolid (comma_solid text i here)) array
 
--- a text of which a fault is so is no array
+-- a text of which another fault than Memory is so is no array
 pub refused : (text bytes : List ℕ) (e : ArrayFault) → IsSo text e → (e ≡ fault.Memory → ⊥) → IsArray text bytes → ⊥
 refused text bytes (fault.NoByte i) (inside, solid, lacks, (from, braced, begins, after, ongoing)) other array =
     no_element text bytes from braced i begins after (solid_halts text i solid) ongoing lacks array

@@ -49,7 +49,7 @@ pub data Says (braced : Bool) (text : Bytes) (from : ℕ) (bytes : Bytes) : Type
   last : (before : Bytes) (at start n end : ℕ) → Elements text from before at → IsGap text at start → IsByte text start n
       → IsGap text (word_end text start) end → IsEnd braced text end → bytes ≡ before ++ n ∷ [] → Says braced text from bytes
 
--- what a declaration may have before its opening brace: no brace, no comma and no slash
+-- what a declaration may have before its opening brace: no opening brace, no comma and no slash
 abbrev pub is_of_head : ℕ → Bool
 is_of_head c = not ((c == 123) || ((c == 44) || (c == 47)))
 
@@ -62,7 +62,8 @@ head_end text i = i + prefix_len is_of_head (drop i text)
 abbrev pub IsDeclared : Bytes → ℕ → Type 0
 IsDeclared text i = (is_ascii_digit (slice_index text i) ≡ false) × IsAt text (head_end text i) 123
 
--- where the elements begin, and whether behind a brace: a declaration begins behind all blanks and comments
+-- where the elements begin, and whether behind a brace: a declaration begins behind all blanks and comments that the text
+-- begins with
 pub data Begins (text : Bytes) : ℕ → Bool → Type 0 where
   declared : (i : ℕ) → IsGap text 0 i → IsSolid text i → IsDeclared text i → Begins text (head_end text i + 1) true
   bare : (i : ℕ) → IsGap text 0 i → IsSolid text i → (IsDeclared text i → ⊥) → Begins text 0 false

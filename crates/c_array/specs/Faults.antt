@@ -1,6 +1,6 @@
 -- Believed: why a text is no array of bytes.
 use Rattle.shapes.specs.Shapes.{Bytes}
-use Rattle.std.specs.Prelude.{◌<◌, ◌+◌, ◌⊎◌, ℕ, Bool, true, length, ⊤}
+use Rattle.std.specs.Prelude.{◌<◌, ◌+◌, ◌⊎◌, ℕ, Bool, true, length}
 use Rattle.c_array.specs.Gaps.{IsAt, IsGap, IsSolid, NoStarSlash}
 use Rattle.c_array.specs.Arrays.{Begins, Elements, IsByte, IsEnd, word_end}
 use Rattle.c_array.specs.declared.fault.ArrayFault.{ArrayFault}
@@ -35,4 +35,4 @@ IsSo text (fault.NoComma i) = (i < length text) × IsSolid text i × (IsAt text 
     × ((from : ℕ) × (braced : Bool) × Begins text from braced × IsAfterByte text from i × (IsEnd braced text i → ⊥))
 IsSo text (fault.OpenComment i) = IsAt text i 47 × IsAt text (i + 1) 42 × NoStarSlash text (i + 2) (length text) × Reaches text i
 IsSo text fault.OpenArray = (from : ℕ) × Begins text from true × (IsAfterElements text from (length text) ⊎ IsAfterByte text from (length text))
-IsSo text fault.Memory = ⊤
+IsSo text fault.Memory = (from : ℕ) × (braced : Bool) × (i : ℕ) × Begins text from braced × IsAfterByte text from i
