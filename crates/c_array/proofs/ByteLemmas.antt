@@ -35,7 +35,7 @@ IsUtf8-numeral radix word few numeral = IsUtf8-from_ascii word (λ i. elim (case
   | inr l ↦ rw (get_or_past word i 0 l) (omega arith)
 ])
 
-no_hex_byte : (x : ℕ) (digits : List ℕ) → (IsNumeral 16 digits → digits_value 16 digits < 256 → ⊥) → (n : ℕ) → WritesByte (48 ∷ x ∷ digits) n → ⊥
+pub no_hex_byte : (x : ℕ) (digits : List ℕ) → (IsNumeral 16 digits → digits_value 16 digits < 256 → ⊥) → (n : ℕ) → WritesByte (48 ∷ x ∷ digits) n → ⊥
 no_hex_byte x digits lacks n (hex y more same kind numeral value low) =
     let e : more ≡ digits = cc same in
     lacks (subst (IsNumeral 16) e numeral) (subst (λ d. digits_value 16 d < 256) e (omega (arith, value, low)))
@@ -48,7 +48,7 @@ pub hex_byte : (word : List ℕ) (x : ℕ) (digits : List ℕ) (r : Option ℕ) 
 hex_byte word x digits None is kind lacks = λ n writes. no_hex_byte x digits lacks n (subst (λ w. WritesByte w n) is writes)
 hex_byte word x digits (Some n) is kind (numeral, value, low) = WritesByte.hex x digits is kind numeral value low
 
-no_decimal_byte : (word : List ℕ) → IsNoHex word → (IsNumeral 10 word → digits_value 10 word < 256 → ⊥) → (n : ℕ) → WritesByte word n → ⊥
+pub no_decimal_byte : (word : List ℕ) → IsNoHex word → (IsNumeral 10 word → digits_value 10 word < 256 → ⊥) → (n : ℕ) → WritesByte word n → ⊥
 no_decimal_byte word no_hex lacks n (hex x digits same kind numeral value low) = no_hex x digits same kind
 no_decimal_byte word no_hex lacks n (decimal numeral lead value low) = lacks numeral (omega (arith, value, low))
 

@@ -1,4 +1,7 @@
 mod ByteLemmas
+mod EachByte
+mod EachGap
+mod EachText
 mod EndLemmas
 mod GapLemmas
 mod OneByte

@@ -24,7 +24,7 @@ one_byte word n m (decimal numeral lead value low) (decimal numeral-2 lead-2 val
 pub byte_same : (text : List ℕ) (i n m : ℕ) → IsByte text i n → IsByte text i m → n ≡ m
 byte_same text i n m byte byte-2 = one_byte _ n m byte byte-2
 
-byte_long : (word : List ℕ) (n : ℕ) → WritesByte word n → 0 < length word
+pub byte_long : (word : List ℕ) (n : ℕ) → WritesByte word n → 0 < length word
 byte_long word n (hex x digits same kind numeral value low) = rw same (omega arith)
 byte_long word n (decimal numeral lead value low) = numeral.0
 
@@ -75,7 +75,7 @@ blank_is c told = elim (eqb_tells c 32) [
 ]
 
 -- where a character is neither a blank nor a slash nothing is skipped
-solid_at : (text : List ℕ) (i : ℕ) → is_blank (slice_index text i) ≡ false → (slice_index text i ≡ 47 → ⊥) → IsSolid text i
+pub solid_at : (text : List ℕ) (i : ℕ) → is_blank (slice_index text i) ≡ false → (slice_index text i ≡ 47 → ⊥) → IsSolid text i
 solid_at text i plain no_slash = record {
   no_blank = λ inside. plain;
   no_line = λ slash next. no_slash slash.1;

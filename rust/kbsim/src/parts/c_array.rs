@@ -3,8 +3,8 @@
 //!
 //! [`read_array`] takes the list of numbers, with its braces and the declaration before them or without, and leaves out blanks and
 //! comments. Nothing is kept. The promise is that the bytes are those that the text says by the definition of an array, and
-//! that a text which is refused shows the named fault at the named place, with an array's beginning before it. A text says one
-//! list of bytes at most, and shows one fault at most, and one that says a list shows none.
+//! that a text which is refused shows the named fault at the named place, with an array's beginning before it. Each text
+//! says just one list of bytes, or shows just one such fault, and never both. Memory may be refused only behind a byte.
 //! The program of this crate calls it.
 
 mod array;

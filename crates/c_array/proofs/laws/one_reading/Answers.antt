@@ -1,6 +1,10 @@
+use Rattle.c_array.proofs.EachText.{each}
 use Rattle.c_array.proofs.OneFault.{one_fault}
 use Rattle.c_array.proofs.OneReading.{one_reading, refused}
 use Rattle.c_array.proofs.laws.one_reading.Goals as goal
+
+pub returns-clause-each : goal.returns-clause-each
+returns-clause-each c text = each text
 
 pub returns-clause-one : goal.returns-clause-one
 returns-clause-one c text bytes others array other = one_reading text bytes others array other
