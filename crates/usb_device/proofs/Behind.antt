@@ -1,0 +1,154 @@
+-- What a device with its layer confirmed, the device behind confirmed; and what the host saw.
+use Rattle.std.proofs.Common.{◌≡◌, ℕ, true, List, [], ◌∷◌, ◌++◌, Option, Some, None, refl, subst, ◌∙◌, inl, inr}
+use Rattle.usb_device.specs.declared.answer.EpAnswer.{EpAnswer}
+use Rattle.usb_device.specs.declared.answer.EpAnswer.TheVariants.{Ack, Nak, Packet, Stall}
+use Rattle.usb_device.specs.declared.answer.Endpoint1.{Endpoint1}
+use Rattle.usb_device.specs.declared.answer.Endpoint1.TheVariants.{Off, Ready, Halted}
+use Rattle.usb_device.specs.Calls.{EpCall, SetUp, Out, In, Polled, BusReset}
+use Rattle.usb_device.specs.Requests.{Lent}
+use Rattle.usb_device.specs.Events.{Event, SetupCame, OutCame, InAsked, PollAsked, ResetCame}
+use Rattle.usb_device.specs.Steps.{Stage, Theirs, Sending, Status, Over, state_of, session, AllAnswered, InAnswer, after_in, after_out, begun, call_if_theirs, call_if_ready, polled_of}
+use Rattle.usb_device.specs.Through.{calls_of}
+use Rattle.usb_device.specs.Bus.{Seen, SetupSent, OutTaken, InGot, WasStalled, WasReset, Bus, setup_of, write_of, is_write}
+use Rattle.usb_device.specs.Confirmed.{asked_of, taken_of, WasConfirmed, AllKept, confirmation}
+use Rattle.usb_device.specs.Transfers.{TransferState}
+use Rattle.usb_device.specs.ties.Link.{Link}
+
+-- of the seen
+kept_at : (after before : List Seen) (calls : List EpCall) → AllKept (after ++ (InGot [] ∷ before)) calls → AllKept (InGot [] ∷ before) calls
+kept_at [] before calls k = k
+kept_at (InGot [] ∷ after) before calls k = kept_at after before calls k.1
+kept_at (InGot (x ∷ xs) ∷ after) before calls k = kept_at after before calls k
+kept_at (SetupSent bytes ∷ after) before calls k = kept_at after before calls k
+kept_at (OutTaken packet ∷ after) before calls k = kept_at after before calls k
+kept_at (WasStalled ∷ after) before calls k = kept_at after before calls k
+kept_at (WasReset ∷ after) before calls k = kept_at after before calls k
+
+pub seen_confirmed : (t : TransferState) (b : Bus) (calls : List EpCall) (after before : List Seen) (setup data_ : List ℕ) → Link t b calls
+    → b.seen ≡ after ++ (InGot [] ∷ before) → setup_of before ≡ Some setup → is_write setup ≡ true → write_of before ≡ Some data_ → WasConfirmed setup data_ calls
+seen_confirmed t b calls after before setup data_ h e es ew ed =
+    let K : List Seen → Type 0 = λ seen. AllKept seen calls in
+    (kept_at after before calls (subst K e h.kept)).0 setup data_ es ew ed
+
+-- of the device layer
+Aligned : Stage → List EpCall → List EpCall → Type 0
+Aligned Theirs behind calls = taken_of behind ≡ taken_of calls
+Aligned (Sending bytes asked sent) behind calls = taken_of calls ≡ None
+Aligned (Status change) behind calls = taken_of calls ≡ None
+Aligned Over behind calls = Unit {0}
+
+at_setup : (stage : Stage) (bytes : List ℕ) (behind calls : List EpCall) → Aligned stage (SetUp bytes ∷ behind) (SetUp bytes ∷ calls)
+unfolding Aligned
+at_setup Theirs bytes behind calls = refl
+at_setup (Sending data_ asked sent) bytes behind calls = refl
+at_setup (Status change) bytes behind calls = refl
+at_setup Over bytes behind calls = tt
+
+at_out_theirs : (packet : List ℕ) (answer : EpAnswer) (behind calls : List EpCall) → taken_of behind ≡ taken_of calls
+    → taken_of (Out packet answer ∷ behind) ≡ taken_of (Out packet answer ∷ calls)
+at_out_theirs packet Ack behind calls e = refl
+at_out_theirs packet Nak behind calls e = e
+at_out_theirs packet (Packet bytes) behind calls e = e
+at_out_theirs packet Stall behind calls e = e
+
+at_out : (stage : Stage) (packet : List ℕ) (answer : EpAnswer) (behind calls : List EpCall) → Aligned stage behind calls
+    → Aligned (after_out stage) (call_if_theirs stage (Out packet answer) behind) (Out packet answer ∷ calls)
+unfolding Aligned
+at_out Theirs packet answer behind calls a = at_out_theirs packet answer behind calls a
+at_out (Sending bytes asked sent) packet answer behind calls a = tt
+at_out (Status change) packet answer behind calls a = tt
+at_out Over packet answer behind calls a = tt
+
+at_in : (stage : Stage) (answer : EpAnswer) (behind calls : List EpCall) → Aligned stage behind calls
+    → Aligned (after_in stage answer) (call_if_theirs stage (In answer) behind) (In answer ∷ calls)
+unfolding Aligned
+at_in Theirs answer behind calls a = a
+at_in (Sending bytes asked sent) Ack behind calls a = a
+at_in (Sending bytes asked sent) Nak behind calls a = a
+at_in (Sending bytes asked sent) (Packet packet) behind calls a = a
+at_in (Sending bytes asked sent) Stall behind calls a = tt
+at_in (Status change) answer behind calls a = tt
+at_in Over answer behind calls a = tt
+
+at_poll : (stage : Stage) (endpoint : Endpoint1) (answer : Option (List ℕ)) (behind calls : List EpCall) → Aligned stage behind calls
+    → Aligned stage (call_if_ready endpoint (Polled answer) behind) (Polled answer ∷ calls)
+unfolding Aligned
+at_poll Theirs Off answer behind calls a = a
+at_poll Theirs Ready answer behind calls a = a
+at_poll Theirs Halted answer behind calls a = a
+at_poll (Sending bytes asked sent) endpoint answer behind calls a = a
+at_poll (Status change) endpoint answer behind calls a = a
+at_poll Over endpoint answer behind calls a = tt
+
+at_reset : (behind calls : List EpCall) → Aligned Theirs (BusReset ∷ behind) (BusReset ∷ calls)
+unfolding Aligned
+at_reset behind calls = refl
+
+at_start : Aligned Theirs [] []
+unfolding Aligned
+at_start = refl
+
+aligned : (lent : Lent) (past : List Event) → Aligned (state_of lent past).stage (session lent past) (calls_of past)
+unfolding state_of session
+aligned lent [] = at_start
+aligned lent (SetupCame bytes ∷ past) = at_setup (begun (state_of lent past).lent (state_of lent past).endpoint bytes) bytes (session lent past) (calls_of past)
+aligned lent (OutCame packet answer ∷ past) = at_out (state_of lent past).stage packet answer (session lent past) (calls_of past) (aligned lent past)
+aligned lent (InAsked answer ∷ past) = at_in (state_of lent past).stage answer (session lent past) (calls_of past) (aligned lent past)
+aligned lent (PollAsked answer ∷ past) = at_poll (state_of lent past).stage (state_of lent past).endpoint (polled_of answer) (session lent past) (calls_of past) (aligned lent past)
+aligned lent (ResetCame ∷ past) = at_reset (session lent past) (calls_of past)
+
+asked_if_theirs : (stage : Stage) (call : EpCall) (behind : List EpCall) → asked_of (call ∷ behind) ≡ asked_of behind → asked_of (call_if_theirs stage call behind) ≡ asked_of behind
+asked_if_theirs Theirs call behind e = e
+asked_if_theirs (Sending bytes asked sent) call behind e = refl
+asked_if_theirs (Status change) call behind e = refl
+asked_if_theirs Over call behind e = refl
+
+asked_if_ready : (endpoint : Endpoint1) (answer : Option (List ℕ)) (behind : List EpCall) → asked_of (call_if_ready endpoint (Polled answer) behind) ≡ asked_of behind
+asked_if_ready Off answer behind = refl
+asked_if_ready Ready answer behind = refl
+asked_if_ready Halted answer behind = refl
+
+asked_same : (lent : Lent) (past : List Event) → asked_of (session lent past) ≡ asked_of (calls_of past)
+unfolding session
+asked_same lent [] = refl
+asked_same lent (SetupCame bytes ∷ past) = refl
+asked_same lent (OutCame packet answer ∷ past) = asked_if_theirs (state_of lent past).stage (Out packet answer) (session lent past) refl ∙ asked_same lent past
+asked_same lent (InAsked answer ∷ past) = asked_if_theirs (state_of lent past).stage (In answer) (session lent past) refl ∙ asked_same lent past
+asked_same lent (PollAsked answer ∷ past) = asked_if_ready (state_of lent past).endpoint (polled_of answer) (session lent past) ∙ asked_same lent past
+asked_same lent (ResetCame ∷ past) = refl
+
+grows_theirs : (stage : Stage) (call : EpCall) (behind : List EpCall) (s d : List ℕ) → WasConfirmed s d behind → WasConfirmed s d (call_if_theirs stage call behind)
+grows_theirs Theirs call behind s d w = inr w
+grows_theirs (Sending bytes asked sent) call behind s d w = w
+grows_theirs (Status change) call behind s d w = w
+grows_theirs Over call behind s d w = w
+
+grows_ready : (endpoint : Endpoint1) (call : EpCall) (behind : List EpCall) (s d : List ℕ) → WasConfirmed s d behind → WasConfirmed s d (call_if_ready endpoint call behind)
+grows_ready Off call behind s d w = w
+grows_ready Ready call behind s d w = inr w
+grows_ready Halted call behind s d w = w
+
+-- the empty packet of a write is that of the device behind
+confirms : (stage : Stage) (answer : EpAnswer) (behind calls : List EpCall) (s d : List ℕ) → Aligned stage behind calls → InAnswer stage answer
+    → asked_of behind ≡ asked_of calls → In answer ≡ confirmation → asked_of calls ≡ Some s → taken_of calls ≡ Some d
+    → WasConfirmed s d (call_if_theirs stage (In answer) behind)
+unfolding Aligned
+confirms Theirs answer behind calls s d a i q e es ed = inl (e, q ∙ es, a ∙ ed)
+confirms (Sending bytes asked sent) answer behind calls s d a i q e es ed = cc
+confirms (Status change) answer behind calls s d a i q e es ed = cc
+confirms Over answer behind calls s d a i q e es ed = cc
+
+pub behind_confirmed : (lent : Lent) (past : List Event) (s d : List ℕ) → AllAnswered lent past → WasConfirmed s d (calls_of past) → WasConfirmed s d (session lent past)
+unfolding session
+behind_confirmed lent [] s d all w = w
+behind_confirmed lent (SetupCame bytes ∷ past) s d all (inl (e, es, ed)) = cc
+behind_confirmed lent (SetupCame bytes ∷ past) s d all (inr w) = inr (behind_confirmed lent past s d all.1 w)
+behind_confirmed lent (OutCame packet answer ∷ past) s d all (inl (e, es, ed)) = cc
+behind_confirmed lent (OutCame packet answer ∷ past) s d all (inr w) = grows_theirs (state_of lent past).stage (Out packet answer) (session lent past) s d (behind_confirmed lent past s d all.1 w)
+behind_confirmed lent (InAsked answer ∷ past) s d all (inl (e, es, ed)) =
+    confirms (state_of lent past).stage answer (session lent past) (calls_of past) s d (aligned lent past) all.0 (asked_same lent past) e es ed
+behind_confirmed lent (InAsked answer ∷ past) s d all (inr w) = grows_theirs (state_of lent past).stage (In answer) (session lent past) s d (behind_confirmed lent past s d all.1 w)
+behind_confirmed lent (PollAsked answer ∷ past) s d all (inl (e, es, ed)) = cc
+behind_confirmed lent (PollAsked answer ∷ past) s d all (inr w) = grows_ready (state_of lent past).endpoint (Polled (polled_of answer)) (session lent past) s d (behind_confirmed lent past s d all.1 w)
+behind_confirmed lent (ResetCame ∷ past) s d all (inl (e, es, ed)) = cc
+behind_confirmed lent (ResetCame ∷ past) s d all (inr w) = inr (behind_confirmed lent past s d all.1 w)

@@ -1,0 +1,10 @@
+pub mod Next
+pub mod Linked
+pub mod Moving
+pub mod Resting
+pub mod Behind
+pub mod Stating
+pub mod Reporting
+pub mod Confirming
+pub mod Characters
+pub mod Scans

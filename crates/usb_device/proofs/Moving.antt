@@ -1,0 +1,349 @@
+-- What each move of the endpoint makes of the link.
+use Rattle.std.proofs.Common.{◌≡◌, ℕ, Bool, true, false, ◌||◌, is_some, List, [], ◌∷◌, Option, Some, None, refl, sym, subst, ◌∙◌, inl, inr}
+use Rattle.usb_device.specs.declared.answer.EpAnswer.{EpAnswer}
+use Rattle.usb_device.specs.declared.answer.EpAnswer.TheVariants.{Ack, Nak, Packet}
+use Rattle.usb_device.specs.Calls.{EpCall, SetUp, Out, In, BusReset, Polled}
+use Rattle.usb_device.specs.Bus.{Bus, Met, Seen, SetupSent, OutTaken, InGot, WasStalled, WasReset, InMode, Naks, Sends, Stalls, OutMode, Takes, StallsOut, Goes, looked, is_pending, is_write, unless_pending, with_input, with_output}
+use Rattle.usb_device.specs.Bus1.{reports_of}
+use Rattle.usb_device.specs.Confirmed.{asked_of, AllKept}
+use Rattle.usb_device.specs.Transfers.{TransferState, Idle, Refused, Over, Reads, ReadDue, Sent, Closing, Closed, Opening, Writes, Keeps, Asking, Due, Status, Done}
+use Rattle.usb_device.specs.ties.Link.{IsQuiet, IsClosed, ClosedIf, ConfirmsIf, StageLink, Link}
+use Rattle.usb_device.proofs.Linked.{goes}
+
+abbrev set_to : Bus → InMode → OutMode → Bus
+set_to b input output = record { seen = b.seen; input = input; output = output; met = b.met }
+
+-- a command to the controller
+commanded_by : (pending : Bool) (t u : TransferState) (b : Bus) (input : InMode) (output : OutMode) (calls : List EpCall) → is_pending b.met ≡ pending → Link t b calls
+    → (StageLink t b calls → StageLink u (set_to b input output) calls) → Link u (unless_pending pending b (set_to b input output)) calls
+commanded_by true t u b input output calls p h k = record {
+  kept = h.kept;
+  fresh = h.fresh;
+  current = λ q. absurd (let r : true ≡ false = sym p ∙ q in cc);
+}
+commanded_by false t u b input output calls p h k = record {
+  kept = h.kept;
+  fresh = λ q. absurd (let r : true ≡ false = sym q ∙ p in cc);
+  current = λ q. let c = h.current q in record { setup = c.setup; stage = λ s es ew. k (c.stage s es ew) };
+}
+
+commanded : (t u : TransferState) (b : Bus) (input : InMode) (output : OutMode) (calls : List EpCall) → Link t b calls
+    → (StageLink t b calls → StageLink u (set_to b input output) calls) → Link u (unless_pending (is_pending b.met) b (set_to b input output)) calls
+commanded t u b input output calls h k = commanded_by (is_pending b.met) t u b input output calls refl h k
+
+-- one more call of the device
+grown : (seen : List Seen) (call : EpCall) (calls : List EpCall) → AllKept seen calls → AllKept seen (call ∷ calls)
+grown [] call calls k = tt
+grown (InGot [] ∷ before) call calls k = ((λ s d es ew ed. inr (k.0 s d es ew ed)), grown before call calls k.1)
+grown (InGot (x ∷ xs) ∷ before) call calls k = grown before call calls k
+grown (SetupSent bytes ∷ before) call calls k = grown before call calls k
+grown (OutTaken packet ∷ before) call calls k = grown before call calls k
+grown (WasStalled ∷ before) call calls k = grown before call calls k
+grown (WasReset ∷ before) call calls k = grown before call calls k
+
+answered : (t u : TransferState) (b : Bus) (call : EpCall) (calls : List EpCall) → asked_of (call ∷ calls) ≡ asked_of calls → Link t b calls
+    → (StageLink t b calls → StageLink u b (call ∷ calls)) → Link u b (call ∷ calls)
+answered t u b call calls e h k = record {
+  kept = grown b.seen call calls h.kept;
+  fresh = h.fresh;
+  current = λ q. let c = h.current q in record { setup = c.setup ∙ sym e; stage = λ s es ew. k (c.stage s es ew) };
+}
+
+-- the controller is opened for the packet of a write
+pub opened : (steps : List Bus) (mid b new : Bus) (t : TransferState) (calls : List EpCall) → Goes steps b mid → new ≡ with_output mid Takes → t ≡ Opening → Link t b calls
+    → Link Writes new calls
+opened steps mid b new t calls g e i h =
+    let P : Bus → Type 0 = λ x. Link Writes x calls in
+    let T : TransferState → Type 0 = λ x. Link x b calls in
+    subst P (sym e) (commanded Opening Writes mid mid.input Takes calls (goes steps Opening b mid calls g (subst T i h))
+    (λ s. let C : Option (List ℕ) → Type 0 = λ out. ClosedIf out Takes in (s.0, s.2 ∙ sym s.4, subst C (sym s.4) tt, s.3)))
+
+-- OUT is opened again
+pub reopened : (t : TransferState) (steps : List Bus) (mid b new : Bus) (calls : List EpCall) → Goes steps b mid → new ≡ with_output mid Takes → t ≡ Due → Link t b calls → Link Due new calls
+reopened t steps mid b new calls g e i h =
+    let P : Bus → Type 0 = λ x. Link Due x calls in
+    let T : TransferState → Type 0 = λ x. Link x b calls in
+    subst P (sym e) (commanded Due Due mid mid.input Takes calls (goes steps Due b mid calls g (subst T i h)) (λ s. s))
+
+-- no write is under way: nothing is owed
+unfoldable pub owes_nothing : TransferState → Type 0
+owes_nothing (Reads left) = Unit {0}
+owes_nothing (ReadDue left) = Unit {0}
+owes_nothing Sent = Unit {0}
+owes_nothing Closing = Unit {0}
+owes_nothing Closed = Unit {0}
+owes_nothing Asking = Unit {0}
+owes_nothing _ = ⊥
+
+nothing_owed : (t u : TransferState) (b next : Bus) (calls later : List EpCall) → owes_nothing t → StageLink t b calls → StageLink u next later
+unfolding owes_nothing
+nothing_owed (Reads left) u b next calls later o s = absurd s
+nothing_owed (ReadDue left) u b next calls later o s = absurd s
+nothing_owed Sent u b next calls later o s = absurd s
+nothing_owed Closing u b next calls later o s = absurd s
+nothing_owed Closed u b next calls later o s = absurd s
+nothing_owed Asking u b next calls later o s = absurd s
+nothing_owed Idle u b next calls later o s = absurd o
+nothing_owed Over u b next calls later o s = absurd o
+nothing_owed Refused u b next calls later o s = absurd o
+nothing_owed Opening u b next calls later o s = absurd o
+nothing_owed Writes u b next calls later o s = absurd o
+nothing_owed (Keeps kept) u b next calls later o s = absurd o
+nothing_owed Due u b next calls later o s = absurd o
+nothing_owed Status u b next calls later o s = absurd o
+nothing_owed Done u b next calls later o s = absurd o
+
+-- from such a transfer to any
+pub freely : (t u : TransferState) (b : Bus) (calls : List EpCall) → owes_nothing t → Link t b calls → Link u b calls
+freely t u b calls o h = record {
+  kept = h.kept;
+  fresh = h.fresh;
+  current = λ q. let c = h.current q in record { setup = c.setup; stage = λ s es ew. nothing_owed t u b b calls calls o (c.stage s es ew) };
+}
+
+pub asking_due : (t : TransferState) (b : Bus) (calls : List EpCall) → t ≡ Asking → Link t b calls → Link Due b calls
+unfolding owes_nothing
+asking_due t b calls i h = let T : TransferState → Type 0 = λ x. Link x b calls in freely Asking Due b calls tt (subst T i h)
+
+-- the read is over, and OUT is opened again
+pub closed_again : (t : TransferState) (steps : List Bus) (mid b new : Bus) (calls : List EpCall) → Goes steps b mid → new ≡ with_output mid Takes → t ≡ Closing → Link t b calls → Link Closed new calls
+closed_again t steps mid b new calls g e i h =
+    let P : Bus → Type 0 = λ x. Link Closed x calls in
+    let T : TransferState → Type 0 = λ x. Link x b calls in
+    subst P (sym e) (commanded Closing Closed mid mid.input Takes calls (goes steps Closing b mid calls g (subst T i h)) (λ s. absurd s))
+
+-- the transfer is refused
+pub refused : (t : TransferState) (steps : List Bus) (mid b middle : Bus) (more : List Bus) (end new : Bus) (calls : List EpCall)
+    → Goes steps b mid → middle ≡ with_input mid Stalls → Goes more middle end → new ≡ with_output end StallsOut → t ≡ Refused → Link t b calls → Link Over new calls
+refused t steps mid b middle more end new calls g e i f q h =
+    let P : Bus → Type 0 = λ x. Link Over x calls in
+    let T : TransferState → Type 0 = λ x. Link x b calls in
+    let first = commanded Refused Over mid Stalls mid.output calls (goes steps Refused b mid calls g (subst T q h)) (λ s. tt) in
+    let then = subst P (sym e) first in
+    subst P (sym f) (commanded Over Over end end.input StallsOut calls (goes more Over middle end calls i then) (λ s. s))
+
+-- the device takes the packet of a write
+pub offered_ack : (b : Bus) (t : TransferState) (packet : List ℕ) (calls : List EpCall) → t ≡ Keeps packet → Link t b calls → Link Due b (Out packet Ack ∷ calls)
+offered_ack b t packet calls i h =
+    let T : TransferState → Type 0 = λ x. Link x b calls in
+    answered (Keeps packet) Due b (Out packet Ack) calls refl (subst T i h) (λ s. (s.0, (packet, s.2, refl)))
+
+pub offered_nak : (b : Bus) (t : TransferState) (packet : List ℕ) (calls : List EpCall) → t ≡ Keeps packet → Link t b calls → Link t b (Out packet Nak ∷ calls)
+offered_nak b t packet calls i h =
+    let T : TransferState → Type 0 = λ x. Link x b calls in
+    let U : TransferState → Type 0 = λ x. Link x b (Out packet Nak ∷ calls) in
+    subst U (sym i) (answered (Keeps packet) (Keeps packet) b (Out packet Nak) calls refl (subst T i h) (λ s. s))
+
+-- any other answer to it
+pub offered_else : (b : Bus) (t : TransferState) (packet : List ℕ) (answer : EpAnswer) (calls : List EpCall) → t ≡ Keeps packet → Link t b calls → Link Refused b (Out packet answer ∷ calls)
+offered_else b t packet answer calls i h =
+    let T : TransferState → Type 0 = λ x. Link x b calls in
+    answered (Keeps packet) Refused b (Out packet answer) calls refl (subst T i h) (λ s. inl s.0)
+
+quiet_confirms : (mode : InMode) (calls : List EpCall) → IsQuiet mode → ConfirmsIf mode calls
+quiet_confirms Naks calls q = tt
+quiet_confirms (Sends packet has) calls q = absurd q
+quiet_confirms Stalls calls q = tt
+
+sends_now : (packet : List ℕ) (calls : List EpCall) → ConfirmsIf (Sends packet false) (In (Packet (record { items = packet })) ∷ calls)
+sends_now [] calls = λ s d es ed. inl (refl, es, ed)
+sends_now (x ∷ xs) calls = tt
+
+-- the packet of the status stage is handed over
+pub handed : (steps : List Bus) (mid b new : Bus) (t : TransferState) (packet : List ℕ) (calls : List EpCall) → t ≡ Due → Link t b calls → Goes steps b mid
+    → new ≡ with_input mid (Sends packet false) → Link Status new (In (Packet (record { items = packet })) ∷ calls)
+handed steps mid b new t packet calls i h g e =
+    let T : TransferState → Type 0 = λ x. Link x b calls in
+    let after = In (Packet (record { items = packet })) ∷ calls in
+    let P : Bus → Type 0 = λ x. Link Status x after in
+    let due = answered Due Status b (In (Packet (record { items = packet }))) calls refl (subst T i h) (λ s. (quiet_confirms b.input after s.0, s.1)) in
+    subst P (sym e) (commanded Status Status mid (Sends packet false) mid.output after (goes steps Status b mid after g due) (λ s. (sends_now packet calls, s.1)))
+
+pub due_nak : (b : Bus) (t : TransferState) (calls : List EpCall) → t ≡ Due → Link t b calls → Link t b (In Nak ∷ calls)
+due_nak b t calls i h =
+    let T : TransferState → Type 0 = λ x. Link x b calls in
+    let U : TransferState → Type 0 = λ x. Link x b (In Nak ∷ calls) in
+    subst U (sym i) (answered Due Due b (In Nak) calls refl (subst T i h) (λ s. s))
+
+pub due_else : (b : Bus) (t : TransferState) (answer : EpAnswer) (calls : List EpCall) → t ≡ Due → Link t b calls → Link Refused b (In answer ∷ calls)
+due_else b t answer calls i h =
+    let T : TransferState → Type 0 = λ x. Link x b calls in
+    answered Due Refused b (In answer) calls refl (subst T i h) (λ s. inl s.0)
+
+-- reads owe nothing
+pub read_answer : (left : ℕ) (u : TransferState) (b : Bus) (answer : EpAnswer) (calls : List EpCall) → Link (ReadDue left) b calls → Link u b (In answer ∷ calls)
+read_answer left u b answer calls h = answered (ReadDue left) u b (In answer) calls refl h (λ s. absurd s)
+
+pub read_hands : (steps : List Bus) (mid b middle : Bus) (more : List Bus) (end new : Bus) (left : ℕ) (packet : List ℕ) (calls : List EpCall)
+    → Goes steps b mid → middle ≡ with_output mid Takes → Goes more middle end → new ≡ with_input end (Sends packet false) → Link (Reads left) b calls → Link (Reads left) new calls
+read_hands steps mid b middle more end new left packet calls g e i f h =
+    let P : Bus → Type 0 = λ x. Link (Reads left) x calls in
+    let first = commanded (Reads left) (Reads left) mid mid.input Takes calls (goes steps (Reads left) b mid calls g h) (λ s. s) in
+    let then = subst P (sym e) first in
+    subst P (sym f) (commanded (Reads left) (Reads left) end (Sends packet false) end.output calls (goes more (Reads left) middle end calls i then) (λ s. s))
+
+-- what was met is looked at
+pub not_pending : (met : Met) → met.reset ≡ false → met.setup ≡ None → is_pending met ≡ false
+not_pending met e f = cc
+
+pub looked_on : (t u : TransferState) (b : Bus) (calls : List EpCall) → Link t b calls → b.met.reset ≡ false → b.met.setup ≡ None
+    → (StageLink t b calls → StageLink u (looked b) calls) → Link u (looked b) calls
+looked_on t u b calls h e f k = record {
+  kept = h.kept;
+  fresh = λ q. absurd (let r : false ≡ true = q in cc);
+  current = λ q. let c = h.current (not_pending b.met e f) in record { setup = c.setup; stage = λ s es ew. k (c.stage s es ew) };
+}
+
+looked_stage : (t : TransferState) (b : Bus) (calls : List EpCall) → (t ≡ Writes → b.met.out ≡ None) → StageLink t b calls → StageLink t (looked b) calls
+looked_stage Idle b calls n s = s
+looked_stage Over b calls n s = s
+looked_stage Refused b calls n s = s
+looked_stage (Reads left) b calls n s = s
+looked_stage (ReadDue left) b calls n s = s
+looked_stage Sent b calls n s = s
+looked_stage Closing b calls n s = s
+looked_stage Closed b calls n s = s
+looked_stage Asking b calls n s = s
+looked_stage Opening b calls n s = (s.0, s.1, s.2, s.3, refl)
+looked_stage Writes b calls n s = (s.0, s.1 ∙ n refl, tt, s.3)
+looked_stage (Keeps kept) b calls n s = s
+looked_stage Due b calls n s = s
+looked_stage Status b calls n s = s
+looked_stage Done b calls n s = s
+
+pub looked_same : (t : TransferState) (b : Bus) (calls : List EpCall) → Link t b calls → b.met.reset ≡ false → b.met.setup ≡ None → (t ≡ Writes → b.met.out ≡ None)
+    → Link t (looked b) calls
+looked_same t b calls h e f n = looked_on t t b calls h e f (looked_stage t b calls n)
+
+pub looked_keeps : (t : TransferState) (b : Bus) (packet : List ℕ) (calls : List EpCall) → t ≡ Writes → Link t b calls → b.met.reset ≡ false → b.met.setup ≡ None → b.met.out ≡ Some packet
+    → Link (Keeps packet) (looked b) calls
+looked_keeps t b packet calls i h e f o =
+    let T : TransferState → Type 0 = λ x. Link x b calls in
+    let C : Option (List ℕ) → Type 0 = λ out. ClosedIf out b.output in
+    looked_on Writes (Keeps packet) b calls (subst T i h) e f (λ s. (s.0, subst C o s.2, s.1 ∙ o, s.3))
+
+-- to another stage while it is looked at what was met
+pub looked_free : (t u : TransferState) (b : Bus) (calls : List EpCall) → owes_nothing t → Link t b calls → b.met.reset ≡ false → b.met.setup ≡ None → Link u (looked b) calls
+looked_free t u b calls o h e f = looked_on t u b calls h e f (λ s. nothing_owed t u b (looked b) calls calls o s)
+
+pub is_behind : TransferState → Type 0
+is_behind Due = Unit {0}
+is_behind Status = Unit {0}
+is_behind Done = Unit {0}
+is_behind _ = ⊥
+
+behind_refused : (t : TransferState) (b : Bus) (calls : List EpCall) → is_behind t → StageLink t b calls → StageLink Refused (looked b) calls
+unfolding is_behind
+behind_refused Due b calls k s = inl s.0
+behind_refused Status b calls k s = inr (s.0, s.1)
+behind_refused Done b calls k s = inr (s.0, s.1)
+behind_refused Idle b calls k s = absurd k
+behind_refused Over b calls k s = absurd k
+behind_refused Refused b calls k s = absurd k
+behind_refused (Reads left) b calls k s = absurd k
+behind_refused (ReadDue left) b calls k s = absurd k
+behind_refused Sent b calls k s = absurd k
+behind_refused Closing b calls k s = absurd k
+behind_refused Closed b calls k s = absurd k
+behind_refused Asking b calls k s = absurd k
+behind_refused Opening b calls k s = absurd k
+behind_refused Writes b calls k s = absurd k
+behind_refused (Keeps kept) b calls k s = absurd k
+
+-- a packet that is not due: the transfer will be stalled
+pub looked_refused : (t : TransferState) (b : Bus) (calls : List EpCall) → Link t b calls → b.met.reset ≡ false → b.met.setup ≡ None → is_behind t → Link Refused (looked b) calls
+looked_refused t b calls h e f k = looked_on t Refused b calls h e f (λ s. behind_refused t b calls k s)
+
+-- the host has the empty packet
+pub looked_done : (t : TransferState) (b : Bus) (calls : List EpCall) → t ≡ Status → Link t b calls → b.met.reset ≡ false → b.met.setup ≡ None → Link Done (looked b) calls
+looked_done t b calls i h e f = let T : TransferState → Type 0 = λ x. Link x b calls in looked_on Status Done b calls (subst T i h) e f (λ s. s)
+
+-- the OUT packet of a read ends it
+pub closes : (u : TransferState) (b : Bus) (packet : List ℕ) (answer : EpAnswer) (calls : List EpCall) → Link Closing b calls → Link u b (Out packet answer ∷ calls)
+closes u b packet answer calls h = answered Closing u b (Out packet answer) calls refl h (λ s. absurd s)
+
+-- a SETUP packet was met
+pending_setup : (x : Bool) (o : Option (List ℕ)) (setup : List ℕ) → o ≡ Some setup → (x || is_some o) ≡ true
+pending_setup true o s e = refl
+pending_setup false o s e = cc
+
+pub begins : (t u : TransferState) (b : Bus) (before calls : List EpCall) (setup : List ℕ) → Link t b before → b.met.setup ≡ Some setup → AllKept b.seen calls
+    → (is_write setup ≡ true → u ≡ Opening) → Link u (looked b) (SetUp setup ∷ calls)
+begins t u b before calls setup h e k o =
+    let f = h.fresh (pending_setup b.met.reset b.met.setup setup e) in
+    let quiet : IsQuiet b.input = subst IsQuiet (sym f.input) tt in
+    let closed : IsClosed b.output = subst IsClosed (sym f.output) tt in
+    let W : List ℕ → Type 0 = λ x. is_write x ≡ true in
+    record {
+      kept = grown b.seen (SetUp setup) calls k;
+      fresh = λ q. absurd (let r : false ≡ true = q in cc);
+      current = λ q. record {
+        setup = f.setup ∙ e;
+        stage = λ s es ew.
+            let same : s ≡ setup = (let x : Some s ≡ Some setup = sym es ∙ (f.setup ∙ e) in cc) in
+            let S : TransferState → Type 0 = λ x. StageLink x (looked b) (SetUp setup ∷ calls) in
+            subst S (sym (o (subst W same ew))) (quiet, closed, f.write, refl, refl);
+      };
+    }
+
+was_reset : (t : TransferState) (b : Bus) (calls : List EpCall) → Link t b calls → AllKept b.seen (BusReset ∷ calls)
+was_reset t b calls h = grown b.seen BusReset calls h.kept
+
+-- the calls before a SETUP packet, with the reset that came before it
+abbrev pub behind_reset : Bool → List EpCall → List EpCall
+behind_reset true calls = BusReset ∷ calls
+behind_reset false calls = calls
+
+pub stood : (P : List EpCall → Type 0) (reset : Bool) (setup : List ℕ) (calls : List EpCall) → (reset ≡ true → P (SetUp setup ∷ BusReset ∷ calls))
+    → (reset ≡ false → P (SetUp setup ∷ calls)) → P (SetUp setup ∷ behind_reset reset calls)
+stood P true setup calls y n = y refl
+stood P false setup calls y n = n refl
+
+pub kept_behind : (reset : Bool) (t : TransferState) (b : Bus) (calls : List EpCall) → Link t b calls → AllKept b.seen (behind_reset reset calls)
+kept_behind true t b calls h = was_reset t b calls h
+kept_behind false t b calls h = h.kept
+
+pub same_behind : (reset : Bool) (calls : List EpCall) → reports_of (behind_reset reset calls) ≡ reports_of calls
+same_behind true calls = refl
+same_behind false calls = refl
+
+pub resets : (t : TransferState) (b : Bus) (calls : List EpCall) → Link t b calls → b.met.reset ≡ true → b.met.setup ≡ None → Link Idle (looked b) (BusReset ∷ calls)
+resets t b calls h e n =
+    let p : is_pending b.met ≡ true = cc in
+    let f = h.fresh p in
+    record {
+      kept = grown b.seen BusReset calls h.kept;
+      fresh = λ q. absurd (let r : false ≡ true = q in cc);
+      current = λ q. record {
+        setup = f.setup ∙ n;
+        stage = λ s es ew. subst IsQuiet (sym f.input) tt;
+      };
+    }
+
+-- a poll is nothing to endpoint 0
+polled_confirms : (mode : InMode) (answer : Option (List ℕ)) (calls : List EpCall) → ConfirmsIf mode calls → ConfirmsIf mode (Polled answer ∷ calls)
+polled_confirms Naks answer calls c = tt
+polled_confirms Stalls answer calls c = tt
+polled_confirms (Sends [] has) answer calls c = λ s d es ed. inr (c s d es ed)
+polled_confirms (Sends (x ∷ xs) has) answer calls c = tt
+
+polled_stage : (t : TransferState) (b : Bus) (answer : Option (List ℕ)) (calls : List EpCall) → StageLink t b calls → StageLink t b (Polled answer ∷ calls)
+polled_stage Refused b answer calls (inl s) = inl s
+polled_stage Refused b answer calls (inr s) = inr (polled_confirms b.input answer calls s.0, s.1)
+polled_stage Status b answer calls s = (polled_confirms b.input answer calls s.0, s.1)
+polled_stage Done b answer calls s = (polled_confirms b.input answer calls s.0, s.1)
+polled_stage Idle b answer calls s = s
+polled_stage Over b answer calls s = s
+polled_stage (Reads left) b answer calls s = s
+polled_stage (ReadDue left) b answer calls s = s
+polled_stage Sent b answer calls s = s
+polled_stage Closing b answer calls s = s
+polled_stage Closed b answer calls s = s
+polled_stage Opening b answer calls s = s
+polled_stage Writes b answer calls s = s
+polled_stage (Keeps kept) b answer calls s = s
+polled_stage Asking b answer calls s = s
+polled_stage Due b answer calls s = s
+
+pub polled_link : (t : TransferState) (b : Bus) (answer : Option (List ℕ)) (calls : List EpCall) → Link t b calls → Link t b (Polled answer ∷ calls)
+polled_link t b answer calls h = answered t t b (Polled answer) calls refl h (polled_stage t b answer calls)

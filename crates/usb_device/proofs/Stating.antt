@@ -1,0 +1,105 @@
+-- What endpoint 1 is, is what the look back says.
+use Rattle.std.proofs.Common.{◌≡◌, ℕ, ◌==◌, Bool, true, false, List, [], ◌∷◌, Option, Some, None, refl, sym, ap, subst, if◌then◌else◌}
+use Rattle.usb_device.specs.declared.answer.EpAnswer.{EpAnswer}
+use Rattle.usb_device.specs.declared.answer.EpAnswer.TheVariants.{Ack, Nak, Packet, Stall}
+use Rattle.usb_device.specs.declared.answer.Endpoint1.{Endpoint1}
+use Rattle.usb_device.specs.declared.answer.Change.{Change}
+use Rattle.usb_device.specs.Requests.{Lent, Served, Reads, Sets, request_of, served}
+use Rattle.usb_device.specs.Events.{Event, SetupCame, OutCame, InAsked, PollAsked, ResetCame}
+use Rattle.usb_device.specs.Steps.{Stage, Theirs, Sending, Status, Over, state_of, AllAnswered, InAnswer, after_in, after_out, first_stage, change_of, endpoint_then}
+use Rattle.usb_device.specs.States.{setup_in, is_empty_packet, change_in, completed, endpoint_by}
+
+pub By : Lent → Stage → Option (List ℕ) → Endpoint1 → Type 0
+By lent Theirs setup e = (bytes : List ℕ) → setup ≡ Some bytes → change_in (served lent e (request_of bytes)) ≡ None
+By lent (Sending data_ asked sent) setup e = (bytes : List ℕ) → setup ≡ Some bytes → change_in (served lent e (request_of bytes)) ≡ None
+By lent (Status change) setup e = (bytes : List ℕ) × (setup ≡ Some bytes) × (change_in (served lent e (request_of bytes)) ≡ change)
+By lent Over setup e = Unit {0}
+
+same_setup : (lent : Lent) → (e : Endpoint1) (bytes other : List ℕ) (x : Option Change) → change_in (served lent e (request_of bytes)) ≡ x → Some bytes ≡ Some other
+    → change_in (served lent e (request_of other)) ≡ x
+same_setup lent e bytes other x h q =
+    let s : bytes ≡ other = cc in
+    let P : List ℕ → Type 0 = λ y. change_in (served lent e (request_of y)) ≡ x in
+    subst P s h
+
+reads_by : (lent : Lent) → (zero_length : Bool) (e : Endpoint1) (setup data_ : List ℕ) (asked : ℕ) → change_in (served lent e (request_of setup)) ≡ None
+    → By lent (if zero_length then Status None else Sending data_ asked 0) (Some setup) e
+unfolding By
+reads_by lent true e setup data_ asked h = (setup, refl, h)
+reads_by lent false e setup data_ asked h = λ other q. same_setup lent e setup other None h q
+
+begun_by : (lent : Lent) → (e : Endpoint1) (setup : List ℕ) (what : Option Served) (asked : ℕ) → served lent e (request_of setup) ≡ what → By lent (first_stage what asked) (Some setup) e
+unfolding By
+begun_by lent e setup None asked h = λ other q. same_setup lent e setup other None (ap change_in h) q
+begun_by lent e setup (Some (Reads data_)) asked h = reads_by lent (asked == 0) e setup data_ asked (ap change_in h)
+begun_by lent e setup (Some (Sets change)) asked h = (setup, refl, ap change_in h)
+
+after_out_by : (lent : Lent) → (stage : Stage) (setup : Option (List ℕ)) (e : Endpoint1) → By lent stage setup e → By lent (after_out stage) setup e
+unfolding By
+after_out_by lent Theirs setup e b = b
+after_out_by lent (Sending data_ asked sent) setup e b = tt
+after_out_by lent (Status change) setup e b = tt
+after_out_by lent Over setup e b = tt
+
+after_in_by : (lent : Lent) → (stage : Stage) (answer : EpAnswer) (setup : Option (List ℕ)) (e : Endpoint1) → By lent stage setup e
+    → By lent (after_in stage answer) setup (endpoint_then e (change_of stage))
+unfolding By
+after_in_by lent Theirs answer setup e b = b
+after_in_by lent (Sending data_ asked sent) Ack setup e b = b
+after_in_by lent (Sending data_ asked sent) Nak setup e b = b
+after_in_by lent (Sending data_ asked sent) (Packet packet) setup e b = b
+after_in_by lent (Sending data_ asked sent) Stall setup e b = tt
+after_in_by lent (Status change) answer setup e b = tt
+after_in_by lent Over answer setup e b = tt
+
+nothing_completed : (lent : Lent) → (empty : Bool) (setup : Option (List ℕ)) (e : Endpoint1) → ((bytes : List ℕ) → setup ≡ Some bytes → change_in (served lent e (request_of bytes)) ≡ None)
+    → completed lent empty setup e ≡ None
+nothing_completed lent true (Some bytes) e b = b bytes refl
+nothing_completed lent true None e b = refl
+nothing_completed lent false setup e b = refl
+
+in_change : (lent : Lent) → (stage : Stage) (answer : EpAnswer) (setup : Option (List ℕ)) (e : Endpoint1) → By lent stage setup e → InAnswer stage answer
+    → completed lent (is_empty_packet answer) setup e ≡ change_of stage
+unfolding By
+in_change lent Theirs answer setup e b i = nothing_completed lent (is_empty_packet answer) setup e b
+in_change lent (Sending data_ asked sent) answer setup e b i = nothing_completed lent (is_empty_packet answer) setup e b
+in_change lent (Status change) answer setup e b i = rw (i, b.1) b.2
+in_change lent Over answer setup e b i = rw i refl
+
+pub record Standing (lent : Lent) (past : List Event) : Type 0 where
+  pub endpoint : (state_of lent past).endpoint ≡ endpoint_by lent past
+  pub by : By lent (state_of lent past).stage (setup_in past) (state_of lent past).endpoint
+
+start_by : (lent : Lent) → (e : Endpoint1) → By lent Theirs None e
+unfolding By
+start_by lent e = λ bytes q. cc
+
+same_lent : (lent : Lent) (past : List Event) → (state_of lent past).lent ≡ lent
+unfolding state_of
+same_lent lent [] = refl
+same_lent lent (SetupCame bytes ∷ past) = same_lent lent past
+same_lent lent (OutCame packet answer ∷ past) = same_lent lent past
+same_lent lent (InAsked answer ∷ past) = same_lent lent past
+same_lent lent (PollAsked answer ∷ past) = same_lent lent past
+same_lent lent (ResetCame ∷ past) = same_lent lent past
+
+pub standing : (lent : Lent) (past : List Event) → AllAnswered lent past → Standing lent past
+unfolding state_of endpoint_by
+standing lent [] all = record { endpoint = refl; by = start_by lent _ }
+standing lent (SetupCame bytes ∷ past) all =
+    let s = standing lent past all.1 in
+    let e = (state_of lent past).endpoint in
+    record { endpoint = s.endpoint; by = begun_by lent e bytes (served (state_of lent past).lent e (request_of bytes)) (request_of bytes).size (ap (λ x. served x e (request_of bytes)) (sym (same_lent lent past))) }
+standing lent (OutCame packet answer ∷ past) all =
+    let s = standing lent past all.1 in
+    record { endpoint = s.endpoint; by = after_out_by lent (state_of lent past).stage (setup_in past) (state_of lent past).endpoint s.by }
+standing lent (InAsked answer ∷ past) all =
+    let s = standing lent past all.1 in
+    let c = in_change lent (state_of lent past).stage answer (setup_in past) (state_of lent past).endpoint s.by all.0 in
+    let P : Endpoint1 → Type 0 = λ e. endpoint_then (state_of lent past).endpoint (change_of (state_of lent past).stage) ≡ endpoint_then e (completed lent (is_empty_packet answer) (setup_in past) e) in
+    record {
+      endpoint = subst P s.endpoint (ap (λ change. endpoint_then (state_of lent past).endpoint change) (sym c));
+      by = after_in_by lent (state_of lent past).stage answer (setup_in past) (state_of lent past).endpoint s.by;
+    }
+standing lent (PollAsked answer ∷ past) all = let s = standing lent past all.1 in record { endpoint = s.endpoint; by = s.by }
+standing lent (ResetCame ∷ past) all = record { endpoint = refl; by = start_by lent _ }

@@ -1,0 +1,28 @@
+use Rattle.std.proofs.Common.{◌∷◌, refl}
+use Rattle.usb_device.specs.Calls.{In}
+use Rattle.usb_device.specs.Transfers.{Due}
+use Rattle.usb_device.proofs.Moving.{handed, due_nak, due_else}
+use Rattle.usb_device.proofs.Resting.{hands}
+use Rattle.usb_device.proofs.control_buffers.ControlBuffers.confirm.Goals as goal
+
+pub returns-in-Packet : goal.returns-in-Packet
+returns-in-Packet g c = λ calls s h o.
+    let p = c.in-Packet.packet.items in
+    let i = c.hand_over.ensures in (
+      In c.in_packet.result ∷ calls,
+      c.in_packet.ensures calls s,
+      rw c.in-Packet.is (handed i.0 i.1 _ _ Due p calls refl h i.2 i.3),
+      λ q. (let held = hands i.0 (g.C.Controller.bus c.args.controller.now) i.1 (g.C.Controller.bus c.hand_over.new.controller) p i.2 i.3 o q in
+          ((p, rw c.in-Packet.is refl, held.0), held.1)),
+      refl,
+    )
+
+pub returns-in-Nak : goal.returns-in-Nak
+returns-in-Nak g c = λ calls s h o.
+    (In c.in_packet.result ∷ calls, c.in_packet.ensures calls s, rw c.in-Nak.is (due_nak _ Due calls refl h), λ q. (rw c.in-Nak.is refl, o q), refl)
+
+pub returns-in-Ack : goal.returns-in-Ack
+returns-in-Ack g c = λ calls s h o.
+    let after = In c.in_packet.result ∷ calls in
+    let r = c.refuse.ensures in
+    (after, c.in_packet.ensures calls s, rw r.over (r.linked after (due_else _ Due c.in_packet.result calls refl h)), rw r.over (r.told after tt), refl)

@@ -1,0 +1,60 @@
+use Rattle.std.proofs.Common.{◌∷◌, refl, sym, ap, subst, ◌∙◌, ◌≡◌}
+use Rattle.usb_device.specs.Calls.{Out}
+use Rattle.usb_device.specs.Transfers.{TransferState, Refused, Closing, Opening, Keeps, Asking, Rests}
+use Rattle.usb_device.specs.ties.Link.{Ready, Link, transfer_view}
+use Rattle.usb_device.proofs.Moving.{opened, asking_due, closed_again, offered_ack, offered_nak, offered_else}
+use Rattle.usb_device.proofs.Resting.{opens}
+use Rattle.usb_device.proofs.control_buffers.ControlBuffers.go_on.Goals as goal
+
+pub returns-in-Opening : goal.returns-in-Opening
+returns-in-Opening g c = λ calls s h r.
+    let o = c.open.ensures in
+    let t : c.args.self.now ≡ Opening = sym c.self.view_is ∙ ap transfer_view c.in-Opening.is in
+    (calls, s, opened o.0 o.1 _ _ c.args.self.now calls o.2 o.3 t h, opens o.1 (g.C.Controller.bus c.open.new.controller) o.3, refl)
+
+pub returns-in-Ack : goal.returns-in-Ack
+returns-in-Ack g c = λ calls s h r.
+    let p = c.as_slice.result.now in
+    let t : c.args.self.now ≡ Keeps p = sym c.self.view_is ∙ ap transfer_view c.in-Kept.is ∙ ap Keeps (sym c.as_slice.ensures.value) in
+    c.ask.ensures (Out p c.out.result ∷ calls) (c.out.ensures calls s) (rw c.in-Ack.is (offered_ack _ c.args.self.now p calls t h))
+
+pub returns-in-Nak : goal.returns-in-Nak
+returns-in-Nak g c = λ calls s h r.
+    let p = c.as_slice.result.now in
+    let t : c.args.self.now ≡ Keeps p = sym c.self.view_is ∙ ap transfer_view c.in-Kept.is ∙ ap Keeps (sym c.as_slice.ensures.value) in
+    let later = Out p c.out.result ∷ calls in
+    let R : TransferState → Type 0 = λ x. Rests x (g.C.Controller.bus c.args.controller.now) later in
+    (later, c.out.ensures calls s, rw c.in-Nak.is (offered_nak _ c.args.self.now p calls t h), λ q. subst R (sym t) (rw c.in-Nak.is refl), refl)
+
+pub returns-in-Packet : goal.returns-in-Packet
+returns-in-Packet g c = λ calls s h r.
+    let p = c.as_slice.result.now in
+    let t : c.args.self.now ≡ Keeps p = sym c.self.view_is ∙ ap transfer_view c.in-Kept.is ∙ ap Keeps (sym c.as_slice.ensures.value) in
+    let after = Out p c.out.result ∷ calls in
+    let e = c.refuse.ensures in
+    (after, c.out.ensures calls s, rw e.over (e.linked after (offered_else _ c.args.self.now p c.out.result calls t h)), rw e.over (e.told after tt), refl)
+
+pub returns-in-Asking : goal.returns-in-Asking
+returns-in-Asking g c = λ calls s h r.
+    let t : c.args.self.now ≡ Asking = sym c.self.view_is ∙ ap transfer_view c.in-Asking.is in
+    c.ask-in-Asking.ensures calls s (asking_due c.args.self.now _ calls t h)
+
+pub returns-in-Closing : goal.returns-in-Closing
+returns-in-Closing g c = λ calls s h r.
+    let o = c.open-in-Closing.ensures in
+    let t : c.args.self.now ≡ Closing = sym c.self.view_is ∙ ap transfer_view c.in-Closing.is in
+    let R : TransferState → Type 0 = λ x. Ready x (g.C.Controller.bus c.args.controller.now) calls in (
+      calls,
+      s,
+      closed_again c.args.self.now o.0 o.1 _ _ calls o.2 o.3 t h,
+      λ q. (opens o.1 (g.C.Controller.bus c.open-in-Closing.new.controller) o.3 q, subst R t r),
+      refl,
+    )
+
+pub returns-in-Refused : goal.returns-in-Refused
+returns-in-Refused g c = λ calls s h r.
+    let t : c.args.self.now ≡ Refused = sym c.self.view_is ∙ ap transfer_view c.in-Refused.is in
+    let T : TransferState → Type 0 = λ x. Link x (g.C.Controller.bus c.args.controller.now) calls in
+    let R : TransferState → Type 0 = λ x. Ready x (g.C.Controller.bus c.args.controller.now) calls in
+    let e = c.refuse-in-Refused.ensures in
+    (calls, s, rw e.over (e.linked calls (subst T t h)), rw e.over (e.told calls (subst R t r)), refl)

@@ -1,0 +1,32 @@
+use Rattle.std.proofs.Common.{◌∷◌, refl}
+use Rattle.usb_device.specs.Calls.{In}
+use Rattle.usb_device.specs.Transfers.{Refused, Reads, ReadDue}
+use Rattle.usb_device.proofs.Moving.{read_answer, read_hands}
+use Rattle.usb_device.proofs.Resting.{hands, opens}
+use Rattle.usb_device.proofs.control_buffers.ControlBuffers.read.Goals as goal
+
+pub returns-after-len-eq8 : goal.returns-after-len-eq8
+returns-after-len-eq8 g c = λ calls s h.
+    let o = c.open.ensures in
+    let i = c.hand_over.ensures in
+    let left = c.if-len-eq8.left in
+    let after = In c.in_packet.result ∷ calls in
+    let p = c.in-Packet.packet.items in
+    let opened = opens o.1 (g.C.Controller.bus c.open.new.controller) o.3 in (
+      after,
+      c.in_packet.ensures calls s,
+      read_hands o.0 o.1 _ _ i.0 i.1 _ left p after o.2 o.3 i.2 i.3 (read_answer c.args.left (Reads left) _ c.in_packet.result calls h),
+      λ q. (let held = hands i.0 (g.C.Controller.bus c.open.new.controller) i.1 (g.C.Controller.bus c.hand_over.new.controller) p i.2 i.3 opened q in
+          ((p, rw c.in-Packet.is refl, held.0), held.1)),
+      refl,
+    )
+
+pub returns-in-Nak : goal.returns-in-Nak
+returns-in-Nak g c = λ calls s h.
+    (In c.in_packet.result ∷ calls, c.in_packet.ensures calls s, read_answer c.args.left (ReadDue c.args.left) _ c.in_packet.result calls h, λ q. rw c.in-Nak.is refl, refl)
+
+pub returns-in-Ack : goal.returns-in-Ack
+returns-in-Ack g c = λ calls s h.
+    let after = In c.in_packet.result ∷ calls in
+    let r = c.refuse.ensures in
+    (after, c.in_packet.ensures calls s, rw r.over (r.linked after (read_answer c.args.left Refused _ c.in_packet.result calls h)), rw r.over (r.told after tt), refl)

@@ -1,0 +1,10 @@
+use Rattle.usb_device.specs.Events.{SetupCame}
+use Rattle.usb_device.specs.Steps.{session}
+use Rattle.usb_device.proofs.Next.{next, called}
+use Rattle.usb_device.proofs.device_layer.DeviceLayer.setup.Goals as goal
+
+pub returns-clause-stands : goal.returns-clause-stands
+returns-clause-stands g c = λ lent past h. next lent past c.args.self.now _ (SetupCame c.args.packet) h (tt) (c.begin.ensures)
+
+pub returns-clause-session : goal.returns-clause-session
+returns-clause-session g c = λ lent past h s. called g.E.Endpoints.stands _ lent past c.args.self.now (SetupCame c.args.packet) h (c.setup.ensures (session lent past) s)

@@ -1,0 +1,16 @@
+-- Believed: what the USB device layer met on the bus, and what it answered.
+use Rattle.std.specs.Prelude.{ℕ, List}
+use Rattle.usb_device.specs.declared.answer.EpAnswer.{EpAnswer}
+use Rattle.usb_device.specs.declared.answer.PollAnswer.{PollAnswer}
+
+pub data Event : Type 0 where
+  -- a SETUP packet of endpoint 0
+  SetupCame : (bytes : List ℕ) → Event
+  -- an OUT packet of endpoint 0, and its answer
+  OutCame : (packet : List ℕ) → (answer : EpAnswer) → Event
+  -- the answer to an IN token of endpoint 0
+  InAsked : (answer : EpAnswer) → Event
+  -- the answer to an IN token of endpoint 1
+  PollAsked : (answer : PollAnswer) → Event
+  -- a bus reset
+  ResetCame : Event

@@ -1,0 +1,16 @@
+pub mod Packets
+pub mod Calls
+pub mod KeyboardCalls
+pub mod Strings
+pub mod Waits
+pub mod Requests
+pub mod Events
+pub mod Steps
+pub mod States
+pub mod Bus
+pub mod Confirmed
+pub mod Transfers
+pub mod Bus1
+pub mod KeyboardSessions
+pub mod Through
+pub mod ties

@@ -1,0 +1,7 @@
+-- Only ties code to its definitions: the files of this folder.
+pub mod Value
+pub mod Stands
+pub mod Link
+pub mod Keys
+pub mod Link1
+pub mod Waited

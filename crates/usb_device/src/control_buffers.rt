@@ -1,0 +1,315 @@
+//! Endpoint 0 behind a controller that is handed packets beforehand.
+
+ghost use Rattle.std.specs.Prelude.{◌≡◌, ◌∷◌, [], Bool, true, false, ℕ, List, None, Some};
+ghost use Rattle.std.specs.Option.{option_map};
+ghost use Rattle.usb_device.specs.Requests.{word_at};
+ghost use Rattle.usb_device.specs.Calls.{EpCall, SetUp, BusReset};
+ghost use Rattle.usb_device.specs.Bus.{is_pending, Bus, Goes, Sends, Takes, with_input, with_output, is_write, looked, mode_of, out_mode_of};
+ghost use Rattle.usb_device.specs.Bus1.{reports_of};
+ghost use Rattle.usb_device.specs.Transfers.{TransferState, Idle, Refused, Over, ReadDue, Closing, Opening, Due, IsOpen, WasAsked, last_0, Rests, NothingWithheld0};
+ghost use Rattle.usb_device.specs.ties.Link.{Link, Ready, IsBegun, ended, on_taken, met_view, transfer_view};
+
+use crate::controller::{Controller, Input, Output, Waiting};
+use crate::{Endpoints, EpAnswer};
+use arrayvec::ArrayVec;
+use std::marker::Model;
+
+/// Where the transfer stands (section 8.5.3).
+#[derive(Drop)]
+pub(crate) enum Transfer {
+    /// None has come.
+    Idle,
+    /// It is stalled, and the controller is to be told.
+    Refused,
+    /// It is stalled, and the controller knows.
+    Over,
+    /// A read whose packet was handed over. So many bytes may be asked for behind it.
+    Reads(u16),
+    /// A read whose next packet is due. So many bytes may be asked for.
+    ReadDue(u16),
+    /// A read whose packets were all taken.
+    Sent,
+    /// A read that the host has ended, and OUT is to be opened again.
+    Closing,
+    /// A read that the host has ended.
+    Closed,
+    /// A write for whose packet the controller is to be opened.
+    Opening,
+    /// A write whose packet is awaited.
+    Writes,
+    /// A write whose packet was acknowledged on the bus, and that the device did not take yet.
+    Kept(ArrayVec<u8, 8>),
+    /// A request without data, and OUT is to be opened.
+    Asking,
+    /// The empty packet of the status stage is due.
+    Due,
+    /// It was handed over.
+    Status,
+    /// The host has it.
+    Done,
+}
+
+/// Endpoint 0 of a device behind a controller that is handed packets beforehand.
+///
+/// The controller answers tokens from its buffers, and says later what it has met. `serve` takes that, and fills the buffers
+/// with what the device answers. The empty packet of a status stage is handed over only when the device gave it.
+#[derive(Drop)]
+pub struct ControlBuffers {
+    transfer: Transfer,
+}
+
+impl Model for ControlBuffers {
+    ghost use Rattle.usb_device.specs.Transfers.{TransferState};
+    ghost use Rattle.usb_device.specs.ties.Link.{transfer_view};
+
+    ghost Value = { TransferState };
+
+    ghost view = { λ a. transfer_view a.transfer };
+}
+
+/// The transfer that a SETUP packet begins.
+fn first_transfer(setup: [u8; 8]) -> Transfer
+    ensures write { is_write setup ≡ true → transfer_view result ≡ Opening }
+    ensures begun { IsBegun (transfer_view result) }
+{
+    let length = u16::from_le_bytes([setup[6], setup[7]]);
+    if setup[0] < 0x80 && length != 0 {
+        Transfer::Opening
+    } else if length == 0 {
+        Transfer::Asking
+    } else {
+        Transfer::ReadDue(length)
+    }
+}
+
+/// Hands on a SETUP packet, behind the reset that came before it.
+fn hand_on<E: Endpoints>(reset: bool, setup: [u8; 8], device: &mut E)
+    ensures behind_a_reset { (calls : List EpCall) → reset ≡ true → E.stands calls device.old → E.stands (SetUp setup ∷ BusReset ∷ calls) device.new }
+    ensures alone { (calls : List EpCall) → reset ≡ false → E.stands calls device.old → E.stands (SetUp setup ∷ calls) device.new }
+{
+    if reset {
+        device.bus_reset();
+    }
+    device.setup(setup);
+}
+
+/// Where a read stands behind the device's answer to the OUT packet that ends it.
+fn ended(answer: EpAnswer) -> Transfer
+    ensures { transfer_view result ≡ ended answer }
+{
+    match answer {
+        EpAnswer::Ack => Transfer::Closing,
+        EpAnswer::Nak | EpAnswer::Packet(_) | EpAnswer::Stall => Transfer::Refused,
+    }
+}
+
+/// Opens OUT for a packet.
+fn open<C: Controller>(controller: &mut C)
+    ensures { (steps : List Bus) × (mid : Bus) × Goes steps (C.bus controller.old) mid × (C.bus controller.new ≡ with_output mid Takes) }
+{
+    controller.output_0(Output::Take);
+}
+
+/// Puts the packet into the buffer of IN.
+fn hand_over<C: Controller>(packet: ArrayVec<u8, 8>, controller: &mut C)
+    ensures { (steps : List Bus) × (mid : Bus) × Goes steps (C.bus controller.old) mid
+        × (C.bus controller.new ≡ with_input mid (Sends packet.items false)) }
+{
+    controller.input_0(Input::Packet(packet));
+}
+
+impl ControlBuffers {
+    /// An endpoint 0 on which no transfer is under way.
+    pub fn new() -> ControlBuffers
+        ensures { result ≡ Idle }
+    {
+        ControlBuffers {
+            transfer: Transfer::Idle,
+        }
+    }
+
+    /// Takes what the controller has met, and fills its buffers. It may be called at any time.
+    ///
+    /// Whatever happens on the bus, and whatever acknowledgements are lost, a control write whose status packet the host
+    /// got was acknowledged and then confirmed by the device: `laws::seen_is_confirmed` of the link that the call keeps. And
+    /// nothing is withheld: behind the call the buffers hold what is due. OUT stays open behind a packet that was taken, so
+    /// that the controller acknowledges a repetition (section 8.6.4); a second packet is not due, and stalls the transfer.
+    pub fn serve<E: Endpoints, C: Controller>(&mut self, device: &mut E, controller: &mut C)
+        ensures { (calls : List EpCall) → E.stands calls device.old → Link self.old (C.bus controller.old) calls
+            → NothingWithheld0 self.old (C.bus controller.old) calls
+            → (later : List EpCall) × E.stands later device.new × Link self.new (C.bus controller.new) later
+            × NothingWithheld0 self.new (C.bus controller.new) later × (reports_of later ≡ reports_of calls) }
+    {
+        let met = controller.waiting();
+        self.take(met, device);
+        self.go_on(device, controller);
+    }
+
+    /// Takes what was met.
+    fn take<E: Endpoints>(&mut self, met: Waiting, device: &mut E)
+        ensures { (b : Bus) (calls : List EpCall) → E.stands calls device.old → Link self.old b calls → met_view met ≡ b.met
+            → NothingWithheld0 self.old b calls
+            → (later : List EpCall) × E.stands later device.new × Link self.new (looked b) later × Ready self.new (looked b) later
+            × (reports_of later ≡ reports_of calls) }
+    {
+        match met.setup {
+            Some(setup) => {
+                hand_on(met.reset, setup, device);
+                self.transfer = first_transfer(setup);
+            }
+            None => {
+                if met.reset {
+                    device.bus_reset();
+                    self.transfer = Transfer::Idle;
+                } else {
+                    self.follow(met.taken, met.out, device);
+                }
+            }
+        }
+    }
+
+    /// Takes what was met in the transfer under way.
+    fn follow<E: Endpoints>(&mut self, taken: bool, out: Option<ArrayVec<u8, 8>>, device: &mut E)
+        ensures { (b : Bus) (calls : List EpCall) → E.stands calls device.old → Link self.old b calls
+            → b.met.reset ≡ false → b.met.setup ≡ None → b.met.out ≡ option_map (λ p. p.items) out → b.met.taken ≡ taken
+            → Rests self.old b calls
+            → (later : List EpCall) × E.stands later device.new × Link self.new (looked b) later × Ready self.new (looked b) later
+            × (reports_of later ≡ reports_of calls) }
+    {
+        match out {
+            Some(packet) => match &self.transfer {
+                Transfer::Writes => self.transfer = Transfer::Kept(packet),
+                Transfer::Reads(_left) => self.close(packet, device),
+                Transfer::ReadDue(_left) => self.close(packet, device),
+                Transfer::Sent => self.close(packet, device),
+                Transfer::Closed | Transfer::Due | Transfer::Status | Transfer::Done => {
+                    self.transfer = Transfer::Refused;
+                }
+                Transfer::Idle | Transfer::Refused | Transfer::Over | Transfer::Closing => {}
+                Transfer::Opening | Transfer::Kept(_) | Transfer::Asking => {}
+            },
+            None => {
+                if taken {
+                    self.move_on();
+                }
+            }
+        }
+    }
+
+    /// The OUT packet of a read, which ends it.
+    fn close<E: Endpoints>(&mut self, packet: ArrayVec<u8, 8>, device: &mut E)
+        ensures { (b : Bus) (calls : List EpCall) → E.stands calls device.old → Link Closing b calls
+            → (later : List EpCall) × E.stands later device.new × Link self.new b later × Ready self.new b later
+            × (reports_of later ≡ reports_of calls) }
+    {
+        let answer = device.out(packet.as_slice());
+        self.transfer = ended(answer);
+    }
+
+    /// The host has the packet of endpoint 0.
+    fn move_on(&mut self)
+        ensures linked { (b : Bus) (calls : List EpCall) → Link self.old b calls → b.met.reset ≡ false → b.met.setup ≡ None → b.met.out ≡ None
+            → Link self.new (looked b) calls }
+        ensures moved { self.new ≡ on_taken self.old }
+    {
+        match self.transfer {
+            Transfer::Reads(0) => self.transfer = Transfer::Sent,
+            Transfer::Reads(left) => self.transfer = Transfer::ReadDue(left),
+            Transfer::Status => self.transfer = Transfer::Done,
+            _ => {}
+        }
+    }
+
+    /// Does what is due.
+    fn go_on<E: Endpoints, C: Controller>(&mut self, device: &mut E, controller: &mut C)
+        ensures { (calls : List EpCall) → E.stands calls device.old → Link self.old (C.bus controller.old) calls
+            → Ready self.old (C.bus controller.old) calls
+            → (later : List EpCall) × E.stands later device.new × Link self.new (C.bus controller.new) later
+            × NothingWithheld0 self.new (C.bus controller.new) later × (reports_of later ≡ reports_of calls) }
+    {
+        match &self.transfer {
+            Transfer::Opening => {
+                open(controller);
+                self.transfer = Transfer::Writes;
+            }
+            Transfer::Kept(packet) => match device.out(packet.as_slice()) {
+                EpAnswer::Ack => self.ask(device, controller),
+                EpAnswer::Nak => {}
+                EpAnswer::Packet(_) | EpAnswer::Stall => self.refuse(controller),
+            },
+            Transfer::Asking => self.ask(device, controller),
+            Transfer::Due => self.confirm(device, controller),
+            Transfer::ReadDue(left) => {
+                let left = *left;
+                self.read(left, device, controller);
+            }
+            Transfer::Closing => {
+                open(controller);
+                self.transfer = Transfer::Closed;
+            }
+            Transfer::Refused => self.refuse(controller),
+            Transfer::Idle | Transfer::Over | Transfer::Reads(_) | Transfer::Sent => {}
+            Transfer::Closed | Transfer::Writes | Transfer::Status | Transfer::Done => {}
+        }
+    }
+
+    /// Opens OUT, behind the packet of a write or where none is due, and asks for the packet of the status stage.
+    fn ask<E: Endpoints, C: Controller>(&mut self, device: &mut E, controller: &mut C)
+        ensures { (calls : List EpCall) → E.stands calls device.old → Link Due (C.bus controller.old) calls
+            → (later : List EpCall) × E.stands later device.new × Link self.new (C.bus controller.new) later
+            × NothingWithheld0 self.new (C.bus controller.new) later × (reports_of later ≡ reports_of calls) }
+    {
+        open(controller);
+        self.confirm(device, controller);
+    }
+
+    /// Hands over the empty packet of the status stage once the device gives it.
+    fn confirm<E: Endpoints, C: Controller>(&mut self, device: &mut E, controller: &mut C)
+        ensures { (calls : List EpCall) → E.stands calls device.old → Link Due (C.bus controller.old) calls
+            → (is_pending (C.bus controller.old).met ≡ false → IsOpen (C.bus controller.old))
+            → (later : List EpCall) × E.stands later device.new × Link self.new (C.bus controller.new) later
+            × NothingWithheld0 self.new (C.bus controller.new) later × (reports_of later ≡ reports_of calls) }
+    {
+        match device.in_packet() {
+            EpAnswer::Packet(packet) => {
+                hand_over(packet, controller);
+                self.transfer = Transfer::Status;
+            }
+            EpAnswer::Nak => self.transfer = Transfer::Due,
+            EpAnswer::Ack | EpAnswer::Stall => self.refuse(controller),
+        }
+    }
+
+    /// The transfer is over: each further packet is stalled.
+    fn refuse<C: Controller>(&mut self, controller: &mut C)
+        ensures over { self.new ≡ Over }
+        ensures told { (calls : List EpCall) → WasAsked (last_0 calls) → NothingWithheld0 Over (C.bus controller.new) calls }
+        ensures linked { (calls : List EpCall) → Link Refused (C.bus controller.old) calls → Link Over (C.bus controller.new) calls }
+    {
+        self.transfer = Transfer::Over;
+        controller.input_0(Input::Stall);
+        controller.output_0(Output::Stall);
+    }
+
+    /// Hands over the next packet of a read.
+    fn read<E: Endpoints, C: Controller>(&mut self, left: u16, device: &mut E, controller: &mut C)
+        ensures { (calls : List EpCall) → E.stands calls device.old → Link (ReadDue left) (C.bus controller.old) calls
+            → (later : List EpCall) × E.stands later device.new × Link self.new (C.bus controller.new) later
+            × NothingWithheld0 self.new (C.bus controller.new) later × (reports_of later ≡ reports_of calls) }
+    {
+        match device.in_packet() {
+            EpAnswer::Packet(packet) => {
+                let left = if packet.len() == 8 {
+                    left.saturating_sub(8)
+                } else {
+                    0
+                };
+                open(controller);
+                hand_over(packet, controller);
+                self.transfer = Transfer::Reads(left);
+            }
+            EpAnswer::Nak => self.transfer = Transfer::ReadDue(left),
+            EpAnswer::Ack | EpAnswer::Stall => self.refuse(controller),
+        }
+    }
+}

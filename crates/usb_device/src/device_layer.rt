@@ -1,0 +1,235 @@
+//! The USB device layer: which answers are its own, and which calls go on to the device behind it.
+
+ghost use Rattle.std.specs.Prelude.{◌≡◌, ◌∷◌, [], ◌+◌, ℕ, List, None, IsSome, Some};
+ghost use Rattle.std.specs.Option.{option_map};
+ghost use Rattle.usb_device.specs.Packets.{packet_at};
+ghost use Rattle.usb_device.specs.Requests.{Lent};
+ghost use Rattle.usb_device.specs.Calls.{EpCall};
+ghost use Rattle.usb_device.specs.Events.{Event, SetupCame, OutCame, InAsked, PollAsked, ResetCame};
+ghost use Rattle.usb_device.specs.Steps.{LayerState, begun, InAnswer, OutAnswer, PollAnswers, change_of, endpoint_then, state_then, calls_then, session, state_of, first_stage};
+ghost use Rattle.usb_device.specs.ties.Value.{lent_view, data_bytes, stage_view, begun_view};
+ghost use Rattle.usb_device.specs.ties.Stands.{StandsFor};
+
+use crate::descriptors::{Data, Descriptors};
+use crate::request::{Request, Served};
+use crate::{Change, Endpoint1, Endpoints, EpAnswer, PollAnswer};
+use arrayvec::ArrayVec;
+use std::marker::Model;
+
+/// A read: its bytes, how many were asked for, and how many packets were sent.
+#[derive(Debug, Drop)]
+pub(crate) struct Sending<'a> {
+    bytes: Data<'a>,
+    asked: u16,
+    sent: u16,
+}
+
+impl<'a> Sending<'a> {
+    /// The next packet, and none where all were sent.
+    fn next_packet(&mut self) -> Option<ArrayVec<u8, 8>>
+        ensures packet { option_map (λ packet. packet.items) result ≡ packet_at (data_bytes self.old.bytes) self.old.asked self.old.sent }
+        ensures counted { IsSome result → self.new ≡ record { bytes = self.old.bytes; asked = self.old.asked; sent = self.old.sent + 1 } }
+        ensures ended { result ≡ None → self.new ≡ self.old }
+    {
+        let packet = self.bytes.packet_at(self.asked, self.sent);
+        if packet.is_some() {
+            self.sent += 1;
+        }
+        packet
+    }
+}
+
+/// Where the transfer stands.
+#[derive(Debug, Drop)]
+pub(crate) enum Stage<'a> {
+    Theirs,
+    Sending(Sending<'a>),
+    Status(Option<Change>),
+    Over,
+}
+
+/// The USB device layer. The device behind it is lent to it at each call.
+#[derive(Debug, Drop)]
+pub struct DeviceLayer<'a> {
+    lent: Descriptors<'a>,
+    endpoint: Endpoint1,
+    stage: Stage<'a>,
+}
+
+impl<'a> Model for DeviceLayer<'a> {
+    ghost use Rattle.usb_device.specs.Steps.{LayerState};
+    ghost use Rattle.usb_device.specs.ties.Value.{lent_view, stage_view};
+
+    ghost Value = { LayerState };
+
+    ghost view = { λ f. record { lent = lent_view f.lent; endpoint = f.endpoint; stage = stage_view f.stage } };
+}
+
+/// The stage that a request begins in.
+fn first_stage<'a>(served: Option<Served<'a>>, length: u16) -> Stage<'a>
+    ensures { stage_view result ≡ first_stage (begun_view served.entry) length }
+{
+    match served {
+        None => Stage::Theirs,
+        Some(Served::Reads(_)) if length == 0 => Stage::Status(None),
+        Some(Served::Reads(bytes)) => Stage::Sending(Sending {
+            bytes,
+            asked: length,
+            sent: 0,
+        }),
+        Some(Served::Sets(change)) => Stage::Status(Some(change)),
+    }
+}
+
+impl<'a> DeviceLayer<'a> {
+    /// The power comes: the device has no address, and is not configured (section 9.1.1.2).
+    #[tactic(auto, unfolding(crate::specs::Steps::state_of))]
+    pub fn new(descriptors: Descriptors<'a>) -> DeviceLayer<'a>
+        ensures { StandsFor (lent_view descriptors.entry) [] result }
+    {
+        DeviceLayer {
+            lent: descriptors,
+            endpoint: Endpoint1::Off,
+            stage: Stage::Theirs,
+        }
+    }
+
+    /// What endpoint 1 is.
+    pub fn endpoint_1(&self) -> Endpoint1
+        ensures { result ≡ self.now.endpoint }
+    {
+        self.endpoint
+    }
+
+    /// A SETUP packet of endpoint 0, which ends the transfer before it.
+    pub fn setup<E: Endpoints>(&mut self, packet: [u8; 8], behind: &mut E)
+        ensures stands { (lent : Lent) (past : List Event) → StandsFor lent past self.old → StandsFor lent (SetupCame packet ∷ past) self.new }
+        ensures session { (lent : Lent) (past : List Event) → StandsFor lent past self.old → E.stands (session lent past) behind.old
+            → E.stands (session lent (SetupCame packet ∷ past)) behind.new }
+    {
+        behind.setup(packet);
+        self.begin(packet);
+    }
+
+    /// Begins the transfer of a request.
+    fn begin(&mut self, packet: [u8; 8])
+        ensures { self.new ≡ state_then self.old (SetupCame packet) }
+    {
+        let request = Request::read(packet);
+        self.stage = first_stage(request.served(self.endpoint, self.lent), request.length);
+    }
+
+    /// An OUT packet of endpoint 0. An empty one ends a read.
+    pub fn out_packet<E: Endpoints>(&mut self, packet: &[u8], behind: &mut E) -> EpAnswer
+        ensures stands { (lent : Lent) (past : List Event) → StandsFor lent past self.old → StandsFor lent (OutCame packet.now result ∷ past) self.new }
+        ensures session { (lent : Lent) (past : List Event) → StandsFor lent past self.old → E.stands (session lent past) behind.old
+            → E.stands (session lent (OutCame packet.now result ∷ past)) behind.new }
+    {
+        self.answer_out(packet, behind)
+    }
+
+    fn answer_out<E: Endpoints>(&mut self, packet: &[u8], behind: &mut E) -> EpAnswer
+        ensures answer { OutAnswer self.old.stage packet.now result }
+        ensures left { self.new ≡ state_then self.old (OutCame packet.now result) }
+        ensures calls { (past : List EpCall) → E.stands past behind.old → E.stands (calls_then self.old (OutCame packet.now result) past) behind.new }
+    {
+        match &self.stage {
+            Stage::Theirs => behind.out(packet),
+            Stage::Sending(_) if packet.is_empty() => {
+                self.stage = Stage::Over;
+                EpAnswer::Ack
+            }
+            Stage::Sending(_) | Stage::Status(_) | Stage::Over => {
+                self.stage = Stage::Over;
+                EpAnswer::Stall
+            }
+        }
+    }
+
+    /// An IN token of endpoint 0: the answer, and what the controller has to do once it is on the bus.
+    pub fn in_packet<E: Endpoints>(&mut self, behind: &mut E) -> (EpAnswer, Option<Change>)
+        ensures stands { (lent : Lent) (past : List Event) → StandsFor lent past self.old → StandsFor lent (InAsked result.0 ∷ past) self.new }
+        ensures change { result.1 ≡ change_of self.old.stage }
+        ensures session { (lent : Lent) (past : List Event) → StandsFor lent past self.old → E.stands (session lent past) behind.old
+            → E.stands (session lent (InAsked result.0 ∷ past)) behind.new }
+    {
+        self.answer_in(behind)
+    }
+
+    fn answer_in<E: Endpoints>(&mut self, behind: &mut E) -> (EpAnswer, Option<Change>)
+        ensures answer { InAnswer self.old.stage result.0 }
+        ensures change { result.1 ≡ change_of self.old.stage }
+        ensures left { self.new ≡ state_then self.old (InAsked result.0) }
+        ensures calls { (past : List EpCall) → E.stands past behind.old → E.stands (calls_then self.old (InAsked result.0) past) behind.new }
+    {
+        match &mut self.stage {
+            Stage::Theirs => (behind.in_packet(), None),
+            Stage::Sending(sending) => match sending.next_packet() {
+                Some(packet) => (EpAnswer::Packet(packet), None),
+                None => {
+                    self.stage = Stage::Over;
+                    (EpAnswer::Stall, None)
+                }
+            },
+            Stage::Status(change) => {
+                let change = *change;
+                self.stage = Stage::Over;
+                self.follow(change);
+                (EpAnswer::Packet(ArrayVec::new()), change)
+            }
+            Stage::Over => (EpAnswer::Stall, None),
+        }
+    }
+
+    /// Takes the change of a status stage. The address is the controller's alone.
+    fn follow(&mut self, change: Option<Change>)
+        ensures { self.new ≡ record { lent = self.old.lent; endpoint = endpoint_then self.old.endpoint change; stage = self.old.stage } }
+    {
+        if let Some(Change::Endpoint(state)) = change {
+            self.endpoint = state;
+        }
+    }
+
+    /// An IN token of endpoint 1. The device behind is asked only where the endpoint is ready.
+    pub fn poll<E: Endpoints>(&mut self, behind: &mut E) -> PollAnswer
+        ensures stands { (lent : Lent) (past : List Event) → StandsFor lent past self.old → StandsFor lent (PollAsked result ∷ past) self.new }
+        ensures session { (lent : Lent) (past : List Event) → StandsFor lent past self.old → E.stands (session lent past) behind.old
+            → E.stands (session lent (PollAsked result ∷ past)) behind.new }
+    {
+        self.answer_poll(behind)
+    }
+
+    fn answer_poll<E: Endpoints>(&mut self, behind: &mut E) -> PollAnswer
+        ensures answer { PollAnswers self.old.endpoint result }
+        ensures left { self.new ≡ self.old }
+        ensures calls { (past : List EpCall) → E.stands past behind.old → E.stands (calls_then self.old (PollAsked result) past) behind.new }
+    {
+        match self.endpoint {
+            Endpoint1::Off => PollAnswer::Nothing,
+            Endpoint1::Halted => PollAnswer::Stall,
+            Endpoint1::Ready => match behind.poll() {
+                Some(report) => PollAnswer::Data(report),
+                None => PollAnswer::Nak,
+            },
+        }
+    }
+
+    /// A bus reset: the device has address 0, and is not configured (section 9.1.1.3).
+    pub fn bus_reset<E: Endpoints>(&mut self, behind: &mut E)
+        ensures stands { (lent : Lent) (past : List Event) → StandsFor lent past self.old → StandsFor lent (ResetCame ∷ past) self.new }
+        ensures session { (lent : Lent) (past : List Event) → StandsFor lent past self.old → E.stands (session lent past) behind.old
+            → E.stands (session lent (ResetCame ∷ past)) behind.new }
+    {
+        self.answer_reset(behind);
+    }
+
+    /// Ends the transfer and the configuration.
+    fn answer_reset<E: Endpoints>(&mut self, behind: &mut E)
+        ensures left { self.new ≡ state_then self.old ResetCame }
+        ensures calls { (past : List EpCall) → E.stands past behind.old → E.stands (calls_then self.old ResetCame past) behind.new }
+    {
+        behind.bus_reset();
+        self.endpoint = Endpoint1::Off;
+        self.stage = Stage::Theirs;
+    }
+}

@@ -1,0 +1,33 @@
+//! What stands behind the USB device layer.
+
+ghost use Rattle.std.specs.Prelude.{◌≡◌, ◌∷◌, ℕ, List, Option};
+ghost use Rattle.std.specs.Option.{option_map};
+ghost use Rattle.usb_device.specs.Calls.{EpCall, SetUp, Out, In, Polled, BusReset};
+
+use crate::{EpAnswer, Report};
+
+/// A device that serves what the USB device layer leaves to it.
+pub trait Endpoints {
+    /// It stands for these calls, newest first: each was answered as its own contract says.
+    ghost stands: { List EpCall → Self → Type 0 };
+
+    /// A SETUP packet of endpoint 0, which is always acknowledged.
+    fn setup(&mut self, packet: [u8; 8])
+        ensures { (past : List EpCall) → stands past self.old → stands (SetUp packet ∷ past) self.new };
+
+    /// An OUT packet of endpoint 0.
+    fn out(&mut self, packet: &[u8]) -> EpAnswer
+        ensures { (past : List EpCall) → stands past self.old → stands (Out packet.now result ∷ past) self.new };
+
+    /// An IN token of endpoint 0.
+    fn in_packet(&mut self) -> EpAnswer
+        ensures { (past : List EpCall) → stands past self.old → stands (In result ∷ past) self.new };
+
+    /// The report that is due for endpoint 1, which then counts as sent.
+    fn poll(&mut self) -> Option<Report>
+        ensures { (past : List EpCall) → stands past self.old → stands (Polled (option_map (λ r. r.items) result) ∷ past) self.new };
+
+    /// A bus reset.
+    fn bus_reset(&mut self)
+        ensures { (past : List EpCall) → stands past self.old → stands (BusReset ∷ past) self.new };
+}

@@ -1,0 +1,82 @@
+//! What follows for every bus.
+
+ghost use Rattle.std.specs.Prelude.{◌≡◌, ◌≤◌, ◌∷◌, ◌++◌, [], ℕ, Bool, true, false, List, Option, Some};
+ghost use Rattle.usb_device.specs.Calls.{EpCall, Polled};
+ghost use Rattle.usb_device.specs.Requests.{Lent};
+ghost use Rattle.usb_device.specs.Strings.{Utf16, held_units};
+ghost use Rattle.usb_device.specs.Events.{Event};
+ghost use Rattle.usb_device.specs.Steps.{AllAnswered, session, state_of};
+ghost use Rattle.usb_device.specs.States.{endpoint_by};
+ghost use Rattle.usb_device.specs.Through.{calls_of};
+ghost use Rattle.usb_device.specs.Bus.{Bus, Seen, InGot, Naks, NaksOut, nothing_met, is_write, setup_of, write_of};
+ghost use Rattle.usb_device.specs.Bus1.{Bus1, GotInOrder, reports_of};
+ghost use Rattle.usb_device.specs.Waits.{Moment, is_waiting, scans_last};
+ghost use Rattle.usb_device.specs.ties.Link1.{Link1};
+ghost use Rattle.usb_device.specs.KeyboardCalls.{KbCall, usb_calls};
+ghost use Rattle.usb_device.specs.KeyboardSessions.{IsConfirmedIn};
+ghost use Rattle.usb_device.specs.Confirmed.{WasConfirmed};
+ghost use Rattle.usb_device.specs.Transfers.{TransferState, Idle, NothingWithheld0};
+ghost use Rattle.usb_device.specs.ties.Link.{Link};
+
+/// A controller with empty buffers, before a device that was not asked, is where it begins.
+pub fn begins()
+    ensures linked { Link Idle (record { seen = []; input = Naks; output = NaksOut; met = nothing_met }) [] }
+    ensures rests { NothingWithheld0 Idle (record { seen = []; input = Naks; output = NaksOut; met = nothing_met }) [] }
+{}
+
+/// A control write that the host saw the end of was confirmed by the device: the host sent this SETUP packet, the controller
+/// took this data first, and the host got the empty packet, whatever was lost on the way and whatever came since. Then the
+/// device acknowledged just this data in the transfer of just this SETUP packet, and gave the empty packet for it.
+pub fn seen_is_confirmed()
+    ensures { (t : TransferState) (b : Bus) (calls : List EpCall) (after before : List Seen) (setup data_ : List ℕ) → Link t b calls
+        → b.seen ≡ after ++ (InGot [] ∷ before) → setup_of before ≡ Some setup → is_write setup ≡ true → write_of before ≡ Some data_
+        → WasConfirmed setup data_ calls }
+{}
+
+/// What a device with its USB device layer confirmed, the device behind the layer confirmed.
+#[tactic(auto, using(crate::proofs::Behind::behind_confirmed))]
+pub fn confirmed_behind()
+    ensures { (lent : Lent) (past : List Event) (setup data_ : List ℕ) → AllAnswered lent past → WasConfirmed setup data_ (calls_of past)
+        → WasConfirmed setup data_ (session lent past) }
+{}
+
+/// What endpoint 1 is, is what the last completed request says that sets it.
+pub fn endpoint_is_looked_back()
+    ensures { (lent : Lent) (past : List Event) → AllAnswered lent past → (state_of lent past).endpoint ≡ endpoint_by lent past }
+{}
+
+/// Of the reports that the device gave, the host got all, or all but the newest: each once, in their order, whatever ACKs were
+/// lost.
+pub fn reports_are_got_in_order()
+    ensures { (full : Bool) (b : Bus1) (calls : List EpCall) → Link1 full b calls → GotInOrder b.got (reports_of calls) }
+{}
+
+/// What `ReportBuffer` asks of the device is nothing to endpoint 0.
+pub fn a_poll_is_nothing_to_endpoint_0()
+    ensures linked { (t : TransferState) (b : Bus) (answer : Option (List ℕ)) (calls : List EpCall) → Link t b calls → Link t b (Polled answer ∷ calls) }
+    ensures rests { (t : TransferState) (b : Bus) (answer : Option (List ℕ)) (calls : List EpCall) → NothingWithheld0 t b calls
+        → NothingWithheld0 t b (Polled answer ∷ calls) }
+{}
+
+/// What `ControlBuffers` asks of the device is nothing to endpoint 1.
+#[tactic(auto, using(crate::proofs::Reporting::same_reports))]
+pub fn a_transfer_is_nothing_to_endpoint_1()
+    ensures { (full : Bool) (b : Bus1) (calls later : List EpCall) → Link1 full b calls → reports_of later ≡ reports_of calls → Link1 full b later }
+{}
+
+/// What was confirmed on the bus is confirmed in the session of the keyboard, by calls of which scans and flash work are some.
+pub fn confirmed_in_session()
+    ensures { (past : List KbCall) (setup data_ : List ℕ) → WasConfirmed setup data_ (usb_calls past) → IsConfirmedIn past setup data_ }
+{}
+
+/// What a string descriptor holds of a text is whole characters.
+#[tactic(auto, using(crate::proofs::Characters::held))]
+pub fn a_string_is_cut_at_a_character()
+    ensures { (text : List ℕ) → Utf16 text → Utf16 (held_units text) }
+{}
+
+/// Endpoint 1 waits for the host at most 50 scans.
+#[tactic(auto, using(crate::proofs::Scans::at_most_50))]
+pub fn endpoint_1_waits_at_most_50_scans()
+    ensures { (moments : List Moment) → 50 ≤ scans_last moments → is_waiting moments ≡ false }
+{}

@@ -1,0 +1,48 @@
+//! A controller on whose bus nothing happens: the clauses of `Controller` can be met.
+
+ghost use Rattle.std.specs.Prelude.{◌≡◌, []};
+ghost use Rattle.usb_device.specs.Bus.{Bus, is_pending, mode_of, out_mode_of};
+ghost use Rattle.usb_device.specs.ties.Link.{met_view};
+
+use crate::controller::{Controller, Input, Output, Waiting};
+
+/// A controller on whose bus nothing happens.
+pub struct QuietController {
+    input: Input,
+    output: Output,
+    met: Waiting,
+}
+
+impl QuietController {
+    fn is_pending(&self) -> bool
+        ensures { result ≡ is_pending (met_view self.now.met) }
+    {
+        self.met.reset || self.met.setup.is_some()
+    }
+}
+
+impl Controller for QuietController {
+    ghost bus = { λ c. record { seen = []; input = mode_of c.input; output = out_mode_of c.output; met = met_view c.met } };
+
+    fn waiting(&mut self) -> Waiting {
+        let nothing = Waiting {
+            reset: false,
+            setup: None,
+            out: None,
+            taken: false,
+        };
+        std::mem::replace(&mut self.met, nothing)
+    }
+
+    fn input_0(&mut self, answer: Input) {
+        if !self.is_pending() {
+            self.input = answer;
+        }
+    }
+
+    fn output_0(&mut self, answer: Output) {
+        if !self.is_pending() {
+            self.output = answer;
+        }
+    }
+}

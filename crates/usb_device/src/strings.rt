@@ -1,0 +1,51 @@
+//! String descriptors.
+
+ghost use Rattle.std.specs.Prelude.{◌≡◌, ◌≤◌, length};
+ghost use Rattle.usb_device.specs.Strings.{held_count, is_first, string_descriptor};
+
+use arrayvec::ArrayVec;
+
+/// The most units of a string descriptor, whose length is a byte: 2 + 2 · 126 = 254.
+const MOST: usize = 126;
+
+/// The type of a string descriptor (table 9-5).
+const STRING: u8 = 3;
+
+/// Whether a unit is the first of a character of two.
+fn is_first(unit: u16) -> bool
+    ensures { result ≡ is_first unit }
+{
+    unit >= 0xD800 && unit < 0xDC00
+}
+
+/// How many units of a text one descriptor holds: 126, or 125 where the last of 126 begins a character.
+#[tactic(auto, unfolding(crate::specs::Strings::held_count))]
+fn held_count(units: &[u16]) -> usize
+    ensures held { result ≡ held_count units.now }
+    ensures fits { result ≤ 126 }
+    ensures there { result ≤ length units.now }
+{
+    if units.len() <= MOST {
+        units.len()
+    } else if is_first(units[MOST - 1]) {
+        MOST - 1
+    } else {
+        MOST
+    }
+}
+
+/// The string descriptor of a text in UTF-16 (section 9.6.7), at most 254 bytes. A longer text is cut at a character.
+pub fn string_descriptor(text: &[u16]) -> ArrayVec<u8, 254>
+    ensures { result.items ≡ string_descriptor text.now }
+{
+    let count = held_count(text);
+    let units = &text[..count];
+    let mut bytes = ArrayVec::new();
+    bytes.push(2 + 2 * count as u8);
+    bytes.push(STRING);
+    for unit in units {
+        bytes.push((*unit % 256) as u8);
+        bytes.push((*unit / 256) as u8);
+    }
+    bytes
+}
