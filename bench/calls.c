@@ -1,4 +1,5 @@
-/* What is counted, the same for each keyboard behind peer/keyboard.h: a call, or a few that belong together, between marks. */
+/* What is counted, the same for each keyboard behind reference/peer/keyboard.h: a call, or a few that belong together, between
+ * marks. */
 #include "calls.h"
 #include "draw.h"
 #include "flash.h"
@@ -270,6 +271,17 @@ static void commands(void)
     told("command that changes nothing, whole", 1);
 }
 
+/* Each call of the work by itself. */
+static void each_work(void)
+{
+    for (int came_to = KB_WORKING; came_to == KB_WORKING;) {
+        mark_begin();
+        came_to = kb_work();
+        mark_end();
+    }
+    told("work in a turnover", 1);
+}
+
 static void turnovers(void)
 {
     blank(2);
@@ -280,6 +292,10 @@ static void turnovers(void)
     SAMPLE("turnover of 384 copies, the next page blank", 1, 1, work());
     SAMPLE("start, 2 pages, 385 records", 1, 1, kb_start());
     must(kb_entry(0, 0) == 0x4300);
+    flash_erase(1);
+    kb_start();
+    command(0, 0, 0x4300);
+    each_work();
 }
 
 static void full_pages(void)

@@ -1,5 +1,5 @@
-/* The smallest firmware around a keyboard behind peer/keyboard.h, for its size: volatile words in the place of a controller's
- * registers, and events where there would be interrupts. */
+/* The smallest firmware around a keyboard behind reference/peer/keyboard.h, for its size: volatile words in the place of a
+ * controller's registers, and events where there would be interrupts. */
 #include "flash.h"
 #include "keyboard.h"
 

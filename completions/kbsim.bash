@@ -55,7 +55,7 @@ _kbsim() {
 
     case "${cmd}" in
         kbsim)
-            opts="-h -V --help --version run describe parse read write help"
+            opts="-h -V --help --version describe parse read write run help"
             if [[ ${cur} == -* || ${COMP_CWORD} -eq 1 ]] ; then
                 COMPREPLY=( $(compgen -W "${opts}" -- "${cur}") )
                 return 0
@@ -83,7 +83,7 @@ _kbsim() {
             return 0
             ;;
         kbsim__help)
-            opts="run describe parse read write help"
+            opts="describe parse read write run help"
             if [[ ${cur} == -* || ${COMP_CWORD} -eq 2 ]] ; then
                 COMPREPLY=( $(compgen -W "${opts}" -- "${cur}") )
                 return 0
@@ -188,7 +188,7 @@ _kbsim() {
             fi
             case "${prev}" in
                 --from)
-                    COMPREPLY=($(compgen -W "hex c bytes" -- "${cur}"))
+                    COMPREPLY=($(compgen -W "hex c rust loose xxd hexdump rdesc usbhid-dump hid-recorder bytes auto" -- "${cur}"))
                     return 0
                     ;;
                 *)
@@ -210,7 +210,7 @@ _kbsim() {
                     return 0
                     ;;
                 --from)
-                    COMPREPLY=($(compgen -W "hex c bytes" -- "${cur}"))
+                    COMPREPLY=($(compgen -W "hex c rust loose xxd hexdump rdesc usbhid-dump hid-recorder bytes auto" -- "${cur}"))
                     return 0
                     ;;
                 *)
@@ -221,22 +221,22 @@ _kbsim() {
             return 0
             ;;
         kbsim__run)
-            opts="-h --pages --image --save --explain --help [FILE]"
+            opts="-h --image --save --explain --pages --help [FILE]"
             if [[ ${cur} == -* || ${COMP_CWORD} -eq 2 ]] ; then
                 COMPREPLY=( $(compgen -W "${opts}" -- "${cur}") )
                 return 0
             fi
             case "${prev}" in
-                --pages)
-                    COMPREPLY=($(compgen -W "2 3 4 5 6 7 8" -- "${cur}"))
-                    return 0
-                    ;;
                 --image)
                     COMPREPLY=($(compgen -f "${cur}"))
                     return 0
                     ;;
                 --save)
                     COMPREPLY=($(compgen -f "${cur}"))
+                    return 0
+                    ;;
+                --pages)
+                    COMPREPLY=($(compgen -W "2 3 4 5 6 7 8" -- "${cur}"))
                     return 0
                     ;;
                 *)
@@ -262,7 +262,7 @@ _kbsim() {
                     return 0
                     ;;
                 --from)
-                    COMPREPLY=($(compgen -W "hex c bytes" -- "${cur}"))
+                    COMPREPLY=($(compgen -W "hex c rust loose xxd hexdump rdesc usbhid-dump hid-recorder bytes auto" -- "${cur}"))
                     return 0
                     ;;
                 *)

@@ -2,13 +2,15 @@
 
 import functools
 import os
+import shutil
 import subprocess
 import tempfile
 
+ROOT = os.path.dirname(os.path.dirname(os.path.abspath(__file__)))
 REGISTRY = "/usr/share/cargo/registry"
 
 # What the program in plain Rust is built with.
-OF_PROGRAM = ("arrayvec", "hex", "clap", "strsim")
+OF_PROGRAM = ("arrayvec", "hex", "clap", "strsim", "serde_json", "thiserror")
 
 
 def installed(crate):
@@ -23,6 +25,15 @@ def environment(work, *crates):
     if all(installed(crate) for crate in crates):
         made.update(home(f"{work}/cargo", REGISTRY))
     return made
+
+
+def unlocked(work, *folders):
+    """Copies folders of the repository, and rust/, into `work` without their Cargo.lock, which is for the public registry, and gives
+    the first one."""
+    for folder in (*folders, "rust"):
+        left_out = shutil.ignore_patterns("target", "Cargo.lock")
+        shutil.copytree(f"{ROOT}/{folder}", f"{work}/{folder}", ignore=left_out, dirs_exist_ok=True)
+    return f"{work}/{folders[0]}"
 
 
 def home(folder, crates):

@@ -14,7 +14,6 @@ import sys
 import time
 from typing import Callable, NamedTuple
 
-import prover
 from debian_crates import OF_PROGRAM, lacking
 
 ROOT = os.path.dirname(os.path.dirname(os.path.abspath(__file__)))
@@ -49,55 +48,47 @@ def needs_cargo(*tools, crates=OF_PROGRAM, paths=()):
 
 
 def steps_of_program(way, lacks):
-    """The rows of the program that was built in this way."""
+    """The rows of the program that was built in this way. Completions and man page are of plain Rust, which has all words."""
+    completions = Step("completions and man page", [*PYTHON, "tests/test_completions.py", "--quiet"], lacks, way)
     named = {"proved": "the proved program", "plain": "plain Rust"}[way]
     return [
-        Step(f"command line, {named}", [*PYTHON, "tools/test_command_line.py", "--quiet"], lacks, way),
-        Step(f"rows and long inputs, {named}", [*PYTHON, "tools/test_kbsim.py", "--quiet"], lacks, way),
-        Step(f"completions and man page, {named}", [*PYTHON, "tools/test_completions.py", "--quiet"], lacks, way),
+        Step(f"command line, {named}", [*PYTHON, "tests/test_command_line.py", "--quiet"], lacks, way),
+        Step(f"rows and long inputs, {named}", [*PYTHON, "tests/test_kbsim.py", "--quiet"], lacks, way),
+        *([completions] if way == "plain" else []),
     ]
 
 
 STEPS = [
-    Step("one version everywhere", [*PYTHON, "tools/check_version.py"]),
+    Step("one version everywhere", [*PYTHON, "tools/checks/version.py"]),
     Step("what the documents name", ["tools/check-docs"]),
-    Step("a test at the largest input of each call", [*PYTHON, "tools/check_extremes.py"]),
-    Step("names of usages are those of the reader", [*PYTHON, "tools/usage_names.py"]),
-    Step("files and functions are short", [*PYTHON, "tools/check_shape.py"]),
-    Step("what is stated twice is independent", [*PYTHON, "tools/check_independent.py"]),
-    Step("right bodies can be applied", [*PYTHON, "tools/right_bodies.py", "--apply"]),
-    Step("how documents are checked", [*PYTHON, "tools/test_check_documents.py", "--quiet"]),
-    Step("how sources are measured and compared", [*PYTHON, "tools/test_check_shape.py", "--quiet"]),
-    Step("how independence is checked", [*PYTHON, "tools/test_check_independent.py", "--quiet"]),
-    Step("what tools/check runs", [*PYTHON, "tools/test_check_crate.py", "--quiet"]),
-    Step("what proofs take", [*PYTHON, "tools/test_proof_times.py", "--quiet"]),
-    Step("how wrong bodies are tried", [*PYTHON, "tools/test_wrong_bodies.py", "--quiet"]),
-    Step("how many checks the gate runs at once", [*PYTHON, "tools/test_run_tests.py", "--quiet"]),
-    Step("how bin/kbsim chooses", [*PYTHON, "tools/test_door.py", "--quiet"]),
-    Step("the pictures", [*PYTHON, "tools/pictures", "--check"]),
+    Step("a test at the largest input of each call", [*PYTHON, "tools/checks/extremes.py"]),
+    Step("names of usages are those of the reader", [*PYTHON, "tools/make/usage_names.py"]),
+    Step("files and functions are short", [*PYTHON, "tools/checks/shape.py"]),
+    Step("how bin/kbsim chooses", [*PYTHON, "tests/test_door.py", "--quiet"]),
+    Step("the pictures", [*PYTHON, "tools/make/pictures", "--check"]),
     Step("the exporter's own tests", [*PYTHON, "tools/export_rust/test_export.py", "--quiet"]),
     Step("plain Rust is that of the source", [*PYTHON, "tools/export_rust/check.py"]),
     Step("how names in docs are found", [*PYTHON, "tools/export_rust/test_names.py", "--quiet"]),
     Step("what the docs of plain Rust name", [*PYTHON, "tools/export_rust/check_names.py"]),
     Step("the page is that of its sources", ["bin/build-page", "--check"]),
     Step("gate", ["rt", "ci"], needs("rt")),
-    Step("wrong bodies are refused", [*PYTHON, "tools/wrong_bodies.py"], needs("rt")),
     *steps_of_program("proved", needs("rt")),
     *steps_of_program("plain", needs_cargo(paths=["rust/kbsim/SOURCES"])),
-    Step("the bench's own tests", [*PYTHON, "tools/test_bench.py", "--quiet"]),
+    Step("the bench's own tests", [*PYTHON, "tools/bench/test_results.py", "--quiet"]),
     Step("the keyboard and the parser by hand in C", ["bin/bench", "compare", "--scripts", "300", "--texts", "300"],
          needs_cargo("gcc"), "plain"),
-    Step("the reader from C", [*PYTHON, "tools/test_hid_reader.py", "--quiet"], needs_cargo("gcc"), "plain"),
-    Step("the kept reader beside a plain program", [*PYTHON, "tools/test_reader.py"], needs_cargo(crates=["arrayvec"])),
-    Step("refused growths", ["tools/refused-growth"], needs("rt")),
+    Step("the reader from C", [*PYTHON, "tests/test_hid_reader.py", "--quiet"], needs_cargo("gcc"), "plain"),
+    Step("the kept reader beside a plain program", [*PYTHON, "tests/test_reader.py"], needs_cargo(), "plain"),
+    Step("refused growths", [*PYTHON, "tools/refused-growth"], needs("rt")),
     Step("what is exported", ["bin/export-test"], needs_cargo()),
     Step("the page in a browser", ["bin/page-test"], needs("chromium")),
-    Step("what the documents show", [*PYTHON, "tools/test_documents.py", "--quiet"], needs_cargo("cc")),
-    Step("settings outlive each cut", ["tools/settings-test"], needs_cargo(crates=["arrayvec"])),
-    Step("a keyboard outlives cuts on flash with error correction", ["tools/keyboard-cuts"], needs_cargo(crates=["arrayvec"])),
-    Step("examples that meet a host", [*PYTHON, "tools/test_hosts.py"], needs_cargo(crates=["arrayvec"])),
-    Step("wrong fronts are refused", [*PYTHON, "tools/wrong_fronts.py"], needs_cargo()),
-    Step("a run as a capture", [*PYTHON, "tools/test_pcap.py", "--quiet"], needs_cargo(), "plain"),
+    Step("what the documents show", [*PYTHON, "tests/test_documents.py", "--quiet"], needs_cargo("cc", "make", "pkg-config")),
+    Step("settings outlive each cut", ["tests/settings-test"], needs_cargo(crates=["arrayvec"])),
+    Step("a keyboard outlives cuts on flash with error correction", ["tools/keyboard-cuts/run"], needs_cargo(crates=["arrayvec"])),
+    Step("a chip that is cut at any instruction", ["bin/board-test"], needs_cargo(crates=["arrayvec"])),
+    Step("examples that meet a host", [*PYTHON, "tests/test_hosts.py"], needs_cargo(crates=["arrayvec"])),
+    Step("wrong fronts are refused", [*PYTHON, "tests/wrong_fronts.py"], needs_cargo()),
+    Step("a run as a capture", [*PYTHON, "tests/test_pcap.py", "--quiet"], needs_cargo(), "plain"),
     Step("the parts of bin/linux-test", [*PYTHON, "tools/linux_test/test_linux_test.py", "--quiet"]),
     Step("a Linux that types", ["bin/linux-test"], needs_cargo(crates=["arrayvec"])),
 ]
@@ -217,7 +208,6 @@ def run_gate(whole):
     if sources() != before:
         print("the sources changed while they were proved")
         return False
-    prover.note_gate()
     script = f'root=$1; . tools/sources.sh; keep crates/kbsim_cli/out/kbsim_cli "proved-{before}"'
     return subprocess.run(["bash", "-c", script, "-", ROOT], cwd=ROOT).returncode == 0
 

@@ -14,8 +14,18 @@ sum_of() {
     local folder=$1
     shift
     # (not each crate has each of the folders)
-    (cd "$folder" && { find "$@" \( -name target -o -name out \) -prune -o -type f -print0 2>/dev/null || true; } |
-        LC_ALL=C sort -z | xargs -0 -r sha256sum | sha256sum | cut -c1-24)
+    (cd "$folder" && { find "$@" \( -name target -o -name out \) -prune -o -type f -print0 2>/dev/null || true; } | sum_of_names)
+}
+
+# sum_of_names: one checksum of the files whose names, each with a NUL behind it, are read.
+sum_of_names() { LC_ALL=C sort -z | xargs -0 -r sha256sum | sha256sum | cut -c1-24; }
+
+# files_of_plain FOLDER: the files of plain Rust, a NUL behind each name: where git knows, all but those that it ignores.
+files_of_plain() {
+    (cd "$1/rust" && unset GIT_DIR GIT_WORK_TREE GIT_INDEX_FILE && {
+        [ "$(git rev-parse --show-prefix 2>/dev/null)" = rust/ ] &&
+            git ls-files -z --cached --others --exclude-standard | while IFS= read -rd '' name; do [ ! -f "$name" ] || printf '%s\0' "$name"; done
+    } || find . \( -name target -o -name out \) -prune -o -type f -printf '%P\0')
 }
 
 # sum_of_proved FOLDER: the checksum of all that a proof of the program reads in a copy of the repository.
@@ -34,5 +44,5 @@ keep() {
     local part
     mkdir -p "$kept"
     part=$(mktemp "$kept/part-XXXXXX")
-    cp "$1" "$part" && chmod 755 "$part" && mv "$part" "$kept/$2"
+    cp "$1" "$part" && chmod 755 "$part" && mv "$part" "$kept/$2" || { rm -f "$part" && return 1; }
 }

@@ -165,6 +165,10 @@ hidr_status hidr_reader_open(const uint8_t *text, size_t length, hidr_reader *re
 /* No place in a list. */
 #define HIDR_NONE UINT32_MAX
 
+/* Two lists are counted, each from 0 on in the order of the text. An item is an Input, Output or Feature item that takes a bit,
+ * padding among them: that is `item`, as an argument or in a value. A field is an item that is not Constant: that is `field`,
+ * and `control` by HIDR_BY_FIELD. hidr_detail_of gives the item of a field, and hidr_detail.field the field of an item. */
+
 /* The bits of an Input, Output or Feature item (HID 1.11, 6.2.2.5); where one is not set it is Data, Array, Absolute, No Wrap,
  * Linear, Preferred State, no Null State, Non Volatile, Bit Field. */
 enum {
@@ -179,8 +183,7 @@ enum {
     HIDR_BUFFERED = 256
 };
 
-/* What an Input, Output or Feature item declares. Those that are not Constant are the fields, in their order; the others are
- * padding. */
+/* What an Input, Output or Feature item declares. */
 typedef struct hidr_detail {
     uint64_t offset;                    /* of the item in the text, in bytes */
     uint64_t bit;                       /* as that of hidr_field */
@@ -281,6 +284,7 @@ typedef struct hidr_value {
     uint16_t place;    /* from 0 on */
     uint8_t within;    /* HIDR_IN_RANGE, HIDR_IS_NULL or HIDR_IS_OUT */
     uint8_t has_usage; /* 1 where there is a usage */
+    uint32_t item;     /* that of the field, as hidr_detail_at counts */
 } hidr_value;
 
 /* The values of a report of a kind, in the order of its fields and places: the first `room`, in *count how many there are, and

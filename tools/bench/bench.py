@@ -1,4 +1,4 @@
-"""The keyboard beside the same keyboard by hand in C (bench/peer): what each call costs, as one table with ratios.
+"""The keyboard beside the same keyboard by hand in C (reference/peer): what each call costs, as one table with ratios.
 
 `bin/bench` builds what it can from Debian's packages, says what it skips, and counts. Where a number differs by more than one
 in a hundred from bench/results.tsv it is said. The status is 1 where a bound of that file is missed, unless the file lists the

@@ -17,6 +17,7 @@ sys.path.insert(0, f"{ROOT}/tools/export_rust")
 from room import DEBIAN_RUSTC, HERE as EXPORTER, Failed, Room, Skipped, debian_sources, version_of
 
 BENCH = f"{ROOT}/bench"
+PEER = f"{ROOT}/reference/peer"
 FOLDER = f"{ROOT}/out/bench"
 
 
@@ -43,7 +44,7 @@ TARGETS = [
 ]
 
 SECTIONS = ["-ffunction-sections", "-fdata-sections"]
-INCLUDES = [f"-I{BENCH}", f"-I{BENCH}/peer"]
+INCLUDES = [f"-I{BENCH}", f"-I{PEER}"]
 WARNINGS = ["-Wall", "-Wextra", "-Werror"]
 
 
@@ -67,10 +68,10 @@ class Builds:
     def path(self, name):
         return f"{self.folder}/{name}"
 
-    def compile(self, source, *options):
-        """Compiles a file of bench/."""
+    def compile(self, source, *options, of=BENCH):
+        """Compiles a file of bench/, or of another folder."""
         name = self.path(os.path.basename(source)[:-2] + ".o")
-        words = [f"{self.target.prefix}gcc", *self.target.machine, *SECTIONS, *INCLUDES, *WARNINGS, *options, "-c", f"{BENCH}/{source}"]
+        words = [f"{self.target.prefix}gcc", *self.target.machine, *SECTIONS, *INCLUDES, *WARNINGS, *options, "-c", f"{of}/{source}"]
         self.room.run([*words, "-o", name], self.folder)
         return name
 
@@ -84,7 +85,7 @@ class Builds:
     def peer(self):
         """The peer, as objects. A restart is a call from another file."""
         options = ["-std=c11", f"-O{self.target.peer}"]
-        return [self.compile(f"peer/{name}.c", *options) for name in ("keyboard", "restart")]
+        return [self.compile(f"{name}.c", *options, of=PEER) for name in ("keyboard", "restart")]
 
     def ours(self):
         """The exported keyboard behind the peer's header, as a static library."""
@@ -110,7 +111,7 @@ class Builds:
         if name == "ours":
             return self.link("firmware-ours", [self.compile("firmware.c", "-std=c11", "-Os"), *keyboard], *elsewhere)
         whole = ["-std=c11", "-Os", "-flto"]
-        parts = [self.compile("firmware.c", *whole), self.compile("peer/keyboard.c", *whole)]
+        parts = [self.compile("firmware.c", *whole), self.compile("keyboard.c", *whole, of=PEER)]
         return self.link("firmware-peer", parts, *elsewhere, "-flto", "-Os")
 
     def text(self, program):

@@ -9,15 +9,15 @@ from results import Row
 # Calls that may be repeated within a scan's time; what starts the device or works on the flash has a bound of its own.
 LONG = ("start", "restart", "work", "command with room", "turnover")
 
-# Of a scan without an edge the worst one counts, of the others the mean; where each key is tried the worst is shown beside it.
-WORST = "scan without an edge"
+# Of these the worst one counts, of the others the mean; where each key is tried the worst is shown beside it.
+WORST = {"scan without an edge": "the worst of 10,000", "work in a turnover": "the longest call"}
 EACH_KEY = " one key, and the poll"
 
 
 def instructions(name, mean, worst):
     """The rows of a name: what they are called, and the number."""
-    if name == WORST:
-        return [(f"{name}, the worst of 10,000", worst)]
+    if name in WORST:
+        return [(f"{name}, {WORST[name]}", worst)]
     if name.endswith(EACH_KEY):
         return [(f"{name}, mean of 96 keys", mean), (f"{name}, the worst key", worst)]
     return [(name, mean)]

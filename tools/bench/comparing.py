@@ -22,6 +22,7 @@ from compare import answers, counted, difference
 from texts import text
 
 BENCH = f"{ROOT}/bench"
+PEER = f"{ROOT}/reference/peer"
 STRICT = ["-Wall", "-Wextra", "-Wpedantic", "-Werror", "-g", "-O1", "-fsanitize=address,undefined", "-fno-sanitize-recover=all"]
 
 # Wrong lines, of which the comparison has to see each: the file, what stands there once, and what in its place.
@@ -156,17 +157,17 @@ def first_difference(cases, program, count):
 def changed(folder, name, old, new):
     """A copy of the peer with one change."""
     shutil.rmtree(folder, ignore_errors=True)
-    shutil.copytree(f"{BENCH}/peer", folder)
+    shutil.copytree(PEER, folder)
     try:
         replace_once(f"{folder}/{name}", old, new)
     except ValueError as why:
-        raise Wrong(f"bench/peer: {why}") from why
+        raise Wrong(f"reference/peer: {why}") from why
     return folder
 
 
 def compare_one(folder, player, cases, count):
     """Compares a program over the peer, and looks that each copy with a wrong line is told apart."""
-    why = first_difference(cases, player.built(f"{BENCH}/peer", f"{folder}/right", *STRICT), count)
+    why = first_difference(cases, player.built(PEER, f"{folder}/right", *STRICT), count)
     if why:
         raise Wrong(f"the peer differs: {why}")
     say(f"the peer and kbsim: {cases.summary(count)}")

@@ -10,7 +10,7 @@ import subprocess
 import tempfile
 
 import cases
-from builds import BENCH, ROOT, Skipped
+from builds import BENCH, PEER, ROOT, Skipped
 from results import Row
 
 # What bench/rattle/calls.rattle calls by its first byte, and the SETUP packet that it sends.
@@ -97,7 +97,7 @@ def built(room, source, *crates):
     name = source.removesuffix(".rattle")
     program = room.path(name)
     with tempfile.TemporaryDirectory() as top:
-        folder = laid_out(f"{top}/sources", source, crates, "out", "must-fail", "wrong-bodies", "more-edits")
+        folder = laid_out(f"{top}/sources", source, crates, "out", "must-fail")
         shutil.copy(f"{ROOT}/HANDLES", f"{top}/sources")
         told = subprocess.run(["rt", "ci"], cwd=f"{top}/sources", capture_output=True, text=True)
         if not os.path.exists(f"{folder}/out/{name}"):
@@ -120,14 +120,14 @@ def keyboard(room):
 def sizes(room):
     """Bytes of the device's values on a 64-bit machine, as the toolchain's unproved run of a program prints them."""
     needs("rt")
-    folder = laid_out(room.path("rattle-sizes"), "sizes.rattle", PARTS, "out", "proofs", "must-fail", "wrong-bodies", "more-edits")
+    folder = laid_out(room.path("rattle-sizes"), "sizes.rattle", PARTS, "out", "proofs", "must-fail")
     told = room.run(["rt", "try", "--steps", "1"], folder).decode()
     return [Row("sizes", f"{name}, bytes", int(number), None) for name, number in re.findall(r"^([A-Z]\w+) (\d+)$", told, re.M)]
 
 
 def peer_parser(room):
     """The peer's parser, as a program."""
-    words = ["gcc", "-std=c11", "-O2", f"-I{BENCH}/peer", f"{BENCH}/parse.c", f"{BENCH}/peer/parser.c", "-o", room.path("parse")]
+    words = ["gcc", "-std=c11", "-O2", f"-I{PEER}", f"{BENCH}/parse.c", f"{PEER}/parser.c", "-o", room.path("parse")]
     room.run(words)
     return room.path("parse")
 

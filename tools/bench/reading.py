@@ -11,8 +11,8 @@ from builds import ROOT, Skipped
 from rattle import instructions
 from results import Row
 
-sys.path.insert(0, f"{ROOT}/tools")
-from debian_crates import environment
+sys.path[:0] = [f"{ROOT}/tools", f"{ROOT}/tests"]
+from debian_crates import OF_PROGRAM, environment
 from test_kbsim import read_cases
 
 # Without checks of overflow, as a driver is built.
@@ -62,7 +62,7 @@ def rows(room):
             raise Skipped(f"there is no {tool}")
     os.makedirs(room.path("reading"), exist_ok=True)
     count = f"{built(room, 'tests/reader/tell', 'arrayvec')}/count"
-    kbsim_read = f"{built(room, 'rust/kbsim-read', 'serde_json')}/kbsim-read"
+    kbsim = f"{built(room, 'rust/kbsim', *OF_PROGRAM)}/kbsim"
 
     def counted(*words):
         many, few = (instructions(room, [count, *words, times], b"") for times in ("111", "11"))
@@ -70,7 +70,7 @@ def rows(room):
 
     keyboard, text = "".join(example("keyboard")), touch_screen()
     lines = f"{BOOT}\n".encode()
-    read = [kbsim_read, "read", f"{ROOT}/examples/hid_driver/keyboard.hex"]
+    read = [kbsim, "read", f"{ROOT}/examples/hid_driver/keyboard.hex"]
     many, few = (instructions(room, read, lines * times) for times in (1100, 100))
     return [
         Row("reader", "a boot report of a keyboard, 14 values", counted("read", keyboard, BOOT), None),

@@ -4,17 +4,12 @@ import os
 import re
 import shutil
 
-import rules
-
 HERE = os.path.dirname(os.path.abspath(__file__))
 RUST = os.path.join(os.path.dirname(os.path.dirname(HERE)), "rust")
 LIST = "BY_HAND"
 
 # What cargo makes, which is never committed.
 MADE_BY_CARGO = {"target", "Cargo.lock"}
-
-# What tests alone take of Rattle's runtime, and what is added to a crate's files where its tests are exported.
-TESTS = os.path.join(HERE, "tests")
 
 
 def listed(rust=RUST):
@@ -32,8 +27,8 @@ def found(rust=RUST):
     return sorted(names)
 
 
-def copy(folder, crates, tests):
-    """Copies what is written by hand for these crates, and what their tests need, into a folder."""
+def copy(folder, crates):
+    """Copies what is written by hand for these crates into a folder."""
     for name in listed():
         crate = name.split("/")[0]
         if "/" in name and crate not in crates:
@@ -42,9 +37,6 @@ def copy(folder, crates, tests):
         os.makedirs(os.path.dirname(to), exist_ok=True)
         shutil.copyfile(os.path.join(RUST, name), to)
     members(os.path.join(folder, "Cargo.toml"), crates)
-    for of in rules.WORKSPACE:
-        if tests and of.name in crates and of.tests:
-            add_tests(os.path.join(folder, of.name), of.name)
 
 
 def members(path, crates):
@@ -54,14 +46,3 @@ def members(path, crates):
     listed_crates = ", ".join(f'"{crate}"' for crate in crates)
     with open(path, "w", encoding="utf-8") as file:
         file.write(re.sub(r"members = \[.*?\]", f"members = [{listed_crates}]", text, flags=re.S))
-
-
-def add_tests(crate, name):
-    """Adds to a crate what its exported tests stand on."""
-    shutil.copytree(os.path.join(TESTS, "rattle"), os.path.join(crate, "src", "rattle"), dirs_exist_ok=True)
-    for addition, to in (("rattle.rs", "src/rattle.rs"), (f"{name}.rattle.rs", "src/rattle.rs"), (f"{name}.toml", "Cargo.toml")):
-        if os.path.exists(os.path.join(TESTS, addition)):
-            with open(os.path.join(TESTS, addition), encoding="utf-8") as file:
-                text = file.read()
-            with open(os.path.join(crate, to), "a", encoding="utf-8") as file:
-                file.write("\n" + text)

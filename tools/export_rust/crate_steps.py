@@ -4,8 +4,9 @@ import os
 import shutil
 import sys
 
+import acceptance
 import by_hand
-from room import HERE, ROOT, Failed, Skipped, say
+from room import ROOT, Failed, Skipped, proptest, say
 
 
 def crates(room, _):
@@ -20,7 +21,7 @@ def documents(room, _):
     """Makes the documents of all crates, and lists what each would publish."""
     room.cargo("doc", "--workspace", "--no-deps", "--features", "wuzhikar/sim,wuzhikar-log/sim", RUSTDOCFLAGS="-D warnings")
     for crate in sorted(os.listdir(room.rust)):
-        if not os.path.isdir(f"{room.rust}/{crate}/src"):
+        if not os.path.isdir(f"{room.rust}/{crate}/src") or crate == "tests":
             continue
         listed = room.cargo("package", "--list", "--allow-dirty", cwd=f"{room.rust}/{crate}").decode().split("\n")
         root = next(name for name in ("src/lib.rs", "src/main.rs") if os.path.exists(f"{room.rust}/{crate}/{name}"))
@@ -44,21 +45,13 @@ def lints(room, _):
     example(room, "hid_driver")  # (the tests of wuzhikar-hid take its descriptors)
     for more in ([], ["--features", "wuzhikar/sim,wuzhikar-log/sim"]):
         room.cargo("clippy", "--workspace", "--all-targets", *more, "--", "-D", "warnings")
+    room.cargo("clippy", "--all-targets", "--", "-D", "warnings", cwd=f"{room.rust}/tests", **proptest())
 
 
-def exported_tests(room, _):
-    """Runs the unit tests of the source, exported, with overflow checks."""
-    room.tests("--lib", cwd=with_tests(room), name="the exported unit tests")
-
-
-def with_tests(room):
-    """The crates, with the tests of the source."""
-    if "tests" not in room.made:
-        example(room, "hid_driver")
-        shutil.rmtree(room.path("tests"), ignore_errors=True)
-        room.run([sys.executable, "-B", f"{HERE}/export_rust.py", "--tests", room.path("tests")])
-        room.made.add("tests")
-    return room.path("tests")
+def tests(room, _):
+    """Runs the tests of rust/tests and crates/acceptance, with overflow checks."""
+    acceptance.run(room, name="crates/acceptance")
+    room.tests(cwd=f"{room.rust}/tests", name="rust/tests", **proptest())
 
 
 def example(room, name):
@@ -93,14 +86,14 @@ def hid_reader(room, _):
     """Runs the demo of the reader from C, by its own test."""
     if not shutil.which("gcc"):
         raise Skipped("there is no gcc (Debian: gcc, libc6-dev)")
-    room.run([sys.executable, "-B", f"{ROOT}/tools/test_hid_reader.py", "--quiet", "-k", "demo"], ROOT, RUSTFLAGS="")
+    room.run([sys.executable, "-B", f"{ROOT}/tests/test_hid_reader.py", "--quiet", "-k", "demo"], ROOT, RUSTFLAGS="")
 
 
 STEPS = {
     "crates": crates,
     "documents": documents,
     "format and lints": lints,
-    "exported unit tests": exported_tests,
+    "rust/tests": tests,
     "examples/firmware": firmware,
     "examples/driver_bench": driver_bench,
     "examples/hid_reader": hid_reader,

@@ -1,4 +1,4 @@
-"""Writes the proved source as plain Rust: `export-rust [--contracts] [--tests] [--crate NAME] [DIR]`.
+"""Writes the proved source as plain Rust: `export-rust [--contracts] [--crate NAME] [DIR]`.
 
 What is exported is the text of the proved sources without what proofs alone read: ghost items, clauses, laws, the prover's
 attributes and impls. Each crate of the source becomes a module `parts::NAME` of one crate of plain Rust, and paths are
@@ -41,9 +41,10 @@ PARTS = """// Written by bin/export-rust.
 class Export:
     """The generated files of one crate of plain Rust, by their path in its folder, and what was read for them."""
 
-    def __init__(self, root, of, contracts=False, tests=False):
-        self.root, self.of, self.contracts, self.tests = root, of, contracts, tests
-        self.crates = of.crates + (of.tests if tests else ())
+    translator = Translator
+
+    def __init__(self, root, of, contracts=False):
+        self.root, self.of, self.contracts = root, of, contracts
         self.files = {}
         self.digests = {}
         self.met = set()
@@ -53,19 +54,18 @@ class Export:
         """Reads all crates. `faults` then says what was refused."""
         stands_on = read_crates(self.root)
         held = {crate: held_by(self.of, crate) for crate in stands_on}
-        for crate in self.crates:
+        for crate in self.of.crates:
             for name in stands_on.get(crate, ()):
                 known = (rules.STAND_INS, rules.LIBRARIES, rules.DERIVING_LIBRARIES, rules.PROOF_CRATES)
                 if not held.get(name) and not any(name in of for of in known):
                     self.faults.append(f"crates.txt: {crate} stands on {name}, which is not exported")
             neighbours = {name for name in stands_on.get(crate, ()) if held.get(name)}
-            hosted = self.of.allocs or crate in self.of.tests
-            self.guarded(lambda: self.module(crate, "", neighbours, hosted))
+            self.guarded(lambda: self.module(crate, "", neighbours, self.of.allocs))
         named = set(self.of.owed) | self.of.hidden | set(self.of.renamed) | self.of.fallible_clones | set(self.of.derives) | self.of.inlined \
             | set(self.of.docs) | set(self.of.unstarted)
         for crate, name in sorted(named - self.met):
             self.faults.append(f"tools/export_rust/rules.py: {self.of.name} names {crate}::{name}, which is not there, or needs no rule")
-        self.files["src/parts.rs"] = PARTS + "".join(declaration(self.of, crate) for crate in sorted(self.crates))
+        self.files["src/parts.rs"] = PARTS + "".join(f"pub mod {crate};\n" for crate in sorted(self.of.crates))
         self.files[SOURCES] = "".join(f"{of}  crates/{source}\n" for source, of in sorted(self.digests.items()))
 
     def guarded(self, step):
@@ -84,7 +84,7 @@ class Export:
         with open(os.path.join(self.root, "crates", source), encoding="utf-8") as file:
             text = file.read()
         self.digests[source] = digest(text.encode())
-        translator = Translator(crate, module, f"crates/{source}", neighbours, self.of, hosted, self.contracts, self.tests)
+        translator = self.translator(crate, module, f"crates/{source}", neighbours, self.of, hosted, self.contracts)
         translator.open_module = lambda name, hosted: self.guarded(
             lambda: self.module(crate, translator.joined(name), neighbours, hosted))
         made = translator.translate(text)
@@ -130,11 +130,6 @@ def digest(content):
     return hashlib.sha256(content).hexdigest()
 
 
-def declaration(of, crate):
-    """A crate of the source as a module."""
-    return f"{'#[cfg(test)]' + chr(10) if crate in of.tests else ''}pub mod {crate};\n"
-
-
 def has_code(text):
     """Whether a file has anything but comments."""
     return any(line.strip() and not line.strip().startswith("//") for line in text.split("\n"))
@@ -151,9 +146,9 @@ def read_crates(root):
     return crates
 
 
-def exports(root, contracts=False, tests=False, crates=rules.WORKSPACE):
+def exports(root, contracts=False, crates=rules.WORKSPACE):
     """The exports of these crates of plain Rust, made."""
-    made = [Export(root, of, contracts, tests) for of in crates]
+    made = [Export(root, of, contracts) for of in crates]
     for export in made:
         export.make()
     return made
@@ -169,19 +164,18 @@ def parse_words():
     """What the command line asks for."""
     parser = argparse.ArgumentParser(prog="export-rust", description="Writes the proved source as plain Rust, into rust/.")
     parser.add_argument("--contracts", action="store_true", help="write each contract into its function's docs")
-    parser.add_argument("--tests", action="store_true", help="write the tests, too; not into rust/")
     parser.add_argument("--crate", choices=[of.name for of in rules.WORKSPACE], help="write this crate alone, with those that it stands on")
     parser.add_argument("dir", nargs="?", metavar="DIR", help="a folder for a workspace like rust/: none yet, or an empty one")
     words = parser.parse_args()
-    if words.dir is None and (words.tests or words.crate or words.contracts):
-        parser.error("--contracts, --tests and --crate want a DIR")
+    if words.dir is None and (words.crate or words.contracts):
+        parser.error("--contracts and --crate want a DIR")
     return words
 
 
 def main():
     words = parse_words()
     crates = with_those_below(words.crate) if words.crate else rules.WORKSPACE
-    made = exports(ROOT, words.contracts, words.tests, crates)
+    made = exports(ROOT, words.contracts, crates)
     faults = [fault for export in made for fault in export.faults]
     folder = words.dir or RUST
     if words.dir and os.path.exists(folder) and (not os.path.isdir(folder) or os.listdir(folder)):
@@ -192,7 +186,7 @@ def main():
         print("export-rust: nothing was written", file=sys.stderr)
         return 1
     if words.dir:
-        by_hand.copy(folder, [of.name for of in crates], words.tests)
+        by_hand.copy(folder, [of.name for of in crates])
     for export in made:
         export.write(os.path.join(folder, export.of.name))
     read = len({source for export in made for source in export.digests})

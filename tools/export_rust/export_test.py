@@ -1,6 +1,6 @@
 """Builds and tests the crates of rust/ and the examples that stand on them, and compares them with the proved program.
 
-It needs rustc and cargo (1.85 or later) and the crates arrayvec, hex, clap and strsim, installs nothing, and says what it skips.
+It needs rustc and cargo (1.85 or later) and the crates arrayvec, hex, clap, strsim, serde_json and thiserror, installs nothing, and says what it skips.
 The variable KBSIM names a program to compare with, where it is not the proved one of this clone, or else the unproved one.
 """
 

@@ -3,7 +3,7 @@
 import re
 
 import rules
-from lexing import TRIVIA, Refused, Token, after, before, find, group_end, lex, text_at, trimmed
+from lexing import TRIVIA, Token, after, before, find, group_end, lex, text_at
 from deriving import clone_impl, error_impls
 from rewriting import MEMORY, Rewriter
 from unstarted import unstarted_impl
@@ -19,18 +19,12 @@ class Lead:
         self.words = []         # of each attribute, also of one that is left out
         self.shown = None       # the tokens of the attribute `error(..)`
 
-    def is_test_module(self):
-        return ["cfg", "(", "test", ")"] in self.words
-
-    def is_test(self):
-        return ["test"] in self.words
-
 
 class Translator:
     """Translates one file. `module` is its path within the crate, "" for the crate's root."""
 
-    def __init__(self, crate, module, file, neighbours, holder, hosted=False, contracts=False, with_tests=False):
-        self.crate, self.module, self.contracts, self.with_tests = crate, module, contracts, with_tests
+    def __init__(self, crate, module, file, neighbours, holder, hosted=False, contracts=False):
+        self.crate, self.module, self.contracts = crate, module, contracts
         self.holder = holder                            # the rules of the crate that it becomes a part of
         self.rewriter = Rewriter(crate, file, neighbours, holder, hosted)
         self.neighbours = neighbours
@@ -221,9 +215,9 @@ class Translator:
             self.refuse(tokens[0], f"a module with the name of the crate {name}")
         key = (self.crate, self.joined(name))
         condition = self.holder.conditions.get(key)
-        if not self.with_tests and (condition == "test" or lead.is_test_module()):
+        if condition == rules.LEFT_OUT:
             return None
-        hosted = self.rewriter.hosted or lead.is_test_module() or key in self.holder.hosted
+        hosted = self.rewriter.hosted or key in self.holder.hosted
         self.put_condition(lead, condition)
         if text_at(tokens, after(tokens, name_at)) == ";":
             return self.rewriter.code(tokens) if self.open_module(name, hosted) else None
@@ -245,14 +239,14 @@ class Translator:
         if words[1] in self.neighbours and words[2:4] == ["::", "laws"]:
             return self.laws(tokens[0], words[4:])
         condition = self.holder.conditions.get((self.crate, self.joined(first)))
-        if condition == "test" and not self.with_tests:
+        if condition == rules.LEFT_OUT:
             return None
         self.put_condition(lead, condition)
         return self.rewriter.code(tokens)
 
     def put_condition(self, lead, condition):
-        """Puts an item under a condition. Where tests are exported, "test" is none: those of a crate above are there, too."""
-        if condition and condition != "test":
+        """Puts an item under a condition."""
+        if condition:
             lead.attributes.append(f"#[cfg({condition})]")
 
     def laws(self, token, words):
@@ -323,12 +317,8 @@ class Translator:
         tokens = self.without_clauses(tokens, brace)
         if clauses and self.is_law(tokens):
             return None
-        if lead.is_test():
-            return self.test(tokens)
         tokens = self.formatter(tokens)
         self.inline(lead, tokens, (self.crate, f"{self.of}::{name}" if self.of else name))
-        if self.rewriter.file.endswith(rules.TOLD_AT_THE_CALL) and "Abort" in [token.text for token in tokens[:find(tokens, "{")]]:
-            lead.attributes.append("#[track_caller]")
         if self.of and self.is_public(tokens):
             has_condition = any(clause.text.startswith("requires") for clause in clauses)
             tokens = self.method(lead, tokens, (self.crate, f"{self.of}::{name}"), has_condition)
@@ -396,21 +386,6 @@ class Translator:
     def for_the_crate(self, tokens):
         """A public function that only the crate may call."""
         return [Token("word", "pub(crate)", tokens[0].line)] + tokens[1:]
-
-    def test(self, tokens):
-        """A test: the runtime that Rattle gives it is given by `rattle::test::run`."""
-        opening = find(tokens, "(")
-        body = find(tokens, "{")
-        closing = group_end(tokens, opening)
-        parameters = [token.text for token in tokens[opening + 1:closing - 1] if token.kind not in TRIVIA]
-        if parameters not in ([], ["rt", ":", "HostRuntime"], ["rt", ":", "HostRuntime", ","]):
-            self.refuse(tokens[opening], "a test that takes anything but a runtime")
-        result = self.rewriter.code(trimmed(tokens[closing:body]))
-        if not result and not parameters:
-            return self.rewriter.code(tokens)
-        name = "rt" if parameters else "_rt"
-        return self.rewriter.code(tokens[:opening]) + f"() {{ crate::rattle::test::run(|{name}| {result} " \
-            + self.rewriter.code(tokens[body:]) + ") }"
 
 
 def contract(clauses, has_docs):

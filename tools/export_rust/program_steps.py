@@ -15,7 +15,7 @@ PLANTED = [
     ("scripts", 300, "wuzhikar/src/parts/reports/poller.rs", "const IDLE_ONE: u8 = 125;", "const IDLE_ONE: u8 = 124;"),
     ("explained", 300, "kbsim/src/parts/explanations/slot.rs", "if head >> 28 != 1", "if head >> 28 == 1"),
     ("texts", 300, "wuzhikar-reader/src/parts/descriptor_parse/reports.rs", "MAX_COUNT: u32 = 1024;", "MAX_COUNT: u32 = 1023;"),
-    ("words", 300, "kbsim/src/program/refusal.rs", "const SIMILAR: f64 = 0.7;", "const SIMILAR: f64 = 0.9;"),
+    ("words", 300, "kbsim/src/program/words.rs", "range(2..=8)", "range(4..=8)"),
 ]
 
 

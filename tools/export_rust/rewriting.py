@@ -6,9 +6,8 @@ Everything else is copied byte for byte. What may mean something else in Rust is
 import rules
 from lexing import Refused, after, before, find, group_end, text_at
 
-# The traits of calls that take memory, and of those that only tests make.
+# The traits of calls that take memory.
 MEMORY = "crate::rattle::memory::*"
-MEMORY_OF_TESTS = "crate::rattle::cloning::*"
 
 
 class Rewriter:
@@ -22,8 +21,6 @@ class Rewriter:
         self.hosted = hosted            # whether this code may take memory
         self.traits = set()             # the traits that its calls need
         self.laws = set()               # the laws of crates below that the file takes
-        # Methods that have another name here, by their name alone: no crate of tests has one of its own that is called so.
-        self.renamed = {name.split("::")[1]: new for (_, name), new in holder.renamed.items()}
 
     def refuse(self, token, why):
         raise Refused(f"{self.file}:{token.line}: {why}")
@@ -73,8 +70,6 @@ class Rewriter:
         next_text = text_at(tokens, following)
         if token.text in self.laws and last in (";", "{", "}"):
             return "", find(tokens, ";", at) + 1
-        if self.hosted and token.text in rules.TEST_WORDS and last not in (".", "::"):
-            return f"crate::rattle::{token.text}", at + 1
         if token.text in rules.REFUSED_WORDS or token.text == "static" and next_text == "mut":
             self.refuse(token, f"`{token.text}` is not exported")
         if next_text == "!" and text_at(tokens, after(tokens, following)) in ("(", "[", "{"):
@@ -129,8 +124,6 @@ class Rewriter:
 
     def std(self, token, module):
         """What stands for `std` before this module of it."""
-        if module in rules.STD_TESTS:
-            return self.only_hosted(token, "crate::rattle")
         if module in rules.STD_STAND_INS:
             return "crate::rattle"
         if module in rules.STD_HOSTED:
@@ -144,18 +137,12 @@ class Rewriter:
     def method(self, tokens, at):
         """The name of a method that is called."""
         token = tokens[at]
-        if self.crate in self.holder.tests and token.text in self.renamed:
-            return self.renamed[token.text], at + 1
-        if self.hosted and token.text == "expect":
-            return self.expect(tokens, at)
         if token.text not in rules.REFUSED_METHODS or self.is_own(tokens, at):
             return token.text, at + 1
-        if not self.hosted:
+        if not self.hosted or token.text == "expect":
             self.refuse(token, f"`.{token.text}()` may mean something else in Rust")
-        if token.text in rules.MEMORY_METHODS and not self.is_plain_collect(tokens, at):
+        if token.text in rules.MEMORY_METHODS:
             self.traits.add(MEMORY)
-            if token.text == "clone" and self.crate in self.holder.tests:
-                self.traits.add(MEMORY_OF_TESTS)
             return rules.MEMORY_METHODS[token.text], at + 1
         return token.text, at + 1
 
@@ -164,20 +151,6 @@ class Rewriter:
         receiver = before(tokens, before(tokens, at))
         return text_at(tokens, receiver) == "self" and text_at(tokens, before(tokens, receiver)) != "."
 
-    def is_plain_collect(self, tokens, at):
-        """Whether the method at `at` is a `collect` that takes no allocator."""
-        opening = after(tokens, at)
-        return tokens[at].text == "collect" and (text_at(tokens, opening) != "(" or text_at(tokens, after(tokens, opening)) == ")")
-
-    def expect(self, tokens, at):
-        """`expect(rt, ..)` without the runtime."""
-        opening = after(tokens, at)
-        inside = tokens[opening + 1:group_end(tokens, opening) - 1]
-        comma = find(inside, ",")
-        if comma == len(inside) or text_at(inside, after(inside, comma)) == "":
-            self.refuse(tokens[at], "`expect` without a runtime")
-        return "expect(", opening + 1 + after(inside, comma)
-
     def macro(self, tokens, at, opening):
         """The name of a macro and what Rust's lacks of its arguments; the group opens at `opening`."""
         token = tokens[at]
@@ -185,11 +158,6 @@ class Rewriter:
         inside = tokens[opening + 1:end - 1]
         semicolon = find(inside, ";")
         is_in = text_at(inside, after(inside, -1)) == "in"
-        if token.text in rules.HOSTED_MACROS and self.hosted and semicolon < len(inside):
-            return f"{token.text}!(", opening + 1 + after(inside, semicolon)
-        if token.text == "format" and self.hosted and is_in and semicolon < len(inside):
-            alloc = self.code(inside[after(inside, after(inside, -1)):semicolon])
-            return f"crate::rattle::text::format({alloc}, format_args!({self.code(inside[semicolon + 1:]).strip()}))", end
         if token.text == "vec" and self.hosted and is_in:
             return self.vector(token, inside[after(inside, after(inside, -1)):]), end
         if token.text in rules.WRITING_MACROS and semicolon == len(inside):

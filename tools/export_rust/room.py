@@ -8,9 +8,9 @@ import sys
 
 HERE = os.path.dirname(os.path.abspath(__file__))
 ROOT = os.path.dirname(os.path.dirname(HERE))
-sys.path.insert(0, f"{ROOT}/tools")
+sys.path[:0] = [f"{ROOT}/tools", f"{ROOT}/tests"]
 
-from debian_crates import OF_PROGRAM, environment
+from debian_crates import OF_PROGRAM, environment, installed, lacking
 
 OLDEST = (1, 85)
 
@@ -46,12 +46,21 @@ def debian_sources():
     return path if os.path.isdir(f"{path}/compiler-builtins") else None
 
 
+def proptest():
+    """The variables by which cargo finds the crate proptest too."""
+    lacks = lacking(*OF_PROGRAM, "proptest")
+    if lacks:
+        raise Skipped(lacks)
+    if installed("proptest"):
+        return {}
+    return {"CARGO_HOME": os.environ.get("CARGO_HOME", os.path.expanduser("~/.cargo")), "CARGO_NET_OFFLINE": "false"}
+
+
 class Room:
     """A folder of work, with copies of what is committed, so that nothing is written there."""
 
     def __init__(self, folder):
         self.folder = folder
-        self.made = set()  # what was made in this run already
         self.environment = {**environment(folder, *OF_PROGRAM), "CARGO_TARGET_DIR": self.path("target"), "RUSTFLAGS": "-D warnings"}
         self.rust = self.copy("rust", f"{ROOT}/rust")
 
@@ -86,12 +95,12 @@ class Room:
     def cargo(self, *words, cwd=None, **more):
         return self.run(["cargo", *words], cwd, **more)
 
-    def tests(self, *words, cwd=None, name="", **more):
-        """Runs the tests that `cargo test` finds, and says how many passed. It fails where there is none."""
+    def tests(self, *words, cwd=None, name="", count=None, **more):
+        """Runs the tests that `cargo test` finds, and says how many passed. It fails where there is none, or not this count."""
         told = self.cargo("test", *words, cwd=cwd, **more).decode()
         passed = sum(map(int, re.findall(r"^test result: ok\. (\d+) passed", told, re.M)))
-        if passed == 0:
-            raise Failed(f"no test ran: cargo test {' '.join(words)}")
+        if passed == 0 or passed != (count or passed):
+            raise Failed(f"{passed} tests ran: cargo test {' '.join(words)}")
         say(f"{name or ' '.join(words)}: {passed} tests passed")
 
     def program(self, name, target=""):

@@ -3,6 +3,7 @@
 from dataclasses import dataclass, field
 
 HOSTED = 'feature = "sim"'
+LEFT_OUT = "never"
 
 
 @dataclass(frozen=True)
@@ -12,9 +13,8 @@ class Rules:
     name: str                       # the crate, and its folder in rust/
     crates: tuple                   # the crates of the source that it holds, lowest first
     below: tuple = ()               # the crates of plain Rust that it stands on
-    tests: tuple = ()               # the crates that are exported into it for tests alone: those of tests, and what only they call
     allocs: bool = False            # whether its code may take memory
-    # Modules under a condition, by (crate, module). Those under "test" are left out where no tests are exported.
+    # Modules under a condition, by (crate, module). One under LEFT_OUT is left out.
     conditions: dict = field(default_factory=dict)
     # Modules that may take memory, where the others may not.
     hosted: frozenset = frozenset()
@@ -45,7 +45,7 @@ class Rules:
 
     def holder(self, crate):
         """The rules of the crate of plain Rust that holds a crate of the source, here or below, or None."""
-        if crate in self.crates or crate in self.tests:
+        if crate in self.crates:
             return self
         return next((found for found in (rules.holder(crate) for rules in self.below) if found), None)
 
@@ -56,7 +56,7 @@ KEPT_UNITS = "**Needs** a flash that [`PairedFlash::format`] made, and that noth
 LOG = Rules(
     name="wuzhikar-log",
     crates=("flash_model", "records", "page_turnover", "ecc_flash"),
-    conditions={("flash_model", "sim"): HOSTED, ("flash_model", "masks"): HOSTED},
+    conditions={("flash_model", "sim"): HOSTED, ("flash_model", "masks"): HOSTED, ("ecc_flash", "witness"): LEFT_OUT},
     hosted=frozenset({("flash_model", "sim")}),
     owed={("page_turnover", "Log::words"): SAME_FLASH, ("page_turnover", "Log::step"): SAME_FLASH,
           ("ecc_flash", "PairedFlash::mount"): KEPT_UNITS},
@@ -76,8 +76,7 @@ KEYBOARD = Rules(
     name="wuzhikar",
     crates=("layers", "keymap_store", "debounce", "reports", "key_reports", "descriptor_build", "control_ep", "keyboard"),
     below=(LOG,),
-    tests=("row_text", "keymap_store_tests", "keyboard_tests"),
-    conditions={("reports", "plain"): "test"},
+    conditions={("reports", "plain"): LEFT_OUT},
     owed={("keyboard", "Keyboard::work"): "**Needs** the flash that the keyboard last started or restarted on, as the keyboard left it. "
                                 "Nothing checks it: [`FlashKeyboard`](crate::FlashKeyboard) holds both."},
     hidden=frozenset({("keyboard", "Keyboard::start"), ("keyboard", "Keyboard::start_in")}),
@@ -94,7 +93,7 @@ KEYBOARD = Rules(
                ("control_ep", "ControlEp"): None, ("keymap_store", "Job"): "Job::Turning { command: Command::UNSTARTED, from: 0 }",
                ("keymap_store", "Store"): None, ("keyboard", "Keyboard"): None},
     docs={("descriptor_build", ""): [("`parse_lines` prints them", "the crate `kbsim` prints them")],
-          ("keyboard", ""): [("A firmware calls it, as `firmware_example` does; `world`", "A firmware calls it, and the crate `kbsim`")]},
+          ("keyboard", ""): [("A firmware calls it; `world` does on", "A firmware calls it; the crate `kbsim` does on")]},
 )
 
 READER = Rules(
@@ -116,7 +115,6 @@ DETAILS = Rules(
     name="wuzhikar-hid",
     crates=("field_details", "field_values", "report_write"),
     below=(READER,),
-    tests=("row_text", "hid_tests"),
     allocs=True,
     hidden=frozenset({("field_details", "Details::around")}),
     renamed={("field_details", "Details::around"): "numbers_around", ("field_details", "Details::each_around"): "around"},
@@ -132,18 +130,15 @@ DETAILS = Rules(
 
 SIMULATOR = Rules(
     name="kbsim",
-    crates=("host", "world", "text_io", "script", "kbsim", "c_array", "parse_lines", "sentences", "explanations"),
+    crates=("host", "world", "text_io", "script", "kbsim", "parse_lines", "explanations"),
     below=(KEYBOARD, LOG, READER),
-    tests=("row_text", "descriptor_plain", "host_tests", "kbsim_tests", "ecc_sim", "ecc_law", "judge", "judge_tests"),
     allocs=True,
     hidden=frozenset({("world", "World::new"), ("host", "Host::new")}),
     fallible_clones=frozenset({("host", "UsageList"), ("host", "Reading")}),
+    derives={("kbsim", "Outcome"): ("Debug",), ("kbsim", "Step"): ("Debug",)},
     docs={("host", ""): [("`descriptor_parse::Parser` and `host_extract`", "`wuzhikar_reader::Parser` and `wuzhikar_reader::extract`")],
           ("kbsim", ""): [("The program `kbsim_cli` calls it", "The program of this crate calls it")],
-          ("parse_lines", ""): [("The program `kbsim_cli` calls them", "The program of this crate calls them")],
-          ("c_array", ""): [("The program `kbsim_cli` calls it", "The program of this crate calls it")],
-          ("sentences", ""): [("The program `kbsim_cli`\n//! prints them", "The program of this crate\n//! prints them")],
-          ("explanations", ""): [("The program `kbsim_cli` has", "The program of this crate has")]},
+          ("parse_lines", ""): [("The program `kbsim_cli` calls them", "The program of this crate calls them")]},
 )
 
 # All crates of plain Rust that are made, lowest first.
@@ -159,14 +154,13 @@ LIBRARIES = {"arrayvec"}
 DERIVING_LIBRARIES = {"thiserror"}
 
 # Crates that a module of `rattle` stands for.
-STAND_INS = {"circular_buffer", "hex", "strsim"}
+STAND_INS = {"circular_buffer", "hex"}
 
 # Their types that have the constant of `unstarted`, written by hand.
 STAND_INS_UNSTARTED = {"HeapCircularBuffer"}
 
-# Modules of Rattle's std that a module of `rattle` stands for; the first two are for tests alone.
-STD_TESTS = {"process", "test"}
-STD_STAND_INS = {"alloc", "simd"} | STD_TESTS
+# Modules of Rattle's std that a module of `rattle` stands for.
+STD_STAND_INS = {"alloc", "simd"}
 
 # Modules of Rattle's std whose parts are those of Rust's core.
 STD_CORE = {"array", "cmp", "convert", "fmt", "iter", "mem", "num", "ops", "option", "result", "slice", "str"}
@@ -178,10 +172,7 @@ STD_HOSTED = {"io"}
 PROVER_TRAIT = "Model"
 
 DROPPED_ATTRIBUTES = {"tactic", "cycle"}
-KEPT_ATTRIBUTES = {"cfg", "test", "inline", "cold", "must_use", "repr", "non_exhaustive", "ignore", "default"}
-
-# The files whose functions that end a test tell the place of the call.
-TOLD_AT_THE_CALL = "/asserts.rt"
+KEPT_ATTRIBUTES = {"cfg", "inline", "cold", "must_use", "repr", "non_exhaustive", "default"}
 
 # Derives that mean the same in both languages; `Drop` says in Rattle what Rust does by itself, `Error` is written out.
 DERIVES = {"Clone", "Copy", "PartialEq", "Eq", "PartialOrd", "Ord", "Debug", "Default", "Hash"}
@@ -192,7 +183,7 @@ DROPPED_DERIVES = {"Drop"}
 REFUSED_METHODS = {"clone", "cloned", "push", "push_str", "insert", "collect", "to_vec", "to_owned", "to_string", "extend",
                    "extend_from_slice", "reserve", "resize", "sort", "cast_signed", "cast_unsigned", "expect", "try_collect"}
 MEMORY_METHODS = {"push": "push_in", "insert": "insert_in", "extend_from_slice": "extend_in", "reserve": "reserve_in",
-                  "clone": "try_clone", "collect": "collect_in"}
+                  "clone": "try_clone"}
 
 # Calls of `Vec` that take an allocator, which are functions of `rattle::vec`.
 VEC_CALLS = {"new", "with_capacity"}
@@ -200,10 +191,8 @@ VEC_CALLS = {"new", "with_capacity"}
 # Words that no exported code has. The layout of types is each language's own.
 REFUSED_WORDS = {"unsafe", "async", "await", "extern", "union", "size_of", "size_of_val", "align_of", "transmute",
                  "HashMap", "String", "Box", "Rc", "Arc"}
-HOSTED_WORDS = {"Vec", "HostRuntime", "AllocGlobal"}
-TEST_WORDS = {"String", "Box"}
+HOSTED_WORDS = {"Vec"}
 
-# Macros that mean the same in both languages, and those that Rattle gives a runtime or an allocator.
+# Macros that mean the same in both languages.
 KEPT_MACROS = {"matches", "unreachable"}
-HOSTED_MACROS = {"assert", "assert_eq", "assert_ne", "panic"}
 WRITING_MACROS = {"write", "writeln"}

@@ -3,8 +3,9 @@
 import os
 import shutil
 
+import acceptance
 import crate_steps
-from room import DEBIAN_RUSTC, HERE, Failed, Skipped, debian_sources, say
+from room import DEBIAN_RUSTC, HERE, Failed, Skipped, debian_sources, proptest, say
 from debian_crates import REGISTRY, home
 
 BARE = ("thumbv7em-none-eabi", "thumbv6m-none-eabi", "riscv32imc-unknown-none-elf")
@@ -16,6 +17,7 @@ SOURCES = "Debian: rustc-web and rust-web-src, of 1.96; the sources of 1.85 have
 # Of each program for chips: its folder in examples/, its targets, and bytes of text that it is no smaller than.
 PROGRAMS = {
     "firmware": ("firmware", BARE, 10_000),
+    "chip_nrf51": ("chip_nrf51", ("thumbv6m-none-eabi",), 10_000),
     "settings_stm32g0": ("settings", ("thumbv6m-none-eabi",), 2_000),
 }
 
@@ -123,9 +125,10 @@ def machines(room):
 
 
 def narrow_tests(room, _):
-    """Runs the exported unit tests and those of the crates on a machine of 32 bits, with overflow checks."""
+    """Runs the tests of rust/tests, of crates/acceptance and of the crates on a machine of 32 bits, with overflow checks."""
     words, more = narrow(room)
-    room.tests(*words, "--lib", cwd=crate_steps.with_tests(room), name=f"{NARROW}, the exported unit tests", **more)
+    acceptance.run(room, *words, name=f"{NARROW}, crates/acceptance", **more)
+    room.tests(*words, cwd=f"{room.rust}/tests", name=f"{NARROW}, rust/tests", **{**proptest(), **more})
     sim = ["--features", "sim", "-p", "wuzhikar", "-p", "wuzhikar-log"]
     room.tests(*words, "--lib", *sim, name=f"{NARROW}, wuzhikar and wuzhikar-log", **more)
 

@@ -12,6 +12,7 @@ sys.dont_write_bytecode = True
 
 import rules
 import scripts
+from acceptance import TestTranslator
 from check import differing
 from command_lines import command_line
 from export_rust import HERE, ROOT, UNPROVED, Export, exports
@@ -20,9 +21,9 @@ from lexing import Refused
 from texts import text
 
 
-def rust(text, crate="layers", of=rules.KEYBOARD, hosted=False, contracts=False, left=True, with_tests=False, file="f.rt"):
+def rust(text, crate="layers", of=rules.KEYBOARD, hosted=False, contracts=False, left=True):
     """The Rust for a file of a crate that stands on `records`."""
-    translator = Translator(crate, "", file, {"records"}, of, hosted, contracts, with_tests)
+    translator = Translator(crate, "", "f.rt", {"records"}, of, hosted, contracts)
     translator.open_module = lambda name, hosted: left
     return translator.translate(text)
 
@@ -82,14 +83,20 @@ CHANGED = [
 ]
 
 HOSTED = [
-    ("a test with a runtime", "#[test]\nfn a(\n    rt: HostRuntime,\n) -> Result<(), Fail> {\n    assert_eq!(rt; f(), 1);\n    Ok(())\n}\n",
-     "#[test]\nfn a() { crate::rattle::test::run(|rt| -> Result<(), Fail> {\n    assert_eq!(f(), 1);\n    Ok(())\n}) }\n"),
-    ("a borrowed runtime", "fn a(rt: &impl Abort) { f().expect(rt, \"one\"); assert!(&rt; g()); }\n",
-     "fn a(rt: &impl Abort) { f().expect(\"one\"); assert!(g()); }\n"),
-    ("a vector", "fn a(rt: HostRuntime) -> Vec<u8> { vec![in rt.alloc(); 0u8; 4] }\n",
-     "fn a(rt: crate::rattle::HostRuntime) -> crate::rattle::Vec<u8> { crate::rattle::vec::of(rt.alloc(), 0u8, 4) }\n"),
+    ("a vector", "fn a(alloc: u8) -> Vec<u8> { vec![in alloc; 0u8; 4] }\n",
+     "fn a(alloc: u8) -> crate::rattle::Vec<u8> { crate::rattle::vec::of(alloc, 0u8, 4) }\n"),
     ("a vector's calls", "fn a(alloc: u8) { let mut v = Vec::new(alloc); v.push(1)?; }\n",
      "fn a(alloc: u8) { let mut v = crate::rattle::vec::new(alloc); v.push_in(1)?; }\n\n#[allow(unused_imports)]\nuse crate::rattle::memory::*;\n"),
+]
+
+# Forms of the tests of crates/acceptance.
+TESTS = [
+    ("a test with a runtime", "#[test]\nfn a(rt: HostRuntime) -> Result<(), Fail> {\n    assert_eq!(&rt; f(), 1);\n    Ok(())\n}\n",
+     "#[test]\nfn a() -> Result<(), Fail> { let rt = crate::rattle::HostRuntime;\n    assert_eq!( f(), 1);\n    Ok(())\n}\n"),
+    ("what ends a test", "fn a(rt: &impl Abort) { f().expect(rt, \"one\"); assert!(rt; g(), \"two\"); }\n",
+     "fn a(rt: &impl Abort) { f().expect( \"one\"); assert!( g(), \"two\"); }\n"),
+    ("a text", "fn a(alloc: Global) { format!(in alloc; \"{x} \") }\n",
+     "fn a(alloc: Global) { crate::rattle::format(alloc, format_args!( \"{x} \")) }\n"),
 ]
 
 REFUSED = [
@@ -98,7 +105,7 @@ REFUSED = [
     "fn f() -> u8 { self.v.push(1)?; 1 }",
     "impl Drop for S { fn drop(self) { } }",
     "impl<F: Flash + Drop> Drop for S<F> { fn drop(self) { } }",
-    "fn f(rt: &HostRuntime) -> u8 { 1 }",
+    "#[test] fn f() {}",
     "fn f(v: Vec<u8>) -> u8 { 1 }",
     "use std::process::Abort;",
     "use std::collections::HashMap;",
@@ -147,10 +154,16 @@ class Forms(unittest.TestCase):
             with self.subTest(name):
                 self.assertEqual(rust(source), export)
 
-    def test_tests_take_no_runtime(self):
+    def test_memory_is_taken_by_calls_of_its_own(self):
         for name, source, export in HOSTED:
             with self.subTest(name):
                 self.assertEqual(rust(source, hosted=True), export)
+
+    def test_tests_have_a_runtime(self):
+        for name, source, export in TESTS:
+            with self.subTest(name):
+                made = TestTranslator("acceptance", "tests", "f.rt", set(), rules.SIMULATOR, True, False).translate(source)
+                self.assertEqual(made, export)
 
     def test_what_is_not_known_is_refused_with_its_line(self):
         for source in REFUSED:
@@ -169,27 +182,9 @@ class Forms(unittest.TestCase):
         self.assertEqual(rust(source, crate="field_details", of=rules.DETAILS),
                          "impl Details { pub(crate) fn numbers_around(&self, place: u8) -> u8 { place } }\n")
 
-    def test_tests_call_a_method_by_its_name_here(self):
-        source = "fn f(told: &Details) -> u8 { told.around(1) }\n"
-        for crate, name in (("hid_tests", "numbers_around"), ("report_write", "around")):
-            made = Translator(crate, "", "f.rt", {"field_details"}, rules.DETAILS, hosted=True).translate(source)
-            self.assertEqual(made, source.replace("around", name))
-
-    def test_a_copy_in_tests_has_the_trait_for_it(self):
-        source = "fn f(flash: &SimFlash) { flash.clone()?; }\n"
-        for crate, copies in (("keymap_store_tests", True), ("keymap_store", False)):
-            made = rust(source, crate=crate, hosted=True)
-            self.assertIn("flash.try_clone()?", made)
-            self.assertEqual("use crate::rattle::cloning::*;" in made, copies)
-
-    def test_a_module_for_tests_has_no_condition(self):
+    def test_a_module_for_tests_is_left_out(self):
         for source in ("pub mod plain;\n", "use plain::x;\n"):
-            self.assertEqual(rust(source, crate="reports", with_tests=True), source)
             self.assertEqual(rust(source, crate="reports").strip(), "")
-
-    def test_what_is_added_for_tests_is_for_a_crate_that_has_some(self):
-        names = {"rattle", "rattle.rs"} | {f"{of.name}.{end}" for of in rules.WORKSPACE if of.tests for end in ("rattle.rs", "toml")}
-        self.assertLessEqual(set(os.listdir(os.path.join(HERE, "tests"))), names)
 
     def test_a_call_with_a_type_that_has_no_name_is_for_the_crate(self):
         source = "impl Keyboard { pub fn start_in(room: Room) -> u8\n    ensures { a }\n{ 1 } }\n"
@@ -202,11 +197,6 @@ class Forms(unittest.TestCase):
         self.assertEqual(made, "impl Item { /// Tag.\n    #[inline(always)]\n    fn tag() -> u8 { 1 } }\nfn tag() -> u8 { 2 }\n")
         with self.assertRaises(Refused):
             rust("impl Item { #[inline(never)] fn tag() -> u8 { 1 } }\n", crate="descriptor_parse", of=rules.READER)
-
-    def test_what_ends_a_test_tells_the_place_of_the_call(self):
-        source, hosted = "pub fn holds(rt: &impl Abort, it: bool) { assert!(rt; it); }\npub fn text() {}\n", "pub fn holds(rt: &impl Abort, it: bool) { assert!(it); }\n"
-        self.assertEqual(rust(source, file="tests/asserts.rt", hosted=True), f"#[track_caller]\n{hosted}pub fn text() {{}}\n")
-        self.assertEqual(rust(source, file="tests/rows.rt", hosted=True), f"{hosted}pub fn text() {{}}\n")
 
     def test_memory_that_waits_for_a_keyboard_is_zeros(self):
         of = dataclasses.replace(rules.KEYBOARD, unstarted={("keymap_store", name): None for name in "SRT"} | {("keymap_store", "E"): "E::A(0)"})
@@ -244,13 +234,6 @@ class Forms(unittest.TestCase):
     def test_a_module_of_which_nothing_is_left_is_left_out(self):
         self.assertEqual(rust("pub mod laws;\nmod a;\n", left=False), "\n")
         self.assertEqual(rust("pub mod laws;\n"), "pub mod laws;\n")
-
-    def test_tests_see_the_runtime_and_the_rest_does_not(self):
-        text = "#[cfg(test)]\nmod tests { fn a(rt: HostRuntime) {} }\n"
-        self.assertIn("crate::rattle::HostRuntime", rust(text, with_tests=True))
-        self.assertEqual(rust(text).strip(), "")
-        with self.assertRaises(Refused):
-            rust(text + "fn b(rt: HostRuntime) {}\n", with_tests=True)
 
 
 class Whole(unittest.TestCase):

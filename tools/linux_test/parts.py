@@ -10,7 +10,7 @@ import sys
 ROOT = os.path.dirname(os.path.dirname(os.path.dirname(os.path.abspath(__file__))))
 sys.path.insert(0, f"{ROOT}/tools")
 
-from debian_crates import environment, lacking  # noqa: E402
+from debian_crates import OF_PROGRAM, environment, lacking, unlocked  # noqa: E402
 
 # Programs, and Debian's packages of them.
 PROGRAMS = {
@@ -21,8 +21,8 @@ OVMF = "/usr/share/ovmf/OVMF.fd"
 # The crates of examples/keymap, and their packages.
 KEYMAP = (["arrayvec", "serde_json", "serde_derive"], "librust-serde-json-dev librust-serde-derive-dev")
 
-# Those of rust/kbsim-read.
-READER = (["arrayvec", "serde_json"], "librust-arrayvec-dev librust-serde-json-dev")
+# Those of rust/kbsim.
+READER = (list(OF_PROGRAM), " ".join(f"librust-{name.replace('_', '-')}-dev" for name in OF_PROGRAM))
 
 
 class Missing(Exception):
@@ -97,7 +97,7 @@ def build(work):
     for name, crates in names.items():
         variables = {**environment(f"{work}/{name}", *crates), "RUSTFLAGS": "-D warnings -C target-feature=+crt-static"}
         command = ["cargo", "build", "-q", "--release", "--target", target, "--target-dir", built]
-        subprocess.run(command, cwd=f"{ROOT}/examples/{name}", env=variables, check=True)
+        subprocess.run(command, cwd=unlocked(work, f"examples/{name}"), env=variables, check=True)
     in_c = {name: f"{work}/{name}" for name in ("host", "uhid")}
     for name, path in in_c.items():
         words = ["-std=c11", "-D_DEFAULT_SOURCE", "-O1", "-static", "-Wall", "-Wextra", "-Werror", "-o", path]

@@ -41,7 +41,7 @@ def texts():
 
 
 class Reader:
-    """`kbsim-read`, by its JSON."""
+    """`kbsim`, by its JSON."""
 
     def __init__(self, program, text):
         self.program, self.text = program, text

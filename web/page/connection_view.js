@@ -90,4 +90,4 @@ export function connectionView(model, keymap) {
 
 /** The lines about what the rule opens. */
 export const udevNote = () => h("p", { class: "dim" },
-    "The rule lets every program of the user who is logged in at the machine read each key that is typed on this keyboard, and send it any report. Remove the file when you are done, if that is too much.");
+    "The rule lets every program of the user who is logged in at the machine read each key that is typed on this keyboard, set its keys, and wear out its flash (SECURITY.md). Remove the file when you are done, if that is too much.");

@@ -66,10 +66,12 @@ export function describeView() {
         if (!text) return say("Paste an input report in hex.", "");
         if (!descriptor) return say("A report is read by a descriptor without a fault.", "bad");
         try {
-            const found = descriptor.read(bytesOfText(text)), on = found.filter(({ value }) => value !== 0).length;
+            const bytes = bytesOfText(text), found = descriptor.read(bytes), on = found.filter(({ value }) => value !== 0).length;
             const shown = [...found].sort((one, other) => Number(other.value !== 0) - Number(one.value !== 0)).slice(0, MOST_FOUND);
             $("found").replaceChildren(...shown.map(({ usage, value }) => h("li", { class: value ? "on" : "" }, h("b", {}, String(value)), ` ${usageName(usage)} `, h("code", {}, hex(usage, 8)))));
-            say(`${counted(found.length, "value")}, ${on} not 0.`, "good");
+            const rest = bytes.length - descriptor.reportLength(1, descriptor.usesIds ? bytes[0] : 0);
+            const more = rest > 0 ? ` ${counted(rest, "byte")} behind its end ${rest === 1 ? "is" : "are"} no part of it.` : "";
+            say(`${counted(found.length, "value")}, ${on} not 0.${more}`, "good");
         } catch (refused) {
             if (!(refused instanceof Refused)) throw refused;
             say(`This report is not read: ${refused.message}.`, "bad");

@@ -51,6 +51,13 @@ class Reader {
         if (found !== undefined) this.at += found.length;
         return found;
     }
+    /** A string, or nothing: text, so that no half of a surrogate pair stands alone (RFC 8259, section 8.2). */
+    string() {
+        const { at } = this, found = this.match(STRING);
+        const text = found === undefined ? undefined : JSON.parse(found);
+        if (text !== undefined && /\p{Cs}/u.test(text)) throw new JsonFault("half of a surrogate pair stands alone", at);
+        return text;
+    }
     takes(sign) {
         this.blank();
         if (this.text[this.at] !== sign) return false;
@@ -66,8 +73,8 @@ class Reader {
         const { at } = this;
         if (this.takes("{")) return { kind: "object", value: this.list("}", () => this.member()), at };
         if (this.takes("[")) return { kind: "array", value: this.list("]", () => this.value()), at };
-        const string = this.match(STRING);
-        if (string !== undefined) return { kind: "string", value: JSON.parse(string), at };
+        const string = this.string();
+        if (string !== undefined) return { kind: "string", value: string, at };
         const digits = this.match(NUMBER);
         if (digits !== undefined) return { kind: "number", value: Number(digits), at };
         const word = this.match(WORD);
@@ -76,10 +83,10 @@ class Reader {
     }
     member() {
         this.blank();
-        const { at } = this, name = this.match(STRING);
+        const { at } = this, name = this.string();
         if (name === undefined) throw this.fault("this is no JSON: the name of a member is missing");
         this.needs(":");
-        return { name: JSON.parse(name), node: this.value(), at };
+        return { name, node: this.value(), at };
     }
     list(end, one) {
         if (++this.depth > DEEPEST) throw this.fault(`values stand more than ${DEEPEST} deep`);

@@ -1,6 +1,6 @@
 // The keyboards that a keymap is set on: the simulated one, and one on USB by WebHID. Both take the same feature report 3.
 
-import { Refused } from "./bytes.js";
+import { Refused, hex } from "./bytes.js";
 import { GET_FEATURE, SET_FEATURE } from "./bench.js";
 import { isCode } from "./codes.js";
 import { KEYS, LAYERS } from "./device.js";
@@ -18,6 +18,11 @@ function check(operation, layer, key, code) {
 }
 const GONE = "the power or the bus went before it was confirmed";
 const OTHER = "another program selected an entry meanwhile; read again";
+const REFUSES = "the keyboard refused it, and USB does not tell why: its flash failed, is worn or damaged, or the cable";
+/** A host gives a transfer up after 5 s, and a browser tells that as it tells a refusal. */
+const PATIENCE = 4900;
+const UNANSWERED = "the keyboard did not answer in time";
+const UNCONFIRMED = "the keyboard did not confirm it in time: each entry is the old one or the new one. Read all to see which";
 
 /** One transfer after the other. */
 class Queue {
@@ -109,7 +114,7 @@ export class HidKeyboard {
      * @param {any} device a HIDDevice
      */
     static async open(device) {
-        const features = (device.collections ?? []).flatMap((one) => (one.usagePage === FILTER.usagePage ? one.featureReports : []));
+        const features = (device.collections ?? []).flatMap((one) => (one.usagePage === FILTER.usagePage ? (one.featureReports ?? []) : []));
         if (!features.some((report) => report.reportId === REPORT)) throw new Refused("this device has no feature report 3");
         try {
             if (!device.opened) await device.open();
@@ -118,23 +123,25 @@ export class HidKeyboard {
         }
         return new HidKeyboard(device);
     }
-    async transfer(act) {
+    /** Makes a transfer, or refuses with what its failure means; `late` is what a timeout means. */
+    async transfer(act, late = UNANSWERED) {
         if (this.gone) throw new Refused("the keyboard was unplugged");
+        const begun = performance.now();
         try {
             return await act();
         } catch {
             if (this.gone || !this.device.opened) throw new Refused("the keyboard was unplugged");
-            throw new Refused("the keyboard refused it, and USB does not tell why: its flash failed, is worn or damaged, or the cable");
+            throw new Refused(performance.now() - begun < PATIENCE ? REFUSES : late);
         }
     }
-    async send(report) {
-        await this.transfer(() => this.device.sendFeatureReport(REPORT, Uint8Array.from(report)));
+    async send(report, late = UNANSWERED) {
+        await this.transfer(() => this.device.sendFeatureReport(REPORT, Uint8Array.from(report)), late);
     }
     /** Sends a command; the browser's call ends when the keyboard confirmed it. @returns {Promise<void>} */
     command(operation, layer, key, code) {
         return this.queue.add(async () => {
             check(operation, layer, key, code);
-            await this.send([operation, layer, key, code & 255, code >> 8]);
+            await this.send([operation, layer, key, code & 255, code >> 8], UNCONFIRMED);
         });
     }
     /** The code of an entry. @returns {Promise<number>} */
@@ -144,9 +151,11 @@ export class HidKeyboard {
             await this.send([0, layer, key, 0, 0]);
             const view = await this.transfer(() => this.device.receiveFeatureReport(REPORT));
             const bytes = new Uint8Array(view.buffer, view.byteOffset, view.byteLength);
-            const [, l, k, low, high] = bytes.length === 6 && bytes[0] === REPORT ? bytes.subarray(1) : bytes;
-            if (l !== layer || k !== key || low === undefined || high === undefined) throw new Refused(OTHER);
-            return low | (high << 8);
+            const [selected, l, k, low, high] = bytes.length === 6 && bytes[0] === REPORT ? bytes.subarray(1) : bytes;
+            if (selected !== 0 || l !== layer || k !== key || low === undefined || high === undefined) throw new Refused(OTHER);
+            const code = low | (high << 8);
+            if (!isCode(code)) throw new Refused(`the keyboard answered ${hex(code, 4)}h, which is no code`);
+            return code;
         });
     }
 }

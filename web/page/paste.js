@@ -4,7 +4,8 @@ import { Refused } from "./bytes.js";
 
 const LARGEST = 1048576, MOST = 32768;
 
-const withoutComments = (text) => text.replace(/\/\*[^]*?\*\//g, " ").replace(/\/\/[^\n]*/g, " ").replace(/^\s*#[^\n]*/gm, " ");
+/** A text without the comments of C, of which one without an end stays, and without lines that begin with #. */
+const withoutComments = (text) => text.replace(/\/\*[^]*?(\*\/|$)|\/\/[^\n]*/g, (whole, end) => (end === "" ? whole : " ")).replace(/^[^\S\n\r\u2028\u2029]*#[^\n]*/gm, " ");
 
 /** A number of C below 256. */
 function numberOf(word, array) {
@@ -12,15 +13,21 @@ function numberOf(word, array) {
     return byte <= 255 ? byte : -1;
 }
 
-const DUMP = /^\s*([0-9a-f]{5,8}):?((?:\s+[0-9a-f]{2}(?:[0-9a-f]{2})?)*)(?:\s{2,}\S.*)?\s*$/i;
-
 /** The bytes of a dump of hexdump, od or xxd: each line begins with the number of the bytes before it; null for another text. */
 function ofDump(lines) {
     const bytes = [];
     for (const line of lines) {
-        const [, offset, pairs] = DUMP.exec(line) ?? [];
-        if (offset === undefined || ![16, 8].some((base) => parseInt(offset, base) === bytes.length)) return null;
-        bytes.push(...(pairs.match(/[0-9a-f]{2}/gi) ?? []).map((pair) => parseInt(pair, 16)));
+        const offset = /^\s*([0-9a-f]{5,8}):?(?!\S)/i.exec(line);
+        if (!offset || ![16, 8].some((base) => parseInt(offset[1], base) === bytes.length)) return null;
+        // (Step by step, so that a line takes a time by its length.)
+        const pairs = /\s+([0-9a-f]{2})([0-9a-f]{2})?(?!\S)/iy;
+        let at = (pairs.lastIndex = offset[0].length);
+        for (let found = pairs.exec(line); found; found = pairs.exec(line)) {
+            for (const pair of found.slice(1)) if (pair) bytes.push(parseInt(pair, 16));
+            at = pairs.lastIndex;
+        }
+        // What the bytes are as text stands two spaces behind them.
+        if (!/^(\s\s|\s*$)/.test(line.slice(at))) return null;
     }
     return bytes.length ? bytes : null;
 }

@@ -14,7 +14,7 @@ export const FAULTS = [
 ];
 const REFUSALS = ["", "a report has a byte at least", "no input report has the ID that it begins with", "it is shorter than the descriptor says", "there was no memory for it"];
 export const KINDS = ["", "input", "output", "feature"];
-/** The most bytes that the module takes. */
+/** The most bytes that the module takes, and hands over at once. */
 const ROOM = 8 * 4096;
 
 /**
@@ -90,26 +90,37 @@ export class Descriptor {
     reportLength(kind, id) {
         return this.instance.calls.report_length(kind, id);
     }
-    count(number) {
-        if (number < 0) throw new Refused(REFUSALS[-100 - number] ?? "there is no descriptor");
-        return number;
+    /**
+     * What a call finds in a report, entries of so many bytes, as many at once as the module has room for.
+     * @template T
+     * @param {Uint8Array} report
+     * @param {(length: number, passed: number) => number} call
+     * @param {number} size
+     * @param {(view: DataView, at: number) => T} entry
+     */
+    found(report, call, size, entry) {
+        /** @type {T[]} */
+        const all = [];
+        for (;;) {
+            const count = call(this.instance.put(report), all.length), view = this.instance.view(ROOM);
+            if (count < 0) throw new Refused(REFUSALS[-100 - count] ?? "there is no descriptor");
+            const here = Math.min(count - all.length, Math.floor(ROOM / size));
+            for (let n = 0; n < here; n++) all.push(entry(view, n * size));
+            if (all.length >= count) return all;
+        }
     }
     /**
      * The usages of an input report with their values. Throws `Refused` for a report that the descriptor does not declare.
      * @param {Uint8Array} report
      */
     read(report) {
-        const count = this.count(this.instance.calls.read(this.instance.put(report)));
-        const view = this.instance.view(12 * count);
-        return Array.from({ length: count }, (_, n) => ({ usage: view.getUint32(12 * n, true), value: Number(view.getBigInt64(12 * n + 4, true)) }));
+        return this.found(report, this.instance.calls.read, 12, (view, at) => ({ usage: view.getUint32(at, true), value: Number(view.getBigInt64(at + 4, true)) }));
     }
     /**
      * The usages that are on in an input report, rising.
      * @param {Uint8Array} report
      */
     pressed(report) {
-        const count = this.count(this.instance.calls.read_pressed(this.instance.put(report)));
-        const view = this.instance.view(4 * count);
-        return Array.from({ length: count }, (_, n) => view.getUint32(4 * n, true));
+        return this.found(report, this.instance.calls.read_pressed, 4, (view, at) => view.getUint32(at, true));
     }
 }

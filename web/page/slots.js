@@ -91,7 +91,7 @@ export function imageOf(pages) {
 }
 
 /**
- * The image of two pages that a list of slots gives (tools/make-image).
+ * The image of two pages that a list of slots gives (examples/make-image).
  * @param {string} text
  */
 export function imageOfSlots(text) {

@@ -31,10 +31,11 @@ export function testerView(model) {
     /** Of consumer keys browsers tell little; report 2 can be listened to, and is read by the keyboard's descriptor. */
     let heard = null;
     const consumer = (event) => {
-        const { kept } = session.bench.host;
-        if (event.reportId !== CONSUMER_REPORT || !kept) return;
+        const { host } = session.bench;
+        if (event.reportId !== CONSUMER_REPORT || !host.kept) return;
         const bytes = new Uint8Array(event.data.buffer, event.data.byteOffset, event.data.byteLength);
-        add(kept.pressed(Uint8Array.of(CONSUMER_REPORT, ...bytes)).map(usageName).join(" + ") || "released", "report 2");
+        const read = host.read(false, Uint8Array.of(CONSUMER_REPORT, ...bytes));
+        add(read ? read.map(usageName).join(" + ") || "released" : "no report of this keyboard", "report 2");
     };
     model.on(() => {
         const device = model.keyboard.simulated ? null : /** @type {any} */ (model.keyboard).device;

@@ -88,6 +88,34 @@ class OnUsb(Configured):
             self.assertIn(why, self.b.js(f"page.model.keyboard.command(1, {layer}, {key}, {code}).then(() => 'taken', (error) => error.message)"))
         self.assertEqual(self.b.js(self.sent(1)), 1)
 
+    def test_a_host_that_gave_up_is_no_refusal(self):
+        """A host waits 5 s for a transfer. The page's clock goes on by as much."""
+        self.connect()
+        self.connected()
+        self.b.js("""(() => {
+            const now = performance.now.bind(performance), { device } = played;
+            let later = 0;
+            performance.now = () => now() + later;
+            device.sendFeatureReport = async () => { later += 5000; throw new DOMException("Failed to write the feature report.", "NotAllowedError"); };
+        })()""")
+        self.assign(10, 7)
+        self.bad("Set key 10 on layer 0 to D: the keyboard did not confirm it in time: each entry is the old one or the new one. Read all to see which.")
+        self.b.click("#read-all")
+        self.bad("Reading: the keyboard did not answer in time.")
+
+    def test_answers_that_are_none(self):
+        """A device that is none of this kind: its answers are looked at before they are shown or saved."""
+        for answer, why in (("3, 0, 0, 0, 0xff, 0xff", "the keyboard answered FFFFh, which is no code"), ("3, 0, 0, 0, 2, 0", "the keyboard answered 0002h, which is no code"),
+                            ("3, 1, 0, 0, 4, 0", "another program selected an entry meanwhile; read again"), ("3", "another program selected an entry meanwhile; read again")):
+            self.connect(f"device.receiveFeatureReport = async () => new DataView(Uint8Array.of({answer}).buffer);")
+            self.bad(f"Reading: {why}.")
+            self.shows("#progress-text", "Not all entries were read")
+            self.b.click("#connect")
+            self.shows("#device", "Simulated keyboard")
+            self.forget()
+        self.connect("device.collections = [{ usagePage: 0xff00, usage: 1 }];")
+        self.bad("Connecting: this device has no feature report 3.")
+
     def test_nothing_chosen_and_another_device(self):
         self.b.click("#connect")
         self.bad(re.compile(".*no keyboard was chosen.*"))
@@ -210,6 +238,25 @@ class Simulated(Configured):
         self.assertEqual(self.b.js("[...page.session.bench.device.keymap()]"), before)
         self.assertEqual(self.b.js("page.session.ledger.confirmed"), 0)
 
+    def test_a_file_is_taken_where_the_tool_takes_it(self):
+        """The rows of examples/keymap/src/file/tests.rs."""
+        text = json.dumps(keymap_file(), indent=1)
+        named = lambda name: text.replace("{", '{"name": "' + name + '",', 1)
+        version = lambda number: text.replace('"version": 1', f'"version": {number}')
+        rows = [("\ufeff" + text, ""), ("\ufeff\ufeff" + text, "a value is missing, at line 1, column 1"), (" \ufeff" + text, "a value is missing, at line 1, column 2"),
+                (named(r"\ud83d\ude00"), ""), (named(r"\ud800"), "half of a surrogate pair stands alone, at line 1, column 10"), (named(r"\udc00"), "half of a surrogate pair"),
+                (named(r"\ud800\u0041"), "half of a surrogate pair"), (version("1.000000000000000000000000"), ""), (version("100e-2"), ""),
+                (version("0.9999999999999999"), "its version is 0.9999999999999999"), (version("0.99999999999999999999"), ""),
+                (json.dumps(["wuzhikar-keymap", 1, keymap_file()["layers"]]), "it is no object")]
+        for file, why in rows:
+            with self.subTest(file[:40]):
+                self.forget()
+                self.load(file)
+                if why:
+                    self.bad(re.compile(rf".*: .*{re.escape(why)}.* Nothing was sent\."))
+                else:
+                    self.good(re.compile(".*nothing was sent\\."))
+
     def test_the_key_tester(self):
         self.b.click("#tester")
         self.b.press("a", "KeyA", 65)
@@ -225,3 +272,5 @@ class Simulated(Configured):
         self.b.wait("[...document.querySelectorAll('#tester-log li')].map((one) => one.textContent).join('|') === 'KeyQ down types \"q\"|KeyQ up types \"q\"'")
         self.b.js("""played.device.dispatchEvent(Object.assign(new Event("inputreport"), { reportId: 2, data: new DataView(Uint8Array.of(0xe9, 0, 0, 0, 0, 0, 0, 0).buffer) }))""")
         self.b.wait("document.querySelector('#tester-log').textContent.endsWith('Volume Increment report 2')")
+        self.b.js("""played.device.dispatchEvent(Object.assign(new Event("inputreport"), { reportId: 2, data: new DataView(new ArrayBuffer(1)) }))""")
+        self.b.wait("document.querySelector('#tester-log').textContent.endsWith('no report of this keyboard report 2')")

@@ -91,6 +91,30 @@ class Described(PageTest):
             self.b.choose("#report", report)
             self.shows("#report-said", f"This report is not read: {why}.")
 
+    def test_a_report_with_more_values_than_the_core_hands_over_at_once(self):
+        """Eight fields of 1,024 buttons, all of them down."""
+        buttons = "19 01 2a 00 04 15 00 25 01 75 01 96 00 04 81 02"
+        self.describe("05 01 09 05 a1 01 " + "".join(f"06 {page:02x} ff {buttons} " for page in range(8)) + "c0", re.compile(".*8 fields, 1 report. No fault."))
+        self.b.choose("#report", "ff" * 1024)
+        self.shows("#report-said", "8,192 values, 8192 not 0.")
+        self.assertEqual(self.b.js("""(() => {
+            const read = new page.Descriptor(page.bytesOfText(document.querySelector("#descriptor").value)), report = new Uint8Array(1024).fill(255);
+            const wrong = read.read(report).filter(({ usage, value }, n) => value !== 1 || usage !== (0xff00 + (n >> 10)) * 65536 + (n & 1023) + 1).length;
+            const pressed = read.pressed(report.fill(0, 0, 512)), odd = pressed.filter((usage, n) => usage !== (0xff04 + (n >> 10)) * 65536 + (n & 1023) + 1).length;
+            return [wrong, pressed.length, odd];
+        })()"""), [0, 4096, 0])
+
+    def test_what_stands_behind_a_report_is_told(self):
+        self.b.click("#boot-descriptor")
+        self.b.choose("#report", "02 00 04 05 00 00 00 00")
+        self.shows("#report-said", re.compile(r".* values, \d+ not 0\."))
+        for more, said in (("00", "1 byte behind its end is"), ("00 05", "2 bytes behind its end are")):
+            self.b.choose("#report", f"02 00 04 05 00 00 00 00 {more}")
+            self.shows("#report-said", re.compile(rf".* values, \d+ not 0\. {said} no part of it\."))
+        self.b.click("#own-descriptor")
+        self.b.choose("#report", self.b.js("document.querySelector('#report').value") + " 01")
+        self.shows("#report-said", re.compile(r".* 1 byte behind its end is no part of it\."))
+
     def test_examples(self):
         for button, said in (("own", "99 bytes, 49 items, 5 fields, 4 reports. No fault."), ("boot", "39 bytes, 20 items, 2 fields, 1 report. No fault."), ("media", "No fault.")):
             self.b.click(f"#{button}-descriptor")

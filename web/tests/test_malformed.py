@@ -100,6 +100,22 @@ class Malformed(PageTest):
         self.told("#report-said", r"This report is not read: .*\.")
         self.assertEqual(self.state(), before)
 
+    def test_no_text_takes_long(self):
+        """Texts of 256 KiB, of which a reader that is quadratic makes minutes."""
+        for name, text in {"blank lines": "'\\n'", "returns": "'\\r'", "spaces": "' '", "comments": "'/* '", "lines": "'//'", "marks": "'# '", "braces": "'{ '", "dump": "'00 '", "spaced dump": "'00  '"}.items():
+            for begin, end in (("''", "''"), ("'00000000 '", "'\\u2028.'")):
+                with self.subTest(name):
+                    said, took = self.b.js(f"""(() => {{
+                        const text = {begin} + {text}.repeat(262144 / {text}.length) + {end}, begun = performance.now();
+                        let said = "";
+                        try {{ page.bytesOfText(text); }} catch (fault) {{ said = fault instanceof page.Refused ? fault.message : String(fault); }}
+                        return [said, performance.now() - begun];
+                    }})()""")
+                    self.assertRegex(said, "^$|no byte|at most 4,096")
+                    self.assertLess(took, 5000)
+        self.assertEqual(self.b.js("page.bytesHex(page.bytesOfText('05 /* a // b */ 01 // c /*\\n 09 06 // */'))"), "05010906")
+        self.assertEqual(self.b.js("[...page.bytesOfText('00000000 ' + '05 '.repeat(30000))].length"), 30000)
+
     def test_a_descriptor_with_the_most_of_all(self):
         """256 fields of 1,024 places: drawn as far as it says, and quickly."""
         self.view("Describe")

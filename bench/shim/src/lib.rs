@@ -1,4 +1,4 @@
-//! The exported keyboard behind `bench/peer/keyboard.h`, on the flash of `bench/peer/flash.h`: one bench calls it and the peer.
+//! The exported keyboard behind `reference/peer/keyboard.h`, on the flash of `reference/peer/flash.h`: one bench calls it and the peer.
 //!
 //! Calls come one after another, and `kb_start` comes first, as the header says.
 #![no_std]
@@ -17,29 +17,39 @@ fn keyboard() -> &'static mut Keyboard {
     unsafe { &mut *addr_of_mut!(KEYBOARD).cast() }
 }
 
-/// Copies bytes to where the caller wants them, and gives their number.
+/// Puts bytes where the caller wants them, as a driver fills its controller's buffer, and gives their number. `FULL` bytes are
+/// put there by words, others one by one; neither is a call.
 ///
 /// # Safety
 /// `out` has room for them.
-unsafe fn give(bytes: &[u8], out: *mut u8) -> u32 {
-    unsafe { core::ptr::copy_nonoverlapping(bytes.as_ptr(), out, bytes.len()) };
+unsafe fn give<const FULL: usize>(bytes: &[u8], out: *mut u8) -> u32 {
+    unsafe {
+        if let Ok(full) = <[u8; FULL]>::try_from(bytes) {
+            out.cast::<[u8; FULL]>().write(full);
+        } else {
+            for (at, &byte) in bytes.iter().enumerate() {
+                out.add(at).write_volatile(byte);
+            }
+        }
+    }
     bytes.len() as u32
 }
 
-/// An answer as a number of the header. A packet's bytes are copied.
-unsafe fn number(answer: &EpAnswer, out: *mut u8) -> i32 {
+/// An answer as a number of the header: of a packet its length.
+fn number(answer: &EpAnswer) -> i32 {
     match answer {
         EpAnswer::Ack => 0,
         EpAnswer::Nak => -1,
         EpAnswer::Stall(why) => -100 - i32::from(why.number()),
-        EpAnswer::Packet(packet) => unsafe { give(packet, out) as i32 },
+        EpAnswer::Packet(packet) => packet.len() as i32,
     }
 }
 
 #[unsafe(no_mangle)]
 extern "C" fn kb_start() {
     // SAFETY: no other call is running.
-    unsafe { (*addr_of_mut!(KEYBOARD)).start(&Flash) };
+    let started = unsafe { (*addr_of_mut!(KEYBOARD)).start(&Flash) };
+    debug_assert!(started.is_ok());
 }
 
 #[unsafe(no_mangle)]
@@ -62,14 +72,18 @@ extern "C" fn kb_setup(packet: &[u8; 8]) {
 #[unsafe(no_mangle)]
 unsafe extern "C" fn kb_out(packet: *const u8, n: u32) -> i32 {
     let packet = unsafe { core::slice::from_raw_parts(packet, n as usize) };
-    unsafe { number(&keyboard().out(packet), core::ptr::null_mut()) }
+    number(&keyboard().out(packet))
 }
 
 /// # Safety
 /// `packet` has room for 8 bytes.
 #[unsafe(no_mangle)]
 unsafe extern "C" fn kb_in(packet: *mut u8) -> i32 {
-    unsafe { number(&keyboard().in_packet(), packet) }
+    let answer = keyboard().in_packet();
+    if let EpAnswer::Packet(bytes) = &answer {
+        unsafe { give::<8>(bytes, packet) };
+    }
+    number(&answer)
 }
 
 /// # Safety
@@ -77,7 +91,7 @@ unsafe extern "C" fn kb_in(packet: *mut u8) -> i32 {
 #[unsafe(no_mangle)]
 unsafe extern "C" fn kb_poll(report: *mut u8) -> u32 {
     match keyboard().poll() {
-        Some(sent) => unsafe { give(&sent, report) },
+        Some(sent) => unsafe { give::<23>(&sent, report) },
         None => 0,
     }
 }

@@ -13,10 +13,7 @@ const PAGES: usize = 2;
 
 const PAGES_WORD: &str = "2";
 
-/// The names of the forms of a report descriptor.
-const FORMS: &[&str] = &["hex", "c", "bytes"];
-
-const VERSION: &str = "0.1.0";
+const VERSION: &str = "0.2.0";
 
 const RUN_HELP: &str = "\
 Runs a script on a simulated keyboard whose flash is blank, or holds the bytes
@@ -48,8 +45,7 @@ means: the reason of a stall, the name of a request, the usages of a report, the
 operation that a step of the flash work made. Standard output is the same.
 
 The line of a fault, as `fault line 2: bad number`, is the last one on standard
-output; on standard error a sentence says what is wrong there. docs/SCRIPT.md
-has the language.";
+output. docs/SCRIPT.md has the language.";
 
 const DESCRIBE_HELP: &str = "\
 Prints the keyboard's device, configuration and report descriptors, each on a
@@ -61,13 +57,9 @@ Reads a HID report descriptor, and prints a line for each of its fields:
 
   kbsim parse FILE
   kbsim parse < FILE
-  kbsim parse --from c FILE
-  kbsim parse --from bytes /sys/bus/hid/devices/DEVICE/report_descriptor
 
 The text is hex digits in either case, two a byte, at most 1048576 bytes in all;
-spaces, tabs and line ends are dropped. With --from c it is an array of bytes as
-C writes it, with its declaration or without: 0x5 or 5, commas, and comments,
-which are left out. With --from bytes it is the bytes themselves. A line is
+spaces, tabs and line ends are dropped. A line is
 
   KIND ID BIT SIZE COUNT MIN MAX FORM USAGES
 
@@ -81,23 +73,9 @@ begins at bit 8 after the ID byte and has 161 places of 1 bit, whose values are
 holds the number of a usage in the list. The usages are 04h to A4h of page 07h.
 Ranges and single usages are joined by commas, and - says that there are none.
 
-With --items it prints each item in place of the fields: the offset in bytes,
-the bytes, and what they say, indented by the collections that are open, as in
-
-   4  a1 01           Collection (Application)
-   6  25 7f             Logical Maximum (127)
-   8  85 00             Report ID (0)  <-- fault 5: bad Report ID
-fault parse 5 at 8
-
-The item at which a fault comes is marked, and after it the line of the fault is
-all that is printed. A usage has the name that it has on the page in force at
-its item, or its number in hex.
-
-Without --items a fault is the only line: `fault hex` where the text is not
-pairs of hex digits, `fault c` where it is no array, `fault parse N at OFFSET`
-for fault N of the descriptor, at the item with that offset in bytes,
-`fault too long`, `fault input` or `fault memory`. On standard error a sentence
-says what is wrong there.
+A fault is the only line: `fault hex` where the text is not pairs of hex digits,
+`fault parse N at OFFSET` for fault N of the descriptor, at the item with that
+offset in bytes, `fault too long`, `fault input` or `fault memory`.
 docs/DESCRIPTORS.md has more, docs/FORMATS.md the numbers of faults.";
 
 const STATUS_HELP: &str = "\
@@ -132,17 +110,6 @@ pub enum Source<'a> {
     File(&'a str),
 }
 
-/// How a text says the bytes of a report descriptor.
-#[derive(Clone, Copy)]
-pub enum Form {
-    /// By hex digits.
-    Hex,
-    /// As an array of C.
-    C,
-    /// It is the bytes.
-    Bytes,
-}
-
 /// What the command line asks for.
 #[derive(Clone, Copy)]
 pub enum Request<'a> {
@@ -156,11 +123,9 @@ pub enum Request<'a> {
     },
     /// To print the keyboard's descriptors.
     Describe,
-    /// To print the fields of a report descriptor, or its items.
+    /// To print the fields of a report descriptor.
     Parse {
         source: Source<'a>,
-        form: Form,
-        items: bool,
     },
 }
 
@@ -179,8 +144,6 @@ fn asked<'a>(matches: &ArgMatches<'a>) -> Request<'a> {
     if let Some(parse) = matches.subcommand_matches("parse") {
         return Request::Parse {
             source: source_of(parse.get_str("file")),
-            form: form_of(parse.get_str("from")),
-            items: parse.get_flag("items"),
         };
     }
     let run = matches.subcommand_matches("run");
@@ -210,15 +173,6 @@ fn source_of<'a>(word: Option<&'a str>) -> Source<'a> {
     match word {
         None | Some("-") => Source::StandardInput,
         Some(path) => Source::File(path),
-    }
-}
-
-/// The form with this name; hex where none is named.
-fn form_of(word: Option<&str>) -> Form {
-    match word {
-        Some("c") => Form::C,
-        Some("bytes") => Form::Bytes,
-        _ => Form::Hex,
     }
 }
 
@@ -296,25 +250,8 @@ fn describe<'a>(alloc: Global) -> Command<'a> {
 }
 
 fn parse<'a>(alloc: Global) -> Result<Command<'a>, AllocError> {
-    let args = vec![in alloc; from(alloc), items(alloc), file(alloc)]?;
-    let about = "Prints the fields, or the items, of a report descriptor";
-    told(alloc, "parse", about, PARSE_HELP, STATUS_HELP).args(args)
-}
-
-fn from<'a>(alloc: Global) -> Arg<'a> {
-    Arg::new(alloc, "from")
-        .long("from")
-        .value_name("FORM")
-        .help("How the text says the bytes")
-        .value_parser(FORMS)
-        .default_value("hex")
-}
-
-fn items<'a>(alloc: Global) -> Arg<'a> {
-    Arg::new(alloc, "items")
-        .long("items")
-        .help("Prints each item, up to the first fault, in place of the fields")
-        .action(ArgAction::SetTrue)
+    let about = "Prints the fields of a report descriptor";
+    told(alloc, "parse", about, PARSE_HELP, STATUS_HELP).arg(file(alloc))
 }
 
 /// A command with the texts of its help: in a line, at length, and of its exit statuses.

@@ -416,10 +416,14 @@ pub answers_memory : (text : List ℕ) (r : Result DescriptorValue ParseError) �
 answers_memory text (Ok d) a = tt
 answers_memory text (Err e) a = a.memory
 
+-- two descriptors of the same items are the same
+pub same_fields : (items : List ItemValue) (a b : DescriptorValue) → Describes items a → Describes items b → AreSame (Ok a) (Ok b)
+same_fields items a b p q =
+    (p.fields ∙ sym q.fields, p.ranges ∙ sym q.ranges, p.uses_ids ∙ sym q.uses_ids, λ kind id. p.bits kind id ∙ sym (q.bits kind id))
+
 -- two answers to one text are the same
 pub same_answers : (text : List ℕ) (a b : Result DescriptorValue ParseError) → Answers text a → Answers text b → IsOfTheText a → IsOfTheText b → AreSame a b
-same_answers text (Ok a) (Ok b) p q m n =
-    (p.1.fields ∙ sym q.1.fields, p.1.ranges ∙ sym q.1.ranges, p.1.uses_ids ∙ sym q.1.uses_ids, λ kind id. p.1.bits kind id ∙ sym (q.1.bits kind id))
+same_answers text (Ok a) (Ok b) p q m n = same_fields (all_items text) a b p.1 q.1
 same_answers text (Ok a) (Err e) p q m n = p.0 e.fault e.offset (q.first n).0
 same_answers text (Err e) (Ok b) p q m n = q.0 e.fault e.offset (p.first m).0
 same_answers text (Err e) (Err f) p q m n = one_first text e f (p.first m) (q.first n)

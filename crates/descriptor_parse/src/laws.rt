@@ -4,7 +4,8 @@ ghost use Rattle.std.specs.Prelude.{◌≡◌, ◌++◌, ℕ, List, map, Result,
 ghost use Rattle.descriptor_parse.specs.Items.{ItemValue, items_at};
 ghost use Rattle.descriptor_parse.specs.Cut.{IsCut, HasNoItem, cut_off_at};
 ghost use Rattle.descriptor_parse.specs.declared.fault.ParseError.{ParseError};
-ghost use Rattle.descriptor_parse.specs.Descriptor.{DescriptorValue};
+ghost use Rattle.descriptor_parse.specs.Descriptor.{DescriptorValue, Describes};
+ghost use Rattle.descriptor_parse.specs.Faults.{all_items, IsFaultless, IsFirstFault};
 ghost use Rattle.descriptor_parse.specs.Parse.{Answers, IsOfTheText, AreSame};
 
 /// Each text can be cut into items, as far as it holds whole ones.
@@ -23,4 +24,12 @@ pub fn one_cut()
 /// the parser, or else the answer of its end, is that of `parse` of the whole.
 pub fn one_answer()
     ensures { (text : List ℕ) (a b : Result DescriptorValue ParseError) → Answers text a → Answers text b → IsOfTheText a → IsOfTheText b → AreSame a b }
+{}
+
+/// A text has one list of fields, with their usages, their bits and whether IDs are used, and one first fault; and it has
+/// a first fault only where it is not faultless. So whatever reads it, by a state or by looking back, reads the same.
+pub fn one_reading()
+    ensures fields { (text : List ℕ) (a b : DescriptorValue) → Describes (all_items text) a → Describes (all_items text) b → AreSame (Ok a) (Ok b) }
+    ensures fault { (text : List ℕ) (a b : ParseError) → IsFirstFault text a → IsFirstFault text b → a ≡ b }
+    ensures either { (text : List ℕ) (e : ParseError) → IsFaultless text → IsFirstFault text e → ⊥ }
 {}

@@ -5,3 +5,5 @@ pub mod OfCells
 pub mod Operating
 pub mod Leaving
 mod Words
+pub mod Witnessing
+mod Thrice

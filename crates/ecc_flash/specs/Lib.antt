@@ -3,3 +3,4 @@ pub mod Reading
 pub mod Model
 pub mod Paired
 pub mod Cells
+pub mod Witness

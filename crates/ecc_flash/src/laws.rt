@@ -8,12 +8,18 @@ ghost use Rattle.ecc_flash.specs.Reading.{blank};
 ghost use Rattle.ecc_flash.specs.Units.{IsEight, IsPair, IsCheckOf, Lacks};
 ghost use Rattle.ecc_flash.specs.Model.{WriteUnit, IsProgrammed, MayBeErased};
 ghost use Rattle.ecc_flash.specs.Cells.{IsCode, HasCells, ReadsCells, ProgramsCells, ErasesCells, code_word};
+ghost use Rattle.ecc_flash.specs.Witness.{twice};
 
 /// Where both units of a slot have each bit that they were meant to have set, but for one at most,
 /// and read as a word and its check, it is the word that was meant.
 pub fn no_other_word()
     ensures { (word check read read_check : List ℕ) → IsPair word → IsPair check → IsCheckOf word check → IsPair read → IsPair read_check → IsCheckOf read read_check
         → Lacks word read → Lacks check read_check → read ≡ word }
+{}
+
+/// There is such a code, so that the laws on cells speak of some flash: each byte three times over.
+pub fn a_code_corrects_one()
+    ensures { IsCode 16 twice }
 {}
 
 /// Cells read as one thing only, and the cells of a code word as its bytes.

@@ -19,6 +19,7 @@ pub mod cut;
 pub mod laws;
 pub mod paired;
 pub mod reading;
+pub mod witness;
 
 pub use cut::CutFlash;
 use flash_model::FlashFault;

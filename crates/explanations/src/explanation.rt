@@ -1,13 +1,14 @@
-//! What a line that was printed means.
+//! What the answer of a line means.
 
 use crate::code::{ShownCode, ShownCommand};
 use crate::edges::KeyChanges;
-use crate::follower::Follower;
 use crate::operation::{AllMade, Made};
-use crate::reason::Reason;
+use crate::reason::meaning;
 use crate::report::ShownReading;
 use crate::request::ShownRequest;
 use crate::slot::ShownSlot;
+use flash_model::SimFlash;
+use kbsim::{Answer, Outcome, Work};
 use layers::Command;
 use script::{Action, Statement};
 use std::fmt;
@@ -15,45 +16,49 @@ use std::fmt;
 /// What the answer of a line means, in a sentence.
 #[derive(Drop)]
 pub(crate) struct Explanation<'e, 't> {
-    /// The number of the line, what it says, and its answer as it was printed.
+    /// The number of the line, what it says, and what it came to.
     pub(crate) number: usize,
     pub(crate) statement: &'e Statement<'t>,
-    pub(crate) answer: &'e str,
+    pub(crate) outcome: &'e Outcome,
     /// The operations and the changes of keys that it made.
     pub(crate) made: Made,
     pub(crate) changes: KeyChanges,
     /// How many bytes the latest request had read before it; none where it reads nothing.
     pub(crate) read: Option<u16>,
-    /// The keyboard after it.
-    pub(crate) follower: &'e Follower,
+    /// The flash after it.
+    pub(crate) flash: &'e SimFlash,
 }
 
 impl fmt::Display for Explanation<'_, '_> {
     fn fmt<W: fmt::Write>(&self, f: &mut fmt::Formatter<W>) -> fmt::Result {
         let number = self.number;
         write!(f, "line {number}: ")?;
-        match self.statement {
-            Statement::One(action) => {
+        match (self.statement, self.outcome) {
+            (_, Outcome::Fetched(_)) => f.write_str(
+                "the host has the report descriptor, and reads reports by it",
+            ),
+            (Statement::One(action), Outcome::Answered(answer)) => {
                 let shown = OfAction {
                     action,
+                    answer,
                     explanation: self,
                 };
                 write!(f, "{shown}")
             }
-            Statement::Scans { .. } => {
+            (Statement::Scans { .. }, Outcome::Answered(_)) => {
                 let changes = self.changes;
                 write!(f, "{changes}")
             }
-            Statement::Set { .. } => {
+            (Statement::Set { .. }, Outcome::Answered(answer)) => {
                 let set = OfSet {
-                    answer: self.answer,
+                    answer,
                     made: self.made,
                 };
                 write!(f, "{set}")
             }
-            Statement::Fetch => {
-                let fetch = OfFetch(self.answer);
-                write!(f, "{fetch}")
+            (Statement::Fetch, Outcome::Answered(answer)) => {
+                let refusal = Refusal(answer);
+                write!(f, "{refusal}")
             }
         }
     }
@@ -63,20 +68,22 @@ impl fmt::Display for Explanation<'_, '_> {
 #[derive(Drop)]
 struct OfAction<'a, 'e, 't> {
     action: &'a Action<'t>,
+    answer: &'a Answer,
     explanation: &'a Explanation<'e, 't>,
 }
 
 impl fmt::Display for OfAction<'_, '_, '_> {
     fn fmt<W: fmt::Write>(&self, f: &mut fmt::Formatter<W>) -> fmt::Result {
         let whole = self.explanation;
+        let answer = self.answer;
         match self.action {
             Action::Scan(_) => write!(f, "{}", whole.changes),
-            Action::Poll => write!(f, "{}", OfPoll(whole.answer)),
+            Action::Poll => write!(f, "{}", OfPoll(answer)),
             Action::Setup(packet) => write!(f, "{}", ShownRequest(*packet)),
-            Action::Out(packet) => write!(f, "{}", out_of(whole.answer, packet.as_slice())),
-            Action::In => write!(f, "{}", whole.packet()),
-            Action::Work => write!(f, "{}", whole.work(false)),
-            Action::WorkFault(_) => write!(f, "{}", whole.work(true)),
+            Action::Out(packet) => write!(f, "{}", out_of(answer, packet.as_slice())),
+            Action::In => write!(f, "{}", in_of(answer, whole.read)),
+            Action::Work => write!(f, "{}", work_of(answer, whole.made, false)),
+            Action::WorkFault(_) => write!(f, "{}", work_of(answer, whole.made, true)),
             Action::Cut => f.write_str("the power is cut, and the keyboard starts on its flash"),
             Action::CutWork(_) => write!(f, "{}", OfCut(whole.made)),
             Action::Reset => f.write_str(
@@ -84,77 +91,76 @@ impl fmt::Display for OfAction<'_, '_, '_> {
             ),
             Action::Entry(layer, key) => {
                 let (layer, key) = (layer.number(), key.number());
-                write!(
-                    f,
-                    "layer {layer}, key {key} = {}",
-                    PrintedCode(whole.answer)
-                )
+                write!(f, "layer {layer}, key {key} = {}", OfEntry(answer))
             }
             Action::Slot { page, slot } => {
-                let shown = whole.slot(*page, *slot);
+                let shown = OfSlot {
+                    page: *page,
+                    slot: *slot,
+                    answer,
+                    flash: whole.flash,
+                };
                 write!(f, "page {page}, slot {slot}: {shown}")
             }
-            Action::Leds => write!(f, "{}", PrintedLeds(whole.answer)),
+            Action::Leds => write!(f, "{}", OfLeds(answer)),
         }
     }
 }
 
-impl<'e> Explanation<'e, '_> {
-    /// The answer of an IN token.
-    fn packet(&self) -> OfIn<'e> {
-        OfIn {
-            answer: self.answer,
-            read: self.read,
-        }
-    }
-
-    /// The answer of a step of the flash work, by a line with a fault or without.
-    fn work(&self, torn: bool) -> OfWork<'e> {
-        OfWork {
-            answer: self.answer,
-            made: self.made,
-            torn,
-        }
-    }
-
-    /// A slot of the keyboard's flash.
-    fn slot(&self, page: u8, slot: u16) -> ShownSlot<'e> {
-        ShownSlot {
-            page,
-            slot,
-            follower: self.follower,
-        }
-    }
-}
-
-/// A code as it was printed.
+/// The answer of a look at an entry.
 #[derive(Drop)]
-struct PrintedCode<'a>(&'a str);
+struct OfEntry<'a>(&'a Answer);
 
-impl fmt::Display for PrintedCode<'_> {
+impl fmt::Display for OfEntry<'_> {
     fn fmt<W: fmt::Write>(&self, f: &mut fmt::Formatter<W>) -> fmt::Result {
-        match u16::from_str_radix(self.0, 16) {
-            Ok(code) => {
-                let code = ShownCode(code);
+        match self.0 {
+            Answer::EntryIs(code) => {
+                let code = ShownCode(code.bits());
                 write!(f, "{code}")
             }
-            Err(_) => f.write_str("no code"),
+            _ => f.write_str("no code"),
         }
     }
 }
 
-/// The LEDs as they were printed.
+/// The answer of a look at a slot.
 #[derive(Drop)]
-struct PrintedLeds<'a>(&'a str);
+struct OfSlot<'a> {
+    page: u8,
+    slot: u16,
+    answer: &'a Answer,
+    flash: &'a SimFlash,
+}
 
-impl fmt::Display for PrintedLeds<'_> {
+impl fmt::Display for OfSlot<'_> {
     fn fmt<W: fmt::Write>(&self, f: &mut fmt::Formatter<W>) -> fmt::Result {
-        match u8::from_str_radix(self.0, 16) {
-            Ok(leds) => {
-                let leds = Leds(leds);
+        match self.answer {
+            Answer::SlotIs(bytes) => {
+                let shown = ShownSlot {
+                    page: self.page,
+                    slot: self.slot,
+                    bytes: *bytes,
+                    flash: self.flash,
+                };
+                write!(f, "{shown}")
+            }
+            _ => f.write_str("no such slot"),
+        }
+    }
+}
+
+/// The answer of a look at the LEDs.
+#[derive(Drop)]
+struct OfLeds<'a>(&'a Answer);
+
+impl fmt::Display for OfLeds<'_> {
+    fn fmt<W: fmt::Write>(&self, f: &mut fmt::Formatter<W>) -> fmt::Result {
+        match self.0 {
+            Answer::LedsAre(leds) => {
+                let leds = Leds(*leds);
                 write!(f, "LEDs on: {leds}")
             }
-            Err(_) => f.write_str("no LEDs"),
+            _ => f.write_str("no LEDs"),
         }
     }
 }
@@ -181,33 +187,29 @@ impl fmt::Display for Leds {
 
 /// The answer of a poll.
 #[derive(Drop)]
-struct OfPoll<'a>(&'a str);
+struct OfPoll<'a>(&'a Answer);
 
 impl fmt::Display for OfPoll<'_> {
     fn fmt<W: fmt::Write>(&self, f: &mut fmt::Formatter<W>) -> fmt::Result {
-        match self.0.strip_prefix("report ") {
-            Some(rest) => {
-                let (_, reading) = rest.split_once(' ').unwrap_or((rest, ""));
+        match self.0 {
+            Answer::Sent { reading, .. } => {
                 let reading = ShownReading(reading);
                 write!(f, "{reading}")
             }
-            None => f.write_str("no report waits, and none is due"),
+            _ => f.write_str("no report waits, and none is due"),
         }
     }
 }
 
 /// An answer that took no packet.
 #[derive(Drop)]
-struct Refusal<'a>(&'a str);
+struct Refusal<'a>(&'a Answer);
 
 impl fmt::Display for Refusal<'_> {
     fn fmt<W: fmt::Write>(&self, f: &mut fmt::Formatter<W>) -> fmt::Result {
-        match self.0.strip_prefix("stall ") {
-            Some(number) => {
-                let reason = Reason(number);
-                write!(f, "{reason}")
-            }
-            None => f.write_str("a command works, so the host is to try again"),
+        match self.0 {
+            Answer::Stall(why) => f.write_str(meaning(*why)),
+            _ => f.write_str("a command works, so the host is to try again"),
         }
     }
 }
@@ -215,13 +217,13 @@ impl fmt::Display for Refusal<'_> {
 /// The answer of an OUT packet.
 #[derive(Drop)]
 struct OfOut<'a> {
-    answer: &'a str,
+    answer: &'a Answer,
     packet: &'a [u8],
 }
 
 impl fmt::Display for OfOut<'_> {
     fn fmt<W: fmt::Write>(&self, f: &mut fmt::Formatter<W>) -> fmt::Result {
-        if self.answer == "ack" {
+        if is_ack(self.answer) {
             let taken = TakenPacket(self.packet);
             return write!(f, "{taken}");
         }
@@ -230,7 +232,11 @@ impl fmt::Display for OfOut<'_> {
     }
 }
 
-fn out_of<'a>(answer: &'a str, packet: &'a [u8]) -> OfOut<'a> {
+fn is_ack(answer: &Answer) -> bool {
+    matches!(answer, Answer::Ack)
+}
+
+fn out_of<'a>(answer: &'a Answer, packet: &'a [u8]) -> OfOut<'a> {
     OfOut { answer, packet }
 }
 
@@ -265,35 +271,34 @@ impl fmt::Display for TakenPacket<'_> {
 /// The answer of an IN token.
 #[derive(Drop)]
 struct OfIn<'a> {
-    answer: &'a str,
+    answer: &'a Answer,
     read: Option<u16>,
 }
 
 impl fmt::Display for OfIn<'_> {
     fn fmt<W: fmt::Write>(&self, f: &mut fmt::Formatter<W>) -> fmt::Result {
-        match self.answer.strip_prefix("data ") {
-            Some("-") => match self.read {
+        match self.answer {
+            Answer::Packet(packet) if packet.is_empty() => match self.read {
                 Some(count) => write!(f, "the read ends after {count} bytes"),
                 None => f.write_str("the transfer succeeded"),
             },
-            Some(digits) => {
+            Answer::Packet(packet) => {
                 let bytes = ReadBytes {
                     first: self.read.unwrap_or(0),
-                    count: bytes_of(digits),
+                    count: packet.len() as u16,
                 };
                 write!(f, "{bytes}")
             }
-            None => {
-                let refusal = Refusal(self.answer);
+            answer => {
+                let refusal = Refusal(answer);
                 write!(f, "{refusal}")
             }
         }
     }
 }
 
-/// How many bytes these digits write, at most 8.
-pub(crate) fn bytes_of(digits: &str) -> u16 {
-    (digits.len() / 2).min(8) as u16
+fn in_of(answer: &Answer, read: Option<u16>) -> OfIn<'_> {
+    OfIn { answer, read }
 }
 
 /// The bytes of a packet, by their places in what is read. A packet with less than 8 ends it (USB 2.0 section 8.5.3).
@@ -316,10 +321,10 @@ impl fmt::Display for ReadBytes {
     }
 }
 
-/// The answer of a step of the flash work.
+/// The answer of a step of the flash work, by a line with a fault or without.
 #[derive(Drop)]
 struct OfWork<'a> {
-    answer: &'a str,
+    answer: &'a Answer,
     made: Made,
     torn: bool,
 }
@@ -330,15 +335,20 @@ impl fmt::Display for OfWork<'_> {
             return f.write_str("no command works, so no operation is made");
         };
         write!(f, "{operation}")?;
-        if self.torn && self.answer != "failed" {
+        let failed = matches!(self.answer, Answer::Worked(Work::Failed));
+        if self.torn && !failed {
             f.write_str("; it stands in spite of a fault")?;
         }
         match self.answer {
-            "settled" => f.write_str("; the command is stored"),
-            "failed" => f.write_str("; it is torn, and the command failed"),
+            Answer::Worked(Work::Settled) => f.write_str("; the command is stored"),
+            Answer::Worked(Work::Failed) => f.write_str("; it is torn, and the command failed"),
             _ => f.write_str("; the command needs more steps"),
         }
     }
+}
+
+fn work_of(answer: &Answer, made: Made, torn: bool) -> OfWork<'_> {
+    OfWork { answer, made, torn }
 }
 
 /// A power cut inside a step of the flash work.
@@ -357,42 +367,24 @@ impl fmt::Display for OfCut {
 /// The answer of a whole transfer that sets an entry.
 #[derive(Drop)]
 struct OfSet<'a> {
-    answer: &'a str,
+    answer: &'a Answer,
     made: Made,
 }
 
 impl fmt::Display for OfSet<'_> {
     fn fmt<W: fmt::Write>(&self, f: &mut fmt::Formatter<W>) -> fmt::Result {
         let made = AllMade(&self.made);
-        match self.answer {
-            "ack" if self.made.count == 0 => f.write_str(
-                "it was so already, and nothing is written",
-            ),
-            "ack" => write!(f, "stored: {made}"),
-            _ if self.made.count == 0 => {
-                let refusal = Refusal(self.answer);
-                write!(f, "{refusal}")
-            }
-            _ => {
-                let refusal = Refusal(self.answer);
-                write!(f, "{refusal}; {made}")
-            }
+        let is_nothing = self.made.count == 0;
+        if is_ack(self.answer) {
+            return match is_nothing {
+                true => f.write_str("it was so already, and nothing is written"),
+                false => write!(f, "stored: {made}"),
+            };
         }
-    }
-}
-
-/// The answer of a whole transfer of the report descriptor.
-#[derive(Drop)]
-struct OfFetch<'a>(&'a str);
-
-impl fmt::Display for OfFetch<'_> {
-    fn fmt<W: fmt::Write>(&self, f: &mut fmt::Formatter<W>) -> fmt::Result {
-        match self.0.strip_prefix("fetched ") {
-            Some(_) => f.write_str("the host has the report descriptor, and reads reports by it"),
-            None => {
-                let refusal = Refusal(self.0);
-                write!(f, "{refusal}")
-            }
+        let refusal = Refusal(self.answer);
+        match is_nothing {
+            true => write!(f, "{refusal}"),
+            false => write!(f, "{refusal}; {made}"),
         }
     }
 }

@@ -1,7 +1,7 @@
 //! The operations of the flash work.
 
 use crate::code::ShownCommand;
-use crate::flash::Asked;
+use kbsim::Operation as Asked;
 use records::{Slot, classify};
 use std::fmt;
 
@@ -22,7 +22,7 @@ impl Operation {
     /// The operation that a flash was asked for, where this page was active before it.
     pub(crate) fn of(asked: Asked, active: Option<usize>) -> Operation {
         match asked {
-            Asked::Erase(page) => Operation::Erase { page },
+            Asked::Erase { page } => Operation::Erase { page },
             Asked::Program { page, slot, bytes } => {
                 let word = match classify(bytes) {
                     Slot::Good(word) => word,

@@ -1,4 +1,4 @@
-//! The names of the usages that reports of this keyboard can have. `tools/usage_names.py --write` makes this file from
+//! The names of the usages that reports of this keyboard can have. `tools/make/usage_names.py --write` makes this file from
 //! `rust/wuzhikar-hid/src/usages.txt`.
 
 /// Page 07h (HUT section 10): a usage in hex and its name in each line.

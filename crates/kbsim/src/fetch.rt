@@ -6,6 +6,7 @@ ghost use Rattle.kbsim.specs.Outputs.{FetchRuns, GoesOn};
 
 use crate::outcome::Outcome;
 use crate::run::{ask, is_ack, open, send};
+use crate::sink::Sink;
 use crate::spare::Spare;
 use crate::{Answer, World};
 use arrayvec::ArrayVec;
@@ -20,18 +21,19 @@ const MOST_PACKETS: u16 = 32;
 /// Asks for the report descriptor, and closes the transfer once its data came. The outcome is the
 /// number of bytes, or the first answer that is neither a packet of data nor, of the packet that
 /// closes it, `Ack`.
-pub(crate) fn fetch(
+pub(crate) fn fetch<S: Sink>(
     world: &mut World,
     answers: &mut Vec<Answer>,
     spare: &mut Spare,
+    sink: &mut S,
 ) -> Result<Outcome, AllocError>
     ensures { IfOk result (λ outcome. GoesOn (λ steps. FetchRuns steps outcome) world.old world.new) }
 {
-    let count = match gather(world, answers, spare)? {
+    let count = match gather(world, answers, spare, sink)? {
         Ok(count) => count,
         Err(answer) => return Ok(Outcome::Answered(answer)),
     };
-    let told = send(world, ArrayVec::new(), answers, spare)?;
+    let told = send(world, ArrayVec::new(), answers, spare, sink)?;
     if is_ack(&told) {
         return Ok(Outcome::Fetched(count));
     }
@@ -40,19 +42,20 @@ pub(crate) fn fetch(
 
 /// Asks for the report descriptor, and takes IN packets until one is shorter than eight bytes. The
 /// answer is the number of bytes that came, or the first answer that is no packet of data.
-fn gather(
+fn gather<S: Sink>(
     world: &mut World,
     answers: &mut Vec<Answer>,
     spare: &mut Spare,
+    sink: &mut S,
 ) -> Result<Result<u16, Answer>, AllocError>
     ensures { IfOk result (λ gathered. MatchResult gathered
         (λ count. GoesOn (IsGathered count) world.old world.new)
         (λ answer. GoesOn (IsCutShort answer) world.old world.new)) }
 {
     // A SETUP packet is always acknowledged.
-    open(world, GET_REPORT_DESCRIPTOR, answers, spare)?;
+    open(world, GET_REPORT_DESCRIPTOR, answers, spare, sink)?;
     for full in 0..MOST_PACKETS {
-        let answer = ask(world, answers, spare)?;
+        let answer = ask(world, answers, spare, sink)?;
         let Some(length) = packet_length(&answer) else {
             return Ok(Err(answer));
         };

@@ -4,7 +4,7 @@ use crate::Answer;
 
 /// What a line of a script prints after its number.
 #[derive(Drop)]
-pub(crate) enum Outcome {
+pub enum Outcome {
     /// An answer of one of its events.
     Answered(Answer),
     /// So many bytes of the report descriptor came, in a whole transfer.

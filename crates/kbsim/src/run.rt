@@ -10,7 +10,7 @@ ghost use Rattle.flash_model.specs.Image.{page_count};
 ghost use Rattle.flash_model.specs.Sim.{SimValue};
 ghost use Rattle.world.specs.ties.Stands.{StandsFor};
 ghost use Rattle.kbsim.specs.Outputs.{set_report, blank, IsFlashWork, LineRuns, IsRepeated, IsRefusedSet, IsTakenSet, IsRun, IsOutput, IsBegun, GoesOn, Takes, IsPassed};
-ghost use Rattle.kbsim.specs.Prints.{fault_line};
+ghost use Rattle.kbsim.specs.Prints.{fault_line, printed_line};
 ghost use Rattle.kbsim.specs.Scripts.{IsEarly, IsSound, IsRunFault};
 ghost use Rattle.script.specs.Scripts.{Script};
 
@@ -19,6 +19,7 @@ use crate::fetch::fetch;
 use crate::flash::blank_flash;
 use crate::outcome::Outcome;
 use crate::print::{FaultLine, PrintedLine};
+use crate::sink::{Silent, Sink, tell_step};
 use crate::spare::Spare;
 use crate::{Answer, Event, RunError, Work, World};
 use arrayvec::ArrayVec;
@@ -28,7 +29,7 @@ use std::alloc::{AllocError, Global};
 use std::io::{Read, Write};
 use std::num::NonZeroU16;
 use std::slice;
-use text_io::{Printer, read_text};
+use text_io::{Printer, WriteError, read_text};
 use world::Scan;
 
 /// The most steps that a command's flash work takes: an erase, a copy of each of the 384 entries,
@@ -96,6 +97,27 @@ pub fn run_on<R: Read, W: Write>(
         × ((text ≡ []) ⊎ IsBegun flash script text)
         × Appends (W.contents writer.old) (W.contents writer.new) (text ++ fault_line RunError.Memory)) }
 {
+    run_with(alloc, flash, reader, writer, &mut Silent)
+}
+
+/// Does what `run_on` does, and tells a sink of each event and each line.
+pub fn run_with<R: Read, W: Write, S: Sink>(
+    alloc: Global,
+    flash: SimFlash,
+    reader: &mut R,
+    writer: &mut W,
+    sink: &mut S,
+) -> Result<SimFlash, RunError>
+    ensures sound { OnOk result (IfSome (R.remaining reader.old) (IsSound (page_count flash.image))) }
+    ensures printed { IfOk result (λ after. IfSome (R.remaining reader.old) (λ script. (text : List ℕ)
+        × IsOutput flash script text after × Appends (W.contents writer.old) (W.contents writer.new) text)) }
+    ensures refused { IfErr result (λ e. IsRunFault (page_count flash.image) (R.remaining reader.old) e) }
+    ensures counted { result ≢ Err RunError.PageCount }
+    ensures fault_alone { IfErr result (λ e. IsEarly e → Appends (W.contents writer.old) (W.contents writer.new) (fault_line e)) }
+    ensures stopped { result ≡ Err RunError.Memory → IfSome (R.remaining reader.old) (λ script. (text : List ℕ)
+        × ((text ≡ []) ⊎ IsBegun flash script text)
+        × Appends (W.contents writer.old) (W.contents writer.new) (text ++ fault_line RunError.Memory)) }
+{
     let text = match read_text(alloc, reader) {
         Ok(text) => text,
         Err(error) => return Err(print_fault(error.into(), writer)),
@@ -104,7 +126,7 @@ pub fn run_on<R: Read, W: Write>(
         Ok(lines) => lines,
         Err(error) => return Err(print_fault(error, writer)),
     };
-    run_lines(alloc, flash, lines.as_slice(), writer)
+    run_lines(alloc, flash, lines.as_slice(), writer, sink)
 }
 
 /// Prints the line of a fault. The answer is the fault, or `Output` where the writer fails or takes
@@ -118,11 +140,12 @@ pub fn print_fault<W: Write>(error: RunError, writer: &mut W) -> RunError
 
 /// Runs the lines of a script on a flash, and gives the writer what they print. The answer is the
 /// flash after them.
-fn run_lines<W: Write>(
+fn run_lines<W: Write, S: Sink>(
     alloc: Global,
     flash: SimFlash,
     lines: &[Line<'_>],
     writer: &mut W,
+    sink: &mut S,
 ) -> Result<SimFlash, RunError>
     ensures printed { IfOk result (λ after. (text : List ℕ) × IsRun flash lines.now text after
         × Appends (W.contents writer.old) (W.contents writer.new) text) }
@@ -132,7 +155,7 @@ fn run_lines<W: Write>(
         × Appends (W.contents writer.old) (W.contents writer.new) (text ++ fault_line RunError.Memory) }
 {
     let mut printer = Printer::new(writer);
-    let after = match perform(alloc, flash, lines, &mut printer) {
+    let after = match perform(alloc, flash, lines, &mut printer, sink) {
         Ok(after) => after,
         Err(error) => return Err(tell(&mut printer, error)),
     };
@@ -177,11 +200,12 @@ fn lines_of(alloc: Global, pages: usize, text: &[u8]) -> Result<Vec<Line<'_>>, R
 }
 
 /// Runs the lines of a script on a flash. The answer is the flash after them.
-fn perform<W: Write>(
+fn perform<W: Write, S: Sink>(
     alloc: Global,
     flash: SimFlash,
     lines: &[Line<'_>],
     printer: &mut Printer<'_, W>,
+    sink: &mut S,
 ) -> Result<SimFlash, RunError>
     ensures printed { IfOk result (λ after. (text : List ℕ) × IsRun flash lines.now text after × Prints W.contents printer.old printer.new text) }
     ensures same_writer { OnOk result (printer_writer printer.new ≡ printer_writer printer.old) }
@@ -193,18 +217,19 @@ fn perform<W: Write>(
 {
     let mut world = world_on(alloc, flash)?;
     let answers = &mut Vec::new(alloc);
-    let ended = run_each(&mut world, lines, answers, &mut Spare::new(), printer);
+    let ended = run_each(&mut world, lines, answers, &mut Spare::new(), printer, sink);
     let after = world.into_flash();
     ended.map(|()| after)
 }
 
 /// Runs the lines of a script on a device that was just started.
-fn run_each<W: Write>(
+fn run_each<W: Write, S: Sink>(
     world: &mut World,
     lines: &[Line<'_>],
     answers: &mut Vec<Answer>,
     spare: &mut Spare,
     printer: &mut Printer<'_, W>,
+    sink: &mut S,
 ) -> Result<(), RunError>
     ensures printed { OnOk result ((start : SimValue) → StandsFor start [] world.old → (text : List ℕ)
         × IsRun start lines.now text world.new.flash × Prints W.contents printer.old printer.new text) }
@@ -216,16 +241,35 @@ fn run_each<W: Write>(
     ensures same_writer_stopped { result ≡ Err RunError.Memory → printer_writer printer.new ≡ printer_writer printer.old }
 {
     for line in lines {
-        let Ok(outcome) = run_line(world, &line.statement, answers, spare) else {
+        let Ok(outcome) = run_line(world, &line.statement, answers, spare, sink) else {
             return Err(RunError::Memory);
         };
         let shown = PrintedLine {
             number: line.number,
             outcome: &outcome,
         };
-        let Ok(()) = printer.print(&shown) else {
+        let Ok(()) = put(printer, &shown, sink.hears()) else {
             return Err(RunError::Output);
         };
+        if sink.hears() {
+            sink.line(line, &outcome, world);
+        }
+    }
+    Ok(())
+}
+
+/// Prints a line, and gives it to the writer at once where it is heard.
+fn put<W: Write>(
+    printer: &mut Printer<'_, W>,
+    line: &PrintedLine<'_>,
+    is_heard: bool,
+) -> Result<(), WriteError>
+    ensures printed { OnOk result (Prints W.contents printer.old printer.new (printed_line line.now.number line.now.outcome.now)) }
+    ensures same_writer { OnOk result (printer_writer printer.new ≡ printer_writer printer.old) }
+{
+    printer.print(line)?;
+    if is_heard {
+        printer.finish()?;
     }
     Ok(())
 }
@@ -239,102 +283,113 @@ fn world_on(alloc: Global, flash: SimFlash) -> Result<World, RunError>
 }
 
 /// Runs the events of a line. The outcome is what the line prints.
-fn run_line(
+fn run_line<S: Sink>(
     world: &mut World,
     statement: &Statement<'_>,
     answers: &mut Vec<Answer>,
     spare: &mut Spare,
+    sink: &mut S,
 ) -> Result<Outcome, AllocError>
     ensures { IfOk result (λ outcome. GoesOn (λ steps. LineRuns statement.now steps outcome) world.old world.new) }
 {
     match statement {
-        Statement::One(action) => act(world, action, answers, spare),
+        Statement::One(action) => act(world, action, answers, spare, sink),
         Statement::Scans { count, scan } => {
-            let answer = repeat(world, *scan, *count, answers, spare)?;
+            let answer = repeat(world, *scan, *count, answers, spare, sink)?;
             Ok(Outcome::Answered(answer))
         }
         Statement::Set { layer, key, code } => {
-            let answer = set(world, [*layer, *key], *code, answers, spare)?;
+            let answer = set(world, [*layer, *key], *code, answers, spare, sink)?;
             Ok(Outcome::Answered(answer))
         }
-        Statement::Fetch => fetch(world, answers, spare),
+        Statement::Fetch => fetch(world, answers, spare, sink),
     }
 }
 
 /// Runs a line of one event.
-fn act(
+fn act<S: Sink>(
     world: &mut World,
     action: &Action<'_>,
     answers: &mut Vec<Answer>,
     spare: &mut Spare,
+    sink: &mut S,
 ) -> Result<Outcome, AllocError>
     ensures { IfOk result (λ outcome. GoesOn (λ steps. LineRuns (Statement.One action.now) steps outcome) world.old world.new) }
 {
-    let answer = take(world, event_of(action, spare), answers)?;
+    let answer = take(world, event_of(action, spare), answers, sink)?;
     Ok(Outcome::Answered(answer))
 }
 
 /// Takes one event. `AllocError` where there was no memory for its answer, or for the host, which
 /// then took the event all the same.
-pub(crate) fn take(
+pub(crate) fn take<S: Sink>(
     world: &mut World,
     event: &Event,
     answers: &mut Vec<Answer>,
+    sink: &mut S,
 ) -> Result<Answer, AllocError>
     ensures { IfOk result (λ answer. Takes event.now answer world.old world.new) }
 {
-    pass(world, event, answers)?;
+    pass(world, event, answers, sink)?;
     answers.pop().ok_or(AllocError)
 }
 
 /// Takes one event, and leaves its answer alone in the list.
-fn pass(world: &mut World, event: &Event, answers: &mut Vec<Answer>) -> Result<(), AllocError>
+fn pass<S: Sink>(
+    world: &mut World,
+    event: &Event,
+    answers: &mut Vec<Answer>,
+    sink: &mut S,
+) -> Result<(), AllocError>
     ensures { OnOk result (IsPassed event.now answers.new.items world.old world.new) }
 {
     answers.clear();
     world.run(slice::from_ref(event), answers)?;
+    tell_step(sink, event, answers.as_slice(), world);
     Ok(())
 }
 
 /// Takes a scan `count` times. The answer is the last one.
-fn repeat(
+fn repeat<S: Sink>(
     world: &mut World,
     scan: Scan,
     count: NonZeroU16,
     answers: &mut Vec<Answer>,
     spare: &mut Spare,
+    sink: &mut S,
 ) -> Result<Answer, AllocError>
     ensures { IfOk result (λ answer. GoesOn (λ steps.
         IsRepeated (Event.Scan scan) (non_zero_u16_get count) steps answer) world.old world.new) }
 {
     let event = spare.scan(scan);
     for _again in 1..count.get() {
-        pass(world, event, answers)?;
+        pass(world, event, answers, sink)?;
     }
-    take(world, event, answers)
+    take(world, event, answers, sink)
 }
 
 /// Sets an entry by a feature report, and takes the steps of its flash work. The answer is that
 /// of the packet that ended the transfer, `Ack` for a status stage that succeeded.
-fn set(
+fn set<S: Sink>(
     world: &mut World,
     place: [u8; 2],
     code: u16,
     answers: &mut Vec<Answer>,
     spare: &mut Spare,
+    sink: &mut S,
 ) -> Result<Answer, AllocError>
     ensures { IfOk result (λ answer. GoesOn (λ steps.
         IsRefusedSet (slice_index place 0) (slice_index place 1) code steps answer
         ⊎ IsTakenSet (slice_index place 0) (slice_index place 1) code steps answer) world.old world.new) }
 {
     // A SETUP packet is always acknowledged.
-    open(world, SET_FEATURE, answers, spare)?;
-    let told = send(world, command(place, code), answers, spare)?;
+    open(world, SET_FEATURE, answers, spare, sink)?;
+    let told = send(world, command(place, code), answers, spare, sink)?;
     if !is_ack(&told) {
         return Ok(told);
     }
-    work_off(world, answers, spare)?;
-    let status = ask(world, answers, spare)?;
+    work_off(world, answers, spare, sink)?;
+    let status = ask(world, answers, spare, sink)?;
     if is_success(&status) {
         return Ok(Answer::Ack);
     }
@@ -342,45 +397,53 @@ fn set(
 }
 
 /// Takes a SETUP packet.
-pub(crate) fn open(
+pub(crate) fn open<S: Sink>(
     world: &mut World,
     packet: [u8; 8],
     answers: &mut Vec<Answer>,
     spare: &mut Spare,
+    sink: &mut S,
 ) -> Result<Answer, AllocError>
     ensures { IfOk result (λ answer. Takes (Event.Setup packet) answer world.old world.new) }
 {
-    take(world, spare.setup(packet), answers)
+    take(world, spare.setup(packet), answers, sink)
 }
 
 /// Takes an OUT packet.
-pub(crate) fn send(
+pub(crate) fn send<S: Sink>(
     world: &mut World,
     packet: ArrayVec<u8, 8>,
     answers: &mut Vec<Answer>,
     spare: &mut Spare,
+    sink: &mut S,
 ) -> Result<Answer, AllocError>
     ensures { IfOk result (λ answer. Takes (Event.OutPacket packet) answer world.old world.new) }
 {
-    take(world, spare.out_packet(packet), answers)
+    take(world, spare.out_packet(packet), answers, sink)
 }
 
 /// Takes an IN packet.
-pub(crate) fn ask(
+pub(crate) fn ask<S: Sink>(
     world: &mut World,
     answers: &mut Vec<Answer>,
     spare: &Spare,
+    sink: &mut S,
 ) -> Result<Answer, AllocError>
     ensures { IfOk result (λ answer. Takes Event.InPacket answer world.old world.new) }
 {
-    take(world, spare.in_packet(), answers)
+    take(world, spare.in_packet(), answers, sink)
 }
 
 /// Takes a step of the flash work.
-fn work(world: &mut World, answers: &mut Vec<Answer>, spare: &Spare) -> Result<Answer, AllocError>
+fn work<S: Sink>(
+    world: &mut World,
+    answers: &mut Vec<Answer>,
+    spare: &Spare,
+    sink: &mut S,
+) -> Result<Answer, AllocError>
     ensures { IfOk result (λ answer. Takes Event.Work answer world.old world.new) }
 {
-    take(world, spare.work(), answers)
+    take(world, spare.work(), answers, sink)
 }
 
 pub(crate) fn is_ack(answer: &Answer) -> bool
@@ -407,11 +470,16 @@ fn needs_more(answer: &Answer) -> bool
 }
 
 /// Takes steps of the flash work until one needs no more.
-fn work_off(world: &mut World, answers: &mut Vec<Answer>, spare: &Spare) -> Result<(), AllocError>
+fn work_off<S: Sink>(
+    world: &mut World,
+    answers: &mut Vec<Answer>,
+    spare: &Spare,
+    sink: &mut S,
+) -> Result<(), AllocError>
     ensures { OnOk result (GoesOn IsFlashWork world.old world.new) }
 {
     for _step in 0..MOST_STEPS {
-        let answer = work(world, answers, spare)?;
+        let answer = work(world, answers, spare, sink)?;
         if !needs_more(&answer) {
             return Ok(());
         }

@@ -41,13 +41,7 @@ pub fn status<R: Env + AllocGlobal + Files + Input + Print + Eprint>(rt: &R) -> 
             },
         ) => run(rt, start, source, save, explain),
         Ok(Request::Describe) => status_of(print_descriptors(rt)),
-        Ok(
-            Request::Parse {
-                source,
-                form,
-                items,
-            },
-        ) => status_of(parse_from(rt, source, form, items)),
+        Ok(Request::Parse { source }) => status_of(parse_from(rt, source)),
         Err(error) => refuse(rt, &error),
     }
 }

@@ -1,18 +1,13 @@
 //! Running a script.
 
-ghost use Rattle.std.specs.Prelude.{◌≤◌};
-
 use crate::source::{Unread, opened, text_of};
 use crate::tell::{tell, tell_output};
 use command_line::{Source, Start};
-use explanations::{Explainer, Explaining, Tell};
-use flash_model::NorFlash;
-use kbsim::{RunError, SimFlash, blank_flash, image_flash, print_fault, run_on};
-use sentences::of_line;
+use explanations::{Explainer, Tell};
+use kbsim::{RunError, SimFlash, blank_flash, image_flash, print_fault, run_on, run_with};
 use std::fmt::Display;
 use std::io;
 use std::rt::Files;
-use text_io::Tee;
 
 /// Runs the script of a source on the flash that a run starts on. The answer is the flash after it. The line of a fault is
 /// the last one on standard output, and standard error says in a sentence what it is, and with `explain` what each answer
@@ -50,41 +45,22 @@ fn flash_of<R: AllocGlobal + Files + Print + Eprint>(
 fn run_text<R: AllocGlobal + Print + Eprint>(
     rt: &R,
     flash: SimFlash,
-    text: &[u8],
+    mut text: &[u8],
     explain: bool,
 ) -> Result<SimFlash, RunError> {
-    let pages = flash.pages();
-    let explainer = if explain {
-        explainer_of(rt, &flash, text)
+    let writer = &mut io::writer(rt);
+    let ended = if explain {
+        let mut explainer = Explainer::new(&flash, StandardError { rt });
+        run_with(rt.alloc(), flash, &mut text, writer, &mut explainer)
     } else {
-        None
+        run_on(rt.alloc(), flash, &mut text, writer)
     };
-    let mut reader = text;
-    let ended = match explainer {
-        Some(explainer) => {
-            let listener = Explaining::new(StandardError { rt }, explainer);
-            let mut writer = Tee::new(io::writer(rt), listener);
-            run_on(rt.alloc(), flash, &mut reader, &mut writer)
-        }
-        None => run_on(rt.alloc(), flash, &mut reader, &mut io::writer(rt)),
-    };
-    if let Err(error) = &ended {
-        tell_error(rt, *error, pages, text);
+    match &ended {
+        Ok(_) => {}
+        Err(RunError::Output) => tell_output(rt),
+        Err(error) => tell(rt, error),
     }
     ended
-}
-
-/// What explains the run of a script on a flash. Where there is no memory for it standard error says so.
-fn explainer_of<'t, R: AllocGlobal + Eprint>(
-    rt: &R,
-    flash: &SimFlash,
-    text: &'t [u8],
-) -> Option<Explainer<'t>> {
-    let explainer = Explainer::new(rt.alloc(), flash, text);
-    if explainer.is_err() {
-        tell(rt, &"out of memory to explain the answers");
-    }
-    explainer.ok()
 }
 
 /// Standard error, as a place of sentences.
@@ -96,21 +72,6 @@ struct StandardError<'a, R> {
 impl<R: Eprint> Tell for StandardError<'_, R> {
     fn tell<T: Display>(&mut self, sentence: &T) {
         tell(self.rt, sentence);
-    }
-}
-
-/// Says in a sentence why the run of a script on a flash of so many pages ended.
-fn tell_error<R: AllocGlobal + Eprint>(rt: &R, error: RunError, pages: usize, text: &[u8])
-    requires { pages ≤ 256 }
-{
-    match error {
-        RunError::Output => tell_output(rt),
-        RunError::Line { line, .. } => {
-            if let Some(sentence) = of_line(rt.alloc(), pages, text, line) {
-                tell(rt, &sentence);
-            }
-        }
-        _ => tell(rt, &error),
     }
 }
 

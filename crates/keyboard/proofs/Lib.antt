@@ -18,6 +18,8 @@ pub mod Viewing
 pub mod Operation
 pub mod Working
 pub mod Steps
+pub mod Single
+pub mod Finding
 pub mod Starting
 pub mod Heading
 pub mod Apart

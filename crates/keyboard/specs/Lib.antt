@@ -12,5 +12,7 @@ pub mod Restart
 pub mod Lawful
 pub mod Acknowledged
 pub mod Sound
+pub mod Single
+pub mod Finds
 pub mod Turnovers
 pub mod ties

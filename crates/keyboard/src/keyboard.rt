@@ -299,7 +299,8 @@ impl Keyboard {
         self.leds
     }
 
-    /// Takes an OUT packet and answers it.
+    /// Takes an OUT packet and answers it. It stands apart since the folder of a proof of `out` would have
+    /// the name of what the toolchain makes.
     fn answer_out(&mut self, packet: &[u8]) -> EpAnswer
         ensures stands { (start : List ℕ) (past : List Call) → StandsFor start past self.old
             → StandsFor start (Out packet.now result ∷ past) self.new }

@@ -1,12 +1,12 @@
 //! What follows for every session in which each call is answered as it has to be.
 
-ghost use Rattle.std.specs.Prelude.{◌≡◌, ◌≢◌, ◌<◌, ◌≤◌, ◌+◌, ◌∷◌, ◌++◌, ℕ, suc, List, Some, length, slice_index};
+ghost use Rattle.std.specs.Prelude.{◌≡◌, ◌≢◌, ◌<◌, ◌≤◌, ◌+◌, ◌∷◌, ◌++◌, ℕ, suc, List, Some, length, map, slice_index};
 ghost use Rattle.flash_model.specs.Image.{IsImage};
 ghost use Rattle.flash_model.specs.Operations.{OnePage};
 ghost use Rattle.layers.specs.Entries.{changed};
 ghost use Rattle.layers.specs.declared.command.Command.{Command};
 ghost use Rattle.page_turnover.specs.declared.operation.Operation.{Operation};
-ghost use Rattle.page_turnover.specs.Next.{MayMake};
+ghost use Rattle.page_turnover.specs.Next.{MayMake, ReadsBack};
 ghost use Rattle.page_turnover.specs.Operates.{Operates, MayOperate};
 ghost use Rattle.page_turnover.specs.Turn.{target_page};
 ghost use Rattle.page_turnover.specs.Words.{IsBlank, HasRoom};
@@ -18,11 +18,13 @@ ghost use Rattle.keymap_store.specs.declared.store.Work.{Work};
 ghost use Rattle.keyboard.specs.Acknowledged.{KeepsAcknowledged, IsConfirmed, IsSettled, SettledAfter};
 ghost use Rattle.keyboard.specs.Bounded.{IsInTime, steps_since};
 ghost use Rattle.keyboard.specs.Calls.{Call, Worked, image_after, keymap};
-ghost use Rattle.keyboard.specs.Commands.{accepted, accepted_before, settled_of, standing_of, working};
+ghost use Rattle.keyboard.specs.Commands.{Accepted, accepted, accepted_before, settled_of, standing_of, working};
+ghost use Rattle.keyboard.specs.Finds.{FindsAllButLast};
 ghost use Rattle.keyboard.specs.Headers.{OwnHeaders};
 ghost use Rattle.keyboard.specs.Lawful.{IsAnswered, IsLawful};
 ghost use Rattle.keyboard.specs.Operated.{Works, HoldsFirst};
-ghost use Rattle.keyboard.specs.Restart.{RestartsLegally};
+ghost use Rattle.keyboard.specs.Restart.{LegalRestart, RestartsLegally};
+ghost use Rattle.keyboard.specs.Single.{unanswered, without_image, NoneFails, MayBeTorn};
 ghost use Rattle.keyboard.specs.Sound.{KeepsSound};
 ghost use Rattle.keyboard.specs.ties.Stands.{StandsFor};
 ghost use Rattle.keyboard.specs.Turnovers.{operations, NoneTurnsOver};
@@ -47,6 +49,14 @@ pub fn a_cut_inside()
     ensures { (start : List ℕ) (past : List Call) (keyboard : KeyboardValue) (operation : Operation) (image : List ℕ)
         → StandsFor start past keyboard → next_operation_of (image_after start past) keyboard.store ≡ Some operation
         → IsImage image → MayMake (image_after start past) operation image → RestartsLegally start past image }
+{}
+
+/// A legal restart leaves no more freedom than that: it finds all commands that did not fail, in order, or all but the last,
+/// and that only where this one is not settled. So it loses no settled command, skips none, takes none in another order, and
+/// keeps none that failed.
+pub fn a_restart_finds_all_but_the_last()
+    ensures { (entries next : ℕ → ℕ → ℕ) (session : List Accepted) → LegalRestart entries session next
+        → FindsAllButLast entries (standing_of session) next }
 {}
 
 /// What the one operation of a step of the flash work comes to. Where the answer is not Failed it was
@@ -124,4 +134,23 @@ pub fn turnovers_are_apart()
         → TurnsOver (image_after start before) first → NoneTurnsOver start calls (Worked work first ∷ before)
         → TurnsOver (image_after start (calls ++ Worked work first ∷ before)) last
         → (n : ℕ) × Follows first n (image_after start (calls ++ Worked work first ∷ before)) × (127 ≤ n) × (n ≤ operations calls) }
+{}
+
+/// No freedom is left to the answers: two sessions of the same start, the same calls and the same images after each
+/// step of the flash work, in which each call is answered as it has to be, are equal.
+pub fn one_session()
+    ensures { (start : List ℕ) (a b : List Call) → IsLawful start a → IsLawful start b
+        → map unanswered a ≡ map unanswered b → a ≡ b }
+{}
+
+/// Nor to the images: by the calls before it and its answer, a step of the flash work that does not fail leaves one
+/// image. One that fails leaves what the next operation of its command may leave where it is torn, and that does not
+/// read as intended. So two sessions of the same start, calls and answers, of which no step fails, are equal.
+pub fn one_image()
+    ensures whole { (start : List ℕ) (past : List Call) (work : Work) (a b : List ℕ) → IsAnswered start past (Worked work a)
+        → IsAnswered start past (Worked work b) → work ≢ Work.Failed → a ≡ b }
+    ensures failed { (start : List ℕ) (past : List Call) (new : List ℕ) → IsAnswered start past (Worked Work.Failed new)
+        → (torn : MayBeTorn start past new) × (ReadsBack torn.operation new → ⊥) }
+    ensures session { (start : List ℕ) (a b : List Call) → IsLawful start a → IsLawful start b → NoneFails a
+        → map without_image a ≡ map without_image b → a ≡ b }
 {}

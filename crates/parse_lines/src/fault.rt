@@ -7,7 +7,7 @@ use descriptor_parse::ParseError;
 use text_io::ReadError;
 use thiserror::Error;
 
-/// Why `parse_text`, `items_text` or `describe` ends before its last line.
+/// Why `parse_text` or `describe` ends before its last line.
 #[derive(Clone, Copy, Debug, PartialEq, Eq, Error)]
 pub enum LinesError {
     /// The text has a character that is no hex digit and no blank, or an odd number of digits.

@@ -1,4 +1,4 @@
--- Each history breaks its field, computed from the definitions.
+-- The host is told what was not stored: the history breaks its fields, computed from the definitions.
 use Rattle.std.proofs.Common.{◌≡◌, ℕ, List, [], ◌∷◌, ◌++◌, refl, sym, ◌∙◌, ap, arith}
 use Rattle.layers.specs.Entries.{last_written, changed, commands_in, entry_in}
 use Rattle.layers.specs.declared.command.Command.{Command}
@@ -10,21 +10,14 @@ use Rattle.page_turnover.specs.Active.{newer, newest, active, format}
 use Rattle.page_turnover.specs.Words.{words}
 use Rattle.keymap_store.specs.Keymap.{entries_of}
 use Rattle.layers.specs.Held.{any_below}
-use Rattle.host.specs.Kept.{gathering, kept}
 use Rattle.keyboard.specs.Acknowledged.{IsConfirmed, IsSettled}
 use Rattle.keyboard.specs.Calls.{Call, SetUp, Out, In, keymap}
 use Rattle.keyboard.specs.Commands.{Accepted, accepts, accepted, accepted_before}
-use Rattle.keyboard.specs.Effects.{report_named, protocol_after}
+use Rattle.keyboard.specs.Effects.{report_named}
 use Rattle.keyboard.specs.Fate.{Fate, works, settled, changes}
 use Rattle.world.specs.Acknowledged.{IsAcknowledged, KeepsAcknowledged}
-use Rattle.world.specs.History.{EachStep}
-use Rattle.world.specs.Lawful.{IsAnswered}
-use Rattle.world.specs.Readings.{ReadsWanted, GathersServed}
-use Rattle.world.specs.Restart.{ConfirmsSettled, ShowsSettled}
-use Rattle.promise_example.specs.Histories.{blank, scan_is_refused, told_but_not_stored, entry_is_another, read_without_descriptor, gathered_zeros, set_feature, set_report, step}
-
-pub refused : EachStep IsAnswered blank scan_is_refused → ⊥
-refused h = (let done = h.0.0 in cc)
+use Rattle.world.specs.Restart.{ConfirmsSettled}
+use Rattle.promise_example.specs.Histories.{blank, told_but_not_stored, set_feature, set_report, step}
 
 pub default_code : keymap [] 0 0 ≡ 4
 unfolding last_written changed commands_in entry_in newer newest active format words entries_of
@@ -92,15 +85,3 @@ pub not_confirmed : ConfirmsSettled blank told_but_not_stored → ⊥
 not_confirmed h =
     let s : IsSettled [] told asked set_key = h asked set_key confirms in
     none_settled (accepted_before [] s.since asked) s.settled_at.later (sym still_works ∙ s.settled_at.all_are)
-
-pub another : EachStep ShowsSettled blank entry_is_another → ⊥
-unfolding accepted last_written changed commands_in entry_in newer newest active format words entries_of
-another h = (let shown = h.0 0 0 (omega arith) (omega arith) refl in cc)
-
-pub unread : EachStep ReadsWanted blank read_without_descriptor → ⊥
-unfolding protocol_after kept
-unread h = (let read = h.0 _ _ refl in (let none = read.0 in cc))
-
-pub zeros : GathersServed blank gathered_zeros → ⊥
-unfolding gathering
-zeros h = (let first = h _ refl in cc)

@@ -1,6 +1,6 @@
 //! The answer of a poll as its definition says it: a plain, slow program that looks back over all calls
-//! of a poller, for the poller to be compared with. It shares no code with the poller. `judge` and tests
-//! call it, and no firmware.
+//! of a poller, for the poller to be compared with. It shares no code with the poller. Tests call it,
+//! and no firmware.
 
 ghost use Rattle.std.specs.Prelude.{◌≡◌, ◌≤◌, ◌||◌, Bool, false, not, map, length, slice_get, if◌then◌else◌};
 ghost use Rattle.std.specs.Option.{option_map, option_copied};

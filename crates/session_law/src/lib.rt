@@ -2,7 +2,7 @@
 //! definitions of what the keyboard answers, of what a host hears of it, and of what a host reads.
 //!
 //! Nothing is kept, and nothing runs: the functions have empty bodies, and their contracts are the laws. `world` takes them
-//! for each session of a history; `session_example` has a session of which they say something.
+//! for each session of a history.
 #![tactic(auto)]
 
 ghost use Rattle.std.specs.Prelude.{◌≡◌, ◌≢◌, ◌⊎◌, ◌↔◌, ◌∷◌, ◌++◌, ◌≤◌, ◌<◌, ℕ, List, [], Option, None, Some, Contains, length, take, min};

@@ -13,5 +13,6 @@ pub mod Prefixes
 pub mod Wearing
 pub mod Ordering
 pub mod Single
+pub mod Tearing
 pub mod Promising
 pub mod Wanting

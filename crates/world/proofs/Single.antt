@@ -1,17 +1,12 @@
 -- A lawful history is given by its start, its events and where memory was refused.
-use Rattle.std.proofs.Common.{◌≡◌, ◌≢◌, ◌∙◌, ℕ, suc, ◌+◌, ◌<◌, ◌==◌, if◌then◌else◌, Bool, true, false, Option, None, Some, IsSome, List, [], ◌∷◌, get_or, length, map, refl, sym, ap, subst, arith, ◌⊎◌, inl, inr, Result, Ok, Err}
-use Rattle.std.proofs.lemmas.Bool.{cases_eq, cases_Bool}
+use Rattle.std.proofs.Common.{◌≡◌, ◌∙◌, ℕ, Bool, Option, None, Some, IsSome, List, [], ◌∷◌, map, refl, sym, ap, subst}
 use Rattle.flash_model.specs.FlashOperation.{FlashOperation, programs, erases}
-use Rattle.flash_model.specs.Image.{slot_at}
 use Rattle.flash_model.specs.Operated.{Outcome, IsOperated}
-use Rattle.flash_model.specs.Operations.{Programs, Erases}
 use Rattle.flash_model.specs.Sim.{SimValue}
 use Rattle.flash_model.proofs.ByMask.{one_program, one_erase}
-use Rattle.flash_model.proofs.Places.{same_images, same_slot, slot_byte}
-use Rattle.descriptor_parse.specs.Descriptor.{DescriptorValue, Describes, bits_of}
+use Rattle.descriptor_parse.specs.Descriptor.{DescriptorValue, bits_of}
 use Rattle.descriptor_parse.specs.declared.field.Kind.{Kind}
 use Rattle.descriptor_parse.specs.declared.field.Kind.TheVariants.{Input}
-use Rattle.descriptor_parse.specs.Faults.{all_items}
 use Rattle.host_extract.specs.Found.{found, id_of}
 use Rattle.host_extract.specs.Pressed.{ArePressed}
 use Rattle.host_extract.specs.declared.reading.Found.{Found}
@@ -23,55 +18,27 @@ use Rattle.host.specs.Reads.{text_by, ReadsWith, Reads}
 use Rattle.host.specs.declared.reading.Reading.{Reading}
 use Rattle.host.specs.declared.reading.Reading.TheVariants.{Unread, NoMemory, Usages}
 use Rattle.layers.specs.declared.command.Command.{Command}
-use Rattle.layers.specs.declared.code.KeymapError.{KeymapError}
 use Rattle.page_turnover.specs.declared.operation.Operation.{Operation}
-use Rattle.page_turnover.specs.Next.{on_flash, ReadsBack}
+use Rattle.page_turnover.specs.Next.{on_flash}
 use Rattle.reports.specs.declared.Protocol.{Protocol}
-use Rattle.control_ep.specs.declared.answer.EpAnswer.{EpAnswer}
-use Rattle.control_ep.specs.declared.answer.OutStep.{OutStep}
-use Rattle.control_ep.specs.declared.answer.OutStep.TheVariants as outs
 use Rattle.control_ep.specs.Answers.{out_step}
 use Rattle.keymap_store.specs.declared.store.Work.{Work as WorkAnswer}
 use Rattle.keymap_store.specs.declared.store.Work.TheVariants.{Idle, Working, Settled, Failed}
-use Rattle.keyboard.specs.Calls.{Call, image_after as call_image}
+use Rattle.keyboard.specs.Calls.{image_after as call_image}
 use Rattle.keyboard.specs.Commands.{working}
 use Rattle.keyboard.specs.Endpoint.{stage_after}
-use Rattle.keyboard.specs.Feature.{Where, yes, no, ReadAnswer, FeatureAnswer, command_in}
-use Rattle.keyboard.specs.Lawful.{OutAnswer, WorkedOn}
+use Rattle.keyboard.specs.Lawful.{WorkedOn}
 use Rattle.keyboard.specs.Operated.{Works}
+use Rattle.keyboard.proofs.Single.{to_one, by_where, out_once, whole_program, whole_erase, same_operation, works_once}
 use Rattle.world.specs.declared.event.Event.{Event}
 use Rattle.world.specs.declared.event.Event.TheVariants.{Scan, Setup, OutPacket, InPacket, Poll, Work, WorkFault, Cut, CutInWork, BusReset, Entry, SlotAt, Leds}
 use Rattle.world.specs.declared.event.Answer.{Answer}
-use Rattle.world.specs.declared.event.Answer.TheVariants.{Sent, Worked}
+use Rattle.world.specs.declared.event.Answer.TheVariants.{Worked}
 use Rattle.world.specs.Kinds.{Step, as_answer}
-use Rattle.world.specs.History.{Session, session, host_calls, flash_after, EachStep}
+use Rattle.world.specs.History.{Session, session, host_calls, flash_after}
 use Rattle.world.specs.Lawful.{Answered, IsAnswered, IsLawful, IsSent, OperatedAs, SlotAnswer, WorksIn, is_no_memory}
 use Rattle.world.specs.Order.{IsNextOperation}
 use Rattle.world.proofs.Ordering.{worked}
-
--- both equal to one
-to_one : {A : Type 0} {a b x : A} → a ≡ x → b ≡ x → a ≡ b
-to_one e f = e ∙ sym f
-
-by_where : {p qa ra qb rb : Type 0} (S : Type 0) → (qa → qb → S) → (ra → rb → S) → Where p qa ra → Where p qb rb → S
-by_where S f g (yes a q) (yes b r) = f q r
-by_where S f g (yes a q) (no n r) = absurd (n a)
-by_where S f g (no n q) (yes b r) = absurd (n b)
-by_where S f g (no n q) (no m r) = g q r
-
--- ---- an OUT packet
-
-read_once : (image : List ℕ) (read : Result Command KeymapError) (a b : EpAnswer) → ReadAnswer image read a → ReadAnswer image read b → a ≡ b
-read_once image (Err error) a b x y = to_one x y
-read_once image (Ok command) a b x y = by_where (a ≡ b) to_one (by_where (a ≡ b) to_one (by_where (a ≡ b) to_one to_one)) x y
-
-feature_once : (image : List ℕ) (busy : Bool) (bytes : List ℕ) (a b : EpAnswer) → FeatureAnswer image busy bytes a → FeatureAnswer image busy bytes b → a ≡ b
-feature_once image busy bytes a b x y = by_where (a ≡ b) to_one (by_where (a ≡ b) to_one (read_once image (command_in bytes) a b)) x y
-
-out_once : (step : OutStep) (image : List ℕ) (busy : Bool) (a b : EpAnswer) → OutAnswer step image busy a → OutAnswer step image busy b → a ≡ b
-out_once (outs.Answered answered) image busy a b x y = to_one x y
-out_once (outs.Leds leds) image busy a b x y = to_one x y
-out_once (outs.Offer bytes) image busy a b x y = feature_once image busy bytes a b x y
 
 -- ---- a poll
 
@@ -126,30 +93,6 @@ slot_once image page slot a b x y = by_where (a ≡ b) to_one to_one x y
 
 -- ---- a step of the flash work
 
-same_eight : (new other : List ℕ) (p s : ℕ) → length other ≡ length new → ((k : ℕ) → k < 8 → get_or (slot_at other p s) k 0 ≡ get_or (slot_at new p s) k 0) → slot_at other p s ≡ slot_at new p s
-same_eight new other p s e h = same_slot new other p s e (λ k b. sym (slot_byte other p s k b) ∙ h k b ∙ slot_byte new p s k b)
-
-whole_program : (old new other : List ℕ) (p s : ℕ) (with : List ℕ) → Programs old p s with new → Programs old p s with other → other ≡ new
-whole_program old new other p s with m n =
-    let e : length other ≡ length new = to_one n.rest.same_length m.rest.same_length in
-    same_images new other e (λ q t l.
-    elim (cases_eq q p) [
-      | inl page ↦ elim (cases_eq t s) [
-        | inl slot ↦ rw (page, slot) (same_eight new other p s e (λ k b. to_one (n.bytes k b) (m.bytes k b)))
-        | inr apart ↦ to_one (n.rest.others q t l (λ _ f. apart f)) (m.rest.others q t l (λ _ f. apart f))
-      ]
-      | inr apart ↦ to_one (n.rest.others q t l (λ f _. apart f)) (m.rest.others q t l (λ f _. apart f))
-    ])
-
-whole_erase : (old new other : List ℕ) (p : ℕ) → Erases old p new → Erases old p other → other ≡ new
-whole_erase old new other p m n =
-    let e : length other ≡ length new = to_one n.rest.same_length m.rest.same_length in
-    same_images new other e (λ q t l.
-    elim (cases_eq q p) [
-      | inl page ↦ rw page (to_one (n.blank t l) (m.blank t l))
-      | inr apart ↦ to_one (n.rest.others q t l apart) (m.rest.others q t l apart)
-    ])
-
 one_outcome : (old : List ℕ) (operation : FlashOperation) (armed : Option (List ℕ)) (a b : List ℕ) → Outcome old operation armed a → Outcome old operation armed b → a ≡ b
 one_outcome old (programs page slot bytes) None a b x y = whole_program old b a page slot bytes y x
 one_outcome old (programs page slot bytes) (Some mask) a b x y = one_program old b a page slot bytes mask y x
@@ -165,48 +108,17 @@ operated_once : (old : SimValue) (operation : FlashOperation) (a b : SimValue) �
 operated_once old operation a b x y =
     same_flash a b (one_outcome old.image operation old.armed a.image b.image x.outcome y.outcome) (to_one x.armed y.armed) (to_one x.operations y.operations) (to_one x.faults y.faults)
 
-same_operation : (o : Option Operation) (a b : Operation) → o ≡ Some a → o ≡ Some b → a ≡ b
-same_operation o a b e f = cc
-
 next_once : (now : Session) (command : Command) (old : SimValue) (one other : Answer) (a b : SimValue) → IsNextOperation now command old Work one a → IsNextOperation now command old Work other b → a ≡ b
 next_once now command old one other a b x y =
     let same : x.operation ≡ y.operation = same_operation _ x.operation y.operation x.is_next y.is_next in
     operated_once old (on_flash y.operation) a b (subst (λ (o : Operation). IsOperated old (on_flash o) a) same x.makes) y.makes
-
--- one answer fits what an operation left
-failed_and_done : (start : List ℕ) (past : List Call) (command : Command) (old new : List ℕ) (work : WorkAnswer) → Works start past command old Failed new → Works start past command old work new → work ≢ Failed → ⊥
-failed_and_done start past command old new work f d n =
-    let same : f.operation ≡ d.operation = same_operation _ f.operation d.operation f.advances.in_order d.advances.in_order in
-    (f.attempts.torn refl).1 (subst (λ (o : Operation). ReadsBack o new) (sym same) (d.attempts.done n).1)
-
-working_and_settled : (start : List ℕ) (past : List Call) (command : Command) (old new : List ℕ) → Works start past command old Working new → Works start past command old Settled new → ⊥
-working_and_settled start past command old new w s =
-    let same = to_one w.advances.needed_is s.advances.needed_is in
-    let few = (w.advances.before_last refl).0 in
-    let last = s.advances.last refl in
-    absurd (omega (arith, same, few, last))
-
-works_once : (start : List ℕ) (past : List Call) (command : Command) (old new : List ℕ) (a b : WorkAnswer) → Works start past command old a new → Works start past command old b new → a ≡ b
-works_once start past command old new Idle b x y = absurd x.outcome
-works_once start past command old new Working Idle x y = absurd y.outcome
-works_once start past command old new Settled Idle x y = absurd y.outcome
-works_once start past command old new Failed Idle x y = absurd y.outcome
-works_once start past command old new Working Working x y = refl
-works_once start past command old new Settled Settled x y = refl
-works_once start past command old new Failed Failed x y = refl
-works_once start past command old new Working Settled x y = absurd (working_and_settled start past command old new x y)
-works_once start past command old new Settled Working x y = absurd (working_and_settled start past command old new y x)
-works_once start past command old new Failed Working x y = absurd (failed_and_done start past command old new Working x y (λ e. cc))
-works_once start past command old new Failed Settled x y = absurd (failed_and_done start past command old new Settled x y (λ e. cc))
-works_once start past command old new Working Failed x y = absurd (failed_and_done start past command old new Working y x (λ e. cc))
-works_once start past command old new Settled Failed x y = absurd (failed_and_done start past command old new Settled y x (λ e. cc))
 
 -- what a step came to, and what it left
 record SameEnd (a b : WorkAnswer) (new other : SimValue) : Type 0 where
   answer : a ≡ b
   flash : new ≡ other
 
-idle_end : (now : Session) (old armed : SimValue) (work : WorkAnswer) (new : SimValue) → work ≡ Idle → OperatedAs now old armed work new → new ≡ old
+pub idle_end : (now : Session) (old armed : SimValue) (work : WorkAnswer) (new : SimValue) → work ≡ Idle → OperatedAs now old armed work new → new ≡ old
 idle_end now old armed Idle new e o = o
 idle_end now old armed Working new e o = cc
 idle_end now old armed Settled new e o = cc

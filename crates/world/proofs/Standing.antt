@@ -5,6 +5,7 @@ use Rattle.flash_model.specs.Operated.{IsOperated}
 use Rattle.flash_model.specs.Sim.{SimValue}
 use Rattle.control_ep.specs.declared.answer.EpAnswer.{EpAnswer}
 use Rattle.page_turnover.specs.Next.{on_flash}
+use Rattle.page_turnover.specs.declared.operation.Operation.{Operation as FlashWork}
 use Rattle.keymap_store.specs.declared.store.Work.{Work as WorkAnswer}
 use Rattle.keymap_store.specs.declared.store.Work.TheVariants.{Idle, Working, Settled, Failed}
 use Rattle.host.specs.declared.gatherer.Host.{Host}
@@ -14,6 +15,7 @@ use Rattle.keyboard.specs.Calls.{Call, Out, In, Worked as KeyboardWorked, image_
 use Rattle.keyboard.specs.Lawful as keyboard
 use Rattle.keyboard.specs.ties.Stands as keyboard_stands
 use Rattle.keyboard.specs.ties.Value.{KeyboardValue}
+use Rattle.world.specs.declared.bench.Operation.{Operation}
 use Rattle.world.specs.declared.event.Event.{Event}
 use Rattle.world.specs.declared.event.Event.TheVariants.{OutPacket, InPacket, Work, WorkFault, CutInWork, Entry}
 use Rattle.world.specs.declared.event.Answer.{Answer}
@@ -70,7 +72,7 @@ some_armed None n = absurd (n refl)
 some_armed (Some mask) n = refl
 
 -- what the keyboard says of the operation on the bench's flash
-pub on_bench : (now : Session) (armed : SimValue) (work : WorkAnswer) (new : SimValue) (beside : Type 0) → keyboard.MakesSuch now.first now.past work new.image (λ operation. IsOperated armed (on_flash operation) new × beside)
+pub on_bench : (now : Session) (armed : SimValue) (work : WorkAnswer) (new : SimValue) (beside : FlashWork → Type 0) → keyboard.MakesSuch now.first now.past work new.image (λ operation. IsOperated armed (on_flash operation) new × beside operation)
     → MakesOn now armed work new
 on_bench now armed work new beside m = record { command = m.command; works_on = m.works_on; step = m.step; is_such = m.is_such.0 }
 
@@ -92,26 +94,26 @@ works_in start past old armed due work new s a e o u f = record {
       (operated_as (session start past) (flash_after start past) armed work new o (λ i. u i ∙ s.flash) f);
 }
 
-pub worked : (start : SimValue) (past : List Step) (old : WorldValue) (work : WorkAnswer) (device : KeyboardValue) (new : SimValue) → StandsFor start past old
+pub worked : (start : SimValue) (past : List Step) (old : WorldValue) (work : WorkAnswer) (device : KeyboardValue) (new : SimValue) (asked : Option Operation) → StandsFor start past old
     → keyboard_stands.StandsFor (session start past).first (KeyboardWorked work new.image ∷ (session start past).past) device
     → WorksIn (session start past) (flash_after start past) (flash_after start past) work new
-    → StandsFor start (record { event = Work; answer = Worked work; flash = new; refused = false } ∷ past) (record old { keyboard = device; flash = new })
-worked start past old work device new s d w =
-    more start past old Work (Worked work) false (record old { keyboard = device; flash = new }) (calls (KeyboardWorked work new.image)) refl s (work, refl, w, refl) d s.host
+    → StandsFor start (record { event = Work; answer = Worked work; flash = new; refused = false } ∷ past) (record old { keyboard = device; flash = new; asked = asked })
+worked start past old work device new asked s d w =
+    more start past old Work (Worked work) false (record old { keyboard = device; flash = new; asked = asked }) (calls (KeyboardWorked work new.image)) refl s (work, refl, w, refl) d s.host
 
-pub faulted : (start : SimValue) (past : List Step) (old : WorldValue) (mask : ArrayVec ℕ) (work : WorkAnswer) (device : KeyboardValue) (new : SimValue) → StandsFor start past old
+pub faulted : (start : SimValue) (past : List Step) (old : WorldValue) (mask : ArrayVec ℕ) (work : WorkAnswer) (device : KeyboardValue) (new : SimValue) (asked : Option Operation) → StandsFor start past old
     → keyboard_stands.StandsFor (session start past).first (KeyboardWorked work new.image ∷ (session start past).past) device
     → WorksIn (session start past) (flash_after start past) (armed_by mask.items (flash_after start past)) work new
-    → StandsFor start (record { event = WorkFault mask; answer = Worked work; flash = new; refused = false } ∷ past) (record old { keyboard = device; flash = new })
-faulted start past old mask work device new s d w =
-    more start past old (WorkFault mask) (Worked work) false (record old { keyboard = device; flash = new }) (calls (KeyboardWorked work new.image)) refl s (work, refl, w, refl) d s.host
+    → StandsFor start (record { event = WorkFault mask; answer = Worked work; flash = new; refused = false } ∷ past) (record old { keyboard = device; flash = new; asked = asked })
+faulted start past old mask work device new asked s d w =
+    more start past old (WorkFault mask) (Worked work) false (record old { keyboard = device; flash = new; asked = asked }) (calls (KeyboardWorked work new.image)) refl s (work, refl, w, refl) d s.host
 
-pub cut_inside : (start : SimValue) (past : List Step) (old : WorldValue) (mask : ArrayVec ℕ) (work : WorkAnswer) (device : KeyboardValue) (host : Host) (new : SimValue) → StandsFor start past old
+pub cut_inside : (start : SimValue) (past : List Step) (old : WorldValue) (mask : ArrayVec ℕ) (work : WorkAnswer) (device : KeyboardValue) (host : Host) (new : SimValue) (asked : Option Operation) → StandsFor start past old
     → WorksIn (session start past) (flash_after start past) (armed_by mask.items (flash_after start past)) work new
     → keyboard_stands.StandsFor new.image [] device → host_stands.StandsFor (lost ∷ host_calls past) host
-    → StandsFor start (record { event = CutInWork mask; answer = Restarted; flash = new; refused = false } ∷ past) (record { keyboard = device; host = host; flash = new })
-cut_inside start past old mask work device host new s w d h =
-    more start past old (CutInWork mask) Restarted false (record { keyboard = device; host = host; flash = new }) starts refl s (work, refl, w, refl) d h
+    → StandsFor start (record { event = CutInWork mask; answer = Restarted; flash = new; refused = false } ∷ past) (record { keyboard = device; host = host; flash = new; asked = asked })
+cut_inside start past old mask work device host new asked s w d h =
+    more start past old (CutInWork mask) Restarted false (record { keyboard = device; host = host; flash = new; asked = asked }) starts refl s (work, refl, w, refl) d h
 
 -- the flash armed by a copy of the mask
 pub arms : (start : SimValue) (past : List Step) (old : WorldValue) (copy mask : List ℕ) → copy ≡ mask → StandsFor start past old → armed_by copy old.flash ≡ armed_by mask (flash_after start past)

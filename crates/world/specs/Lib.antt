@@ -12,5 +12,6 @@ pub mod Readings
 pub mod Restart
 pub mod Sound
 pub mod Stands
+pub mod Torn
 pub mod Wear
 pub mod ties

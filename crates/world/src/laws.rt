@@ -7,6 +7,7 @@ ghost use Rattle.world.specs.Kinds.{Step};
 ghost use Rattle.world.specs.Lawful.{IsLawful};
 ghost use Rattle.world.specs.Memory.{IsRefusedWhereWanted};
 ghost use Rattle.world.specs.Promise.{Promise};
+ghost use Rattle.world.specs.Torn.{LeavesTorn};
 
 /// The promise holds of every history in which each event is answered by what came before it, whatever
 /// keyboard it came from: restarts, what was acknowledged and confirmed, looks, what is read, kept and
@@ -21,6 +22,13 @@ pub fn answered_is_promised()
 pub fn one_history()
     ensures { (start : SimValue) (a b : List Step) → IsLawful start a → IsLawful start b → map (λ (s : Step). s.event) a ≡ map (λ (s : Step). s.event) b
         → map (λ (s : Step). s.refused) a ≡ map (λ (s : Step). s.refused) b → a ≡ b }
+{}
+
+/// Where the mask is not known, as with a real flash: a step that is torn, by a fault or by a cut of the power inside it,
+/// leaves what the next operation of the command at work may leave, and without a command the image that was there.
+/// What a step leaves that is whole, and a step that fails, `keyboard::laws::one_image` says.
+pub fn torn_leaves_next()
+    ensures { (start : SimValue) (history : List Step) → IsLawful start history → EachStep LeavesTorn start history }
 {}
 
 /// A step in which the host was refused memory is one for which it wants some: a packet of data while it

@@ -15,6 +15,7 @@ mod event;
 pub mod laws;
 mod world;
 
+pub use bench::Operation;
 pub use control_ep::Why;
 pub use debounce::Scan;
 pub use event::{Answer, Event};

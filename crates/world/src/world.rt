@@ -13,7 +13,7 @@ ghost use Rattle.world.specs.Kinds.{Step, as_answer};
 ghost use Rattle.session_law.specs.Heard.{heard, with_heard};
 ghost use Rattle.world.specs.Lawful.{MayRefuse, is_no_memory};
 
-use crate::bench::Bench;
+use crate::bench::{Bench, Operation};
 use crate::event::{Answer, Event, Told};
 use arrayvec::ArrayVec;
 use debounce::Scan;
@@ -40,7 +40,7 @@ impl Model for World {
 
     ghost Value = { WorldValue };
 
-    ghost view = { λ w. record { keyboard = w.keyboard; host = w.host; flash = w.bench.flash } };
+    ghost view = { λ w. record { keyboard = w.keyboard; host = w.host; flash = w.bench.flash; asked = w.bench.asked } };
 
     ghost invariant = { λ w. RunsOn w.bench.flash.image w.keyboard × (w.bench.tear ≡ None) };
 }
@@ -68,7 +68,11 @@ impl World {
         Ok(World {
             keyboard,
             host: Host::new(alloc),
-            bench: Bench { flash, tear: None },
+            bench: Bench {
+                flash,
+                tear: None,
+                asked: None,
+            },
         })
     }
 
@@ -84,6 +88,14 @@ impl World {
         ensures { result ≡ self.flash }
     {
         self.bench.flash
+    }
+
+    /// The flash operation that the latest step of the flash work asked for; `None` where it asked
+    /// for none.
+    pub fn operation(&self) -> Option<Operation>
+        ensures { result ≡ self.now.asked }
+    {
+        self.bench.asked
     }
 
     /// The host.
@@ -208,6 +220,7 @@ impl World {
     fn work(&mut self) -> Told
         ensures { Takes WorkEvent self.old result self.new }
     {
+        self.bench.asked = None;
         let work = self.keyboard.work(&mut self.bench);
         self.bench.tear = None;
         just(Answer::Worked(work))
@@ -217,6 +230,7 @@ impl World {
     fn work_fault(&mut self, tear: &Mask) -> Told
         ensures { Takes (WorkFault tear.now) self.old result self.new }
     {
+        self.bench.asked = None;
         self.bench.tear = Some(copy_of(tear));
         let work = self.keyboard.work(&mut self.bench);
         self.bench.tear = None;
@@ -234,6 +248,7 @@ impl World {
     fn cut_in_work(&mut self, mask: &Mask) -> Told
         ensures { Takes (CutInWork mask.now) self.old result self.new }
     {
+        self.bench.asked = None;
         self.bench.tear = Some(copy_of(mask));
         let _ = self.keyboard.work(&mut self.bench);
         self.bench.tear = None;

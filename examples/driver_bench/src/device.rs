@@ -41,7 +41,7 @@ impl Bench {
     fn on(flash: SimFlash, packet: usize) -> Option<Bench> {
         let size = PacketSize::of(packet)?;
         let identity = IDENTITIES.iter().find(|identity| identity.packet_size == size)?;
-        Some(Bench(Device::start(flash, identity)))
+        Device::start(flash, identity).ok().map(Bench)
     }
 
     /// A step of the flash work, whose operation is torn by the mask and answers a fault.

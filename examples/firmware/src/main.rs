@@ -43,7 +43,9 @@ impl Board {
 /// The main loop, until the power goes: an event, or, where none waits, a step of the flash work. The calls take turns,
 /// so the interrupts only leave their events for this loop.
 fn run<C: Chip>(chip: &mut C, board: &mut Board) {
-    let mut device = Device::start_in(&mut board.keyboard, Flash::new(&mut board.cells), &IDENTITY);
+    let flash = Flash::new(&mut board.cells);
+    // The cells have 2 pages, so that none is refused.
+    let Ok(mut device) = Device::start_in(&mut board.keyboard, flash, &IDENTITY) else { return };
     loop {
         match chip.event() {
             Event::Millisecond(scan) => device.scan(scan),

@@ -4,24 +4,11 @@
 #define DRIVER_H
 
 #include "hid_reader.h"
+#include "hid_usages.h"
 
 #include <inttypes.h>
 #include <stdio.h>
 #include <stdlib.h>
-
-/* Usages, with their page in the high half. */
-#define USAGE_X 0x00010030
-#define USAGE_Y 0x00010031
-#define USAGE_RZ 0x00010035
-#define USAGE_WHEEL 0x00010038
-#define USAGE_HAT_SWITCH 0x00010039
-#define USAGE_NUM_LOCK 0x00080001
-#define USAGE_CAPS_LOCK 0x00080002
-#define USAGE_FINGER 0x000d0022
-#define USAGE_TIP_SWITCH 0x000d0042
-#define USAGE_CONTACT_IDENTIFIER 0x000d0051
-#define USAGE_CONTACT_COUNT 0x000d0054
-#define PAGE_BUTTON 0x0009
 
 /* Ends the program where a call is refused. */
 static inline void needs(hidr_status status, const char *what) {
@@ -86,19 +73,16 @@ static inline int read_or_drop(hidr_reader reader, const uint8_t *report, size_t
 /* What the item of a value's field declares. */
 static inline hidr_detail detail_of(hidr_reader reader, const hidr_value *value) {
     hidr_detail detail;
-    size_t item;
-    needs(hidr_detail_of(reader, value->field, &item), "the field");
-    needs(hidr_detail_at(reader, item, &detail), "the item");
+    needs(hidr_detail_at(reader, value->item, &detail), "the item");
     return detail;
 }
 
 /* A value in its unit, with the unit's name. */
 static inline void print_physical(hidr_reader reader, const hidr_value *value, uint32_t digits) {
     char decimal[64], unit[32];
-    size_t length, item;
+    size_t length;
     needs(hidr_decimal(reader, value->field, value->raw, digits, decimal, sizeof decimal, &length), "the value");
-    needs(hidr_detail_of(reader, value->field, &item), "the field");
-    needs(hidr_unit_name(reader, item, unit, sizeof unit, &length), "the unit");
+    needs(hidr_unit_name(reader, value->item, unit, sizeof unit, &length), "the unit");
     printf("%s %ss", decimal, length > 0 ? unit : "unit");
 }
 
@@ -107,7 +91,7 @@ static inline void print_buttons(const struct values *values) {
     const char *between = "";
     printf(", buttons [");
     for (size_t at = 0; at < values->count; at++)
-        if (values->all[at].usage >> 16 == PAGE_BUTTON && values->all[at].raw != 0) {
+        if (values->all[at].usage >> 16 == HIDU_BUTTON_PAGE && values->all[at].raw != 0) {
             printf("%s%" PRIu32, between, values->all[at].usage & 0xffff);
             between = ", ";
         }

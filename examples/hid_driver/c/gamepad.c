@@ -36,7 +36,7 @@ static void tell(hidr_reader reader, const struct values *values) {
     /* A hat at rest says a value outside its extents, with Null State (HIDR_IS_NULL) or without (HIDR_IS_OUT): that is no
      * direction. */
     for (size_t at = 0; at < values->count; at++)
-        if (values->all[at].usage == USAGE_HAT_SWITCH && values->all[at].within == HIDR_IN_RANGE)
+        if (values->all[at].usage == HIDU_GENERIC_DESKTOP_HAT_SWITCH && values->all[at].within == HIDR_IN_RANGE)
             hat = &values->all[at];
     printf("hat ");
     if (hat == NULL)
@@ -47,11 +47,11 @@ static void tell(hidr_reader reader, const struct values *values) {
     for (size_t at = 0; at < values->count; at++) {
         const hidr_value *value = &values->all[at];
         hidr_detail detail = detail_of(reader, value);
-        int is_stick = value->usage >= USAGE_X && value->usage <= USAGE_RZ;
+        int is_stick = value->usage >= HIDU_GENERIC_DESKTOP_X && value->usage <= HIDU_GENERIC_DESKTOP_RZ;
         double share = is_stick ? stick(&detail, value->raw) : pedal(&detail, value->raw);
         char name[64];
         size_t length;
-        if (!value->has_usage || value->usage >> 16 == PAGE_BUTTON || value->usage == USAGE_HAT_SWITCH)
+        if (!value->has_usage || value->usage >> 16 == HIDU_BUTTON_PAGE || value->usage == HIDU_GENERIC_DESKTOP_HAT_SWITCH)
             continue;
         if (value->within != HIDR_IN_RANGE || share == 0)
             continue;

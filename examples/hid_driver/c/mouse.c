@@ -16,7 +16,12 @@ int main(int argc, char **argv) {
             continue;
         for (size_t at = 0; at < values.count; at++) {
             hidr_value value = values.all[at];
-            int64_t *where = value.usage == USAGE_X ? &x : value.usage == USAGE_Y ? &y : value.usage == USAGE_WHEEL ? &lines : NULL;
+            int64_t *where = NULL;
+            switch (value.usage) {
+            case HIDU_GENERIC_DESKTOP_X: where = &x; break;
+            case HIDU_GENERIC_DESKTOP_Y: where = &y; break;
+            case HIDU_GENERIC_DESKTOP_WHEEL: where = &lines; break;
+            }
             /* A value of an axis that is relative is added, any other is where the pointer is. */
             if (where != NULL)
                 *where = (detail_of(reader, &value).flags & HIDR_RELATIVE ? *where : 0) + value.raw;

@@ -65,20 +65,20 @@ static void tell(const char *name, hidr_reader reader, uint8_t kind, uint8_t id,
 int main(int argc, char **argv) {
     for (int keyboard = 1; keyboard < argc; keyboard++) {
         hidr_reader reader = reader_of(argv[keyboard]);
-        uint8_t id = report_of(reader, USAGE_NUM_LOCK);
+        uint8_t id = report_of(reader, HIDU_LED_NUM_LOCK);
         struct report caps = {0}, both = {0}, other = {0};
-        tell("Caps Lock, new", reader, HIDR_OUTPUT, id, USAGE_CAPS_LOCK, 1, NULL, &caps);
+        tell("Caps Lock, new", reader, HIDR_OUTPUT, id, HIDU_LED_CAPS_LOCK, 1, NULL, &caps);
         /* Onto the last report that was sent, its ID byte with it: all other LEDs stay. */
-        tell("Num Lock onto it", reader, HIDR_OUTPUT, id, USAGE_NUM_LOCK, 1, &caps, &both);
-        tell("off again", reader, HIDR_OUTPUT, id, USAGE_NUM_LOCK, 0, &both, &other);
+        tell("Num Lock onto it", reader, HIDR_OUTPUT, id, HIDU_LED_NUM_LOCK, 1, &caps, &both);
+        tell("off again", reader, HIDR_OUTPUT, id, HIDU_LED_NUM_LOCK, 0, &both, &other);
         /* A new report turns all other LEDs off. */
-        tell("Num Lock, new", reader, HIDR_OUTPUT, id, USAGE_NUM_LOCK, 1, NULL, &other);
+        tell("Num Lock, new", reader, HIDR_OUTPUT, id, HIDU_LED_NUM_LOCK, 1, NULL, &other);
         /* SET_REPORT to endpoint 0 (HID 1.11, 7.2.2), and the report is its data. */
         uint8_t request[8] = {0x21, 0x09, id, 0x02, INTERFACE, 0, (uint8_t)both.length, (uint8_t)(both.length >> 8)};
         print("its SET_REPORT", request, sizeof request);
-        tell("as 2", reader, HIDR_OUTPUT, id, USAGE_NUM_LOCK, 2, NULL, &other);
-        tell("as an input", reader, HIDR_INPUT, id, USAGE_NUM_LOCK, 1, NULL, &other);
-        tell("of ID 9", reader, HIDR_OUTPUT, 9, USAGE_NUM_LOCK, 1, NULL, &other);
+        tell("as 2", reader, HIDR_OUTPUT, id, HIDU_LED_NUM_LOCK, 2, NULL, &other);
+        tell("as an input", reader, HIDR_INPUT, id, HIDU_LED_NUM_LOCK, 1, NULL, &other);
+        tell("of ID 9", reader, HIDR_OUTPUT, 9, HIDU_LED_NUM_LOCK, 1, NULL, &other);
         printf("--\n");
         hidr_close(reader);
     }

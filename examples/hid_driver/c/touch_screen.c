@@ -28,13 +28,12 @@ struct contact {
 /* The Finger that a value stands in, or HIDR_NONE: the innermost collection may be one of X and Y alone. */
 static uint32_t finger_of(hidr_reader reader, const hidr_value *value) {
     uint32_t around[16];
-    size_t item, count;
-    needs(hidr_detail_of(reader, value->field, &item), "the field");
-    needs(hidr_around(reader, item, around, 16, &count), "the collections");
+    size_t count;
+    needs(hidr_around(reader, value->item, around, 16, &count), "the collections");
     for (size_t at = 0; at < count; at++) {
         hidr_collection collection;
         needs(hidr_collection_at(reader, around[at], &collection), "the collection");
-        if (collection.has_usage && collection.usage == USAGE_FINGER)
+        if (collection.has_usage && collection.usage == HIDU_DIGITIZERS_FINGER)
             return around[at];
     }
     return HIDR_NONE;
@@ -47,7 +46,7 @@ static size_t contacts_of(hidr_reader reader, const struct values *values, struc
         const hidr_value *value = &values->all[at];
         uint32_t finger = finger_of(reader, value);
         size_t place = 0;
-        if (value->usage == USAGE_CONTACT_COUNT && value->raw >= 0)
+        if (value->usage == HIDU_DIGITIZERS_CONTACT_COUNT && value->raw >= 0)
             used = (size_t)value->raw;
         if (finger == HIDR_NONE)
             continue;
@@ -56,10 +55,10 @@ static size_t contacts_of(hidr_reader reader, const struct values *values, struc
         if (place == found)
             contacts[found++] = (struct contact){.finger = finger};
         switch (value->usage) {
-        case USAGE_TIP_SWITCH: contacts[place].down = value->raw != 0; break;
-        case USAGE_CONTACT_IDENTIFIER: contacts[place].number = value->raw; break;
-        case USAGE_X: contacts[place].x = *value; break;
-        case USAGE_Y: contacts[place].y = *value; break;
+        case HIDU_DIGITIZERS_TIP_SWITCH: contacts[place].down = value->raw != 0; break;
+        case HIDU_DIGITIZERS_CONTACT_IDENTIFIER: contacts[place].number = value->raw; break;
+        case HIDU_GENERIC_DESKTOP_X: contacts[place].x = *value; break;
+        case HIDU_GENERIC_DESKTOP_Y: contacts[place].y = *value; break;
         default: break;
         }
     }

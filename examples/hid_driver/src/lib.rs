@@ -1,25 +1,9 @@
 // SPDX-License-Identifier: MIT OR Apache-2.0
-//! What the drivers of this folder share: a descriptor in hex, usages by their numbers, and what becomes of a refused report.
+//! What the drivers of this folder share: a descriptor in hex, and what becomes of a refused report.
 #![forbid(unsafe_code)]
 
 use std::error::Error;
 use wuzhikar_hid::{Kind, Reader, Reading};
-
-/// Usages of the pages Generic Desktop, LED and Digitizers, with their page in the high half.
-pub mod usage {
-    pub const X: u32 = 0x0001_0030;
-    pub const Y: u32 = 0x0001_0031;
-    pub const RZ: u32 = 0x0001_0035;
-    pub const WHEEL: u32 = 0x0001_0038;
-    pub const HAT_SWITCH: u32 = 0x0001_0039;
-    pub const BUTTON_PAGE: u32 = 0x0009;
-    pub const NUM_LOCK: u32 = 0x0008_0001;
-    pub const CAPS_LOCK: u32 = 0x0008_0002;
-    pub const FINGER: u32 = 0x000d_0022;
-    pub const TIP_SWITCH: u32 = 0x000d_0042;
-    pub const CONTACT_IDENTIFIER: u32 = 0x000d_0051;
-    pub const CONTACT_COUNT: u32 = 0x000d_0054;
-}
 
 /// The reader of a descriptor in hex, as `xxd -p` writes it.
 pub fn reader_of(hex: &str) -> Result<Reader, Box<dyn Error>> {

@@ -56,7 +56,7 @@ pub struct ReportOut {
 }
 
 /// A place in a list, or none.
-fn place(found: Option<usize>) -> u32 {
+pub fn place(found: Option<usize>) -> u32 {
     found.and_then(|place| place.try_into().ok()).unwrap_or(NONE)
 }
 

@@ -106,10 +106,12 @@ impl<T: Copy> Places<T> {
         }
     }
 
-    /// Whether these bytes and the places share memory.
+    /// Whether these bytes and the places share memory. Where there are no places, or no bytes, they do not.
     pub fn overlap(&self, bytes: &[u8]) -> bool {
         let (start, other) = (self.start.as_ptr().addr(), bytes.as_ptr().addr());
-        start < other.saturating_add(bytes.len()) && other < start.saturating_add(self.room.saturating_mul(size_of::<T>()))
+        let size = self.room.saturating_mul(size_of::<T>());
+        let some = size > 0 && !bytes.is_empty();
+        some && start < other.saturating_add(bytes.len()) && other < start.saturating_add(size)
     }
 
     /// How many places there are.

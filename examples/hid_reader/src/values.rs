@@ -1,13 +1,13 @@
 // SPDX-License-Identifier: MIT OR Apache-2.0
 //! The calls of `hid_reader.h` that read and write reports.
 
-use crate::details::put_text;
+use crate::details::{place, put_text};
 use crate::edge::{Input, Output, Outputs};
 use crate::handles::{both, kind_of, of_reader, told};
 use crate::status::Status;
 use core::ffi::c_char;
 use core::mem::offset_of;
-use wuzhikar_hid::{Asked, Detail, Setting, Target, Value, Within};
+use wuzhikar_hid::{Asked, Detail, Reader, Setting, Target, Value, Within};
 
 /// `hidr_value`
 #[repr(C)]
@@ -19,6 +19,7 @@ pub struct ValueOut {
     place: u16,
     within: u8,
     has_usage: u8,
+    item: u32,
 }
 
 /// `hidr_fraction`
@@ -90,7 +91,7 @@ pub extern "C" fn hidr_read(
             let kind = kind_of(kind).ok_or(if report.is_empty() { Status::EmptyReport } else { Status::UnknownReport })?;
             let reading = reader.read(kind, report)?;
             let left = reading.rest().len();
-            Ok((into.put_all(reading.map(ValueOut::from)), left))
+            Ok((into.put_all(reading.map(|value| value_out(reader, &value))), left))
         })?;
         count.put(told);
         if let Some(place) = rest.place_if_any() {
@@ -196,19 +197,18 @@ pub extern "C" fn hidr_write(
     })
 }
 
-impl From<Value> for ValueOut {
-    fn from(value: Value) -> ValueOut {
-        ValueOut {
-            raw: value.raw,
-            usage: value.usage.unwrap_or(0),
-            field: value.field as u32,
-            place: value.place,
-            within: match value.within {
-                Within::Range => 0,
-                Within::Null => 1,
-                Within::Out => 2,
-            },
-            has_usage: value.usage.is_some().into(),
-        }
+fn value_out(reader: &Reader, value: &Value) -> ValueOut {
+    ValueOut {
+        raw: value.raw,
+        usage: value.usage.unwrap_or(0),
+        field: value.field as u32,
+        place: value.place,
+        within: match value.within {
+            Within::Range => 0,
+            Within::Null => 1,
+            Within::Out => 2,
+        },
+        has_usage: value.usage.is_some().into(),
+        item: place(reader.placed(value.field).map(|placed| placed.place)),
     }
 }

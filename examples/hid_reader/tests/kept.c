@@ -185,6 +185,10 @@ static void lengths_and_overlaps(hidr_reader r) {
     ANSWERS(HIDR_OK, hidr_read(r, 0, over + 100, 7, (hidr_value *)(void *)(over + 107), 9, &to.count, NULL));
     CHECK(to.count == 9);
     ANSWERS(HIDR_OK, hidr_read(r, 0, REPORT, 7, NULL, 0, &to.count, NULL));
+    /* Where there is room for nothing, nothing is written, wherever it points. */
+    ANSWERS(HIDR_OK, hidr_read(r, 0, over + 100, 7, (hidr_value *)(void *)(over + 103), 0, &to.count, NULL));
+    CHECK(to.count == 9);
+    ANSWERS(HIDR_OK, hidr_namings(over + 100, 7, 9, 0, (hidr_range *)(void *)(over + 103), 0, &to.count));
 }
 
 static void what_is_absent(hidr_reader r) {
@@ -374,7 +378,8 @@ static void memory(hidr_reader r) {
 
 int main(void) {
     _Static_assert(sizeof(hidr_detail) == 88 && sizeof(hidr_collection) == 24 && sizeof(hidr_report) == 24, "as in src/details.rs");
-    _Static_assert(sizeof(hidr_value) == 24 && sizeof(hidr_setting) == 24 && offsetof(hidr_setting, null) == 17, "as in src/values.rs");
+    _Static_assert(sizeof(hidr_value) == 24 && offsetof(hidr_value, item) == 20, "as in src/values.rs");
+    _Static_assert(sizeof(hidr_setting) == 24 && offsetof(hidr_setting, null) == 17, "as in src/values.rs");
     setvbuf(stdout, NULL, _IONBF, 0);
     handles();
     texts();

@@ -1,6 +1,6 @@
 // SPDX-License-Identifier: MIT OR Apache-2.0
 /* Tells what the library makes of descriptors and reports, a line for a line of standard input, as tests/reader/tell does:
- * tools/test_reader.py compares both with a program in Python. What the calls write stands at the end of the memory. */
+ * tests/test_reader.py compares both with a program in Python. What the calls write stands at the end of the memory. */
 #include "check.h"
 
 #include <inttypes.h>
@@ -182,7 +182,9 @@ static void print_value(const hidr_value *value) {
     static const char *const within[] = {"range", "null", "out"};
     hidr_fraction exact;
     char decimal[64];
-    size_t length;
+    size_t length, item;
+    ANSWERS(HIDR_OK, hidr_detail_of(reader, value->field, &item));
+    CHECK(value->item == item);
     printf("%" PRIu32 " %u ", value->field, value->place);
     if (value->has_usage)
         printf("%" PRIu32, value->usage);

@@ -4,7 +4,9 @@
 use crate::file::{self, Keymap};
 use crate::hidraw::Which;
 use crate::keyboard::{self, Entry, Error, Features};
-use std::fs;
+use std::ffi::{OsStr, OsString};
+use std::fs::File;
+use std::io::Read;
 use std::path::PathBuf;
 use wuzhikar::{Code, LayerNo};
 
@@ -41,18 +43,20 @@ pub struct Ran(pub String);
 
 impl Given {
     /// Reads the words, or says what is wrong with them.
-    pub fn read(words: &[String]) -> Result<Given, String> {
+    pub fn read(words: &[OsString]) -> Result<Given, String> {
         let mut which = Which { device: None, id: TEST_ID };
-        let mut words = words.iter().map(String::as_str);
-        let rest: Vec<&str> = loop {
-            match words.next() {
+        let mut words = words.iter().map(OsString::as_os_str);
+        let rest: Vec<&OsStr> = loop {
+            let word = words.next();
+            match word.map(OsStr::to_string_lossy).as_deref() {
                 Some("--help" | "-h") => return Ok(Given::Help),
                 Some("--device") => which.device = Some(words.next().ok_or("--device names a file")?.into()),
                 Some("--id") => {
-                    which.id = words.next().and_then(id).ok_or("--id is four hex digits, a colon, and four")?
+                    let given = words.next().and_then(OsStr::to_str);
+                    which.id = given.and_then(id).ok_or("--id is four hex digits, a colon, and four")?;
                 }
                 Some(word) if word.starts_with('-') => return Err(format!("{word} is no option")),
-                word => break word.into_iter().chain(words).collect(),
+                _ => break word.into_iter().chain(words).collect(),
             }
         };
         Command::read(&rest).map(|command| Given::Run(Run { which, command }))
@@ -60,8 +64,11 @@ impl Given {
 }
 
 impl Command {
-    fn read(words: &[&str]) -> Result<Command, String> {
-        Ok(match words {
+    fn read(words: &[&OsStr]) -> Result<Command, String> {
+        // A character that stands for what is no text is part of no number, code or command.
+        let texts: Vec<_> = words.iter().map(|word| word.to_string_lossy()).collect();
+        let texts: Vec<&str> = texts.iter().map(|text| &text[..]).collect();
+        Ok(match texts[..] {
             ["get", layer, key] => Command::Get(entry(layer, key)?),
             ["set", layer, key, code] => {
                 let code = file::code(code).ok_or_else(|| format!("{code:?} is no code of four hex digits"))?;
@@ -70,17 +77,20 @@ impl Command {
             ["reset"] => Command::Reset(None),
             ["reset", layer] => Command::Reset(Some(entry(layer, "0")?.layer)),
             ["dump"] => Command::Dump(None),
-            ["dump", name] => Command::Dump(Some(name.to_string())),
-            ["load", path] => Command::Load(path.into()),
+            ["dump", _] => Command::Dump(Some(words[1].to_str().ok_or("the name is no text in UTF-8")?.to_string())),
+            ["load", _] => Command::Load(words[1].into()),
             [] => return Err("no command".to_string()),
-            _ => return Err(format!("no such command: {}", words.join(" "))),
+            _ => return Err(format!("no such command: {}", texts.join(" "))),
         })
     }
 
     /// The same, with the file read that it names: a wrong file is told before a keyboard is looked for.
     pub fn with_file(self) -> Result<Command, Error> {
         let Command::Load(path) = self else { return Ok(self) };
-        let bytes = fs::read(&path).map_err(|error| Error::Read(path.clone(), error))?;
+        let mut bytes = Vec::new();
+        File::open(&path)
+            .and_then(|file| file.take(file::MOST as u64 + 1).read_to_end(&mut bytes))
+            .map_err(|error| Error::Read(path.clone(), error))?;
         Keymap::read(&bytes).map(Command::Apply).map_err(|error| Error::File(path, error))
     }
 
@@ -98,7 +108,9 @@ impl Command {
             }
             Command::Dump(name) => keyboard::dump(features)?.write(name.as_deref()),
             Command::Load(_) => return self.with_file()?.run(features),
-            Command::Apply(keymap) => format!("{} entries differed, and are stored\n", keyboard::load(features, &keymap)?),
+            Command::Apply(keymap) => {
+                format!("{} entries differed, and are stored\n", keyboard::load(features, &keymap)?)
+            }
         }))
     }
 }

@@ -2,6 +2,8 @@
 //! A keymap as a file: JSON, version 1 (docs/FORMATS.md, "A keymap as a file").
 
 use crate::keyboard::Entry;
+use serde::de::value::MapAccessDeserializer;
+use serde::de::{MapAccess, Visitor};
 use serde::{Deserialize, Deserializer};
 use std::fmt;
 use wuzhikar::Code;
@@ -12,7 +14,7 @@ pub const KEYS: usize = 96;
 const FORMAT: &str = "wuzhikar-keymap";
 const VERSION: f64 = 1.0;
 /// The most bytes of a file.
-const MOST: usize = 65_536;
+pub const MOST: usize = 65_536;
 
 /// Why a file is no keymap.
 #[derive(Debug)]
@@ -53,6 +55,9 @@ pub struct Keymap {
     codes: Vec<Code>,
 }
 
+/// What is passed over in front of a file: U+FEFF, by which some programs mark a text as UTF-8.
+const MARK: &[u8] = "\u{feff}".as_bytes();
+
 /// The members of a file.
 #[derive(Deserialize)]
 #[serde(deny_unknown_fields)]
@@ -62,6 +67,27 @@ struct Members {
     layers: Vec<Vec<String>>,
     #[serde(default, deserialize_with = "string", rename = "name")]
     _name: Option<String>,
+}
+
+/// Members by their names. (Serde alone takes an array of their values too.)
+struct Object(Members);
+
+impl<'d> Deserialize<'d> for Object {
+    fn deserialize<D: Deserializer<'d>>(from: D) -> Result<Object, D::Error> {
+        struct Named;
+        impl<'d> Visitor<'d> for Named {
+            type Value = Object;
+
+            fn expecting(&self, f: &mut fmt::Formatter<'_>) -> fmt::Result {
+                f.write_str("an object")
+            }
+
+            fn visit_map<A: MapAccess<'d>>(self, map: A) -> Result<Object, A::Error> {
+                Members::deserialize(MapAccessDeserializer::new(map)).map(Object)
+            }
+        }
+        from.deserialize_map(Named)
+    }
 }
 
 /// A string, which may be missing and not be null.
@@ -86,7 +112,8 @@ impl Keymap {
         if bytes.len() > MOST {
             return Err(FileError::TooLong);
         }
-        let Members { format, version, layers, .. } = serde_json::from_slice(bytes).map_err(FileError::Json)?;
+        let text = bytes.strip_prefix(MARK).unwrap_or(bytes);
+        let Object(Members { format, version, layers, .. }) = serde_json::from_slice(text).map_err(FileError::Json)?;
         if format != FORMAT {
             return Err(FileError::Format(format));
         }

@@ -8,6 +8,8 @@ mod hidraw;
 mod keyboard;
 
 use command::{Given, Ran};
+use std::ffi::OsString;
+use std::io::Write;
 use std::process::ExitCode;
 
 const HELP: &str = "\
@@ -23,27 +25,38 @@ The keyboard is the one hidraw device with the ID 1209:0001, or that of --id; --
 Codes are those of docs/FORMATS.md, \"Codes\": 0004 is the letter a, 40e9 is volume up, 5001 is layer 1 while it is held.
 ";
 
-fn main() -> ExitCode {
-    let words: Vec<String> = std::env::args().skip(1).collect();
-    let given = match Given::read(&words) {
-        Ok(Given::Help) => {
-            print!("{HELP}");
-            return ExitCode::SUCCESS;
+/// Prints what was asked for.
+fn print(text: &str) -> ExitCode {
+    let mut out = std::io::stdout();
+    match out.write_all(text.as_bytes()).and_then(|()| out.flush()) {
+        Ok(()) => ExitCode::SUCCESS,
+        Err(error) => {
+            tell(&format!("standard output: {error}"));
+            ExitCode::FAILURE
         }
+    }
+}
+
+/// Says what is wrong, where that can be written.
+fn tell(error: &str) {
+    let _ = writeln!(std::io::stderr(), "keymap: {error}");
+}
+
+fn main() -> ExitCode {
+    let words: Vec<OsString> = std::env::args_os().skip(1).collect();
+    let given = match Given::read(&words) {
+        Ok(Given::Help) => return print(HELP),
         Ok(Given::Run(given)) => given,
         Err(error) => {
-            eprintln!("keymap: {error}\n\n{HELP}");
+            tell(&format!("{error}\n\n{HELP}"));
             return ExitCode::from(2);
         }
     };
     let command = given.command.with_file();
     match command.and_then(|command| command.run(&mut hidraw::open(&given.which)?)) {
-        Ok(Ran(text)) => {
-            print!("{text}");
-            ExitCode::SUCCESS
-        }
+        Ok(Ran(text)) => print(&text),
         Err(error) => {
-            eprintln!("keymap: {error}");
+            tell(&error.to_string());
             ExitCode::FAILURE
         }
     }

@@ -42,7 +42,7 @@ pub struct Device {
 impl Device {
     /// A keyboard on this flash.
     pub fn new(flash: SimFlash, identity: &'static Identity<'static>) -> Device {
-        let inner = wuzhikar_device::Device::start(flash, identity);
+        let inner = wuzhikar_device::Device::start(flash, identity).expect("2 to 8 pages");
         Device { inner, change: None, partial: Vec::new(), waits: 0, tear: None }
     }
 
@@ -157,6 +157,6 @@ pub fn scan_of(keys: &[u8]) -> Scan {
 pub fn plug(device: &mut Device) {
     device.bus_reset();
     if device.control([0, 5, 1, 0, 0, 0, 0, 0], &[]) == Ended::Stall || device.change != Some(Change::Address(1)) {
-        eprintln!("the device takes no address");
+        crate::tell("the device takes no address");
     }
 }

@@ -5,11 +5,15 @@
 mod run;
 
 use real_host::device::{Device, identity};
-use real_host::usbip;
+use real_host::{print, tell, usbip};
 use run::{Event, Run, named};
-use std::io::{BufRead, Error, Result};
+use std::ffi::{OsStr, OsString};
+use std::fs::{File, FileType};
+use std::io::{BufRead, Error, ErrorKind, Read, Result};
 use std::net::TcpListener;
+use std::os::unix::fs::FileTypeExt;
 use std::os::unix::net::UnixListener;
+use std::path::{Path, PathBuf};
 use std::process::ExitCode;
 use std::sync::mpsc::{Sender, channel};
 use std::time::Duration;
@@ -42,26 +46,27 @@ Standard input has what the hands do, a line each. They go on when the host has 
 struct Given {
     packet: PacketSize,
     serial: Option<String>,
-    image: Option<String>,
-    save: Option<String>,
-    command: Vec<String>,
+    image: Option<PathBuf>,
+    save: Option<PathBuf>,
+    command: Vec<OsString>,
 }
 
 impl Given {
-    fn read(words: impl Iterator<Item = String>) -> std::result::Result<Given, String> {
+    fn read(words: impl Iterator<Item = OsString>) -> std::result::Result<Given, String> {
         let mut given =
             Given { packet: PacketSize::Bytes16, serial: None, image: None, save: None, command: Vec::new() };
         let mut words = words.peekable();
-        while let Some(option) = words.next_if(|word| word.starts_with("--")) {
+        while let Some(option) = words.next_if(|word| word.as_encoded_bytes().starts_with(b"--")) {
+            let option = option.to_string_lossy();
             let value = words.next().ok_or(format!("{option} wants a value"))?;
-            match option.as_str() {
+            match &option[..] {
                 "--packet" => {
-                    let size = value.parse().ok().and_then(PacketSize::of);
+                    let size = value.to_str().and_then(|text| text.parse().ok()).and_then(PacketSize::of);
                     given.packet = size.ok_or("--packet is 8, 16, 32 or 64")?;
                 }
-                "--serial" => given.serial = Some(value),
-                "--image" => given.image = Some(value),
-                "--save" => given.save = Some(value),
+                "--serial" => given.serial = Some(value.into_string().map_err(|_| "--serial is no text in UTF-8")?),
+                "--image" => given.image = Some(value.into()),
+                "--save" => given.save = Some(value.into()),
                 _ => return Err(format!("{option} is no option")),
             }
         }
@@ -72,18 +77,24 @@ impl Given {
     /// The keyboard, on its flash.
     fn device(&self) -> Result<Device> {
         let flash = match &self.image {
-            Some(path) => SimFlash::from_image(std::fs::read(path).map_err(|error| named(path, error))?)
-                .map_err(|error| Error::other(format!("{path}: {error}")))?,
+            Some(path) => image(path).map_err(|error| named(path.display(), error))?,
             None => SimFlash::blank(2).map_err(Error::other)?,
         };
         Ok(Device::new(flash, identity(self.packet, self.serial.clone())))
     }
 }
 
+/// The flash with the image in a file, of which one byte more than the largest image has is read at most.
+fn image(path: &Path) -> Result<SimFlash> {
+    let mut bytes = Vec::new();
+    File::open(path)?.take(8 * 4096 + 1).read_to_end(&mut bytes)?;
+    SimFlash::from_image(bytes).map_err(Error::other)
+}
+
 /// Takes hosts by usbip, until the program ends.
 fn serve(address: &str, events: Sender<Event>) -> Result<()> {
     let listener = TcpListener::bind(address).map_err(|error| named(address, error))?;
-    println!("usbip attach -r HOST -b {}  # {}", usbip::BUS_ID, listener.local_addr()?);
+    print(format_args!("usbip attach -r HOST -b {}  # {}", usbip::BUS_ID, listener.local_addr()?))?;
     std::thread::spawn(move || {
         for mut socket in listener.incoming().flatten() {
             // One that says nothing keeps the others out for a short time only.
@@ -97,18 +108,46 @@ fn serve(address: &str, events: Sender<Event>) -> Result<()> {
                     }
                 }
                 Ok(false) => {}
-                Err(error) => eprintln!("real_host: {error}"),
+                Err(error) => tell(error),
             }
         }
     });
     Ok(())
 }
 
+/// The kind of what has this name, which may be a link; nothing where it is free.
+fn kind_of(path: &Path) -> Result<Option<FileType>> {
+    match std::fs::symlink_metadata(path) {
+        Ok(there) => Ok(Some(there.file_type())),
+        Err(error) if error.kind() == ErrorKind::NotFound => Ok(None),
+        Err(error) => Err(error),
+    }
+}
+
+/// Takes away a socket of an earlier run. Anything else of this name stays.
+fn clear(path: &Path) -> Result<()> {
+    match kind_of(path)? {
+        Some(kind) if kind.is_socket() => std::fs::remove_file(path),
+        Some(_) => Err(Error::other("it is there, and is no socket")),
+        None => Ok(()),
+    }
+}
+
+/// Whether a flash may be kept under this name: in a regular file or a new one.
+fn keeps(path: &Path) -> Result<()> {
+    match kind_of(path)? {
+        Some(kind) if !kind.is_file() => Err(Error::other("it is there, and is no regular file")),
+        _ => Ok(()),
+    }
+}
+
 /// Takes guests by usbredir, until the program ends.
-fn guest(path: &str, events: Sender<Event>) -> Result<()> {
-    let _ = std::fs::remove_file(path);
-    let listener = UnixListener::bind(path).map_err(|error| named(path, error))?;
-    println!("qemu-system-x86_64 -device qemu-xhci -chardev socket,id=kb,path={path} -device usb-redir,chardev=kb ..");
+fn guest(path: &Path, events: Sender<Event>) -> Result<()> {
+    let bound = clear(path).and_then(|()| UnixListener::bind(path));
+    let (path, listener) = (path.display(), bound.map_err(|error| named(path.display(), error))?);
+    print(format_args!(
+        "qemu-system-x86_64 -device qemu-xhci -chardev socket,id=kb,path={path} -device usb-redir,chardev=kb .."
+    ))?;
     std::thread::spawn(move || {
         for socket in listener.incoming().flatten() {
             if events.send(Event::Guest(socket)).is_err() {
@@ -131,19 +170,20 @@ fn listen(events: Sender<Event>) {
 }
 
 fn main() -> ExitCode {
-    let words: Vec<String> = std::env::args().skip(1).collect();
-    if words.iter().any(|word| word == "--help" || word == "-h") {
-        print!("{HELP}");
-        return ExitCode::SUCCESS;
-    }
-    match Given::read(words.into_iter()).and_then(|given| begin(&given)) {
+    let words: Vec<OsString> = std::env::args_os().skip(1).collect();
+    let ran = if words.iter().any(|word| word == "--help" || word == "-h") {
+        Ok(print(HELP.trim_end()))
+    } else {
+        Given::read(words.into_iter()).and_then(|given| begin(&given))
+    };
+    match ran {
         Ok(Ok(())) => ExitCode::SUCCESS,
         Ok(Err(error)) => {
-            eprintln!("real_host: {error}");
+            tell(error);
             ExitCode::FAILURE
         }
         Err(error) => {
-            eprintln!("real_host: {error}\n\n{HELP}");
+            tell(format_args!("{error}\n\n{HELP}"));
             ExitCode::from(2)
         }
     }
@@ -151,19 +191,25 @@ fn main() -> ExitCode {
 
 /// Runs a command, or says what is wrong with its words.
 fn begin(given: &Given) -> std::result::Result<Result<()>, String> {
-    let words: Vec<&str> = given.command.iter().map(String::as_str).collect();
-    Ok(match words.as_slice() {
-        ["attach"] => go(given, |run, _| run.attach()),
-        ["serve"] => go(given, |_, events| serve("127.0.0.1:3240", events)),
-        ["serve", address] => go(given, |_, events| serve(address, events)),
-        ["guest", path] => go(given, |_, events| guest(path, events)),
-        [] => return Err("no command".to_string()),
-        _ => return Err(format!("no such command: {}", words.join(" "))),
+    let command = given.command.first().and_then(|word| word.to_str()).unwrap_or_default();
+    Ok(match (command, given.command.get(1..).unwrap_or_default()) {
+        ("attach", []) => go(given, |run, _| run.attach()),
+        ("serve", []) => go(given, |_, events| serve("127.0.0.1:3240", events)),
+        ("serve", [address]) => {
+            let address = address.to_str().ok_or("the address is no text in UTF-8")?;
+            go(given, |_, events| serve(address, events))
+        }
+        ("guest", [path]) => go(given, |_, events| guest(Path::new(path), events)),
+        _ if given.command.is_empty() => return Err("no command".to_string()),
+        _ => return Err(format!("no such command: {}", given.command.join(OsStr::new(" ")).to_string_lossy())),
     })
 }
 
 fn go(given: &Given, plug: impl FnOnce(&mut Run, Sender<Event>) -> Result<()>) -> Result<()> {
     let (events, received) = channel();
+    if let Some(path) = &given.save {
+        keeps(path).map_err(|error| named(path.display(), error))?;
+    }
     let mut run = Run::new(given.device()?, given.save.clone(), events.clone());
     plug(&mut run, events.clone())?;
     listen(events);

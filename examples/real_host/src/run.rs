@@ -2,12 +2,15 @@
 //! The keyboard between its hands and its host, event by event.
 
 use real_host::device::{Device, plug, scan_of};
-use real_host::{hands, usbip, usbredir};
+use real_host::{hands, print, tell, usbip, usbredir};
 use std::collections::VecDeque;
+use std::ffi::OsString;
+use std::fmt::Display;
 use std::io::{Error, ErrorKind, Read, Result, Write};
 use std::net::{Shutdown, TcpStream};
 use std::os::fd::AsRawFd;
 use std::os::unix::net::UnixStream;
+use std::path::PathBuf;
 use std::sync::mpsc::{Receiver, RecvTimeoutError, Sender};
 use std::time::{Duration, Instant};
 use wuzhikar::Scan;
@@ -83,9 +86,9 @@ fn without_vhci(error: Error) -> Error {
     }
 }
 
-/// An error of a file, with its name.
-pub fn named(path: &str, error: Error) -> Error {
-    Error::new(error.kind(), format!("{path}: {error}"))
+/// An error of a file or an address, with its name.
+pub fn named(name: impl Display, error: Error) -> Error {
+    Error::new(error.kind(), format!("{name}: {error}"))
 }
 
 /// Whether Linux has no device at this port of the virtual host controller. It has one that was unplugged until its hub has
@@ -150,7 +153,7 @@ pub struct Run {
 
 /// The file that the flash is kept in.
 struct Kept {
-    path: String,
+    path: PathBuf,
     /// What it holds.
     image: Vec<u8>,
 }
@@ -161,7 +164,8 @@ impl Kept {
         if self.image == image {
             return Ok(());
         }
-        let part = format!("{}.part", self.path);
+        let mut part = OsString::from(&self.path);
+        part.push(".part");
         std::fs::write(&part, image)?;
         std::fs::rename(&part, &self.path)?;
         self.image = image.to_vec();
@@ -171,7 +175,7 @@ impl Kept {
 
 impl Run {
     /// A keyboard that nothing is plugged to. Its flash is kept in this file from now on, where there is one.
-    pub fn new(device: Device, save: Option<String>, events: Sender<Event>) -> Run {
+    pub fn new(device: Device, save: Option<PathBuf>, events: Sender<Event>) -> Run {
         let kept = save.map(|path| Kept { path, image: Vec::new() });
         let (scan, hands) = (Scan::NONE, VecDeque::new());
         Run {
@@ -219,7 +223,7 @@ impl Run {
                     }
                     Err(error) => {
                         if error.kind() == ErrorKind::InvalidData {
-                            eprintln!("real_host: {error}");
+                            tell(error);
                         }
                         break;
                     }
@@ -263,8 +267,7 @@ impl Run {
             let socket = plug_in_here()?;
             self.plug(socket)?;
         }
-        println!("restart");
-        Ok(())
+        print("restart")
     }
 
     /// Takes up the power cut that an URB met.
@@ -281,7 +284,7 @@ impl Run {
     /// A host that can't be written to has gone; the keyboard lives on.
     fn keep(&mut self, told: Result<()>) {
         if let Err(error) = told {
-            eprintln!("real_host: the host has gone: {error}");
+            tell(format_args!("the host has gone: {error}"));
             self.wire = None;
         }
     }
@@ -311,9 +314,9 @@ impl Run {
                     self.replug()?;
                 }
                 Some(hands::Act::Tear(mask)) => self.device.tear = Some(mask),
-                Some(hands::Act::Say(text)) => println!("{text}"),
-                Some(hands::Act::Leds) => println!("leds {:02x}", self.device.leds()),
-                Some(hands::Act::Waits) => println!("waits {}", std::mem::take(&mut self.device.waits)),
+                Some(hands::Act::Say(text)) => print(text)?,
+                Some(hands::Act::Leds) => print(format_args!("leds {:02x}", self.device.leds()))?,
+                Some(hands::Act::Waits) => print(format_args!("waits {}", std::mem::take(&mut self.device.waits)))?,
                 Some(hands::Act::End) => return Ok(false),
                 None => break,
             }
@@ -333,7 +336,7 @@ impl Run {
         }
         self.device.millisecond(self.scan);
         if let Some(kept) = &mut self.kept {
-            kept.keep(self.device.image()).map_err(|error| named(&kept.path, error))?;
+            kept.keep(self.device.image()).map_err(|error| named(kept.path.display(), error))?;
         }
         let polled = match &mut self.wire {
             Some((_, _, Wire::Usbip(wire))) => wire.poll(&mut self.device),
@@ -365,19 +368,19 @@ impl Run {
             Event::Gone(plug) => {
                 if self.wire.as_ref().is_some_and(|wire| wire.0 == plug) {
                     self.wire = None;
-                    println!("the host has gone");
+                    print("the host has gone")?;
                 }
                 Ok(())
             }
             Event::Line(line) => {
                 match hands::read(&line) {
                     Some(acts) => self.hands.extend(acts),
-                    None => eprintln!("real_host: no such line: {line}"),
+                    None => tell(format_args!("no such line: {line}")),
                 }
                 Ok(())
             }
             Event::Plugged(_) | Event::Guest(_) if self.wire.is_some() => {
-                eprintln!("real_host: a second host was turned away: the keyboard is plugged in already");
+                tell("a second host was turned away: the keyboard is plugged in already");
                 Ok(())
             }
             Event::Plugged(socket) => self.plug(Socket::Tcp(socket)),

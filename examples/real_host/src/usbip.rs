@@ -133,7 +133,7 @@ impl<S: Write> Wire<S> {
     pub fn take(&mut self, urb: Urb, device: &mut Device) -> Result<()> {
         match urb {
             Urb::Submit { seq, to_host, endpoint: 0, setup, length, .. } if !fits(setup, to_host, length) => {
-                eprintln!("real_host: an URB of {length} bytes for the request {setup:02x?}");
+                crate::tell(format_args!("an URB of {length} bytes for the request {setup:02x?}"));
                 self.submitted(seq, EINVAL, 0, &[])
             }
             Urb::Submit { seq, endpoint: 0, setup, data, .. } => self.control(seq, setup, &data, device),

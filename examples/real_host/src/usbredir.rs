@@ -117,7 +117,7 @@ impl<S: Write> Wire<S> {
             }
             CONTROL if data.len() >= 10 => self.control(id, &data, device),
             CONTROL => {
-                eprintln!("real_host: a control message of {} bytes", data.len());
+                crate::tell(format_args!("a control message of {} bytes", data.len()));
                 Ok(())
             }
             INTERRUPT => self.say(INTERRUPT, id, &[first(&data), STALL, 0, 0]),
@@ -160,7 +160,7 @@ impl<S: Write> Wire<S> {
         setup[2..].copy_from_slice(&head[4..]);
         let wanted = usize::from(u16::from_le_bytes([setup[6], setup[7]]));
         if setup[0] & 0x80 == 0 && sent.len() != wanted {
-            eprintln!("real_host: a message with {} bytes for the request {setup:02x?}", sent.len());
+            crate::tell(format_args!("a message with {} bytes for the request {setup:02x?}", sent.len()));
             let mut answer = head.to_vec();
             (answer[3], answer[8], answer[9]) = (INVALID, 0, 0);
             return self.say(CONTROL, id, &answer);

@@ -2,9 +2,12 @@
 //! The program `real_host serve`, and hosts that behave and that don't: after each of them the keyboard lives on.
 #![forbid(unsafe_code)]
 
+use std::ffi::OsStr;
 use std::io::{BufRead, BufReader, ErrorKind, Read, Write};
 use std::net::TcpStream;
-use std::path::PathBuf;
+use std::os::unix::ffi::OsStrExt;
+use std::os::unix::net::UnixListener;
+use std::path::{Path, PathBuf};
 use std::process::{Child, Command, Stdio};
 use std::sync::mpsc::{Receiver, channel};
 use std::time::Duration;
@@ -247,6 +250,7 @@ fn the_flash_is_kept_in_a_file() {
     for (words, error) in [
         (&["--image", file, "attach"][..], "2 to 8"),
         (&["--image", "/nowhere", "attach"], "/nowhere: "),
+        (&["--image", "/dev/zero", "attach"], "/dev/zero: "),
         (&["--packet", "9", "attach"], "--packet is 8, 16, 32 or 64"),
         (&["--fast", "1", "attach"], "--fast is no option"),
         (&["fly"], "no such command: fly"),
@@ -257,4 +261,95 @@ fn the_flash_is_kept_in_a_file() {
         assert!(!ran.status.success() && told.starts_with("real_host: ") && told.contains(error), "{told}");
     }
     std::fs::remove_file(&path).unwrap();
+}
+
+/// A file that nothing can be written to.
+fn full() -> Stdio {
+    std::fs::File::options().write(true).open("/dev/full").unwrap().into()
+}
+
+fn program(words: &[&[u8]]) -> Command {
+    let mut command = Command::new(env!("CARGO_BIN_EXE_real_host"));
+    command.args(words.iter().map(|word| OsStr::from_bytes(word))).stdin(Stdio::null());
+    command
+}
+
+#[test]
+fn words_that_are_no_text_are_refused() {
+    for (words, status, error) in [
+        (&[&b"\xff"[..]][..], 2, "no such command: \u{fffd}"),
+        (&[b"--\xff", b"1", b"attach"], 2, "--\u{fffd} is no option"),
+        (&[b"--packet", b"\xff", b"attach"], 2, "--packet is 8, 16, 32 or 64"),
+        (&[b"--serial", b"\xff", b"attach"], 2, "--serial is no text in UTF-8"),
+        (&[b"serve", b"\xff"], 2, "the address is no text in UTF-8"),
+        (&[b"--image", b"/nowhere/\xff", b"attach"], 1, "/nowhere/\u{fffd}: No such file"),
+        (&[b"guest", b"/nowhere/\xff"], 1, "/nowhere/\u{fffd}: No such file"),
+    ] {
+        let ran = program(words).output().unwrap();
+        let told = String::from_utf8(ran.stderr).unwrap();
+        assert_eq!(ran.status.code(), Some(status), "{told}");
+        assert!(told.starts_with("real_host: ") && told.contains(error), "{told} has no {error}");
+    }
+}
+
+#[test]
+fn what_cannot_be_written_is_no_panic() {
+    for (words, code) in [(&[&b"fly"[..]][..], 2), (&[b"--image", b"/nowhere", b"attach"], 1)] {
+        assert_eq!(program(words).stderr(full()).status().unwrap().code(), Some(code));
+    }
+    for words in [&[&b"--help"[..]][..], &[b"serve", b"127.0.0.1:0"]] {
+        let ran = program(words).stdout(full()).output().unwrap();
+        let told = "real_host: standard output: No space left on device (os error 28)\n";
+        assert_eq!((ran.status.code(), &String::from_utf8(ran.stderr).unwrap()[..]), (Some(1), told));
+    }
+    // Where it runs: what hosts did and what the hands say wrongly is told to nobody, and it goes on.
+    let mut child = program(&[b"serve", b"127.0.0.1:0"])
+        .stdin(Stdio::piped())
+        .stdout(Stdio::piped())
+        .stderr(full())
+        .spawn()
+        .unwrap();
+    let out = lines(child.stdout.take().unwrap());
+    let address = out.recv_timeout(PATIENCE).unwrap().split("# ").nth(1).unwrap().to_string();
+    for _ in 0..2 {
+        let mut other = TcpStream::connect(&address).unwrap();
+        other.write_all(b"GET / HTTP/1.1\r\n\r\n").unwrap();
+        assert!(is_closed(&mut other));
+    }
+    write!(child.stdin.as_mut().unwrap(), "fly\nsay it goes on\nend\n").unwrap();
+    Program::says(&out, "it goes on");
+    assert!(child.wait().unwrap().success());
+}
+
+#[test]
+fn a_path_replaces_nothing_of_another_kind() {
+    let folder = PathBuf::from(env!("CARGO_TARGET_TMPDIR")).join(format!("guest-{}", std::process::id()));
+    std::fs::create_dir(&folder).unwrap();
+    let (file, link, socket) = (folder.join("file"), folder.join("link"), folder.join("socket"));
+    std::fs::write(&file, "kept").unwrap();
+    std::os::unix::fs::symlink(&file, &link).unwrap();
+    drop(UnixListener::bind(&socket).unwrap());
+    let guest = |path: &Path, lines: &[u8]| {
+        let mut child = program(&[b"guest", path.as_os_str().as_bytes()])
+            .stdin(Stdio::piped())
+            .stderr(Stdio::piped())
+            .spawn()
+            .unwrap();
+        let _ = child.stdin.as_mut().unwrap().write_all(lines); // one that refuses is gone by then
+        child.wait_with_output().unwrap()
+    };
+    for path in [&file, &link, &folder] {
+        let ran = guest(path, b"end\n");
+        let told = format!("real_host: {}: it is there, and is no socket\n", path.display());
+        assert_eq!((ran.status.code(), String::from_utf8(ran.stderr).unwrap()), (Some(1), told));
+    }
+    // What the flash is kept in is a regular file too, or a new one.
+    for path in [&link, &socket, &folder] {
+        let ran = program(&[b"--save", path.as_os_str().as_bytes(), b"serve", b"127.0.0.1:0"]).output().unwrap();
+        let told = format!("real_host: {}: it is there, and is no regular file\n", path.display());
+        assert_eq!((ran.status.code(), String::from_utf8(ran.stderr).unwrap()), (Some(1), told));
+    }
+    assert_eq!(std::fs::read(&link).unwrap(), b"kept");
+    assert!(guest(&socket, b"end\n").status.success());
+    std::fs::remove_dir_all(&folder).unwrap();
 }

@@ -66,6 +66,11 @@ pub enum Broken {
 /// A value that an id is given, or that it is taken.
 type Change = (u8, Option<u16>);
 
+/// The settings on a flash of 2 to 8 pages.
+pub fn mounted<F: NorFlash>(flash: F) -> Settings<F> {
+    Settings::mount(flash).expect("2 to 8 pages")
+}
+
 /// Starts the settings anew after each of `cuts` cuts, and finds what is lost.
 pub fn run<A: Adapter>(seed: u64, cuts: u64) -> Result<Tally, Broken> {
     let mut random = Random::of(seed);
@@ -78,7 +83,7 @@ pub fn run<A: Adapter>(seed: u64, cuts: u64) -> Result<Tally, Broken> {
         // Most cuts come soon, some so late that a compaction comes to its end.
         let bound = [4, 40, 400, 2000][random.below(4)];
         power.on(random.below(bound) as u64);
-        let mut settings = Settings::mount(A::start(chip, pages));
+        let mut settings = mounted(A::start(chip, pages));
         judge.starts(&settings)?;
         while !power.is_off() {
             judge.change(&mut settings, &mut random, &power)?;
@@ -88,7 +93,7 @@ pub fn run<A: Adapter>(seed: u64, cuts: u64) -> Result<Tally, Broken> {
         }
         chip = settings.into_flash().stop();
     }
-    judge.starts(&Settings::mount(A::start(chip, pages)))?;
+    judge.starts(&mounted(A::start(chip, pages)))?;
     Ok(Tally { cuts, cut_erases: power.cut_erases(), faults: power.faults(), ..judge.tally })
 }
 

@@ -8,7 +8,7 @@
 
 pub mod stm32g0;
 
-use wuzhikar_log::{Dropped, FlashFault, FlashLog, LogRefusal, NorFlash, WriteError};
+use wuzhikar_log::{Dropped, FlashFault, FlashLog, LogRefusal, NorFlash, PageCount, WriteError};
 
 /// Why a value was not stored. All values are as before.
 #[derive(Clone, Copy, Debug, PartialEq, Eq)]
@@ -33,10 +33,12 @@ pub struct Settings<F> {
 
 impl<F: NorFlash> Settings<F> {
     /// Reads what is in a flash, which it leaves as it is. A blank flash has no values.
-    pub fn mount(flash: F) -> Settings<F> {
-        let mut settings = Settings { log: FlashLog::mount(flash), latest: Latest::default(), foreign: false };
+    ///
+    /// `PageCount` where the flash has not 2 to 8 pages: then it is not read either.
+    pub fn mount(flash: F) -> Result<Settings<F>, PageCount> {
+        let mut settings = Settings { log: FlashLog::mount(flash)?, latest: Latest::default(), foreign: false };
         settings.read();
-        settings
+        Ok(settings)
     }
 
     /// The value of an id, if it has one.

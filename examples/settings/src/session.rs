@@ -6,7 +6,7 @@ use std::fmt::Write;
 use settings::{SetError, Settings};
 use wuzhikar_log::{Dropped, PairedFlash, SlotFlash, UnitFlash};
 
-use crate::cuts::Adapter;
+use crate::cuts::{Adapter, mounted};
 use crate::ecc::EccChip;
 use crate::plain::PlainChip;
 use crate::power::Power;
@@ -40,7 +40,7 @@ pub fn ecc() -> String {
     let units = UnitFlash::new(chip, 8192, PAGES).expect("a geometry that serves");
     match PairedFlash::format(units) {
         Ok(flash) => {
-            let mut settings = Settings::mount(flash);
+            let mut settings = mounted(flash);
             told.values("something else wrote everywhere, and all pages are erased", &settings);
             told.answer(format_args!("set 1 to 5"), settings.set(1, 5));
             told.values("now", &settings);
@@ -61,7 +61,7 @@ impl Told {
 
     /// Values are set and removed, and the power is cut.
     fn values_and_cuts<A: Adapter>(&mut self, chip: A::Chip, power: &Power) -> A::Chip {
-        let mut settings = Settings::mount(A::start(chip, PAGES));
+        let mut settings = mounted(A::start(chip, PAGES));
         self.values("a blank flash", &settings);
         for (id, value) in [(1, 100), (2, 200), (7, 7000)] {
             self.answer(format_args!("set {id} to {value}"), settings.set(id, value));
@@ -88,7 +88,7 @@ impl Told {
     /// The flash holds something else, and is formatted.
     fn something_else(&mut self, mut chip: <Plain as Adapter>::Chip) {
         chip.bytes()[8192..8200].fill(0);
-        let mut settings = Settings::mount(Plain::start(chip, PAGES));
+        let mut settings = mounted(Plain::start(chip, PAGES));
         self.values("something else wrote into the first slot of a page", &settings);
         self.answer(format_args!("set 1 to 5"), settings.set(1, 5));
         match settings.format() {
@@ -104,7 +104,7 @@ impl Told {
 
     fn restart<A: Adapter>(&mut self, settings: Settings<A>, power: &Power, why: &str) -> Settings<A> {
         power.on(NO_CUT);
-        let settings = Settings::mount(A::start(settings.into_flash().stop(), PAGES));
+        let settings = mounted(A::start(settings.into_flash().stop(), PAGES));
         self.values(why, &settings);
         settings
     }

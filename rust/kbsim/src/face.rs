@@ -1,7 +1,7 @@
 //! The calls as they are in Rust, without an allocator. Written by hand: tested, not proved.
 
 use crate::parts::host::Host;
-use crate::parts::kbsim::{self, RunError};
+use crate::parts::kbsim::{self, RunError, Sink};
 use crate::parts::parse_lines::{self, LinesError};
 use crate::parts::world::World;
 use std::io::{Read, Write};
@@ -20,6 +20,16 @@ pub fn run_on<R: Read, W: Write>(flash: SimFlash, reader: &mut R, writer: &mut W
     kbsim::run_on((), flash, reader, writer)
 }
 
+/// Does what [`run_on`] does, and tells a sink of each event and each line.
+pub fn run_with<R: Read, W: Write, S: Sink>(
+    flash: SimFlash,
+    reader: &mut R,
+    writer: &mut W,
+    sink: &mut S,
+) -> Result<SimFlash, RunError> {
+    kbsim::run_with((), flash, reader, writer, sink)
+}
+
 /// A blank flash of `pages` pages. The fault of a script for which there is no memory, otherwise.
 pub fn blank_flash(pages: usize) -> Result<SimFlash, RunError> {
     kbsim::blank_flash((), pages)
@@ -33,11 +43,6 @@ pub fn image_flash<R: Read>(reader: &mut R) -> Result<SimFlash, RunError> {
 /// Prints the fields of the report descriptor in hex that a reader gives, a line each, or its first fault.
 pub fn parse_text<R: Read, W: Write>(reader: &mut R, writer: &mut W) -> Result<(), LinesError> {
     parse_lines::parse_text((), reader, writer)
-}
-
-/// Prints the items of the report descriptor in hex that a reader gives, a line each, up to the first fault.
-pub fn items_text<R: Read, W: Write>(reader: &mut R, writer: &mut W) -> Result<(), LinesError> {
-    parse_lines::items_text((), reader, writer)
 }
 
 impl World {

@@ -1,8 +1,8 @@
 //! A simulated keyboard on a flash in memory, moved event by event, whose power can be cut wherever you like.
 //!
 //! [`run_script`] runs a script and prints what each line of it comes to; [`World`] is the keyboard, its flash, its host and
-//! its power switch, for a program of your own. [`parse_text`] and [`items_text`] print report descriptors, [`describe`]
-//! those of the keyboard. The program `kbsim` is these calls over standard input and output.
+//! its power switch, for a program of your own. [`parse_text`] prints the fields of a report descriptor, [`describe`] the
+//! descriptors of the keyboard. The program `kbsim` is these calls over files, and a reader of HID reports.
 //!
 //! ```
 //! use kbsim::run_script;
@@ -25,11 +25,12 @@ mod face;
 pub mod parts;
 #[doc(hidden)]
 pub mod rattle;
+pub mod texts;
 
-pub use crate::face::{blank_flash, image_flash, items_text, parse_text, run_on, run_script};
+pub use crate::face::{blank_flash, image_flash, parse_text, run_on, run_script, run_with};
 pub use crate::parts::host::{Host, Reading, UsageList};
-pub use crate::parts::kbsim::{LineFault, RunError, print_fault};
+pub use crate::parts::kbsim::{Line, LineFault, Outcome, RunError, Silent, Sink, Step, print_fault};
 pub use crate::parts::parse_lines::{LinesError, describe};
-pub use crate::parts::world::{Answer, Event, World};
+pub use crate::parts::world::{Answer, Event, Operation, World};
 pub use wuzhikar::{EpAnswer, FlashError, Mask, Report, Scan, SimFlash, Why, Work};
 pub use wuzhikar_reader::AllocError;

@@ -3,12 +3,10 @@
 //! without a word, and has calls with a condition on their caller that nothing checks.
 #![allow(dead_code, unused_imports, unused_variables, clippy::all)]
 
-pub mod c_array;
 pub mod explanations;
 pub mod host;
 pub mod kbsim;
 pub mod parse_lines;
 pub mod script;
-pub mod sentences;
 pub mod text_io;
 pub mod world;

@@ -1,50 +1,40 @@
 //! The program: its command line, its files and its exit status. Written by hand: tested, not proved.
 
-mod ask;
+mod details;
+mod ends;
+mod files;
+mod items;
+mod json;
 mod parse;
-mod refusal;
+mod read;
 mod run;
-mod source;
+mod save;
+mod sentences;
+mod texts;
+mod words;
+mod write;
 
-use crate::program::ask::{Asked, Form, Source, Start};
-use std::fmt::Display;
-use std::io::{self, Write};
+use clap::ArgMatches;
+use ends::Ended;
+use std::env::args_os;
+use std::iter::once;
 use std::process::ExitCode;
 
 /// Does what the command line asks for.
 pub fn status() -> ExitCode {
-    let words: Result<Vec<String>, _> = std::env::args_os().map(|word| word.into_string()).collect();
-    let Ok(words) = words else {
-        tell(&"error: the command line is not text");
-        return ExitCode::from(2);
-    };
-    match ask::read(&words) {
-        Asked::Run { start, source, save, explain } => run::run(start, &source, save.as_deref(), explain),
-        Asked::Describe => parse::describe(),
-        Asked::Parse { source, form, items } => parse::parse(&source, &form, items),
-        Asked::Shown(text) => shown(text),
-        Asked::Refused(text) => {
-            let _ = io::stderr().write_all(text.as_bytes());
-            ExitCode::from(2)
-        }
+    // (Its name stands in the texts, and not that of the file that it is kept in.)
+    let words = once("kbsim".into()).chain(args_os().skip(1));
+    let ended = words::kbsim().try_get_matches_from(words).map_err(Ended::from).and_then(|given| act(&given));
+    ended.unwrap_or_else(Ended::told)
+}
+
+fn act(given: &ArgMatches) -> Result<ExitCode, Ended> {
+    match given.subcommand() {
+        Some(("run", given)) => run::run(given)?,
+        Some(("parse", given)) => parse::parse(given)?,
+        Some(("read", given)) => return read::read(given),
+        Some(("write", given)) => write::write(given)?,
+        _ => parse::describe()?,
     }
-}
-
-fn shown(text: &str) -> ExitCode {
-    let mut out = io::stdout().lock();
-    match out.write_all(text.as_bytes()).and_then(|()| out.flush()) {
-        Ok(()) => ExitCode::SUCCESS,
-        Err(_) => tell_output(),
-    }
-}
-
-/// Says a sentence on standard error.
-fn tell(sentence: &dyn Display) {
-    let _ = writeln!(io::stderr(), "{sentence}");
-}
-
-/// Says that standard output can't be written, since no line of a fault can say it there.
-fn tell_output() -> ExitCode {
-    tell(&"error: the output can't be written");
-    ExitCode::FAILURE
+    Ok(ExitCode::SUCCESS)
 }

@@ -8,7 +8,7 @@ use crate::packets::Packets;
 use crate::under_way::Reports;
 use core::borrow::BorrowMut;
 use wuzhikar::usb::FEATURE_REPORT_LEN;
-use wuzhikar::{EpAnswer, Keyboard, NorFlash, Report, Scan, UnstartedKeyboard, Work};
+use wuzhikar::{EpAnswer, Keyboard, NorFlash, PageCount, Report, Scan, UnstartedKeyboard, Work};
 
 /// A keyboard behind its front, and the flash that it started on, as it hangs on a bus: each call is what a controller
 /// that asks at the token has met, and the answer is what it puts onto the bus.
@@ -31,8 +31,10 @@ pub struct Device<'a, F, K = Keyboard> {
 
 impl<'a, F: NorFlash> Device<'a, F> {
     /// The power comes: the keymap is read from the flash, the device has no address and is not configured.
-    pub fn start(flash: F, identity: &'a Identity<'a>) -> Device<'a, F> {
-        Device::over(Keyboard::on(&flash), flash, identity)
+    ///
+    /// `PageCount` where the flash has not 2 to 8 pages: then it is neither read nor written, and is dropped.
+    pub fn start(flash: F, identity: &'a Identity<'a>) -> Result<Device<'a, F>, PageCount> {
+        Ok(Device::over(Keyboard::on(&flash)?, flash, identity))
     }
 }
 
@@ -42,8 +44,8 @@ impl<'a, 'm, F: NorFlash> Device<'a, F, &'m mut Keyboard> {
         memory: &'m mut UnstartedKeyboard,
         flash: F,
         identity: &'a Identity<'a>,
-    ) -> Device<'a, F, &'m mut Keyboard> {
-        Device::over(memory.start(&flash), flash, identity)
+    ) -> Result<Device<'a, F, &'m mut Keyboard>, PageCount> {
+        Ok(Device::over(memory.start(&flash)?, flash, identity))
     }
 }
 
@@ -117,7 +119,7 @@ impl<'a, F: NorFlash, K: BorrowMut<Keyboard>> Device<'a, F, K> {
         let (answer, change) = self.front.in_packet(self.keyboard.borrow_mut());
         match change {
             Some(Change::Endpoint1(_)) => self.reports.begin_anew(),
-            Some(Change::Protocol) => self.reports.forget(),
+            Some(Change::Protocol) => self.reports.forget(self.keyboard().protocol()),
             Some(Change::Address(_) | Change::Reset) | None => {}
         }
         // A command whose status stage is not told to wait works no longer.

@@ -60,9 +60,10 @@ pub enum Change {
     /// (section 9.4.6).
     Address(u8),
     /// Endpoint 1 is this. Where it is ready, its data toggle is DATA0, also where it was ready before (sections
-    /// 9.1.1.5, 9.4.5). A report that the host has not taken whole begins anew.
+    /// 9.1.1.5, 9.4.5). A report that the host has not taken whole begins anew, unless the protocol was set since it began.
     Endpoint1(Endpoint1),
-    /// The protocol was set: a report of which the host has taken no packet is dropped, and one of which it has goes on.
+    /// The protocol was set: a report of which the host has taken no packet is dropped. One of which it has goes on, and one
+    /// of the new protocol without usages follows.
     Protocol,
 }
 

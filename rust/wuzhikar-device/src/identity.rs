@@ -95,8 +95,8 @@ impl Default for Power {
     }
 }
 
-/// What the descriptors say of a maker's product. A string is sent in UTF-16, of one with more than 126 units the first
-/// 126. An empty string is none: its index is 0.
+/// What the descriptors say of a maker's product. A string is sent in UTF-16, of one with more than 126 units as many
+/// characters as these hold. An empty string is none: its index is 0.
 ///
 /// ```
 /// use wuzhikar_device::{Identity, Interval, PacketSize, Power};

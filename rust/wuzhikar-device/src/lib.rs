@@ -12,12 +12,19 @@
 //! **Tested, not proved.** The keyboard is exported from a proved source; this crate is written by hand. `no_std`, no
 //! allocator, no unsafe code.
 //!
+//! **What stays open.** Two cases leave the data toggles of endpoint 1 apart (USB 2.0 section 8.6). The host takes the next
+//! packet for one that comes again, and drops it. Where that was a release, the key sticks until the report behind it.
+//! - The host gives up SET_CONFIGURATION, SET_INTERFACE or CLEAR_FEATURE of the halt after `Ahead` has handed over the
+//!   empty packet, or takes that packet more than 50 scans later. The device has DATA0, the host may have DATA1.
+//! - The host has a packet of endpoint 1, its acknowledgement is lost, and SET_PROTOCOL comes just then. `Ahead` drops the
+//!   packet from the buffer, and the next one has the same toggle.
+//!
 //! ```
 //! use wuzhikar::{Scan, SimFlash};
 //! use wuzhikar_device::{Change, Device, Endpoint1, Identity, PollAnswer};
 //!
 //! let flash = SimFlash::blank(2).unwrap();
-//! let mut device = Device::start(flash, &Identity::TEST);
+//! let mut device = Device::start(flash, &Identity::TEST).unwrap();
 //! // SET_CONFIGURATION 1, as a host asks it.
 //! let done = device.control([0x00, 0x09, 1, 0, 0, 0, 0, 0], &mut []).unwrap();
 //! assert_eq!(done.change, Some(Change::Endpoint1(Endpoint1::Ready)));

@@ -9,8 +9,8 @@
 //! empty packet would be another transfer to it, without a report.
 
 use crate::identity::PacketSize;
-use wuzhikar::Report;
 use wuzhikar::usb::BOOT_REPORT_LEN;
+use wuzhikar::{Protocol, Report};
 
 /// The bytes of one packet of endpoint 1.
 pub type Packet = Report;
@@ -28,11 +28,15 @@ impl Packets {
         Packets { report, size }
     }
 
-    /// The packets of the report of the same kind that has no usages: behind a Report ID, which all but the boot report
-    /// have, there are zeros.
-    pub(crate) fn without_usages(&self) -> Packets {
+    /// The packets of the report without usages that a protocol has behind this one: the boot report, or that of the same
+    /// kind, which has zeros behind its Report ID.
+    pub(crate) fn without_usages(&self, protocol: Protocol) -> Packets {
+        let (length, id) = match protocol {
+            Protocol::Boot => (BOOT_REPORT_LEN, 0),
+            Protocol::Report => (self.report.len(), 1),
+        };
         let mut report = self.report.clone();
-        let id = usize::from(report.len() != BOOT_REPORT_LEN);
+        report.truncate(length);
         report.iter_mut().skip(id).for_each(|byte| *byte = 0);
         Packets { report, size: self.size }
     }

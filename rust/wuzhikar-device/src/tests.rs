@@ -23,7 +23,7 @@ const IDENTITIES: [Identity<'static>; 4] = [
 
 /// A configured device with packets of 8 bytes.
 fn configured(identity: &'static Identity<'static>) -> Device<'static, SimFlash> {
-    let mut device = Device::start(SimFlash::blank(2).unwrap(), identity);
+    let mut device = Device::start(SimFlash::blank(2).unwrap(), identity).unwrap();
     ask(&mut device, SET_CONFIGURATION);
     device
 }
@@ -65,8 +65,8 @@ fn a_keyboard_in_lent_memory_is_the_same() {
     let mut flashes = [SimFlash::blank(2).unwrap(), SimFlash::blank(2).unwrap()];
     for code in [5, 6] {
         let [one, other] = flashes;
-        let mut lent = Device::start_in(&mut memory, one, &IDENTITIES[0]);
-        let mut owned = Device::start(other, &IDENTITIES[0]);
+        let mut lent = Device::start_in(&mut memory, one, &IDENTITIES[0]).unwrap();
+        let mut owned = Device::start(other, &IDENTITIES[0]).unwrap();
         for (setup, mut data) in
             [(SET_CONFIGURATION, vec![]), (GET_FEATURE, vec![0; 6]), (SET_FEATURE, vec![3, 1, 0, 0, code, 0])]
         {
@@ -163,12 +163,21 @@ fn a_report_under_way_begins_anew_with_the_endpoint() {
 
 #[test]
 fn a_new_protocol_ends_no_report_in_its_middle() {
-    // The report goes on to its end, one without usages comes behind it, and then the boot report of the key that is held.
+    // The report goes on to its end, the boot report without usages comes behind it, and then that of the key that is held.
     let mut device = under_way();
     ask(&mut device, SET_BOOT);
     let all = packets(&mut device);
-    assert_eq!((lengths(&all), all[2][0]), (vec![8, 7, 8, 8, 7, 8], 1));
-    assert!(all[2..5].concat()[1..].iter().all(|byte| *byte == 0));
+    assert_eq!((lengths(&all[..2]), &all[2..]), (vec![8, 7], &[vec![0; 8], vec![0, 0, 4, 0, 0, 0, 0, 0]][..]));
+    // What begins anew behind the new protocol is of the new one: no key that is up again, whichever protocol it is.
+    for (protocol, expected) in [(0, &[vec![0; 8]][..]), (1, &[vec![1, 0, 0, 0, 0, 0, 0, 0], vec![0; 8], vec![0; 7]])] {
+        for change in [SET_CONFIGURATION, CLEAR_HALT, [0x01, 0x0b, 0, 0, 0, 0, 0, 0]] {
+            let mut device = under_way();
+            press(&mut device, 0);
+            ask(&mut device, [0x21, 0x0b, protocol, 0, 0, 0, 0, 0]);
+            ask(&mut device, change);
+            assert_eq!(packets(&mut device), expected);
+        }
+    }
     // So the host forgets a key that it knows of by a report which ended behind its request, and that is up again.
     let mut device = under_way();
     press(&mut device, 0);
@@ -185,7 +194,8 @@ fn a_new_protocol_ends_no_report_in_its_middle() {
     assert!(device.control([0x21, 0x0b, 2, 0, 0, 0, 0, 0], &mut []).is_err());
     ask(&mut device, SET_CONFIGURATION);
     device.setup(SET_BOOT);
-    assert_eq!(lengths(&packets(&mut device)), [8, 8, 7]);
+    let all = packets(&mut device);
+    assert_eq!((lengths(&all), all[0][2]), (vec![8, 8, 7], 1));
 }
 
 #[test]
@@ -232,7 +242,7 @@ fn an_identity_changes_its_own_bytes_alone() {
     assert_eq!([0, 1, 501].map(Power::milliamperes), [None; 3]);
     assert_eq!([2, 3, 500].map(|count| Power::milliamperes(count).unwrap().count()), [2, 4, 500]);
     // A host reads them, and the rest of the configuration is the keyboard's own.
-    let mut device = Device::start(SimFlash::blank(2).unwrap(), &identity);
+    let mut device = Device::start(SimFlash::blank(2).unwrap(), &identity).unwrap();
     let mut bytes = [0; 64];
     let read = |length| Ok(Done { length, change: None });
     assert_eq!(device.control([0x80, 6, 0, 2, 0, 0, 64, 0], &mut bytes), read(34));

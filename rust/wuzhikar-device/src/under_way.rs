@@ -4,6 +4,7 @@
 
 use crate::packets::{Packet, Packets};
 use arrayvec::ArrayVec;
+use wuzhikar::Protocol;
 
 /// A report that is under way.
 #[derive(Clone, Debug)]
@@ -13,11 +14,13 @@ struct UnderWay {
     handed: usize,
     /// How many of these the host has taken.
     taken: usize,
+    /// Whether the protocol was set since it began.
+    is_old: bool,
 }
 
 impl UnderWay {
     fn new(packets: Packets) -> UnderWay {
-        UnderWay { packets, handed: 0, taken: 0 }
+        UnderWay { packets, handed: 0, taken: 0, is_old: false }
     }
 }
 
@@ -57,8 +60,12 @@ impl Reports {
         }
     }
 
-    /// The buffers were emptied with the endpoint: each report under way begins anew.
+    /// The buffers were emptied with the endpoint: each report under way begins anew, unless the protocol was set since it
+    /// began, which drops it.
     pub fn begin_anew(&mut self) {
+        if self.under_way.first().is_some_and(|report| report.is_old) {
+            self.under_way.remove(0);
+        }
         for report in &mut self.under_way {
             (report.handed, report.taken) = (0, 0);
         }
@@ -66,12 +73,13 @@ impl Reports {
 
     /// The buffers were emptied for a new protocol, by which the keyboard has forgotten what it sent. A report of which
     /// the host has a packet goes on behind it, since the host's transfer does, and behind it comes one without usages,
-    /// so that the host has forgotten, too. The others are dropped.
-    pub fn forget(&mut self) {
-        self.under_way.retain(|report| report.taken > 0);
+    /// of the new protocol, so that the host has forgotten, too. The others are dropped.
+    pub fn forget(&mut self, protocol: Protocol) {
+        let is_begun = self.under_way.first().is_some_and(|report| report.taken > 0);
+        self.under_way.truncate(usize::from(is_begun));
         if let Some(first) = self.under_way.first_mut() {
-            first.handed = first.taken;
-            let without_usages = first.packets.without_usages();
+            (first.handed, first.is_old) = (first.taken, true);
+            let without_usages = first.packets.without_usages(protocol);
             self.begin(without_usages);
         }
     }

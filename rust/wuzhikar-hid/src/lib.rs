@@ -2,10 +2,11 @@
 //! values of a report, and reports made from values. It stands on `wuzhikar-reader`.
 //!
 //! A [`Reader`] is made once of a report descriptor. [`Reader::read`] gives the values of a report of any kind,
-//! [`Reader::write`] makes one, [`Reader::details`] says what the fields mean, and [`UsageName`] names usages.
+//! [`Reader::write`] makes one, [`Reader::details`] says what the fields mean, [`UsageName`] names usages, and [`usages`] has
+//! them as constants.
 //!
 //! ```
-//! use wuzhikar_hid::{Asked, Kind, Reader, Setting, Target, UsageName, Within};
+//! use wuzhikar_hid::{Asked, Kind, Reader, Setting, Target, UsageName, Within, usages::generic_desktop};
 //!
 //! // A hat switch: 1 to 8 for eight directions, 0 to 315 degrees, anything else for none.
 //! let text = [
@@ -25,15 +26,15 @@
 //! let rest = reader.read(Kind::Input, &[0])?.next().unwrap();
 //! assert_eq!(rest.within, Within::Null);
 //!
-//! let target = Target::Usage { usage: 0x0001_0039, place: 0 };
+//! let target = Target::Usage { usage: generic_desktop::HAT_SWITCH, place: 0 };
 //! let report = reader.write(Kind::Input, 0, &[Setting { target, asked: Asked::Value(5) }], None)?;
 //! assert_eq!(report, [5]);
 //! # Ok::<(), Box<dyn std::error::Error>>(())
 //! ```
 //!
-//! A usage is a number of 32 bits: the page in its high half, its ID there in the low one. So X is `0x0001_0030`, and button 3
-//! `0x0009_0003`; `src/usages.txt` has the numbers with their names. An ID of 0 stands for no control: an Array whose places
-//! are free mostly names such a usage.
+//! A usage is a number of 32 bits: the page in its high half, its ID there in the low one. So X is `0x0001_0030`, which is
+//! [`usages::generic_desktop::X`], and button 3 `0x0009_0003`. An ID of 0 stands for no control: an Array whose places are free
+//! mostly names such a usage.
 //!
 //! On Linux the bytes of a device are the file `/sys/class/hidraw/hidraw0/device/report_descriptor`, and each read of
 //! `/dev/hidraw0` gives a report as [`Reader::read`] takes it, with its ID where IDs are used: which report it is need not be
@@ -44,6 +45,7 @@
 //! The application says what a device is. A value of a field that is relative is added, any other is where the axis is.
 //!
 //! ```
+//! use wuzhikar_hid::usages::{button, generic_desktop};
 //! use wuzhikar_hid::{Kind, Reader};
 //!
 //! # let text = [
@@ -51,16 +53,16 @@
 //! #     0x05, 0x01, 0x09, 0x30, 0x09, 0x31, 0x15, 0x81, 0x25, 0x7f, 0x75, 0x08, 0x95, 0x02, 0x81, 0x06, 0xc0,
 //! # ];
 //! let reader = Reader::new(&text)?;
-//! assert!(reader.details().applications().any(|(_, application)| application.usage == Some(0x0001_0002)));
+//! assert!(reader.details().applications().any(|(_, application)| application.usage == Some(generic_desktop::MOUSE)));
 //! let (mut x, mut y, mut buttons) = (0, 0, Vec::new());
 //! for report in [[0x01, 5, 0xfd], [0x00, 2, 0]] {
 //!     buttons.clear();
 //!     for value in reader.read(Kind::Input, &report)? {
 //!         let is_relative = reader.detail(value.field).is_some_and(|detail| detail.is_relative());
 //!         match value.usage {
-//!             Some(0x0001_0030) => x = if is_relative { x + value.raw } else { value.raw },
-//!             Some(0x0001_0031) => y = if is_relative { y + value.raw } else { value.raw },
-//!             Some(usage) if usage >> 16 == 9 && value.raw != 0 => buttons.push(usage & 0xffff),
+//!             Some(generic_desktop::X) => x = if is_relative { x + value.raw } else { value.raw },
+//!             Some(generic_desktop::Y) => y = if is_relative { y + value.raw } else { value.raw },
+//!             Some(usage) if usage >> 16 == button::PAGE && value.raw != 0 => buttons.push(usage & 0xffff),
 //!             _ => {}
 //!         }
 //!     }
@@ -76,7 +78,7 @@
 //! No descriptor says where an axis rests: a driver takes the middle for a stick, and the Logical Minimum for a pedal.
 //!
 //! ```
-//! use wuzhikar_hid::{Kind, Reader, Within};
+//! use wuzhikar_hid::{Kind, Reader, Within, usages::generic_desktop};
 //!
 //! // The hat is 0 to 7 without Null State, and the stick 0 to 255.
 //! # let text = [
@@ -90,9 +92,9 @@
 //!     for value in reader.read(Kind::Input, &report)? {
 //!         let Some(detail) = reader.detail(value.field) else { continue };
 //!         match (value.usage, value.within) {
-//!             (Some(0x0001_0039), Within::Range) => hat = Some(detail.physical_value(value.raw)?.decimal(0)),
-//!             (Some(0x0001_0039), _) => hat = None,
-//!             (Some(0x0001_0030), Within::Range) if detail.min < detail.max => {
+//!             (Some(generic_desktop::HAT_SWITCH), Within::Range) => hat = Some(detail.physical_value(value.raw)?.decimal(0)),
+//!             (Some(generic_desktop::HAT_SWITCH), _) => hat = None,
+//!             (Some(generic_desktop::X), Within::Range) if detail.min < detail.max => {
 //!                 let half = (detail.max - detail.min + 1) / 2;
 //!                 stick = (value.raw - detail.min - half) as f64 / half as f64;
 //!             }
@@ -114,6 +116,7 @@
 //!
 //! ```
 //! use std::collections::BTreeMap;
+//! use wuzhikar_hid::usages::{digitizers, generic_desktop};
 //! use wuzhikar_hid::{Kind, Reader};
 //!
 //! // Two fingers, whose X stands in a collection of its own.
@@ -126,7 +129,7 @@
 //! # let text = [&[0x05, 0x0d, 0x09, 0x04, 0xa1, 0x01][..], &finger, &finger, &count].concat();
 //! let reader = Reader::new(&text)?;
 //! let details = reader.details();
-//! let screen = details.applications().find(|(_, application)| application.usage == Some(0x000d_0004));
+//! let screen = details.applications().find(|(_, application)| application.usage == Some(digitizers::TOUCH_SCREEN));
 //! let mut fingers: BTreeMap<usize, (bool, i64, i64)> = BTreeMap::new();
 //! let mut count = usize::MAX;
 //! for value in reader.read(Kind::Input, &[0x01, 0, 40, 0x00, 0, 0, 1])? {
@@ -134,16 +137,16 @@
 //!     if details.application(placed.place) != screen.map(|(place, _)| place) {
 //!         continue;
 //!     }
-//!     if value.usage == Some(0x000d_0054) {
+//!     if value.usage == Some(digitizers::CONTACT_COUNT) {
 //!         count = usize::try_from(value.raw)?;
 //!     }
 //!     let mut around = details.around(placed.place);
-//!     let Some(finger) = around.find(|place| details.collections[*place].usage == Some(0x000d_0022)) else { continue };
+//!     let Some(finger) = around.find(|place| details.collections[*place].usage == Some(digitizers::FINGER)) else { continue };
 //!     let (touches, number, x) = fingers.entry(finger).or_default();
 //!     match value.usage {
-//!         Some(0x000d_0042) => *touches = value.raw != 0,
-//!         Some(0x000d_0051) => *number = value.raw,
-//!         Some(0x0001_0030) => *x = value.raw,
+//!         Some(digitizers::TIP_SWITCH) => *touches = value.raw != 0,
+//!         Some(digitizers::CONTACT_IDENTIFIER) => *number = value.raw,
+//!         Some(generic_desktop::X) => *x = value.raw,
 //!         _ => {}
 //!     }
 //! }
@@ -175,6 +178,7 @@ mod names;
 pub mod parts;
 #[doc(hidden)]
 pub mod rattle;
+pub mod usages;
 mod values;
 
 pub use crate::details::{

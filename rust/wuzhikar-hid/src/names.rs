@@ -1,17 +1,34 @@
 //! Names of usages (HID Usage Tables), from `usages.txt`. Written by hand: tested, not proved.
 
+use crate::usages::PAGES;
+use core::cmp::Ordering;
+
 /// A page begins with `page`, its number in hex and its name; a line is a usage in hex and its name, and after a bar what
-/// stands on a key; `*` and a word name every other usage of the page.
+/// stands on a key; `*` and a word name every other usage of the page. The numbers of a page rise, and `*` stands first.
 const TABLE: &str = include_str!("usages.txt");
 
-/// The lines of a page after its first, and its name.
-fn page(number: u16) -> Option<(&'static str, impl Iterator<Item = &'static str>)> {
-    let mut lines = TABLE.lines();
-    let name = lines.find_map(|line| {
-        let (digits, name) = line.strip_prefix("page ")?.split_once(' ')?;
-        (u16::from_str_radix(digits, 16) == Ok(number)).then_some(name)
-    })?;
-    Some((name, lines.take_while(|line| !line.starts_with("page "))))
+/// The name of a page, and its lines after the first.
+fn page(number: u16) -> Option<(&'static str, &'static str)> {
+    let place = PAGES.binary_search_by_key(&number, |(number, _, _)| *number).ok()?;
+    let (_, begin, end) = PAGES.get(place)?;
+    let (first, lines) = TABLE.get(*begin..*end)?.split_once('\n')?;
+    Some((first.strip_prefix("page ")?.split_once(' ')?.1, lines))
+}
+
+/// The name of a usage among the lines of its page, which are halved until it is found.
+fn name_in(mut lines: &'static str, number: u16) -> Option<&'static str> {
+    while !lines.is_empty() {
+        let mut before = lines.as_bytes().iter().take(lines.len() / 2);
+        let start = before.rposition(|byte| *byte == b'\n').map_or(0, |end| end + 1);
+        let (line, after) = lines.get(start..)?.split_once('\n')?;
+        let (digits, name) = line.split_once(' ')?;
+        match u16::from_str_radix(digits, 16).ok()?.cmp(&number) {
+            Ordering::Less => lines = after,
+            Ordering::Equal => return name.split(" | ").next(),
+            Ordering::Greater => lines = lines.get(..start)?,
+        }
+    }
+    None
 }
 
 /// The name of a usage page, as "Generic Desktop"; `None` where none is known here.
@@ -25,37 +42,92 @@ pub fn page_name(number: u16) -> Option<&'static str> {
 /// The name of a usage, whose page is in its high half.
 ///
 /// It is written as the name of the usage tables, as "Wheel" or "Button 3"; where none is known here, as the name of the
-/// page, or its number, and the number of the usage, both in hex, as "Generic Desktop 9Fh" or "FF00h 01h".
+/// page, or its number, and the number of the usage, both in hex, as "Generic Desktop 9Fh" or "FF00h 01h". The constants of
+/// [`usages`](crate::usages) have the usages by these names.
 #[derive(Clone, Copy, Debug, PartialEq, Eq)]
 pub struct UsageName(pub u32);
-
-impl UsageName {
-    /// The name of the usage tables, if one is known here. Of a page that counts its usages, as Button, it is the word,
-    /// and the number is what follows.
-    fn known(self) -> Option<(&'static str, Option<u16>)> {
-        let number = self.0 as u16;
-        let (_, lines) = page((self.0 >> 16) as u16)?;
-        let mut every = None;
-        for line in lines {
-            let (first, rest) = line.split_once(' ')?;
-            if first == "*" {
-                every = Some(rest);
-            } else if u16::from_str_radix(first, 16) == Ok(number) {
-                return Some((rest.split(" | ").next()?, None));
-            }
-        }
-        every.filter(|_| number > 0).map(|word| (word, Some(number)))
-    }
-}
 
 impl core::fmt::Display for UsageName {
     fn fmt(&self, f: &mut core::fmt::Formatter<'_>) -> core::fmt::Result {
         let (high, low) = ((self.0 >> 16) as u16, self.0 as u16);
-        match (self.known(), page(high)) {
-            (Some((name, None)), _) => f.write_str(name),
-            (Some((word, Some(number))), _) => write!(f, "{word} {number}"),
-            (None, Some((name, _))) => write!(f, "{name} {low:02X}h"),
-            (None, None) => write!(f, "{high:02X}h {low:02X}h"),
+        let Some((page, lines)) = page(high) else {
+            return write!(f, "{high:02X}h {low:02X}h");
+        };
+        // Of a page that counts its usages, as Button, it is the word, and the number is what follows.
+        let (every, lines) = match lines.strip_prefix("* ").and_then(|rest| rest.split_once('\n')) {
+            Some((word, lines)) => (Some(word), lines),
+            None => (None, lines),
+        };
+        match (name_in(lines, low), every) {
+            (Some(name), _) => f.write_str(name),
+            (None, Some(word)) if low > 0 => write!(f, "{word} {low}"),
+            (None, _) => write!(f, "{page} {low:02X}h"),
         }
+    }
+}
+
+#[cfg(test)]
+mod tests {
+    use super::{TABLE, UsageName};
+    use crate::usages;
+    use std::collections::BTreeMap;
+
+    /// The usages of the table with their names, line after line.
+    fn table() -> BTreeMap<u32, String> {
+        let (mut page, mut found) = (0, BTreeMap::new());
+        for line in TABLE.lines().filter(|line| !line.starts_with(['#', '*'])) {
+            let (first, rest) = line.split_once(' ').unwrap();
+            if first == "page" {
+                page = u32::from_str_radix(rest.split(' ').next().unwrap(), 16).unwrap();
+            } else {
+                let usage = page << 16 | u32::from_str_radix(first, 16).unwrap();
+                assert!(found.insert(usage, rest.split(" | ").next().unwrap().to_string()).is_none(), "{line}");
+            }
+        }
+        found
+    }
+
+    #[test]
+    fn each_usage_of_the_table_has_its_name_and_no_other_one() {
+        let table = table();
+        for page in table.keys().map(|usage| usage >> 16).chain([0x09, 0x0a, 0xff00]) {
+            for number in [0, 1, 0x9f, 0x7fff, 0xffff] {
+                let usage = page << 16 | number;
+                let listed = table.get(&usage).cloned();
+                let name = listed.unwrap_or_else(|| match (page, number, crate::page_name(page as u16)) {
+                    (9, 1.., _) => format!("Button {number}"),
+                    (0xff00, ..) | (_, _, None) => format!("{page:02X}h {number:02X}h"),
+                    (_, _, Some(page)) => format!("{page} {number:02X}h"),
+                });
+                assert_eq!(UsageName(usage).to_string(), name, "{usage:08x}");
+            }
+        }
+        for (usage, name) in &table {
+            assert_eq!(UsageName(*usage).to_string(), *name, "{usage:08x}");
+        }
+        assert!(table.len() > 1_800);
+    }
+
+    #[test]
+    fn each_usage_of_the_table_is_a_constant_with_its_name_and_no_other_one_is() {
+        let (mut last, mut found) = ("", BTreeMap::new());
+        for line in include_str!("usages.rs").lines().map(str::trim) {
+            if let Some((_, number)) = line.split_once(": u32 = 0x").filter(|(name, _)| *name != "pub const PAGE") {
+                let usage = u32::from_str_radix(&number.trim_end_matches(';').replace('_', ""), 16).unwrap();
+                assert!(found.insert(usage, last.trim_start_matches("/// ").to_string()).is_none(), "{line}");
+            }
+            last = line;
+        }
+        assert_eq!(found, table());
+    }
+
+    #[test]
+    fn constants_are_named_by_the_rule() {
+        use usages::{button, consumer, generic_desktop, keyboard, sport};
+        assert_eq!((generic_desktop::X, generic_desktop::D_PAD_UP), (0x0001_0030, 0x0001_0090));
+        assert_eq!((keyboard::A, keyboard::N1, keyboard::NON_US_HASH), (0x0007_0004, 0x0007_001e, 0x0007_0032));
+        assert_eq!((keyboard::PAGE_UP, keyboard::KEYPAD_SLASH, keyboard::LEFT_GUI), (0x0007_004b, 0x0007_0054, 0x0007_00e3));
+        assert_eq!((consumer::VOLUME_INCREMENT, consumer::PLUS_10), (0x000c_00e9, 0x000c_0020));
+        assert_eq!((sport::N1_IRON, usages::fido_alliance::PAGE, button::PAGE), (0x0004_0051, 0xf1d0, 9));
     }
 }

@@ -1,6 +1,7 @@
 //! Calls that check, where the exported ones ask something of their caller, and a log that owns its flash. Written by
 //! hand: tested, not proved.
 
+use crate::page_count::PageCount;
 use crate::parts::flash_model::NorFlash;
 use crate::parts::page_turnover::{Log, Step, TurnRefusal, Unsound, Words};
 
@@ -77,7 +78,8 @@ impl core::fmt::Display for LogRefusal {
 
 impl core::error::Error for LogRefusal {}
 
-/// A log and its flash in one: no call of it has a condition on its caller.
+/// A log and its flash in one: no call of it has a condition on its caller, but that [`remount`](FlashLog::remount) leaves
+/// the number of pages as it is.
 ///
 /// ```
 /// # fn main() -> Result<(), Box<dyn core::error::Error>> {
@@ -85,7 +87,7 @@ impl core::error::Error for LogRefusal {}
 /// # {
 /// use wuzhikar_log::{FlashLog, LogRefusal, SimFlash, Step, WriteError};
 ///
-/// let mut log = FlashLog::mount(SimFlash::blank(2)?);
+/// let mut log = FlashLog::mount(SimFlash::blank(2)?)?;
 /// // A blank flash has no page yet: a turn makes one, here with no words to copy.
 /// assert_eq!(log.push(5), Err(WriteError::Refused(LogRefusal::NoRoom)));
 /// log.rewrite([])?;
@@ -96,7 +98,7 @@ impl core::error::Error for LogRefusal {}
 ///     assert_ne!(log.step(), Step::Failed);
 /// }
 /// // What is in the flash is there for whoever mounts it next.
-/// let log = FlashLog::mount(log.into_flash());
+/// let log = FlashLog::mount(log.into_flash())?;
 /// assert_eq!(log.words().collect::<Vec<u32>>(), [5, 6]);
 /// # }
 /// # Ok(())
@@ -109,9 +111,12 @@ pub struct FlashLog<F> {
 }
 
 impl<F: NorFlash> FlashLog<F> {
-    /// The log on a flash: [`Log::mount`].
-    pub fn mount(flash: F) -> FlashLog<F> {
-        FlashLog { log: Log::mount(&flash), flash }
+    /// The log on a flash: [`Log::mount`]. The flash is read and not written.
+    ///
+    /// `PageCount` where it has not 2 to 8 pages: then it is neither read nor written, and is dropped.
+    pub fn mount(flash: F) -> Result<FlashLog<F>, PageCount> {
+        PageCount::check(&flash)?;
+        Ok(FlashLog { log: Log::mount(&flash), flash })
     }
 
     /// The words on the active page, the oldest first.
@@ -179,7 +184,8 @@ impl<F: NorFlash> FlashLog<F> {
         self.flash
     }
 
-    /// Lends the flash, and mounts it anew: what was under way is forgotten, as by a loss of power.
+    /// Lends the flash, and mounts it anew: what was under way is forgotten, as by a loss of power. The number of its pages
+    /// stays as it is.
     pub fn remount<R>(&mut self, change: impl FnOnce(&mut F) -> R) -> R {
         let result = change(&mut self.flash);
         self.log = Log::mount(&self.flash);
@@ -227,7 +233,7 @@ mod tests {
 
     #[test]
     fn a_log_refuses_what_it_cannot_take() {
-        let mut log = FlashLog::mount(SimFlash::blank(2).expect("memory"));
+        let mut log = FlashLog::mount(SimFlash::blank(2).expect("memory")).expect("2 pages");
         assert_eq!(log.append(5), Err(LogRefusal::NoRoom));
         assert_eq!(log.copy(5), Err(LogRefusal::NotNow));
         assert_eq!(log.end_copies(), Err(LogRefusal::NotNow));

@@ -9,7 +9,8 @@
 //! [`SlotFlash`] makes such a flash of a driver with write and erase units of any size, whose calls are those of
 //! `embedded-storage` ([`FlashDriver`]). For a chip that keeps error correction beside each write unit [`PairedFlash`]
 //! on a [`UnitFlash`] does, or on an [`EccFlash`] of your own. [`FlashLog::push`], [`FlashLog::rewrite`] and [`FlashLog::format`] come back when
-//! all is done; the others leave each operation of the flash to [`FlashLog::step`].
+//! all is done; the others leave each operation of the flash to [`FlashLog::step`]. [`check_driver`], run once on the chip
+//! over spare pages, names what a flash does that no log can stand on.
 //!
 //! **Exported from a proved source.** What is in the hidden module `parts` is the text of crates that are proved in Rattle
 //! (Rust with contracts), without what the prover alone reads. The proofs speak of that source, and of a flash that does
@@ -25,8 +26,10 @@ extern crate std;
 
 #[doc(hidden)]
 pub mod calls;
+mod check_driver;
 mod driver;
 mod face;
+mod page_count;
 #[doc(hidden)]
 pub mod parts;
 #[cfg(test)]
@@ -38,8 +41,10 @@ mod unit_flash;
 mod units;
 mod whole;
 
+pub use crate::check_driver::{DriverFault, Place, check_driver};
 pub use crate::driver::FlashDriver;
 pub use crate::face::{FlashLog, LogRefusal};
+pub use crate::page_count::PageCount;
 pub use crate::parts::ecc_flash::{EccFlash, PAGE_UNITS, PairedFlash, UNIT_BYTES};
 #[cfg(feature = "sim")]
 pub use crate::parts::flash_model::{FlashError, Mask, SimFlash};

@@ -49,12 +49,12 @@ const UNREAD: [u8; SLOT_BYTES] = [255, 255, 255, 127, 255, 255, 255, 255];
 /// # let driver = Driver(vec![0xFF; 32768]);
 ///
 /// // Two pages from byte 0 on, here of a driver with write units of 16 bytes and erase units of 8,192.
-/// let mut log = FlashLog::mount(SlotFlash::new(driver, 0, 2)?);
+/// let mut log = FlashLog::mount(SlotFlash::new(driver, 0, 2)?)?;
 /// log.rewrite([5, 6])?;
 /// log.push(7)?;
 ///
 /// let driver = log.into_flash().into_driver();
-/// let log = FlashLog::mount(SlotFlash::new(driver, 0, 2)?);
+/// let log = FlashLog::mount(SlotFlash::new(driver, 0, 2)?)?;
 /// assert_eq!(log.words().collect::<Vec<u32>>(), [5, 6, 7]);
 /// # Ok(())
 /// # }

@@ -50,12 +50,12 @@ use crate::units::{GeometryError, Units};
 /// # let driver = Driver(vec![0; 16384]);
 ///
 /// // The first time all is erased: two pages from byte 0 on, of 8,192 bytes each.
-/// let mut log = FlashLog::mount(PairedFlash::format(UnitFlash::new(driver, 0, 2)?)?);
+/// let mut log = FlashLog::mount(PairedFlash::format(UnitFlash::new(driver, 0, 2)?)?)?;
 /// log.rewrite([5, 6])?;
 ///
 /// // From then on it is mounted, which writes nothing.
 /// let driver = log.into_flash().into_flash().into_driver();
-/// let log = FlashLog::mount(PairedFlash::mount(UnitFlash::new(driver, 0, 2)?));
+/// let log = FlashLog::mount(PairedFlash::mount(UnitFlash::new(driver, 0, 2)?))?;
 /// assert_eq!(log.words().collect::<Vec<u32>>(), [5, 6]);
 /// # Ok(())
 /// # }

@@ -5,14 +5,17 @@ use crate::parts::control_ep::EpAnswer;
 use crate::parts::debounce::{Debouncer, Scan};
 use crate::parts::keyboard::{Keyboard, Report, Work};
 use crate::parts::layers::KeyNo;
-use wuzhikar_log::NorFlash;
+use wuzhikar_log::{NorFlash, PageCount};
 
 impl Keyboard {
     /// A keyboard as it starts on a flash: no key down, nothing sent, entry (0, 0) selected, and no transfer. The flash
     /// is read and not written.
-    pub fn on<F: NorFlash>(flash: &F) -> Keyboard {
+    ///
+    /// `PageCount` where the flash has not 2 to 8 pages: then it is not read either.
+    pub fn on<F: NorFlash>(flash: &F) -> Result<Keyboard, PageCount> {
+        PageCount::check(flash)?;
         match Keyboard::start((), flash) {
-            Ok(keyboard) => keyboard,
+            Ok(keyboard) => Ok(keyboard),
             Err(never) => match never {},
         }
     }
@@ -37,7 +40,8 @@ impl Debouncer {
     }
 }
 
-/// A keyboard and its flash in one: no call of it has a condition on its caller.
+/// A keyboard and its flash in one: no call of it has a condition on its caller, but that
+/// [`restart`](FlashKeyboard::restart) leaves the number of pages as it is.
 ///
 /// ```
 /// # fn main() -> Result<(), Box<dyn core::error::Error>> {
@@ -45,7 +49,7 @@ impl Debouncer {
 /// # {
 /// use wuzhikar::{EpAnswer, FlashKeyboard, Scan, SimFlash, Work};
 ///
-/// let mut keyboard = FlashKeyboard::start(SimFlash::blank(2)?);
+/// let mut keyboard = FlashKeyboard::start(SimFlash::blank(2)?)?;
 /// // The computer sets entry (0, 0) to the letter b, by feature report 3.
 /// keyboard.setup([0x21, 0x09, 0x03, 0x03, 0, 0, 6, 0]);
 /// assert_eq!(keyboard.out(&[3, 1, 0, 0, 5, 0]), EpAnswer::Ack);
@@ -54,7 +58,7 @@ impl Debouncer {
 /// while keyboard.work() != Work::Idle {}
 /// assert!(matches!(keyboard.in_packet(), EpAnswer::Packet(packet) if packet.is_empty()));
 /// // After a loss of power it is there.
-/// let mut keyboard = FlashKeyboard::start(keyboard.into_flash());
+/// let mut keyboard = FlashKeyboard::start(keyboard.into_flash())?;
 /// for _ in 0..5 {
 ///     keyboard.scan(Scan { rows: [1, 0, 0, 0, 0, 0] });
 /// }
@@ -72,8 +76,10 @@ pub struct FlashKeyboard<F> {
 
 impl<F: NorFlash> FlashKeyboard<F> {
     /// A keyboard as it starts on a flash: [`Keyboard::on`].
-    pub fn start(flash: F) -> FlashKeyboard<F> {
-        FlashKeyboard { keyboard: Keyboard::on(&flash), flash }
+    ///
+    /// `PageCount` where the flash has not 2 to 8 pages: then it is neither read nor written, and is dropped.
+    pub fn start(flash: F) -> Result<FlashKeyboard<F>, PageCount> {
+        Ok(FlashKeyboard { keyboard: Keyboard::on(&flash)?, flash })
     }
 
     /// A scan of the matrix: [`Keyboard::scan`].
@@ -126,7 +132,8 @@ impl<F: NorFlash> FlashKeyboard<F> {
         self.flash
     }
 
-    /// Lends the flash, and restarts the keyboard on it, as after a loss of power: [`Keyboard::restart`].
+    /// Lends the flash, and restarts the keyboard on it, as after a loss of power: [`Keyboard::restart`]. The number of its
+    /// pages stays as it is.
     pub fn restart<R>(&mut self, change: impl FnOnce(&mut F) -> R) -> R {
         let result = change(&mut self.flash);
         self.keyboard.restart(&self.flash);

@@ -15,13 +15,14 @@
 //! #     fn erase_page(&mut self, _page: usize) -> Result<(), FlashFault> { Err(FlashFault) }
 //! # }
 //! # let flash = Blank;
-//! let mut keyboard = FlashKeyboard::start(flash);
+//! let mut keyboard = FlashKeyboard::start(flash)?;
 //! for _ in 0..5 {
 //!     keyboard.scan(Scan { rows: [1, 0, 0, 0, 0, 0] });
 //! }
 //! let report = keyboard.poll().unwrap();
 //! assert_eq!(report[..3], [1, 0, 1]);
 //! assert!(matches!(keyboard.in_packet(), EpAnswer::Stall(_)));
+//! # Ok::<(), wuzhikar::PageCount>(())
 //! ```
 //!
 //! **Exported from a proved source.** What is in the hidden module `parts` is the text of crates that are proved in Rattle
@@ -43,6 +44,8 @@ pub mod parts;
 pub mod rattle;
 mod unstarted;
 pub mod usb;
+#[cfg(test)]
+mod wear;
 
 pub use crate::face::FlashKeyboard;
 pub use crate::parts::keyboard::{EpAnswer, Keyboard, Protocol, Report, Scan, Why, Work};
@@ -51,7 +54,7 @@ pub use crate::unstarted::UnstartedKeyboard;
 pub use wuzhikar_log;
 #[cfg(feature = "sim")]
 pub use wuzhikar_log::{FlashError, Mask, SimFlash};
-pub use wuzhikar_log::{FlashFault, NorFlash, PAGE_BYTES, PAGE_SLOTS, SLOT_BYTES};
+pub use wuzhikar_log::{FlashFault, NorFlash, PAGE_BYTES, PAGE_SLOTS, PageCount, SLOT_BYTES};
 
 /// Debouncing by itself: a key changes where five samples in a row say so.
 pub mod debounce {

@@ -2,7 +2,7 @@
 
 use crate::parts::keyboard::Keyboard;
 use core::fmt;
-use wuzhikar_log::NorFlash;
+use wuzhikar_log::{NorFlash, PageCount};
 
 /// Memory for a keyboard that has not started. Its only call starts one there, so no call reaches a keyboard that was not
 /// started.
@@ -26,8 +26,9 @@ use wuzhikar_log::NorFlash;
 ///
 /// # let flash = Blank;
 /// let mut memory = MEMORY.lock().unwrap();
-/// let keyboard = memory.start(&flash);
+/// let keyboard = memory.start(&flash)?;
 /// keyboard.scan(Scan::NONE);
+/// # Ok::<(), wuzhikar::PageCount>(())
 /// ```
 #[repr(transparent)]
 pub struct UnstartedKeyboard {
@@ -40,9 +41,12 @@ impl UnstartedKeyboard {
 
     /// A keyboard as it starts on a flash, in this memory: what [`Keyboard::on`] gives. The flash is read and not written.
     /// A keyboard that was started here before is gone.
-    pub fn start<F: NorFlash>(&mut self, flash: &F) -> &mut Keyboard {
+    ///
+    /// `PageCount` where the flash has not 2 to 8 pages: then it is not read either, and the memory stays as it is.
+    pub fn start<F: NorFlash>(&mut self, flash: &F) -> Result<&mut Keyboard, PageCount> {
+        PageCount::check(flash)?;
         self.keyboard.restart(flash);
-        &mut self.keyboard
+        Ok(&mut self.keyboard)
     }
 }
 

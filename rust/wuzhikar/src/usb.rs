@@ -64,7 +64,7 @@ mod tests {
 
     #[test]
     fn the_lengths_are_those_of_the_reports() {
-        let mut keyboard = Keyboard::on(&SimFlash::blank(2).expect("memory"));
+        let mut keyboard = Keyboard::on(&SimFlash::blank(2).expect("memory")).expect("2 pages");
         assert_eq!(read(&mut keyboard, [0xa1, 1, 1, 1, 0, 0, 255, 0]), KEYS_REPORT_LEN);
         assert_eq!(read(&mut keyboard, [0xa1, 1, 2, 1, 0, 0, 255, 0]), CONSUMER_REPORT_LEN);
         assert_eq!(read(&mut keyboard, [0xa1, 1, 3, 3, 0, 0, 255, 0]), FEATURE_REPORT_LEN);

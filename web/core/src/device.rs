@@ -51,7 +51,7 @@ pub extern "C" fn start_paired(length: usize) -> i32 {
 
 fn started(flash: Option<Flash>) -> i32 {
     let Some(flash) = flash else { return REFUSED };
-    let keyboard = Keyboard::on(&flash);
+    let Ok(keyboard) = Keyboard::on(&flash) else { return REFUSED };
     DEVICE.with(|device| *device = Some(Device { keyboard, flash }));
     0
 }

@@ -31,7 +31,7 @@ mod alone {
     /// Memory as a stack: what was given last can grow, and comes back when it is freed. A device keeps what it takes at
     /// its start, a descriptor what it takes when it is parsed, and a reading frees its vectors in reverse order; so nothing
     /// that is freed in another order has to come back.
-    #[repr(align(16))]
+    #[repr(C, align(16))] // the bytes stand first, so that they have the alignment of the whole
     struct Arena {
         bytes: UnsafeCell<[u8; ROOM]>,
         used: UnsafeCell<usize>,

@@ -151,13 +151,14 @@ pub extern "C" fn usage(field: usize, place: usize) -> i32 {
     with(|descriptor, _| descriptor.usage(field, place).unwrap_or(0) as i32)
 }
 
-/// Reads the first `length` bytes of the buffer as an input report (`extract`), and writes what is found: usage (four bytes)
-/// and value (eight), for each. How many there are, or -100 less the number of the refusal, 1 to 4.
+/// Reads the first `length` bytes of the buffer as an input report (`extract`), and writes what is found, but for the first
+/// `passed`: usage (four bytes) and value (eight), for each, over the report and as far as the buffer has room. How many there
+/// are in all, or -100 less the number of the refusal, 1 to 4.
 #[unsafe(no_mangle)]
-pub extern "C" fn read(length: usize) -> i32 {
+pub extern "C" fn read(length: usize, passed: usize) -> i32 {
     with(|descriptor, buffer| match found(descriptor, buffer, length) {
         Ok(found) => {
-            for (one, place) in found.iter().zip(buffer.chunks_exact_mut(12)) {
+            for (one, place) in found.iter().skip(passed).zip(buffer.chunks_exact_mut(12)) {
                 let mut record = Record(place);
                 record.put(one.usage.into(), 4);
                 record.put(one.value, 8);
@@ -168,16 +169,16 @@ pub extern "C" fn read(length: usize) -> i32 {
     })
 }
 
-/// Reads a report as [`read`] does, and writes the usages that are on (`pressed`), four bytes each. How many there are.
+/// Reads a report as [`read`] does, and writes the usages that are on (`pressed`), four bytes each. How many there are in all.
 #[unsafe(no_mangle)]
-pub extern "C" fn read_pressed(length: usize) -> i32 {
+pub extern "C" fn read_pressed(length: usize, passed: usize) -> i32 {
     with(|descriptor, buffer| {
         let found = match found(descriptor, buffer, length) {
             Ok(found) => found,
             Err(why) => return why,
         };
         let Ok(usages) = pressed(&found) else { return refusal(ExtractError::Memory) };
-        for (usage, place) in usages.iter().zip(buffer.chunks_exact_mut(4)) {
+        for (usage, place) in usages.iter().skip(passed).zip(buffer.chunks_exact_mut(4)) {
             place.copy_from_slice(&usage.to_le_bytes());
         }
         usages.len() as i32

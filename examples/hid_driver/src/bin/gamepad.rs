@@ -1,8 +1,9 @@
 // SPDX-License-Identifier: MIT OR Apache-2.0
 //! Follows two gamepads: the hat in degrees, sticks from -1 to 1, pedals from 0 to 1, and which buttons are down.
 
-use hid_driver::{read_or_drop, reader_of, usage};
+use hid_driver::{read_or_drop, reader_of};
 use std::error::Error;
+use wuzhikar_hid::usages::{button, generic_desktop};
 use wuzhikar_hid::{Detail, Reader, UsageName, Within};
 
 /// Sticks of -32,767 to 32,767, and a hat of 1 to 8 with Null State.
@@ -36,13 +37,13 @@ fn tell(reader: &Reader, report: &[u8]) -> Result<(), Box<dyn Error>> {
         let (Some(usage), Some(detail)) = (value.usage, reader.detail(value.field)) else { continue };
         match usage {
             // A hat at rest says a value outside its extents, with Null State (Null) or without (Out): that is no direction.
-            usage::HAT_SWITCH if value.within != Within::Range => {}
-            usage::HAT_SWITCH => {
+            generic_desktop::HAT_SWITCH if value.within != Within::Range => {}
+            generic_desktop::HAT_SWITCH => {
                 hat = format!("{} {}s", detail.physical_value(value.raw)?.decimal(0), detail.unit_name().unwrap_or("unit"));
             }
-            usage if usage >> 16 == usage::BUTTON_PAGE => buttons.extend((value.raw != 0).then_some(usage & 0xffff)),
+            usage if usage >> 16 == button::PAGE => buttons.extend((value.raw != 0).then_some(usage & 0xffff)),
             usage => {
-                let is_stick = (usage::X..=usage::RZ).contains(&usage);
+                let is_stick = (generic_desktop::X..=generic_desktop::RZ).contains(&usage);
                 let share = if is_stick { stick(detail, value.raw) } else { pedal(detail, value.raw) };
                 let moved = share.filter(|share| value.within == Within::Range && *share != 0.0);
                 axes.extend(moved.map(|share| format!("{} {share:.2}", UsageName(usage))));

@@ -1,9 +1,10 @@
 // SPDX-License-Identifier: MIT OR Apache-2.0
 //! Follows two touch screens: each contact by its identifier, and where it is in the unit of the screen.
 
-use hid_driver::{read_or_drop, reader_of, usage};
+use hid_driver::{read_or_drop, reader_of};
 use std::collections::BTreeMap;
 use std::error::Error;
+use wuzhikar_hid::usages::{digitizers, generic_desktop};
 use wuzhikar_hid::{Reader, Value};
 
 /// Two fingers.
@@ -44,7 +45,7 @@ struct Contact {
 /// The Finger that a value stands in: the innermost collection may be one of X and Y alone.
 fn finger_of(reader: &Reader, value: &Value) -> Option<usize> {
     let details = reader.details();
-    let is_finger = |place: &usize| details.collections[*place].usage == Some(usage::FINGER);
+    let is_finger = |place: &usize| details.collections[*place].usage == Some(digitizers::FINGER);
     details.around(reader.placed(value.field)?.place).find(is_finger)
 }
 
@@ -52,7 +53,7 @@ fn finger_of(reader: &Reader, value: &Value) -> Option<usize> {
 fn contacts(reader: &Reader, values: impl Iterator<Item = Value>) -> Result<(Vec<Contact>, usize), Box<dyn Error>> {
     let (mut found, mut count) = (BTreeMap::<usize, Contact>::new(), None);
     for value in values {
-        if value.usage == Some(usage::CONTACT_COUNT) {
+        if value.usage == Some(digitizers::CONTACT_COUNT) {
             count = usize::try_from(value.raw).ok();
         }
         let (Some(detail), Some(finger)) = (reader.detail(value.field), finger_of(reader, &value)) else { continue };
@@ -62,10 +63,10 @@ fn contacts(reader: &Reader, values: impl Iterator<Item = Value>) -> Result<(Vec
             Ok(format!("{} {}s", physical.decimal(2), detail.unit_name().unwrap_or("unit")))
         };
         match value.usage {
-            Some(usage::TIP_SWITCH) => contact.down = value.raw != 0,
-            Some(usage::CONTACT_IDENTIFIER) => contact.number = value.raw,
-            Some(usage::X) => contact.x = place()?,
-            Some(usage::Y) => contact.y = place()?,
+            Some(digitizers::TIP_SWITCH) => contact.down = value.raw != 0,
+            Some(digitizers::CONTACT_IDENTIFIER) => contact.number = value.raw,
+            Some(generic_desktop::X) => contact.x = place()?,
+            Some(generic_desktop::Y) => contact.y = place()?,
             _ => {}
         }
     }

@@ -42,7 +42,7 @@ fn every_other_file_is_refused_with_its_place() {
     let rows: [(String, &str); 20] = [
         (format!("{text}{}", " ".repeat(MOST + 1 - text.len())), "more than 65536 bytes"),
         ("".to_string(), "line 1 column 0"),
-        ("[]".to_string(), "expected struct Members"),
+        ("[]".to_string(), "invalid type: sequence, expected an object"),
         (text.replace("\"version\"", "\"version\" \"x\""), "at line 3"),
         (format!("{text}x"), "trailing characters at line"),
         (text.replace("  \"version\": 1,\n", ""), "missing field `version`"),
@@ -71,4 +71,28 @@ fn every_other_file_is_refused_with_its_place() {
         assert!(refused(&text).contains(expected), "{} has no {expected}", refused(&text));
     }
     assert!(Keymap::read(b"{\"format\": \"\xff\"}").is_err());
+}
+
+/// What web/tests/test_configure.py asks of the page.
+#[test]
+fn a_file_is_taken_where_the_page_takes_it() {
+    let text = standard();
+    let named = |name: &str| text.replacen('{', &format!("{{\"name\": \"{name}\","), 1);
+    let listed = format!("[\"{FORMAT}\", 1, {}]", &text[text.find("[\n").unwrap()..text.rfind('}').unwrap()]);
+    for (text, expected) in [
+        (format!("\u{feff}{text}"), "read"),
+        (format!("\u{feff}\u{feff}{text}"), "expected value at line 1"),
+        (format!(" \u{feff}{text}"), "expected value at line 1"),
+        (named("\\ud83d\\ude00"), "read"),
+        (named("\\ud800"), "hex escape at line 1"),
+        (named("\\udc00"), "lone leading surrogate in hex escape at line 1"),
+        (named("\\ud800\\u0041"), "lone leading surrogate in hex escape at line 1"),
+        (text.replace("\"version\": 1", "\"version\": 1.000000000000000000000000"), "read"),
+        (text.replace("\"version\": 1", "\"version\": 100e-2"), "read"),
+        (text.replace("\"version\": 1", "\"version\": 0.9999999999999999"), "the version is 0.9999999999999999"),
+        (text.replace("\"version\": 1", "\"version\": 0.99999999999999999999"), "read"),
+        (listed, "invalid type: sequence"),
+    ] {
+        assert!(refused(&text).contains(expected), "{} has no {expected}: {:.60}", refused(&text), text);
+    }
 }

@@ -90,8 +90,7 @@ pub extern "C" fn format() -> bool {
 /// What the chip's start-up code calls.
 #[unsafe(no_mangle)]
 pub extern "C" fn main() -> ! {
-    if let Ok(units) = units() {
-        let mut settings = Settings::mount(PairedFlash::mount(units));
+    if let Ok(Ok(mut settings)) = units().map(|units| Settings::mount(PairedFlash::mount(units))) {
         loop {
             let request = REQUEST.load(Ordering::Acquire);
             if request >> 31 == 1 {

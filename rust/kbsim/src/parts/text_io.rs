@@ -4,18 +4,15 @@
 //! [`read_whole`] ends at the first fault of its reader, and takes no more of it than it must. A [`Printer`] prints
 //! whatever shows itself, with [`HexDigits`] and [`HexWord`] among it, and hands it on in pieces of at most 4,096 bytes,
 //! or a longer piece of text as it is; its one promise is that the writer has, once the printer is finished, just what
-//! was printed, in order. Both tell an interruption as a fault. A [`Tee`] hands each line on in a write of its own, and lets a
-//! [`Listener`] hear it; the writer behind it gets the same bytes as without it. The crates that read scripts and descriptors
-//! from any reader, and print lines to any writer, stand on it.
+//! was printed, in order. Both tell an interruption as a fault. The crates that read scripts and
+//! descriptors from any reader, and print lines to any writer, stand on it.
 
 mod digits;
 mod fault;
 mod print;
 mod read;
-mod tee;
 
 pub use digits::{HexDigits, HexWord};
 pub use fault::{ReadError, WriteError};
 pub use print::Printer;
 pub use read::{read_text, read_whole};
-pub use tee::{Listener, Tee, line_length};

@@ -14,6 +14,7 @@ mod bench;
 mod event;
 mod world;
 
+pub use bench::Operation;
 pub use wuzhikar::parts::control_ep::Why;
 pub use wuzhikar::parts::debounce::Scan;
 pub use event::{Answer, Event};

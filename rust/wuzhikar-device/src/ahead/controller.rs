@@ -39,7 +39,8 @@ pub enum Input<'p> {
 pub enum Output {
     /// NAK: none is taken.
     Nak,
-    /// ACK of the next one, whose bytes are kept, and NAK from then on.
+    /// ACK of the next one, whose bytes are kept, and NAK from then on. One that repeats the one before, by its data toggle,
+    /// is acknowledged and not told of (USB 2.0 section 8.6.4).
     Take,
     /// STALL.
     Stall,

@@ -2,6 +2,7 @@
 
 mod host;
 mod keys;
+mod lost;
 mod model;
 mod played;
 
@@ -10,7 +11,7 @@ use crate::{Identity, PacketSize};
 use host::Numbers;
 use model::Model;
 use played::{Counts, Played};
-use wuzhikar::{Mask, Scan, SimFlash};
+use wuzhikar::{EpAnswer, Mask, Scan, SimFlash};
 
 /// Identities with each packet size.
 const IDENTITIES: [Identity<'static>; 4] = [
@@ -31,8 +32,8 @@ type Device = crate::Device<'static, SimFlash>;
 /// bus. What it met, and the flash that it ends with.
 fn history<const TWO: bool>(seed: u64, flash: SimFlash) -> (Counts, SimFlash) {
     let identity = &IDENTITIES[seed as usize % 4];
-    let mut ahead = Ahead::new(Device::start(flash.clone(), identity));
-    let mut played = Played::<TWO>::new(seed, false, Model::new(Device::start(flash, identity)));
+    let mut ahead = Ahead::new(Device::start(flash.clone(), identity).unwrap());
+    let mut played = Played::<TWO>::new(seed, false, Model::new(Device::start(flash, identity).unwrap()));
     for _ in 0..40 {
         ahead.serve(&mut played);
         assert_eq!(played.model.address, None);
@@ -52,7 +53,7 @@ fn history<const TWO: bool>(seed: u64, flash: SimFlash) -> (Counts, SimFlash) {
 
 /// A key goes down or up, or the flash works, well or torn.
 fn step<const TWO: bool>(ahead: &mut Ahead<'static, SimFlash>, played: &mut Played<TWO>) {
-    let model = &mut played.model.device;
+    let model = &mut played.model;
     match played.numbers.below(8) {
         0 | 1 => {
             let scan = some_keys(&mut played.numbers);
@@ -61,18 +62,29 @@ fn step<const TWO: bool>(ahead: &mut Ahead<'static, SimFlash>, played: &mut Play
                 model.scan(scan);
             }
         }
-        2 | 3 => assert_eq!(ahead.work(), model.work()),
+        2 | 3 => assert_eq!(ahead.work(), model.device.work()),
         4 if played.numbers.one_of(6) => {
             let mask = [played.numbers.below(256) as u8; 8];
             ahead.device.flash_mut().fault_next(Mask::try_from(&mask[..]).unwrap());
-            model.flash_mut().fault_next(Mask::try_from(&mask[..]).unwrap());
-            assert_eq!(ahead.work(), model.work());
+            model.device.flash_mut().fault_next(Mask::try_from(&mask[..]).unwrap());
+            assert_eq!(ahead.work(), model.device.work());
             ahead.device.flash_mut().disarm();
-            model.flash_mut().disarm();
+            model.device.flash_mut().disarm();
+        }
+        5 if played.numbers.one_of(4) => {
+            let report = command(&mut played.numbers);
+            let answer = ahead.command(report);
+            played.counts.commands += usize::from(answer == EpAnswer::Ack);
+            model.command(report, answer);
         }
         _ => {}
     }
-    assert_eq!(ahead.device.leds(), model.leds());
+    assert_eq!(ahead.device.leds(), model.device.leds());
+}
+
+/// A command of the firmware's own: of the entries that the host sets, and now and then one that is refused.
+fn command(numbers: &mut Numbers) -> [u8; 6] {
+    [3, numbers.of(&[1, 1, 1, 1, 2, 3, 7]), numbers.below(2) as u8, numbers.below(3) as u8, numbers.of(&[4, 5, 6]), 0]
 }
 
 /// Few keys, so that presses and releases meet.

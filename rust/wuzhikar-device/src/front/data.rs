@@ -29,7 +29,7 @@ impl Data<'_> {
             Data::Device => DEVICE_DESCRIPTOR.len(),
             Data::Configuration => CONFIGURATION_DESCRIPTOR.len(),
             Data::Hid => HID_DESCRIPTOR.len(),
-            Data::Text(text) => 2 + 2 * units(text).count(),
+            Data::Text(text) => 2 + 2 * units(text),
             Data::Status(bytes) => bytes.len(),
             Data::Value(_) => 1,
         }
@@ -52,14 +52,22 @@ impl Data<'_> {
         match at {
             0 => self.length() as u8,
             1 => STRING,
-            _ => units(text).nth(at / 2 - 1).unwrap_or(0).to_le_bytes()[at % 2],
+            _ => text.encode_utf16().nth(at / 2 - 1).unwrap_or(0).to_le_bytes()[at % 2],
         }
     }
 }
 
-/// The units of a string descriptor, whose length is a byte.
-fn units(text: &str) -> impl Iterator<Item = u16> {
-    text.encode_utf16().take(126)
+/// How many units of UTF-16 a string descriptor has, whose length is a byte: at most 126, of whole characters.
+fn units(text: &str) -> usize {
+    let mut units = 0;
+    for character in text.chars() {
+        let more = units + character.len_utf16();
+        if more > 126 {
+            break;
+        }
+        units = more;
+    }
+    units
 }
 
 /// The packet with these bytes of some.

@@ -76,7 +76,7 @@ struct Board {
 
 impl Board {
     fn start(flash: Slots) -> Board {
-        Board { keyboard: Keyboard::on(&flash), flash }
+        Board { keyboard: Keyboard::on(&flash).unwrap(), flash }
     }
 
     fn millisecond(&mut self, scan: Scan) {

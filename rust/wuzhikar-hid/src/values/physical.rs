@@ -47,10 +47,11 @@ impl Physical {
                 _ => {}
             }
         }
-        let sign = if above < 0 { "-" } else { "" };
         let (whole, rest) = (above.unsigned_abs() / below.unsigned_abs(), above.unsigned_abs() % below.unsigned_abs());
-        write!(out, "{sign}{whole}")?;
         let behind = digits_behind(rest, below.unsigned_abs(), digits.min(18));
+        // (What is cut off to nothing has no sign.)
+        let sign = if above < 0 && (whole, behind.1) != (0, 0) { "-" } else { "" };
+        write!(out, "{sign}{whole}")?;
         if behind.1 > 0 {
             write!(out, ".{:0count$}", behind.0, count = behind.1)?;
         }

@@ -94,7 +94,7 @@ fn after_a_read_that_failed_nothing_is_written() {
 fn a_flash_that_holds_something_else_is_formatted() {
     let mut driver = Ram::<1, 8, 4096>::new(3 * 4096);
     driver.bytes[4096..2 * 4096].fill(0);
-    let mut log = FlashLog::mount(SlotFlash::new(driver, 0, 3).expect("served"));
+    let mut log = FlashLog::mount(SlotFlash::new(driver, 0, 3).expect("served")).expect("3 pages");
     assert_eq!(log.push(5), Err(WriteError::Refused(LogRefusal::Unsound)));
     assert_eq!(log.rewrite([5]), Err(WriteError::Refused(LogRefusal::Unsound)));
     assert_eq!(log.format(), Ok(Dropped { words: 0, unsound: Some(1) }));
@@ -110,7 +110,7 @@ fn a_flash_that_holds_something_else_is_formatted() {
 
 #[test]
 fn a_page_has_room_for_511_words() {
-    let mut log = FlashLog::mount(SlotFlash::new(Ram::<1, 8, 4096>::new(8192), 0, 2).expect("served"));
+    let mut log = FlashLog::mount(SlotFlash::new(Ram::<1, 8, 4096>::new(8192), 0, 2).expect("served")).expect("2 pages");
     assert_eq!(log.rewrite(0..510), Ok(()));
     assert_eq!(log.push(510), Ok(()));
     assert_eq!(log.push(511), Err(WriteError::Refused(LogRefusal::NoRoom)));

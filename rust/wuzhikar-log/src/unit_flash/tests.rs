@@ -11,7 +11,7 @@ fn serves<const READ: usize, const WRITE: usize, const ERASE: usize>(unit: usize
     driver.bytes.fill(0);
     assert_eq!(UnitFlash::<Ram<READ, WRITE, ERASE>>::page_bytes(), Ok(page as u32));
     let units = UnitFlash::new(driver, start as u32, 3).expect("served");
-    let mut log = FlashLog::mount(PairedFlash::format(units).expect("erased"));
+    let mut log = FlashLog::mount(PairedFlash::format(units).expect("erased")).expect("3 pages");
     assert_eq!(log.rewrite([0x0102_0304]), Ok(()));
     for word in 5..515 {
         assert_eq!(log.push(word), Ok(()));
@@ -26,7 +26,8 @@ fn serves<const READ: usize, const WRITE: usize, const ERASE: usize>(unit: usize
     assert!(driver.bytes[slot + 8..slot + unit].iter().all(|&byte| byte == 0xFF));
     // What stands before the first page was not touched.
     assert!(driver.bytes[..start].iter().all(|&byte| byte == 0));
-    let log = FlashLog::mount(PairedFlash::mount(UnitFlash::new(driver, start as u32, 3).expect("served")));
+    let units = UnitFlash::new(driver, start as u32, 3).expect("served");
+    let log = FlashLog::mount(PairedFlash::mount(units)).expect("3 pages");
     assert!(log.words().eq([0x0102_0304, 7]));
 }
 
@@ -65,7 +66,7 @@ fn a_read_that_failed_is_an_error_of_its_unit() {
 #[test]
 fn a_word_with_bit_31_is_a_fault_and_touches_nothing() {
     let units = UnitFlash::new(Ram::<1, 8, 4096>::new(16384), 0, 2).expect("served");
-    let mut log = FlashLog::mount(PairedFlash::mount(units));
+    let mut log = FlashLog::mount(PairedFlash::mount(units)).expect("2 pages");
     assert_eq!(log.rewrite([]), Ok(()));
     assert_eq!(log.append(1 << 31), Ok(()));
     assert_eq!(log.step(), Step::Failed);

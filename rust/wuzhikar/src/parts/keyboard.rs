@@ -12,8 +12,8 @@
 //!
 //! A `Keyboard` keeps its three parts, the protocol, the LEDs and the selected entry. The one
 //! promise: an assignment that the host was told is stored outlives every cut, until a command is
-//! accepted that would write its entry. A firmware calls it, and the crate `kbsim`
-//! does on a simulated flash.
+//! accepted that would write its entry. A firmware calls it; the crate `kbsim` does on
+//! a simulated flash.
 
 mod feature;
 mod keyboard;

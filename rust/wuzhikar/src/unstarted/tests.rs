@@ -2,9 +2,10 @@
 //! before or not: every answer, and what is in the flash at the end.
 
 use super::UnstartedKeyboard;
+use crate::FlashKeyboard;
 use crate::parts::keyboard::{EpAnswer, Keyboard, Scan, Work};
 use crate::parts::layers::{KeyNo, LayerNo};
-use wuzhikar_log::{FlashFault, NorFlash, PAGE_SLOTS};
+use wuzhikar_log::{FlashFault, NorFlash, PAGE_SLOTS, PageCount};
 
 /// A flash of pages in memory.
 #[derive(Clone, Debug, PartialEq)]
@@ -178,6 +179,12 @@ fn play(draw: &mut Draw, (one, other): (&mut Keyboard, &mut Keyboard), cells: &C
     assert_eq!((shown(one), cells), (shown(other), copy));
 }
 
+/// Plays a keyboard that starts in this memory beside one that starts by value.
+fn play_both(draw: &mut Draw, memory: &mut UnstartedKeyboard, cells: &Cells) {
+    let (Ok(one), Ok(mut other)) = (memory.start(cells), Keyboard::on(cells)) else { panic!("2 to 8 pages") };
+    play(draw, (one, &mut other), cells);
+}
+
 #[test]
 fn memory_starts_as_a_value_does() {
     let mut draw = Draw(0x1234_5678);
@@ -185,11 +192,11 @@ fn memory_starts_as_a_value_does() {
         let flashes = flashes(&mut draw);
         for cells in &flashes {
             let mut fresh = UnstartedKeyboard::NEW;
-            play(&mut draw, (fresh.start(cells), &mut Keyboard::on(cells)), cells);
+            play_both(&mut draw, &mut fresh, cells);
         }
         let mut used = UnstartedKeyboard::NEW;
         for cells in flashes.iter().chain(flashes.iter().rev()) {
-            play(&mut draw, (used.start(cells), &mut Keyboard::on(cells)), cells);
+            play_both(&mut draw, &mut used, cells);
         }
     }
 }
@@ -197,4 +204,15 @@ fn memory_starts_as_a_value_does() {
 #[test]
 fn nothing_of_it_is_shown() {
     assert_eq!(format!("{:?}", UnstartedKeyboard::NEW), "UnstartedKeyboard { .. }");
+}
+
+#[test]
+fn another_number_of_pages_than_2_to_8_is_refused() {
+    let mut memory = UnstartedKeyboard::NEW;
+    for pages in [0, 1, 9] {
+        let (cells, refused) = (Cells::blank(pages), Some(PageCount { pages }));
+        assert_eq!(Keyboard::on(&cells).err(), refused);
+        assert_eq!(memory.start(&cells).err(), refused);
+        assert_eq!(FlashKeyboard::start(cells).err(), refused);
+    }
 }

@@ -1,5 +1,5 @@
 //! Tells what `wuzhikar-hid` makes of descriptors and reports, a line for a line of standard input, for a comparison
-//! with tests/reader/plain.py.
+//! with reference/reader/plain.py.
 //!
 //! `D HEX` takes a descriptor; `R KIND HEX` reads a report of it, `W KIND ID HEX|- SETTING...` writes one, onto the bytes
 //! that are given, with settings as `usage 65584 0=5`, `field 2 0=null`, whose words are joined by `:`.

@@ -16,7 +16,7 @@ struct Device {
 fn main() {
     let pages = std::env::args().nth(2).map_or(2, |pages| pages.parse().expect("a page count"));
     let flash = SimFlash::blank(pages).expect("2 to 8 pages");
-    let keyboard = Keyboard::on(&flash);
+    let keyboard = Keyboard::on(&flash).expect("2 to 8 pages");
     let mut device = Device { keyboard, flash };
     let mut script = String::new();
     std::io::stdin().read_to_string(&mut script).expect("a script");

@@ -4,14 +4,14 @@ use Rattle.kbsim.proofs.FetchLemmas.{fetched, unclosed, unfetched}
 use Rattle.kbsim.proofs.fetch.fetch.Goals as goal
 
 pub returns-in-Err : goal.returns-in-Err
-returns-in-Err c = unfetched _ _ _ (search rules)
+returns-in-Err g c = unfetched _ _ _ (search rules)
 
 pub returns-then-is_ack : goal.returns-then-is_ack
-returns-then-is_ack c =
+returns-then-is_ack g c =
     let ack : c.in_ok-told.told ≡ Ack = search rules in
     fetched _ _ _ _ _ _ (search rules) (rw c.in-Ok.is at c.in_ok-count.ensures) c.in_ok-told.ensures ack
 
 pub returns : goal.returns
-returns c =
+returns g c =
     let other : c.in_ok-told.told ≢ Ack = search rules in
     unclosed _ _ _ _ _ _ (search rules) (rw c.in-Ok.is at c.in_ok-count.ensures) c.in_ok-told.ensures other

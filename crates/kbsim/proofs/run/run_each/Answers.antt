@@ -5,8 +5,8 @@ use Rattle.kbsim.proofs.run.run_each.Goals as goal
 pub loop-line-preserved : goal.loop-line-preserved
 loop-line-preserved g c = record {
   ran = λ start stands. run_on start c.args.lines.now c.loop-line.line-index c.loop-line.world c.run_line.new.world _ _ _ c.line-item.result c.in-Ok.outcome
-      c.loop-line-test.true c.line-item.is (c.loop-line.invariant.ran start stands) c.in-Ok.ensures c.in-Ok-print.ensures.printed;
-  same_writer = c.in-Ok-print.ensures.same_writer ∙ c.loop-line.invariant.same_writer;
+      c.loop-line-test.true c.line-item.is (c.loop-line.invariant.ran start stands) c.in-Ok.ensures c.in-Ok-put.ensures.printed;
+  same_writer = c.in-Ok-put.ensures.same_writer ∙ c.loop-line.invariant.same_writer;
 }
 
 pub returns-in_default-clause-stopped : goal.returns-in_default-clause-stopped

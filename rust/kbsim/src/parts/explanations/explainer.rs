@@ -1,119 +1,82 @@
 // Exported from crates/explanations/src/explainer.rt by bin/export-rust. Edit that file instead.
-//! Finding what the lines of a run mean.
+//! What explains the lines of a run.
 
-use crate::parts::explanations::Tell;
 use crate::parts::explanations::edges::KeyChanges;
-use crate::parts::explanations::explanation::{Explanation, bytes_of};
-use crate::parts::explanations::follower::Follower;
+use crate::parts::explanations::explanation::Explanation;
+use crate::parts::explanations::operation::{Made, Operation};
 use wuzhikar::parts::debounce::Debouncer;
-use wuzhikar_log::parts::flash_model::{NorFlash, SimFlash};
-use crate::parts::script::{Action, ScriptError, Statement, read_lines};
-use crate::rattle::alloc::{AllocError, Global};
-use crate::parts::text_io::line_length;
+use wuzhikar_log::parts::flash_model::SimFlash;
+use crate::parts::kbsim::{Answer, Line, Outcome, Sink, Step, World};
+use wuzhikar_log::parts::page_turnover::Log;
+use crate::parts::script::{Action, Statement};
+use core::fmt::Display;
 
-/// What explains the lines that a run of a script prints, in their order.
+/// Where sentences go.
+pub trait Tell {
+    /// Says a sentence.
+    fn tell<T: Display>(&mut self, sentence: &T);
+}
+
+/// A sink that says of each line of a run what its answer means.
 #[derive(Debug)]
-pub struct Explainer<'t> {
-    alloc: Global,
-    /// How many pages the flash has.
-    pages: u8,
-    /// The script behind the lines that were passed, and how many these are.
-    rest: &'t [u8],
-    passed: usize,
-    follower: Follower,
+pub struct Explainer<T> {
+    sentences: T,
+    /// The active page of the flash.
+    active: Option<usize>,
+    /// The flash operations of the line that is run.
+    made: Made,
     debouncer: Debouncer,
     /// How many bytes the latest request has read; none where it reads nothing.
     read: Option<u16>,
-    /// There was no memory for a line, so that those after it can't be explained.
-    ended: bool,
 }
 
-impl<'t> Explainer<'t> {
-    /// Before the first line of a run of this script on this flash, with which nothing is armed. `AllocError` where there was
-    /// no memory for a second keyboard and flash. More memory is taken for one line of the script at a time.
-    pub fn new(
-        alloc: Global,
-        flash: &SimFlash,
-        script: &'t [u8],
-    ) -> Result<Explainer<'t>, AllocError> {
-        Ok(Explainer {
-            alloc,
-            pages: flash.pages() as u8,
-            rest: script,
-            passed: 0,
-            follower: Follower::new(alloc, flash)?,
+impl<T: Tell> Explainer<T> {
+    /// Before the first line of a run on this flash. The sentences go to this place.
+    pub fn new(flash: &SimFlash, sentences: T) -> Explainer<T> {
+        Explainer {
+            sentences,
+            active: active_page(flash),
+            made: Made::NONE,
             debouncer: Debouncer::new(),
             read: None,
-            ended: false,
-        })
-    }
-
-    /// Says what the next line that was printed means, which ends with an LF. The line of a fault has no sentence here.
-    pub(crate) fn explain<T: Tell>(&mut self, printed: &[u8], sentences: &mut T) {
-        let Some((number, answer)) = answer_in(printed) else {
-            return;
-        };
-        if self.ended {
-            return;
         }
-        let line = self.line(number);
-        match read_lines(self.alloc, self.pages as usize, line) {
-            Ok(lines) => {
-                if let Some(line) = lines.first() {
-                    self.say(number, &line.statement, answer, sentences);
-                }
-            }
-            Err(ScriptError::Memory) => {
-                self.ended = true;
-                sentences.tell(&"out of memory to explain more answers");
-            }
-            Err(ScriptError::Line { .. }) => {}
-        }
-    }
-
-    /// The line of the script with this number, counted from 1, of those that were not passed; the lines up to it are.
-    fn line(&mut self, number: usize) -> &'t [u8] {
-        let mut line = self.rest;
-        for _line in self.passed..number {
-            let (first, rest) = self.rest.split_at(line_length(self.rest));
-            line = first;
-            self.rest = rest;
-        }
-        self.passed = number;
-        line
-    }
-
-    /// Says what the answer of a line means.
-    fn say<T: Tell>(
-        &mut self,
-        number: usize,
-        statement: &Statement<'_>,
-        answer: &str,
-        sentences: &mut T,
-    ) {
-        let read = read_before(self.read, statement);
-        let changes = changes_of(&mut self.debouncer, statement);
-        let made = self.follower.follow(statement);
-        let explanation = Explanation {
-            number,
-            statement,
-            answer,
-            made,
-            changes,
-            read,
-            follower: &self.follower,
-        };
-        sentences.tell(&explanation);
-        self.read = read_after(read, answer);
     }
 }
 
-/// The number and the answer of a line that was printed, without its LF; `None` where it has none.
-fn answer_in(printed: &[u8]) -> Option<(usize, &str)> {
-    let line = core::str::from_utf8(printed).ok()?;
-    let (number, answer) = line.split_once(' ')?;
-    let number = number.parse::<usize>().ok()?;
-    Some((number, answer.trim_end()))
+impl<T: Tell> Sink for Explainer<T> {
+    fn hears(&self) -> bool {
+        true
+    }
+
+    fn step(&mut self, step: &Step<'_>) {
+        if let Some(operation) = step.operation {
+            self.made.add(Operation::of(operation, self.active));
+            self.active = active_page(step.flash);
+        }
+    }
+
+    fn line(&mut self, line: &Line<'_>, outcome: &Outcome, world: &World) {
+        let statement = &line.statement;
+        let read = read_before(self.read, statement);
+        let changes = changes_of(&mut self.debouncer, statement);
+        let explanation = Explanation {
+            number: line.number,
+            statement,
+            outcome,
+            made: self.made,
+            changes,
+            read,
+            flash: world.flash(),
+        };
+        self.sentences.tell(&explanation);
+        self.read = read_after(read, outcome);
+        self.made = Made::NONE;
+    }
+}
+
+/// The active page of a flash, if any.
+fn active_page(flash: &SimFlash) -> Option<usize> {
+    Log::mount(flash).active().map(|(page, _)| page)
 }
 
 /// How many bytes the latest request had read before a line's answer: a SETUP packet begins another one, which reads where
@@ -133,9 +96,11 @@ fn read_before(read: Option<u16>, statement: &Statement<'_>) -> Option<u16> {
 }
 
 /// How many bytes were read after an answer.
-fn read_after(read: Option<u16>, answer: &str) -> Option<u16> {
-    match (read, answer.strip_prefix("data ")) {
-        (Some(count), Some(digits)) => Some(count.saturating_add(bytes_of(digits))),
+fn read_after(read: Option<u16>, outcome: &Outcome) -> Option<u16> {
+    match (read, outcome) {
+        (Some(count), Outcome::Answered(Answer::Packet(bytes))) => {
+            Some(count.saturating_add(bytes.len() as u16))
+        }
         _ => read,
     }
 }

@@ -2,7 +2,7 @@
 //! The operations of the flash work.
 
 use crate::parts::explanations::code::ShownCommand;
-use crate::parts::explanations::flash::Asked;
+use crate::parts::kbsim::Operation as Asked;
 use wuzhikar_log::parts::records::{Slot, classify};
 use core::fmt;
 
@@ -23,7 +23,7 @@ impl Operation {
     /// The operation that a flash was asked for, where this page was active before it.
     pub(crate) fn of(asked: Asked, active: Option<usize>) -> Operation {
         match asked {
-            Asked::Erase(page) => Operation::Erase { page },
+            Asked::Erase { page } => Operation::Erase { page },
             Asked::Program { page, slot, bytes } => {
                 let word = match classify(bytes) {
                     Slot::Good(word) => word,

@@ -1,34 +1,10 @@
 // Exported from crates/explanations/src/reason.rt by bin/export-rust. Edit that file instead.
 //! The reasons of a STALL in words.
 
-use wuzhikar::parts::control_ep::Why;
-use core::fmt;
-
-/// The reason with this number; `None` where no reason has it.
-pub(crate) fn reason_of(number: u8) -> Option<Why> {
-    Some(match number {
-        1 => Why::UnknownRequest,
-        2 => Why::WrongInterface,
-        3 => Why::UnknownDescriptor,
-        4 => Why::UnknownReport,
-        5 => Why::WrongLength,
-        6 => Why::BadProtocol,
-        7 => Why::BadOperation,
-        8 => Why::BadLayer,
-        9 => Why::BadKey,
-        10 => Why::BadCode,
-        11 => Why::Unsound,
-        12 => Why::Worn,
-        13 => Why::FlashFault,
-        14 => Why::ShortData,
-        15 => Why::LongData,
-        16 => Why::WrongStage,
-        _ => return None,
-    })
-}
+use crate::parts::kbsim::Why;
 
 /// What a reason says.
-fn meaning(why: Why) -> &'static str {
+pub(crate) fn meaning(why: Why) -> &'static str {
     match why {
         Why::UnknownRequest => "UnknownRequest: no such request is served",
         Why::WrongInterface => "WrongInterface: wIndex is not 0",
@@ -47,20 +23,5 @@ fn meaning(why: Why) -> &'static str {
         Why::LongData => "LongData: the packet is longer than wLength",
         Why::WrongStage =>
             "WrongStage: the packet does not belong to this stage of the transfer, or there is none",
-    }
-}
-
-/// A reason by its number, as it was printed.
-pub(crate) struct Reason<'a>(pub(crate) &'a str);
-
-impl fmt::Display for Reason<'_> {
-    fn fmt(&self, f: &mut fmt::Formatter<'_>) -> fmt::Result {
-        match self.0.parse::<u8>() {
-            Ok(number) => match reason_of(number) {
-                Some(why) => f.write_str(meaning(why)),
-                None => f.write_str("no reason"),
-            },
-            Err(_) => f.write_str("no reason"),
-        }
     }
 }

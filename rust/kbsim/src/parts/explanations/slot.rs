@@ -2,37 +2,36 @@
 //! What a slot of the flash says.
 
 use crate::parts::explanations::code::ShownCommand;
-use crate::parts::explanations::follower::Follower;
+use wuzhikar_log::parts::flash_model::{NorFlash, SLOT_BYTES, SimFlash};
 use wuzhikar::parts::layers::Command;
 use wuzhikar_log::parts::records::{Slot, classify};
 use core::fmt;
 
-/// A slot of the flash.
+/// A slot with these bytes.
 pub(crate) struct ShownSlot<'a> {
     pub(crate) page: u8,
     pub(crate) slot: u16,
-    pub(crate) follower: &'a Follower,
+    pub(crate) bytes: [u8; SLOT_BYTES],
+    pub(crate) flash: &'a SimFlash,
 }
 
 impl ShownSlot<'_> {
     /// The word of slot 0 of the page; 0 where it holds none.
     fn head(&self) -> u32 {
-        match self.follower.slot(self.page, 0) {
-            Some(bytes) => match classify(bytes) {
-                Slot::Good(word) => word,
-                Slot::Free | Slot::Spoiled => 0,
-            },
-            None => 0,
+        let page = self.page as usize;
+        if page >= self.flash.pages() {
+            return 0;
+        }
+        match classify(self.flash.read_slot(page, 0)) {
+            Slot::Good(word) => word,
+            Slot::Free | Slot::Spoiled => 0,
         }
     }
 }
 
 impl fmt::Display for ShownSlot<'_> {
     fn fmt(&self, f: &mut fmt::Formatter<'_>) -> fmt::Result {
-        let Some(bytes) = self.follower.slot(self.page, self.slot) else {
-            return f.write_str("no such slot");
-        };
-        match classify(bytes) {
+        match classify(self.bytes) {
             Slot::Free => f.write_str("free"),
             Slot::Spoiled => f.write_str("no word, torn or damaged"),
             Slot::Good(word) if self.slot == 0 => {

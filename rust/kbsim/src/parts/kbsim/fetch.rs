@@ -3,6 +3,7 @@
 
 use crate::parts::kbsim::outcome::Outcome;
 use crate::parts::kbsim::run::{ask, is_ack, open, send};
+use crate::parts::kbsim::sink::Sink;
 use crate::parts::kbsim::spare::Spare;
 use crate::parts::kbsim::{Answer, World};
 use arrayvec::ArrayVec;
@@ -17,16 +18,17 @@ const MOST_PACKETS: u16 = 32;
 /// Asks for the report descriptor, and closes the transfer once its data came. The outcome is the
 /// number of bytes, or the first answer that is neither a packet of data nor, of the packet that
 /// closes it, `Ack`.
-pub(crate) fn fetch(
+pub(crate) fn fetch<S: Sink>(
     world: &mut World,
     answers: &mut crate::rattle::Vec<Answer>,
     spare: &mut Spare,
+    sink: &mut S,
 ) -> Result<Outcome, AllocError> {
-    let count = match gather(world, answers, spare)? {
+    let count = match gather(world, answers, spare, sink)? {
         Ok(count) => count,
         Err(answer) => return Ok(Outcome::Answered(answer)),
     };
-    let told = send(world, ArrayVec::new(), answers, spare)?;
+    let told = send(world, ArrayVec::new(), answers, spare, sink)?;
     if is_ack(&told) {
         return Ok(Outcome::Fetched(count));
     }
@@ -35,15 +37,16 @@ pub(crate) fn fetch(
 
 /// Asks for the report descriptor, and takes IN packets until one is shorter than eight bytes. The
 /// answer is the number of bytes that came, or the first answer that is no packet of data.
-fn gather(
+fn gather<S: Sink>(
     world: &mut World,
     answers: &mut crate::rattle::Vec<Answer>,
     spare: &mut Spare,
+    sink: &mut S,
 ) -> Result<Result<u16, Answer>, AllocError> {
     // A SETUP packet is always acknowledged.
-    open(world, GET_REPORT_DESCRIPTOR, answers, spare)?;
+    open(world, GET_REPORT_DESCRIPTOR, answers, spare, sink)?;
     for full in 0..MOST_PACKETS {
-        let answer = ask(world, answers, spare)?;
+        let answer = ask(world, answers, spare, sink)?;
         let Some(length) = packet_length(&answer) else {
             return Ok(Err(answer));
         };

@@ -4,7 +4,8 @@
 use crate::parts::kbsim::Answer;
 
 /// What a line of a script prints after its number.
-pub(crate) enum Outcome {
+#[derive(Debug)]
+pub enum Outcome {
     /// An answer of one of its events.
     Answered(Answer),
     /// So many bytes of the report descriptor came, in a whole transfer.

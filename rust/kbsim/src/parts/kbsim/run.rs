@@ -6,6 +6,7 @@ use crate::parts::kbsim::fetch::fetch;
 use crate::parts::kbsim::flash::blank_flash;
 use crate::parts::kbsim::outcome::Outcome;
 use crate::parts::kbsim::print::{FaultLine, PrintedLine};
+use crate::parts::kbsim::sink::{Silent, Sink, tell_step};
 use crate::parts::kbsim::spare::Spare;
 use crate::parts::kbsim::{Answer, Event, RunError, Work, World};
 use arrayvec::ArrayVec;
@@ -15,7 +16,7 @@ use crate::rattle::alloc::{AllocError, Global};
 use std::io::{Read, Write};
 use core::num::NonZeroU16;
 use core::slice;
-use crate::parts::text_io::{Printer, read_text};
+use crate::parts::text_io::{Printer, WriteError, read_text};
 use crate::parts::world::Scan;
 
 /// The most steps that a command's flash work takes: an erase, a copy of each of the 384 entries,
@@ -61,6 +62,17 @@ pub fn run_on<R: Read, W: Write>(
     reader: &mut R,
     writer: &mut W,
 ) -> Result<SimFlash, RunError> {
+    run_with(alloc, flash, reader, writer, &mut Silent)
+}
+
+/// Does what `run_on` does, and tells a sink of each event and each line.
+pub fn run_with<R: Read, W: Write, S: Sink>(
+    alloc: Global,
+    flash: SimFlash,
+    reader: &mut R,
+    writer: &mut W,
+    sink: &mut S,
+) -> Result<SimFlash, RunError> {
     let text = match read_text(alloc, reader) {
         Ok(text) => text,
         Err(error) => return Err(print_fault(error.into(), writer)),
@@ -69,7 +81,7 @@ pub fn run_on<R: Read, W: Write>(
         Ok(lines) => lines,
         Err(error) => return Err(print_fault(error, writer)),
     };
-    run_lines(alloc, flash, lines.as_slice(), writer)
+    run_lines(alloc, flash, lines.as_slice(), writer, sink)
 }
 
 /// Prints the line of a fault. The answer is the fault, or `Output` where the writer fails or takes
@@ -80,14 +92,15 @@ pub fn print_fault<W: Write>(error: RunError, writer: &mut W) -> RunError {
 
 /// Runs the lines of a script on a flash, and gives the writer what they print. The answer is the
 /// flash after them.
-fn run_lines<W: Write>(
+fn run_lines<W: Write, S: Sink>(
     alloc: Global,
     flash: SimFlash,
     lines: &[Line<'_>],
     writer: &mut W,
+    sink: &mut S,
 ) -> Result<SimFlash, RunError> {
     let mut printer = Printer::new(writer);
-    let after = match perform(alloc, flash, lines, &mut printer) {
+    let after = match perform(alloc, flash, lines, &mut printer, sink) {
         Ok(after) => after,
         Err(error) => return Err(tell(&mut printer, error)),
     };
@@ -119,38 +132,56 @@ fn lines_of(alloc: Global, pages: usize, text: &[u8]) -> Result<crate::rattle::V
 }
 
 /// Runs the lines of a script on a flash. The answer is the flash after them.
-fn perform<W: Write>(
+fn perform<W: Write, S: Sink>(
     alloc: Global,
     flash: SimFlash,
     lines: &[Line<'_>],
     printer: &mut Printer<'_, W>,
+    sink: &mut S,
 ) -> Result<SimFlash, RunError> {
     let mut world = world_on(alloc, flash)?;
     let answers = &mut crate::rattle::vec::new(alloc);
-    let ended = run_each(&mut world, lines, answers, &mut Spare::new(), printer);
+    let ended = run_each(&mut world, lines, answers, &mut Spare::new(), printer, sink);
     let after = world.into_flash();
     ended.map(|()| after)
 }
 
 /// Runs the lines of a script on a device that was just started.
-fn run_each<W: Write>(
+fn run_each<W: Write, S: Sink>(
     world: &mut World,
     lines: &[Line<'_>],
     answers: &mut crate::rattle::Vec<Answer>,
     spare: &mut Spare,
     printer: &mut Printer<'_, W>,
+    sink: &mut S,
 ) -> Result<(), RunError> {
     for line in lines {
-        let Ok(outcome) = run_line(world, &line.statement, answers, spare) else {
+        let Ok(outcome) = run_line(world, &line.statement, answers, spare, sink) else {
             return Err(RunError::Memory);
         };
         let shown = PrintedLine {
             number: line.number,
             outcome: &outcome,
         };
-        let Ok(()) = printer.print(&shown) else {
+        let Ok(()) = put(printer, &shown, sink.hears()) else {
             return Err(RunError::Output);
         };
+        if sink.hears() {
+            sink.line(line, &outcome, world);
+        }
+    }
+    Ok(())
+}
+
+/// Prints a line, and gives it to the writer at once where it is heard.
+fn put<W: Write>(
+    printer: &mut Printer<'_, W>,
+    line: &PrintedLine<'_>,
+    is_heard: bool,
+) -> Result<(), WriteError> {
+    printer.print(line)?;
+    if is_heard {
+        printer.finish()?;
     }
     Ok(())
 }
@@ -161,87 +192,98 @@ fn world_on(alloc: Global, flash: SimFlash) -> Result<World, RunError> {
 }
 
 /// Runs the events of a line. The outcome is what the line prints.
-fn run_line(
+fn run_line<S: Sink>(
     world: &mut World,
     statement: &Statement<'_>,
     answers: &mut crate::rattle::Vec<Answer>,
     spare: &mut Spare,
+    sink: &mut S,
 ) -> Result<Outcome, AllocError> {
     match statement {
-        Statement::One(action) => act(world, action, answers, spare),
+        Statement::One(action) => act(world, action, answers, spare, sink),
         Statement::Scans { count, scan } => {
-            let answer = repeat(world, *scan, *count, answers, spare)?;
+            let answer = repeat(world, *scan, *count, answers, spare, sink)?;
             Ok(Outcome::Answered(answer))
         }
         Statement::Set { layer, key, code } => {
-            let answer = set(world, [*layer, *key], *code, answers, spare)?;
+            let answer = set(world, [*layer, *key], *code, answers, spare, sink)?;
             Ok(Outcome::Answered(answer))
         }
-        Statement::Fetch => fetch(world, answers, spare),
+        Statement::Fetch => fetch(world, answers, spare, sink),
     }
 }
 
 /// Runs a line of one event.
-fn act(
+fn act<S: Sink>(
     world: &mut World,
     action: &Action<'_>,
     answers: &mut crate::rattle::Vec<Answer>,
     spare: &mut Spare,
+    sink: &mut S,
 ) -> Result<Outcome, AllocError> {
-    let answer = take(world, event_of(action, spare), answers)?;
+    let answer = take(world, event_of(action, spare), answers, sink)?;
     Ok(Outcome::Answered(answer))
 }
 
 /// Takes one event. `AllocError` where there was no memory for its answer, or for the host, which
 /// then took the event all the same.
-pub(crate) fn take(
+pub(crate) fn take<S: Sink>(
     world: &mut World,
     event: &Event,
     answers: &mut crate::rattle::Vec<Answer>,
+    sink: &mut S,
 ) -> Result<Answer, AllocError> {
-    pass(world, event, answers)?;
+    pass(world, event, answers, sink)?;
     answers.pop().ok_or(AllocError)
 }
 
 /// Takes one event, and leaves its answer alone in the list.
-fn pass(world: &mut World, event: &Event, answers: &mut crate::rattle::Vec<Answer>) -> Result<(), AllocError> {
+fn pass<S: Sink>(
+    world: &mut World,
+    event: &Event,
+    answers: &mut crate::rattle::Vec<Answer>,
+    sink: &mut S,
+) -> Result<(), AllocError> {
     answers.clear();
     world.run(slice::from_ref(event), answers)?;
+    tell_step(sink, event, answers.as_slice(), world);
     Ok(())
 }
 
 /// Takes a scan `count` times. The answer is the last one.
-fn repeat(
+fn repeat<S: Sink>(
     world: &mut World,
     scan: Scan,
     count: NonZeroU16,
     answers: &mut crate::rattle::Vec<Answer>,
     spare: &mut Spare,
+    sink: &mut S,
 ) -> Result<Answer, AllocError> {
     let event = spare.scan(scan);
     for _again in 1..count.get() {
-        pass(world, event, answers)?;
+        pass(world, event, answers, sink)?;
     }
-    take(world, event, answers)
+    take(world, event, answers, sink)
 }
 
 /// Sets an entry by a feature report, and takes the steps of its flash work. The answer is that
 /// of the packet that ended the transfer, `Ack` for a status stage that succeeded.
-fn set(
+fn set<S: Sink>(
     world: &mut World,
     place: [u8; 2],
     code: u16,
     answers: &mut crate::rattle::Vec<Answer>,
     spare: &mut Spare,
+    sink: &mut S,
 ) -> Result<Answer, AllocError> {
     // A SETUP packet is always acknowledged.
-    open(world, SET_FEATURE, answers, spare)?;
-    let told = send(world, command(place, code), answers, spare)?;
+    open(world, SET_FEATURE, answers, spare, sink)?;
+    let told = send(world, command(place, code), answers, spare, sink)?;
     if !is_ack(&told) {
         return Ok(told);
     }
-    work_off(world, answers, spare)?;
-    let status = ask(world, answers, spare)?;
+    work_off(world, answers, spare, sink)?;
+    let status = ask(world, answers, spare, sink)?;
     if is_success(&status) {
         return Ok(Answer::Ack);
     }
@@ -249,37 +291,45 @@ fn set(
 }
 
 /// Takes a SETUP packet.
-pub(crate) fn open(
+pub(crate) fn open<S: Sink>(
     world: &mut World,
     packet: [u8; 8],
     answers: &mut crate::rattle::Vec<Answer>,
     spare: &mut Spare,
+    sink: &mut S,
 ) -> Result<Answer, AllocError> {
-    take(world, spare.setup(packet), answers)
+    take(world, spare.setup(packet), answers, sink)
 }
 
 /// Takes an OUT packet.
-pub(crate) fn send(
+pub(crate) fn send<S: Sink>(
     world: &mut World,
     packet: ArrayVec<u8, 8>,
     answers: &mut crate::rattle::Vec<Answer>,
     spare: &mut Spare,
+    sink: &mut S,
 ) -> Result<Answer, AllocError> {
-    take(world, spare.out_packet(packet), answers)
+    take(world, spare.out_packet(packet), answers, sink)
 }
 
 /// Takes an IN packet.
-pub(crate) fn ask(
+pub(crate) fn ask<S: Sink>(
     world: &mut World,
     answers: &mut crate::rattle::Vec<Answer>,
     spare: &Spare,
+    sink: &mut S,
 ) -> Result<Answer, AllocError> {
-    take(world, spare.in_packet(), answers)
+    take(world, spare.in_packet(), answers, sink)
 }
 
 /// Takes a step of the flash work.
-fn work(world: &mut World, answers: &mut crate::rattle::Vec<Answer>, spare: &Spare) -> Result<Answer, AllocError> {
-    take(world, spare.work(), answers)
+fn work<S: Sink>(
+    world: &mut World,
+    answers: &mut crate::rattle::Vec<Answer>,
+    spare: &Spare,
+    sink: &mut S,
+) -> Result<Answer, AllocError> {
+    take(world, spare.work(), answers, sink)
 }
 
 pub(crate) fn is_ack(answer: &Answer) -> bool {
@@ -300,9 +350,14 @@ fn needs_more(answer: &Answer) -> bool {
 }
 
 /// Takes steps of the flash work until one needs no more.
-fn work_off(world: &mut World, answers: &mut crate::rattle::Vec<Answer>, spare: &Spare) -> Result<(), AllocError> {
+fn work_off<S: Sink>(
+    world: &mut World,
+    answers: &mut crate::rattle::Vec<Answer>,
+    spare: &Spare,
+    sink: &mut S,
+) -> Result<(), AllocError> {
     for _step in 0..MOST_STEPS {
-        let answer = work(world, answers, spare)?;
+        let answer = work(world, answers, spare, sink)?;
         if !needs_more(&answer) {
             return Ok(());
         }

@@ -4,7 +4,7 @@
 use wuzhikar_reader::parts::descriptor_parse::ParseError;
 use crate::parts::text_io::ReadError;
 
-/// Why `parse_text`, `items_text` or `describe` ends before its last line.
+/// Why `parse_text` or `describe` ends before its last line.
 #[derive(Clone, Copy, Debug, PartialEq, Eq)]
 pub enum LinesError {
     /// The text has a character that is no hex digit and no blank, or an odd number of digits.

@@ -1,7 +1,7 @@
 // Exported from crates/world/src/world.rt by bin/export-rust. Edit that file instead.
 //! The keyboard with its host and its flash, and the events that they take.
 
-use crate::parts::world::bench::Bench;
+use crate::parts::world::bench::{Bench, Operation};
 use crate::parts::world::event::{Answer, Event, Told};
 use arrayvec::ArrayVec;
 use wuzhikar::parts::debounce::Scan;
@@ -29,7 +29,11 @@ impl World {
         Ok(World {
             keyboard,
             host: Host::new(alloc),
-            bench: Bench { flash, tear: None },
+            bench: Bench {
+                flash,
+                tear: None,
+                asked: None,
+            },
         })
     }
 
@@ -41,6 +45,12 @@ impl World {
     /// The flash, taken out of the world: keyboard and host are dropped.
     pub fn into_flash(self) -> SimFlash {
         self.bench.flash
+    }
+
+    /// The flash operation that the latest step of the flash work asked for; `None` where it asked
+    /// for none.
+    pub fn operation(&self) -> Option<Operation> {
+        self.bench.asked
     }
 
     /// The host.
@@ -135,6 +145,7 @@ impl World {
 
     /// A step of the flash work.
     fn work(&mut self) -> Told {
+        self.bench.asked = None;
         let work = self.keyboard.work(&mut self.bench);
         self.bench.tear = None;
         just(Answer::Worked(work))
@@ -142,6 +153,7 @@ impl World {
 
     /// A step of the flash work, whose operation the mask tears.
     fn work_fault(&mut self, tear: &Mask) -> Told {
+        self.bench.asked = None;
         self.bench.tear = Some(copy_of(tear));
         let work = self.keyboard.work(&mut self.bench);
         self.bench.tear = None;
@@ -155,6 +167,7 @@ impl World {
 
     /// The same in the middle of a step of the flash work, whose operation the mask tears.
     fn cut_in_work(&mut self, mask: &Mask) -> Told {
+        self.bench.asked = None;
         self.bench.tear = Some(copy_of(mask));
         let _ = self.keyboard.work(&mut self.bench);
         self.bench.tear = None;

@@ -3,9 +3,8 @@
 use super::host::Act;
 use super::*;
 use crate::{Change, Endpoint1};
-use wuzhikar::EpAnswer;
 
-const SET_CONFIGURATION: [u8; 8] = [0x00, 0x09, 1, 0, 0, 0, 0, 0];
+pub const SET_CONFIGURATION: [u8; 8] = [0x00, 0x09, 1, 0, 0, 0, 0, 0];
 
 /// Whether what the host knows of each input report is what the keyboard would report. A host forgets at a bus reset, and
 /// when it sets the protocol.
@@ -24,13 +23,13 @@ fn knows<const TWO: bool>(played: &Played<TWO>, device: &mut Device) -> bool {
 /// A lawful host goes through a history that drops buffers, ends its transfer, configures the device, and polls.
 fn history<const TWO: bool>(seed: u64, flash: SimFlash) -> (Counts, SimFlash) {
     let identity = &IDENTITIES[seed as usize % 4];
-    let mut ahead = Ahead::new(Device::start(flash.clone(), identity));
-    let mut played = Played::<TWO>::new(seed, true, Model::new(Device::start(flash, identity)));
+    let mut ahead = Ahead::new(Device::start(flash.clone(), identity).unwrap());
+    let mut played = Played::<TWO>::new(seed, true, Model::new(Device::start(flash, identity).unwrap()));
     for _ in 0..40 {
         ahead.serve(&mut played);
         step(&mut ahead, &mut played);
     }
-    played.quiet = true;
+    (played.quiet, played.loses) = (true, false);
     while !played.host.is_free() {
         let act = played.host.next(&mut played.numbers);
         played.act(act);
@@ -61,13 +60,19 @@ fn no_key_sticks_and_none_is_missed_with_two_buffers() {
     histories(count() / 4, history::<true>);
 }
 
-/// A configured device whose host knows that key 0 is down, and whose release is in the buffer.
-fn release_in_the_buffer(identity: &'static Identity<'static>) -> (Ahead<'static, SimFlash>, Played<false>) {
+/// A configured device.
+pub fn configured<const TWO: bool>(identity: &'static Identity<'static>) -> (Ahead<'static, SimFlash>, Played<TWO>) {
     let flash = SimFlash::blank(2).unwrap();
-    let mut ahead = Ahead::new(Device::start(flash.clone(), identity));
-    let mut played = Played::<false>::new(1, true, Model::new(Device::start(flash, identity)));
+    let mut ahead = Ahead::new(Device::start(flash.clone(), identity).unwrap());
+    let mut played = Played::new(1, true, Model::new(Device::start(flash, identity).unwrap()));
     played.quiet = true;
     transfer(&mut ahead, &mut played, SET_CONFIGURATION);
+    (ahead, played)
+}
+
+/// A configured device whose host knows that key 0 is down, and whose release is in the buffer.
+fn release_in_the_buffer(identity: &'static Identity<'static>) -> (Ahead<'static, SimFlash>, Played<false>) {
+    let (mut ahead, mut played) = configured::<false>(identity);
     hold(&mut ahead, &mut played, 1);
     (0..4).for_each(|_| poll(&mut ahead, &mut played));
     assert_eq!(played.known[&(1, 23)][2], 1);
@@ -76,21 +81,21 @@ fn release_in_the_buffer(identity: &'static Identity<'static>) -> (Ahead<'static
     (ahead, played)
 }
 
-fn hold(ahead: &mut Ahead<'static, SimFlash>, played: &mut Played<false>, row: u16) {
+pub fn hold<const TWO: bool>(ahead: &mut Ahead<'static, SimFlash>, played: &mut Played<TWO>, row: u16) {
     for _ in 0..5 {
         ahead.scan(Scan { rows: [row, 0, 0, 0, 0, 0] });
-        played.model.device.scan(Scan { rows: [row, 0, 0, 0, 0, 0] });
+        played.model.scan(Scan { rows: [row, 0, 0, 0, 0, 0] });
     }
     ahead.serve(played);
 }
 
-fn poll(ahead: &mut Ahead<'static, SimFlash>, played: &mut Played<false>) {
+pub fn poll<const TWO: bool>(ahead: &mut Ahead<'static, SimFlash>, played: &mut Played<TWO>) {
     played.act(Act::Poll);
     ahead.serve(played);
 }
 
 /// A transfer without data.
-fn transfer(ahead: &mut Ahead<'static, SimFlash>, played: &mut Played<false>, setup: [u8; 8]) {
+pub fn transfer<const TWO: bool>(ahead: &mut Ahead<'static, SimFlash>, played: &mut Played<TWO>, setup: [u8; 8]) {
     for act in [Act::Setup(setup), Act::In] {
         played.act(act);
         ahead.serve(played);
@@ -152,7 +157,7 @@ fn what_acts_a_packet_earlier_acts_where_the_request_is_given_up_too() {
     ahead.serve(&mut played);
     assert_eq!(played.counts.addresses, 0);
     // The device at the token does none of that: there a request acts with the token of its empty packet.
-    let mut device = Device::start(SimFlash::blank(2).unwrap(), &Identity::TEST);
+    let mut device = Device::start(SimFlash::blank(2).unwrap(), &Identity::TEST).unwrap();
     device.setup(SET_CONFIGURATION);
     device.setup([0x80, 8, 0, 0, 0, 0, 1, 0]);
     assert_eq!(device.front().endpoint_1(), Endpoint1::Off);

@@ -27,12 +27,17 @@ pub struct Counts {
     pub addresses: usize,
     /// OUT packets that were acknowledged and had to be offered again.
     pub kept: usize,
+    /// Packets of endpoint 0 that came again, since their ACK was lost: IN and OUT.
+    pub again: [usize; 2],
+    /// Commands of the firmware's own that were taken.
+    pub commands: usize,
 }
 
 impl Counts {
-    pub fn each(&self) -> [usize; 8] {
-        let Counts { confirmed, overtaken, reports, dropped, taken_before_drop, stalls, addresses, kept } = *self;
-        [confirmed, overtaken, reports, dropped, taken_before_drop, stalls, addresses, kept]
+    pub fn each(&self) -> [usize; 11] {
+        let Counts { confirmed, overtaken, reports, dropped, taken_before_drop, stalls, addresses, kept, .. } = *self;
+        let Counts { again: [input, output], commands, .. } = *self;
+        [confirmed, overtaken, reports, dropped, taken_before_drop, stalls, addresses, kept, input, output, commands]
     }
 }
 
@@ -46,6 +51,9 @@ impl std::ops::AddAssign for Counts {
         self.stalls += more.stalls;
         self.addresses += more.addresses;
         self.kept += more.kept;
+        self.again[0] += more.again[0];
+        self.again[1] += more.again[1];
+        self.commands += more.commands;
     }
 }
 
@@ -59,9 +67,14 @@ pub struct Played<const PING_PONG: bool> {
     pub quiet: bool,
     /// The newest report of each kind, by its first byte and its length, since the host forgot.
     pub known: HashMap<(u8, usize), Vec<u8>>,
+    /// The next ACK of endpoint 0 is lost.
+    pub loses: bool,
     met: Waiting,
     input: Buffer,
     output: Output,
+    /// Whether the other side has the packet of this direction already, and its ACK was lost: the data toggles differ.
+    input_again: bool,
+    output_again: bool,
     packets: VecDeque<Vec<u8>>,
     endpoint_1: Endpoint1,
     address: u8,
@@ -80,9 +93,12 @@ impl<const PING_PONG: bool> Played<PING_PONG> {
             host: Host::new(lawful),
             quiet: false,
             known: HashMap::new(),
+            loses: false,
             met: Waiting::default(),
             input: Buffer::Nak,
             output: Output::Nak,
+            input_again: false,
+            output_again: false,
             packets: VecDeque::new(),
             endpoint_1: Endpoint1::Off,
             address: 0,
@@ -97,6 +113,7 @@ impl<const PING_PONG: bool> Played<PING_PONG> {
     fn bus(&mut self) {
         for _ in 0..if self.quiet { 0 } else { self.numbers.below(3) } {
             let act = self.host.next(&mut self.numbers);
+            self.loses = self.numbers.one_of(8);
             self.act(act);
         }
     }
@@ -107,6 +124,7 @@ impl<const PING_PONG: bool> Played<PING_PONG> {
             Act::Setup(packet) => {
                 self.counts.overtaken += usize::from(matches!(self.input, Buffer::Packet(_)));
                 (self.input, self.output) = (Buffer::Nak, Output::Nak);
+                (self.input_again, self.output_again) = (false, false);
                 self.met.setup = Some(packet);
                 self.host.began(packet, &mut self.numbers);
             }
@@ -129,12 +147,19 @@ impl<const PING_PONG: bool> Played<PING_PONG> {
             Buffer::Stall => {
                 self.input = Buffer::Stall;
                 self.counts.stalls += 1;
-                self.model.stalls(None);
+                self.model.stalls(None, false);
                 self.host.stalled();
             }
             Buffer::Packet(packet) => {
-                self.met.taken_0 = true;
-                if self.host.came(&packet) {
+                let again = self.input_again;
+                self.counts.again[0] += usize::from(again);
+                self.input_again = std::mem::take(&mut self.loses);
+                if self.input_again {
+                    self.input = Buffer::Packet(packet.clone());
+                } else {
+                    self.met.taken_0 = true;
+                }
+                if !again && self.host.came(&packet) {
                     self.counts.confirmed += 1;
                     if sets_protocol(self.host.setup()) {
                         self.known.clear();
@@ -144,18 +169,24 @@ impl<const PING_PONG: bool> Played<PING_PONG> {
         }
     }
 
+    /// Of a packet that comes again one controller sees the toggle before its NAK, as section 8.4.6.3 has it, the other one
+    /// behind it.
     fn out_packet(&mut self, packet: &[u8]) {
         match self.output {
-            Output::Nak => {}
             Output::Stall => {
-                self.model.stalls(Some(packet));
-                self.host.stalled();
+                self.model.stalls(Some(packet), self.output_again);
+                return self.host.stalled();
             }
-            Output::Take => {
+            Output::Nak if !(self.output_again && PING_PONG) => return,
+            Output::Nak | Output::Take if self.output_again => self.counts.again[1] += 1,
+            Output::Nak | Output::Take => {
                 self.met.out = Some(packet.iter().copied().collect());
                 self.output = Output::Nak;
-                self.host.taken();
             }
+        }
+        self.output_again = std::mem::take(&mut self.loses);
+        if !self.output_again {
+            self.host.taken();
         }
     }
 

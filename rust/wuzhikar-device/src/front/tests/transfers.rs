@@ -58,6 +58,12 @@ fn strings_are_served() {
     assert_eq!(device.read(string(1)), Err(Why::UnknownDescriptor));
     assert_eq!(device.read(string(2)).unwrap().concat(), described(&LONG[..126]));
     assert_eq!(device.read(string(3)).unwrap().concat(), described(OTHERS.serial_number));
+    // A character of two units that there is room for, or that falls away whole.
+    for (before, kept) in [(124, 128), (125, 125), (126, 126)] {
+        let text = &*format!("{}𝄞{LONG}", &LONG[..before]).leak();
+        let identity = Box::leak(Box::new(Identity { product: text, ..IDENTITY }));
+        assert_eq!(Device::of(identity).read(string(2)).unwrap().concat(), described(&text[..kept]));
+    }
     // Without any string there are no languages.
     const NONE: Identity = Identity { manufacturer: "", product: "", serial_number: "", ..IDENTITY };
     assert_eq!(Device::of(&NONE).read(string(0)), Err(Why::UnknownDescriptor));

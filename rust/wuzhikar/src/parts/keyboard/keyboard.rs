@@ -164,7 +164,8 @@ impl Keyboard {
         self.leds
     }
 
-    /// Takes an OUT packet and answers it.
+    /// Takes an OUT packet and answers it. It stands apart since the folder of a proof of `out` would have
+    /// the name of what the toolchain makes.
     fn answer_out(&mut self, packet: &[u8]) -> EpAnswer {
         match self.ep.out(packet) {
             OutStep::Answered(answer) => answer,

@@ -1,6 +1,8 @@
-use Rattle.std.proofs.Common.{ap}
+use Rattle.std.proofs.Common.{◌≡◌, ap, None, Some}
 use Rattle.world.specs.Flash.{armed_by}
+use Rattle.world.specs.ties.Flash.{noted}
 use Rattle.world.specs.History.{session}
+use Rattle.page_turnover.specs.Next.{on_flash}
 use Rattle.world.proofs.Standing.{same_flash, on_bench, works_in, cut_inside, arms}
 use Rattle.world.proofs.world.World.cut_in_work.Goals as goal
 
@@ -9,8 +11,9 @@ returns c start past s =
     let t = rw (← c.self.view_is) at s in
     let image = same_flash start past _ t in
     rw c.start_anew.ensures.told
-    (cut_inside start past _ c.args.mask.now c.work.result c.start_anew.new.keyboard c.start_anew.new.host c.work.new.flash.flash t
+    (cut_inside start past _ c.args.mask.now c.work.result c.start_anew.new.keyboard c.start_anew.new.host c.work.new.flash.flash c.work.new.flash.asked t
     (works_in start past _ (armed_by c.copy_of.result.items c.self.inside.bench.flash) _ c.work.result c.work.new.flash.flash t
     (c.work.ensures.answer _ _ t.keyboard image) (arms start past _ _ _ c.copy_of.ensures t)
-    (λ n. on_bench (session start past) (armed_by c.copy_of.result.items c.self.inside.bench.flash) c.work.result c.work.new.flash.flash _ (c.work.ensures.operated _ _ t.keyboard image n)) (λ i. ap (λ b. b.flash) (c.work.ensures.untouched i)) (λ n. (c.work.ensures.faultless n).1))
+    (λ n. on_bench (session start past) (armed_by c.copy_of.result.items c.self.inside.bench.flash) c.work.result c.work.new.flash.flash
+    (λ operation. (c.work.new.flash.tear ≡ None) × (c.work.new.flash.asked ≡ Some (noted (on_flash operation)))) (c.work.ensures.operated _ _ t.keyboard image n)) (λ i. ap (λ b. b.flash) (c.work.ensures.untouched i)) (λ n. (c.work.ensures.faultless n).1))
     c.start_anew.ensures.stands (c.start_anew.ensures.host _ t.host))

@@ -1,4 +1,0 @@
-pub mod Arrays
-pub mod Faults
-pub mod Gaps
-pub mod ties

@@ -1,5 +1,0 @@
-pub mod Splits
-pub mod Numbers
-pub mod Popped
-pub mod CutLemmas
-pub mod LeastLemmas

@@ -1,9 +1,0 @@
-pub mod XorAll
-pub mod Columns
-pub mod Near
-pub mod Decoding
-pub mod Told
-pub mod Cells
-pub mod Flash
-pub mod Choosing
-pub mod Reached

@@ -1,4 +1,0 @@
-pub mod Code
-pub mod Units
-pub mod Sim
-pub mod Chosen

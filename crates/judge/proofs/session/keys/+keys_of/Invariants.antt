@@ -1,5 +1,0 @@
-use Rattle.std.proofs.Common.{length}
-use Rattle.judge.proofs.session.keys.+keys_of.Given as goal
-
-abbrev pub decreases-keys_of : goal.decreases-keys_of
-decreases-keys_of l = length l.past.now

@@ -1,5 +1,0 @@
-use Rattle.std.proofs.Common.{length}
-use Rattle.judge.proofs.session.lawful.+first_wrong.Given as goal
-
-abbrev pub decreases-first_wrong : goal.decreases-first_wrong
-decreases-first_wrong l = length l.past.now

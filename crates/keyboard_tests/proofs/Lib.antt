@@ -1,2 +1,0 @@
-pub mod PlainCodes
-pub mod PlainScans

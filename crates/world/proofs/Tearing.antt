@@ -1,0 +1,76 @@
+-- A torn step leaves what the next operation may leave.
+use Rattle.std.proofs.Common.{◌≡◌, ℕ, Bool, Option, None, Some, IsSome, List, [], ◌∷◌, refl, sym, ap, subst}
+use Rattle.flash_model.specs.Operated.{Outcome}
+use Rattle.flash_model.specs.Sim.{SimValue}
+use Rattle.flash_model.proofs.ByMask.{may_program, may_erase}
+use Rattle.layers.specs.declared.command.Command.{Command}
+use Rattle.page_turnover.specs.declared.operation.Operation.{Operation}
+use Rattle.page_turnover.specs.declared.operation.Operation.TheVariants.{Program, Erase}
+use Rattle.page_turnover.specs.Next.{on_flash, MayMake}
+use Rattle.keymap_store.specs.declared.store.Work.{Work as WorkAnswer}
+use Rattle.host.specs.Calls.{HostCall}
+use Rattle.keyboard.specs.Commands.{working}
+use Rattle.keyboard.specs.Feature.{Where, yes, no}
+use Rattle.keyboard.specs.Lawful.{WorkedOn}
+use Rattle.keyboard.specs.Single.{MayBeTorn}
+use Rattle.world.specs.declared.event.Event.{Event}
+use Rattle.world.specs.declared.event.Event.TheVariants.{Scan, Setup, OutPacket, InPacket, Poll, Work, WorkFault, Cut, CutInWork, BusReset, Entry, SlotAt, Leds}
+use Rattle.world.specs.declared.event.Answer.{Answer}
+use Rattle.world.specs.declared.event.Answer.TheVariants.{Worked}
+use Rattle.world.specs.Flash.{armed_by}
+use Rattle.world.specs.Kinds.{Step}
+use Rattle.world.specs.History.{Session, session, host_calls, flash_after, EachStep}
+use Rattle.world.specs.Lawful.{Answered, IsLawful, WorksIn}
+use Rattle.world.specs.Order.{IsNextOperation}
+use Rattle.world.specs.Torn.{IsTorn, LeavesTorn}
+use Rattle.world.proofs.Here.{Here, here}
+use Rattle.world.proofs.Ordering.{worked}
+use Rattle.world.proofs.Single.{idle_end}
+
+by_mask : (old : List ℕ) (operation : Operation) (mask new : List ℕ) → Outcome old (on_flash operation) (Some mask) new → MayMake old operation new
+by_mask old (Program page slot word) mask new o = may_program old page slot _ mask new o
+by_mask old (Erase page) mask new o = may_erase old page mask new o
+
+next_torn : (now : Session) (command : Command) (old : SimValue) (mask : List ℕ) (event : Event) (answer : Answer) (new : SimValue) → working now.first now.past ≡ Some command → Here now old
+    → IsNextOperation now command (armed_by mask old) event answer new → MayBeTorn now.first now.past new.image
+next_torn now command old mask event answer new w h n = record {
+  command = command;
+  is_working = w;
+  operation = n.operation;
+  is_next = n.is_next;
+  torn = subst (λ (image : List ℕ). MayMake image n.operation new.image) (sym h.image) (by_mask old.image n.operation mask new.image n.makes.outcome);
+}
+
+none_works : IsSome {T = Command} None → ⊥
+none_works s = cc
+
+torn_by : (now : Session) (w : Option Command) (old : SimValue) (mask : List ℕ) (work : WorkAnswer) (new : SimValue) → working now.first now.past ≡ w → Here now old → WorksIn now old (armed_by mask old) work new
+    → Where (IsSome w) (MayBeTorn now.first now.past new.image) (new.image ≡ old.image)
+torn_by now None old mask work new w h on =
+    let idle : WorkedOn now.first now.past None work new.image = subst (λ (o : Option Command). WorkedOn now.first now.past o work new.image) w on.lawful in
+    no none_works (ap (λ (x : SimValue). x.image) (idle_end now old (armed_by mask old) work new idle.0 on.operated))
+torn_by now (Some command) old mask work new w h on =
+    yes refl (next_torn now command old mask Work (Worked work) new w h (worked now command old (armed_by mask old) (armed_by mask old) work Work (Worked work) new w (λ told. refl) refl on))
+
+torn : (now : Session) (heard : List HostCall) (old : SimValue) (event : Event) (answer : Answer) (refused : Bool) (new : SimValue) → Here now old → Answered now heard old event answer refused new → IsTorn event
+    → Where (IsSome (working now.first now.past)) (MayBeTorn now.first now.past new.image) (new.image ≡ old.image)
+torn now heard old (WorkFault mask) answer refused new h (work, e, w, r) t = torn_by now (working now.first now.past) old mask.items work new refl h w
+torn now heard old (CutInWork mask) answer refused new h (work, e, w, r) t = torn_by now (working now.first now.past) old mask.items work new refl h w
+torn now heard old Work answer refused new h a t = absurd t
+torn now heard old (Scan scan) answer refused new h a t = absurd t
+torn now heard old (Setup bytes) answer refused new h a t = absurd t
+torn now heard old (OutPacket packet) answer refused new h a t = absurd t
+torn now heard old InPacket answer refused new h a t = absurd t
+torn now heard old Poll answer refused new h a t = absurd t
+torn now heard old Cut answer refused new h a t = absurd t
+torn now heard old BusReset answer refused new h a t = absurd t
+torn now heard old (Entry layer key) answer refused new h a t = absurd t
+torn now heard old (SlotAt page slot) answer refused new h a t = absurd t
+torn now heard old Leds answer refused new h a t = absurd t
+
+pub leaves_torn : (start : SimValue) (history : List Step) → IsLawful start history → EachStep LeavesTorn start history
+leaves_torn start [] h = tt
+leaves_torn start (step ∷ before) h = (
+  torn (session start before) (host_calls before) (flash_after start before) step.event step.answer step.refused step.flash (here start before h.1) h.0,
+  leaves_torn start before h.1,
+)

@@ -1,0 +1,8 @@
+// SPDX-License-Identifier: MIT OR Apache-2.0
+//! Names the linker script, which says where flash and RAM are.
+
+fn main() {
+    println!("cargo:rerun-if-changed=nrf51.ld");
+    let here = std::env::var("CARGO_MANIFEST_DIR").unwrap_or_default();
+    println!("cargo:rustc-link-arg-bins=-T{here}/nrf51.ld");
+}

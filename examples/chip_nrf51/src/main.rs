@@ -1,0 +1,99 @@
+// SPDX-License-Identifier: MIT OR Apache-2.0
+//! The keyboard as the whole firmware of an nRF51822: its front and its log run as machine code on the chip's flash. What a bus and
+//! a matrix do comes by the UART, one request at a time, each answered by one frame.
+//!
+//! | Request | Answer |
+//! |---|---|
+//! | `m` and six rows of two bytes: a scan | `k` |
+//! | `s` and eight bytes: SETUP | `k` |
+//! | `o`, a length, eight bytes: OUT | `A`, `N`, `S` |
+//! | `i`: IN of endpoint 0 | `D`, `N`, `S` |
+//! | `p`: IN of endpoint 1 | `D`, `N`, `S`, `k` where it is off |
+//! | `r`: bus reset | `k` |
+//! | `d`, a layer: what the keymap in RAM has there | `D`, 192 bytes |
+//!
+//! A frame is a letter, the LEDs, a change and its value (or the number of a stall), a length, and so many bytes. `B` comes at the
+//! start, when the keymap was read; what the line still holds of the time before is passed over until 14 bytes 16h and one 17h, which
+//! `k` answers. `!` is a panic.
+#![no_std]
+#![no_main]
+
+#[cfg(feature = "buffers")]
+mod buffers;
+mod frames;
+mod nvmc;
+mod registers;
+#[cfg(not(feature = "buffers"))]
+mod token;
+mod uart;
+
+#[cfg(feature = "buffers")]
+use buffers as main_loop;
+use core::panic::PanicInfo;
+use frames::Frame;
+#[cfg(not(feature = "buffers"))]
+use token as main_loop;
+use uart::Uart;
+use wuzhikar::UnstartedKeyboard;
+use wuzhikar_device::{Device, Identity};
+
+static IDENTITY: Identity =
+    Identity { manufacturer: "Example", product: "Wuzhikar keyboard", serial_number: "nRF51", ..Identity::TEST };
+
+static mut MEMORY: UnstartedKeyboard = UnstartedKeyboard::NEW;
+
+/// Called by `reset`, once.
+#[unsafe(no_mangle)]
+extern "C" fn run() -> ! {
+    let mut uart = Uart::start();
+    // SAFETY: it runs once, and nothing else names the memory.
+    let memory = unsafe { &mut *(&raw mut MEMORY) };
+    let Some(flash) = nvmc::flash() else { stopped() };
+    // The flash has 2 pages, so that none is refused.
+    let Ok(device) = Device::start_in(memory, flash, &IDENTITY) else { stopped() };
+    Frame::of(b'B').send(&mut uart, 0);
+    uart.begin();
+    Frame::of(b'k').send(&mut uart, 0);
+    main_loop::run(device, &mut uart)
+}
+
+fn stopped() -> ! {
+    loop {
+        core::hint::spin_loop();
+    }
+}
+
+/// A panic is told, and stops the keyboard; a watchdog would start it again.
+#[panic_handler]
+fn panic(_info: &PanicInfo) -> ! {
+    Frame::of(b'!').send(&mut Uart, 0);
+    stopped()
+}
+
+// The vector table and the start-up: what is in RAM begins as zeros, and no interrupt is ever taken.
+core::arch::global_asm!(
+    ".section .vectors, \"a\"",
+    ".word stack_top, reset, hard_fault, hard_fault",
+    ".word 0, 0, 0, 0",                // reserved by the core
+    ".word bss_end, 0, 0, hard_fault", // reserved: bin/board-test reads how deep the stack may go
+    ".word 0, 0, hard_fault, hard_fault",
+    ".rept 32",
+    ".word hard_fault",
+    ".endr",
+    ".section .text.reset, \"ax\"",
+    ".global reset",
+    ".thumb_func",
+    "reset:",
+    "cpsid i",
+    "ldr r0, =bss_start",
+    "ldr r1, =bss_end",
+    "movs r2, #0",
+    "1: cmp r0, r1",
+    "bhs 2f",
+    "stm r0!, {{r2}}",
+    "b 1b",
+    "2: bl run",
+    ".thumb_func",
+    "hard_fault: b hard_fault",
+    ".pool",
+);

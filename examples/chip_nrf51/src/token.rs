@@ -1,0 +1,72 @@
+// SPDX-License-Identifier: MIT OR Apache-2.0
+//! The main loop of a controller that asks at the token.
+
+use crate::frames::{Frame, dump, out, scan};
+use crate::uart::Uart;
+use core::borrow::BorrowMut;
+use wuzhikar::{EpAnswer, Keyboard, NorFlash, Work};
+use wuzhikar_device::{Device, PollAnswer};
+
+pub fn run<F: NorFlash, K: BorrowMut<Keyboard>>(mut device: Device<'_, F, K>, uart: &mut Uart) -> ! {
+    loop {
+        while !uart.waits() {
+            match device.work() {
+                Work::Idle => uart.sleep(),
+                // Endpoint 0 is asked at its token, so nothing is to be armed.
+                Work::Working | Work::Settled | Work::Failed => {}
+            }
+        }
+        serve(&mut device, uart);
+    }
+}
+
+/// What one request asks for.
+fn serve<F: NorFlash, K: BorrowMut<Keyboard>>(device: &mut Device<'_, F, K>, uart: &mut Uart) {
+    match uart.byte() {
+        b'm' => {
+            device.scan(scan(uart));
+            Frame::of(b'k').send(uart, device.leds());
+        }
+        b's' => {
+            device.setup(uart.bytes());
+            Frame::of(b'k').send(uart, device.leds());
+        }
+        b'o' => {
+            let (packet, length) = out(uart);
+            let answer = device.out(&packet[..length]);
+            endpoint_0(&answer).send(uart, device.leds());
+        }
+        b'i' => {
+            let (answer, change) = device.in_packet();
+            endpoint_0(&answer).with(change).send(uart, device.leds());
+        }
+        b'p' => {
+            let answer = device.poll();
+            endpoint_1(&answer).send(uart, device.leds());
+        }
+        b'r' => {
+            let change = device.bus_reset();
+            Frame::of(b'k').with(Some(change)).send(uart, device.leds());
+        }
+        b'd' => dump(uart, device.keyboard()),
+        _ => {}
+    }
+}
+
+fn endpoint_0(answer: &EpAnswer) -> Frame<'_> {
+    match answer {
+        EpAnswer::Packet(packet) => Frame::data(packet),
+        EpAnswer::Ack => Frame::of(b'A'),
+        EpAnswer::Nak => Frame::of(b'N'),
+        EpAnswer::Stall(why) => Frame::stall(why.number()),
+    }
+}
+
+fn endpoint_1(answer: &PollAnswer) -> Frame<'_> {
+    match answer {
+        PollAnswer::Data(packet) => Frame::data(packet),
+        PollAnswer::Nak => Frame::of(b'N'),
+        PollAnswer::Stall => Frame::of(b'S'),
+        PollAnswer::Nothing => Frame::of(b'k'),
+    }
+}

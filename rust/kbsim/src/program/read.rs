@@ -1,0 +1,426 @@
+//! `read`: the values of reports as they come.
+
+use super::ends::{Ended, tell};
+use super::texts::{bytes_in, bytes_of, form_of, reader_of};
+use super::{files, json, sentences, words};
+use clap::ArgMatches;
+use kbsim::texts::{Form, Line, line_of};
+use std::collections::HashMap;
+use std::ffi::OsString;
+use std::io::{self, Read, Write};
+use std::process::ExitCode;
+use wuzhikar_hid::{Kind, Reader, ReadingError, UsageName, Value, Within};
+
+/// How many bytes are asked for at once.
+const PIECE: usize = 65_536;
+
+/// The longest line or report that is kept.
+const LONGEST: usize = 65_536;
+
+/// The names of usages that were told, at most 4,096 of them: to look one up takes a search.
+#[derive(Default)]
+pub struct Names(HashMap<u32, String>);
+
+impl Names {
+    pub fn of(&mut self, usage: u32) -> &str {
+        if self.0.len() == 4_096 && !self.0.contains_key(&usage) {
+            self.0.clear();
+        }
+        self.0.entry(usage).or_insert_with(|| UsageName(usage).to_string())
+    }
+}
+
+/// A block of usbhid-dump: the number of its first line, and its bytes, unless it holds no report or was refused.
+struct Block {
+    number: u64,
+    report: Option<Vec<u8>>,
+}
+
+/// What tells reports.
+struct Teller<'a, W> {
+    reader: &'a Reader,
+    kind: Kind,
+    /// Whether usages have their names, and whether a report is an object of JSON.
+    names_usages: bool,
+    json: bool,
+    out: W,
+    /// The number of the line or report, from 1.
+    number: u64,
+    refused: bool,
+    names: Names,
+    /// The line that is told.
+    line: Vec<u8>,
+    /// The block that the lines stand in.
+    block: Option<Block>,
+}
+
+/// Appends a number in decimal.
+fn put_number(line: &mut Vec<u8>, number: i64) {
+    if let 0..=9 = number {
+        return line.push(b'0' + number as u8);
+    }
+    if number < 0 {
+        line.push(b'-');
+    }
+    let (mut left, mut digits, mut first) = (number.unsigned_abs(), [0; 20], 20);
+    loop {
+        first -= 1;
+        digits[first] = b'0' + (left % 10) as u8;
+        left /= 10;
+        if left == 0 {
+            break;
+        }
+    }
+    line.extend_from_slice(&digits[first..]);
+}
+
+impl<W: Write> Teller<'_, W> {
+    /// Puts the value of a place of a report, or all bytes of a field of Buffered Bytes at its first place.
+    fn put_value(&mut self, report: &[u8], value: &Value) -> Result<(), ReadingError> {
+        let detail = self.reader.detail(value.field);
+        if detail.is_some_and(|detail| detail.is_buffered()) {
+            return if value.place == 0 { self.put_bytes(report, value) } else { Ok(()) };
+        }
+        if detail.is_some_and(|detail| !detail.is_variable()) {
+            // A place of an array says a usage, or nothing.
+            if let Some(usage) = value.usage.filter(|usage| usage & 0xFFFF != 0) {
+                self.put_usage(usage);
+            }
+            return Ok(());
+        }
+        self.put_place(value);
+        self.put_raw(value);
+        Ok(())
+    }
+
+    /// Puts what a place is called, by its usage or by field and place, with an equals sign.
+    fn put_place(&mut self, value: &Value) {
+        match value.usage {
+            Some(usage) => self.put_usage(usage),
+            None => {
+                self.line.extend_from_slice(b" f");
+                put_number(&mut self.line, value.field as i64);
+                self.line.push(b'[');
+                put_number(&mut self.line, value.place.into());
+                self.line.push(b']');
+            }
+        }
+        self.line.push(b'=');
+    }
+
+    fn put_bytes(&mut self, report: &[u8], value: &Value) -> Result<(), ReadingError> {
+        let bytes = self.reader.buffered(self.kind, report, value.field)?;
+        self.put_place(value);
+        self.line.extend_from_slice(b"bytes:");
+        for byte in bytes {
+            self.line.extend([byte >> 4, byte & 15].map(|digit| b"0123456789abcdef"[usize::from(digit)]));
+        }
+        Ok(())
+    }
+
+    fn put_raw(&mut self, value: &Value) {
+        if value.within == Within::Null {
+            self.line.extend_from_slice(b"null");
+            return;
+        }
+        put_number(&mut self.line, value.raw);
+        if value.within == Within::Out {
+            self.line.extend_from_slice(b" (out of range)");
+        }
+    }
+
+    fn put_usage(&mut self, usage: u32) {
+        if self.names_usages {
+            for part in [" \"", self.names.of(usage), "\""] {
+                self.line.extend_from_slice(part.as_bytes());
+            }
+            return;
+        }
+        let digit = |shift: u32| b"0123456789abcdef"[(usage >> shift & 15) as usize];
+        let digits = [b' ', digit(28), digit(24), digit(20), digit(16), digit(12), digit(8), digit(4), digit(0)];
+        self.line.extend_from_slice(&digits);
+    }
+
+    /// Tells one report.
+    fn tell(&mut self, report: &[u8]) -> io::Result<()> {
+        match self.reader.read(self.kind, report) {
+            Err(error) => self.refuse(&format!("{error:?}")),
+            Ok(reading) if self.json => match json::buffered(self.reader, (self.kind, report), reading.clone()) {
+                Err(error) => self.refuse(&format!("{error:?}")),
+                Ok(buffered) => json::put_report(self.reader, reading, &buffered, &mut self.names, &mut self.out),
+            },
+            Ok(reading) => {
+                self.line.clear();
+                put_number(&mut self.line, reading.id().into());
+                let rest = reading.rest().len();
+                for value in reading {
+                    if let Err(error) = self.put_value(report, &value) {
+                        return self.refuse(&format!("{error:?}"));
+                    }
+                }
+                if rest > 0 {
+                    self.line.extend_from_slice(b" and ");
+                    put_number(&mut self.line, rest as i64);
+                    self.line.extend_from_slice(b" more");
+                }
+                self.line.push(b'\n');
+                self.out.write_all(&self.line)
+            }
+        }
+    }
+
+    /// Says that a report or line is refused, and goes on.
+    fn refuse(&mut self, name: &str) -> io::Result<()> {
+        self.refused = true;
+        if self.json {
+            return writeln!(self.out, "{}", json::refused(name));
+        }
+        writeln!(self.out, "fault {name} at {}", self.number)
+    }
+
+    /// Tells a line: hex digits, a line of usbmon with its data behind an equals sign, or one of a recording.
+    fn tell_line(&mut self, line: &[u8]) -> io::Result<()> {
+        self.number += 1;
+        let is_asked = self.kind == Kind::Input;
+        match line_of(line.trim_ascii_end()) {
+            Some(Line::Block(holds_report)) => {
+                self.end_block()?;
+                self.block = Some(Block { number: self.number, report: (holds_report && is_asked).then(Vec::new) });
+                Ok(())
+            }
+            Some(Line::Report(report)) if is_asked => self.tell(&report),
+            Some(Line::Damaged(fault)) if is_asked => {
+                tell(&sentences::of_event(self.number, line, fault));
+                self.refuse("Event")
+            }
+            Some(_) => Ok(()),
+            None if self.block.is_some() => self.take_of_block(line),
+            None => self.tell_plain(line),
+        }
+    }
+
+    /// Takes a line of a block: bytes, or the blank one behind its last.
+    fn take_of_block(&mut self, line: &[u8]) -> io::Result<()> {
+        if line.trim_ascii().is_empty() {
+            return self.end_block();
+        }
+        let Some(kept) = self.block.as_mut().and_then(|block| block.report.as_mut()) else { return Ok(()) };
+        let refused = match bytes_of(line) {
+            None => "Hex",
+            Some(bytes) if kept.len() + bytes.len() > LONGEST => "LongReport",
+            Some(bytes) => {
+                kept.extend(bytes);
+                return Ok(());
+            }
+        };
+        self.block = self.block.take().map(|block| Block { report: None, ..block });
+        self.refuse(refused)
+    }
+
+    /// Tells the report of a block that ends, by the number of its first line.
+    fn end_block(&mut self) -> io::Result<()> {
+        let Some(Block { number, report: Some(report) }) = self.block.take() else { return Ok(()) };
+        let last = std::mem::replace(&mut self.number, number);
+        let told = self.tell(&report);
+        self.number = last;
+        told
+    }
+
+    fn tell_plain(&mut self, line: &[u8]) -> io::Result<()> {
+        let is_other = is_usbmon(line) && !holds_report(line, self.kind);
+        let behind = line.windows(3).position(|three| three == b" = ").map_or(0, |at| at + 3);
+        let data = line[behind..].trim_ascii();
+        if is_other || data.is_empty() || data.starts_with(b"#") {
+            return Ok(());
+        }
+        match bytes_of(data) {
+            Some(report) => self.tell(&report),
+            None => self.refuse("Hex"),
+        }
+    }
+}
+
+/// The words of a line of usbmon as text: a tag, a time, the event, the address, and what follows.
+fn words_of(line: &[u8]) -> impl Iterator<Item = &[u8]> {
+    line.split(|byte| byte.is_ascii_whitespace()).filter(|word| !word.is_empty())
+}
+
+/// Whether a line is one of usbmon (Linux, Documentation/usb/usbmon.rst): its third word is an event, and its fourth an address.
+fn is_usbmon(line: &[u8]) -> bool {
+    if !line.contains(&b':') {
+        return false;
+    }
+    let mut behind = words_of(line).skip(2);
+    let event = matches!(behind.next(), Some(b"S" | b"C" | b"E"));
+    event && matches!(behind.next(), Some([b'C' | b'Z' | b'I' | b'B', b'i' | b'o', b':', ..]))
+}
+
+/// Whether it holds a report of a kind: of an interrupt endpoint, or of a SET_REPORT (HID 1.11, 7.2.2).
+fn holds_report(line: &[u8], kind: Kind) -> bool {
+    if !line.windows(3).any(|three| three == b" = ") {
+        return false;
+    }
+    let is_set = |high: &[u8]| {
+        let setup: Vec<&[u8]> = words_of(line).skip(4).take(4).collect();
+        matches!(setup.as_slice(), [b"s", b"21", b"09", value] if value.starts_with(high))
+    };
+    match (words_of(line).nth(3).and_then(|address| address.get(..2)), kind) {
+        (Some(b"Ii"), kind) => kind == Kind::Input,
+        (Some(b"Io"), kind) => kind == Kind::Output,
+        (Some(b"Co"), Kind::Output) => is_set(b"02"),
+        (Some(b"Co"), Kind::Feature) => is_set(b"03"),
+        _ => false,
+    }
+}
+
+/// Each line of what is read; the output is flushed before each wait for more.
+fn lines(from: &mut dyn Read, teller: &mut Teller<'_, impl Write>) -> Result<(), Ended> {
+    let mut piece = vec![0; PIECE];
+    let mut kept: Vec<u8> = Vec::new();
+    let mut too_long = false;
+    loop {
+        teller.out.flush()?;
+        let len = read_some(from, &mut piece)?;
+        if len == 0 {
+            break;
+        }
+        for part in piece[..len].split_inclusive(|byte| *byte == b'\n') {
+            if kept.len() + part.len() > LONGEST {
+                too_long = true;
+                kept.clear();
+            }
+            kept.extend_from_slice(if too_long { &[] } else { part });
+            if part.ends_with(b"\n") {
+                end_line(teller, &mut kept, &mut too_long)?;
+            }
+        }
+    }
+    if !kept.is_empty() || too_long {
+        end_line(teller, &mut kept, &mut too_long)?;
+    }
+    Ok(teller.end_block()?)
+}
+
+fn end_line(teller: &mut Teller<'_, impl Write>, kept: &mut Vec<u8>, too_long: &mut bool) -> io::Result<()> {
+    if std::mem::take(too_long) {
+        teller.number += 1;
+        teller.refuse("LongLine")?;
+    } else {
+        teller.tell_line(kept)?;
+    }
+    kept.clear();
+    Ok(())
+}
+
+fn read_some(from: &mut dyn Read, piece: &mut [u8]) -> Result<usize, Ended> {
+    loop {
+        match from.read(piece) {
+            Ok(len) => return Ok(len),
+            Err(error) if error.kind() == io::ErrorKind::Interrupted => {}
+            Err(error) => return Err(Ended::fault("fault input", format!("the reports can't be read: {error}"))),
+        }
+    }
+}
+
+/// The length of the report that these bytes begin with; one byte where there is none.
+fn length_at(reader: &Reader, kind: Kind, bytes: &[u8]) -> usize {
+    let id = if reader.descriptor().uses_ids() { bytes[0] } else { 0 };
+    reader.descriptor().report_len(kind, id).unwrap_or(1)
+}
+
+/// Reports in bytes: of a device each read gives one, of a file or pipe each is as long as its ID says.
+fn raw(from: &mut dyn Read, is_device: bool, teller: &mut Teller<'_, impl Write>) -> Result<(), Ended> {
+    let mut piece = vec![0; PIECE];
+    // What is kept of a report, and how many bytes are left of one that is too long.
+    let (mut kept, mut left): (Vec<u8>, usize) = (Vec::new(), 0);
+    loop {
+        teller.out.flush()?;
+        let len = read_some(from, &mut piece)?;
+        if len == 0 {
+            break;
+        }
+        if is_device {
+            teller.number += 1;
+            teller.tell(&piece[..len])?;
+            continue;
+        }
+        let dropped = left.min(len);
+        left -= dropped;
+        kept.extend_from_slice(&piece[dropped..len]);
+        left += tell_whole(&mut kept, teller)?;
+    }
+    if !kept.is_empty() {
+        teller.number += 1;
+        teller.tell(&kept)?;
+    }
+    Ok(())
+}
+
+/// Tells each report that is whole, and drops it. One that is too long is refused: how many bytes of it are still to come.
+fn tell_whole(kept: &mut Vec<u8>, teller: &mut Teller<'_, impl Write>) -> io::Result<usize> {
+    let mut at = 0;
+    while at < kept.len() {
+        let (rest, length) = (kept.len() - at, length_at(teller.reader, teller.kind, &kept[at..]));
+        if length > LONGEST {
+            teller.number += 1;
+            teller.refuse("LongReport")?;
+            at += rest.min(length);
+            if length > rest {
+                kept.clear();
+                return Ok(length - rest);
+            }
+            continue;
+        }
+        if length > rest {
+            break;
+        }
+        teller.number += 1;
+        teller.tell(&kept[at..at + length])?;
+        at += length;
+    }
+    kept.drain(..at);
+    Ok(0)
+}
+
+/// The kind of report that is named.
+pub fn kind_of(given: &ArgMatches) -> Kind {
+    match given.get_one::<String>("kind").map(String::as_str) {
+        Some("output") => Kind::Output,
+        Some("feature") => Kind::Feature,
+        _ => Kind::Input,
+    }
+}
+
+/// Tells each report of a file or of standard input; the status is 1 where one was refused.
+pub fn read(given: &ArgMatches) -> Result<ExitCode, Ended> {
+    let path = |name| given.get_one::<OsString>(name);
+    let (form, is_raw) = (form_of(given, None), given.get_flag("raw"));
+    // (A recording without REPORTS has its own.)
+    let has_own = |form: Form| form.is_recording() && path("reports").is_none() && !is_raw;
+    if files::is_input(path("descriptor")) && files::is_input(path("reports")) && !form.is_some_and(has_own) {
+        return Err(words::refused("read", "standard input can't be both, the descriptor and the reports").into());
+    }
+    let text = files::text_of(path("descriptor"), "text")?;
+    let (form, bytes) = bytes_in(&text, form)?;
+    let reader = reader_of(&bytes)?;
+    let mut teller = Teller {
+        reader: &reader,
+        kind: kind_of(given),
+        names_usages: given.get_flag("names"),
+        json: given.get_flag("json"),
+        out: io::BufWriter::new(files::output()?),
+        number: 0,
+        refused: false,
+        names: Names::default(),
+        line: Vec::new(),
+        block: None,
+    };
+    if has_own(form) {
+        lines(&mut text.as_slice(), &mut teller)?;
+    } else {
+        let (mut from, is_device) = files::opened(path("reports"))?;
+        if is_raw { raw(&mut from, is_device, &mut teller) } else { lines(&mut from, &mut teller) }?;
+    }
+    teller.out.flush()?;
+    Ok(if teller.refused { ExitCode::FAILURE } else { ExitCode::SUCCESS })
+}

@@ -1,0 +1,171 @@
+//! Sentences for people: what is wrong with a text that is refused, and where. A line and a column are counted from 1, and a column
+//! is a byte.
+
+use super::items::fault_words;
+use kbsim::parts::script::{Complaint, KEYWORDS, Keyword, Wanted, what_is_wrong};
+use kbsim::texts::{Fault, MOST, Why};
+use wuzhikar_reader::ParseError;
+
+/// The words of scripts.
+const LANGUAGE: &str =
+    "scan, scans, poll, setup, out, in, work, workfault, cut, cutwork, reset, entry, slot, leds, set or fetch";
+
+/// How many bytes of a word are shown, and how many of an item.
+const MOST_OF_WORD: usize = 40;
+const MOST_OF_ITEM: usize = 16;
+
+/// The length of the longest word that may be meant for one of scripts.
+const LONGEST: usize = 18;
+
+/// What is wrong with the line of this number of a script for a flash of so many pages.
+pub fn of_line(pages: usize, text: &[u8], number: usize) -> Option<String> {
+    Some(match what_is_wrong(pages, text, number)? {
+        Complaint::Unknown(word) => format!("line {number}: {} is no line of scripts; {}", shown(word), meant(word)),
+        Complaint::Words(keyword, count) => {
+            format!("line {number}: {} takes {}; here it has {count}", name(keyword), taken(keyword))
+        }
+        Complaint::Word(word, column, wanted) => {
+            let (noun, all) = words_of(wanted);
+            let all = all.map_or_else(|| format!("pages are 0 to {}", pages.saturating_sub(1)), String::from);
+            format!("line {number}, column {column}: {} is no {noun}; {all}", shown(word))
+        }
+    })
+}
+
+fn name(keyword: Keyword) -> String {
+    String::from_utf8_lossy(keyword.spelling()).into_owned()
+}
+
+/// The word of scripts that takes the fewest edits to come to, at most half as many as it has letters, or else all there are.
+fn meant(word: &[u8]) -> String {
+    let word = Some(word).filter(|word| word.len() <= LONGEST);
+    let edits = |keyword: &Keyword| Some(strsim::generic_levenshtein(&Bytes(word?), &Bytes(keyword.spelling())));
+    let near = KEYWORDS.into_iter().filter_map(|keyword| Some((edits(&keyword)?, keyword)));
+    let near = near.filter(|(edits, keyword)| *edits <= keyword.spelling().len() / 2).min_by_key(|(edits, _)| *edits);
+    near.map_or_else(|| format!("a line begins with {LANGUAGE}"), |(_, keyword)| format!("{} is", name(keyword)))
+}
+
+/// Bytes as `strsim` goes over them.
+struct Bytes<'b>(&'b [u8]);
+
+impl<'b> IntoIterator for &Bytes<'b> {
+    type Item = &'b u8;
+    type IntoIter = std::slice::Iter<'b, u8>;
+
+    fn into_iter(self) -> Self::IntoIter {
+        self.0.iter()
+    }
+}
+
+/// What may follow the first word of a line.
+fn taken(keyword: Keyword) -> &'static str {
+    match keyword {
+        Keyword::Scan => "up to 96 keys",
+        Keyword::Scans => "a number of scans and up to 96 keys",
+        Keyword::Setup => "one word, a packet of 8 bytes",
+        Keyword::Out => "one word or none, a packet of 1 to 8 bytes",
+        Keyword::WorkFault | Keyword::CutWork => "one word, a mask",
+        Keyword::Entry => "two words, a layer and a key",
+        Keyword::Slot => "two words, a page and a slot",
+        Keyword::Set => "three words, a layer, a key and a code",
+        Keyword::Poll | Keyword::In | Keyword::Work | Keyword::Cut | Keyword::Reset | Keyword::Leds | Keyword::Fetch => {
+            "no word"
+        }
+    }
+}
+
+/// What one is called of those that are wanted, and which all are, but for the pages, whose number the flash says.
+fn words_of(wanted: Wanted) -> (&'static str, Option<&'static str>) {
+    let (noun, all) = match wanted {
+        Wanted::Page => return ("page", None),
+        Wanted::Key => ("key", "keys are 0 to 95"),
+        Wanted::Layer => ("layer", "layers are 0 to 3"),
+        Wanted::Slot => ("slot", "slots are 0 to 511"),
+        Wanted::Scans => ("number of scans", "those are 1 to 10000"),
+        Wanted::LayerByte => ("layer for set", "those are 0 to 255"),
+        Wanted::KeyByte => ("key for set", "those are 0 to 255"),
+        Wanted::SetupPacket => ("SETUP packet", "those are 8 bytes in hex"),
+        Wanted::Packet => ("packet", "packets are 1 to 8 bytes in hex"),
+        Wanted::Mask => ("mask", "masks are 1 to 4096 bytes in hex, or -"),
+        Wanted::Code => ("code", "codes are 4 hex digits"),
+    };
+    (noun, Some(all))
+}
+
+/// Why a text does not say a report descriptor.
+pub fn of_text(text: &[u8], fault: Fault) -> String {
+    let (line, column) = place_of(text, fault.at);
+    format!("line {line}, column {column}: {}", words_of_fault(text, fault))
+}
+
+/// Why a text is not pairs of hex digits.
+pub fn of_digits(text: &[u8], fault: Fault) -> String {
+    if let Why::OddDigits(_) = fault.why { words_of_fault(text, fault) } else { of_text(text, fault) }
+}
+
+/// Why the line of this number of a recording is no event.
+pub fn of_event(number: u64, line: &[u8], fault: Fault) -> String {
+    format!("line {number}, column {}: {}", fault.at + 1, words_of_fault(line, fault))
+}
+
+fn words_of_fault(text: &[u8], fault: Fault) -> String {
+    let word = || shown(word_at(text, fault.at));
+    match fault.why {
+        Why::OddDigits(count) => format!("the text has {count} hex digits, and a byte takes two"),
+        Why::NoDigit => format!("{} is no hex digit", shown(&text[fault.at..=fault.at])),
+        Why::NoByte => format!("{} is no byte; those are 0x0 to 0xff, or 0 to 255 without a 0 in front", word()),
+        Why::NoPair => format!("{} is no byte; those are two hex digits", word()),
+        Why::NoComma => format!("a comma is wanted before {}", word()),
+        Why::OpenComment => "the comment does not end".into(),
+        Why::OpenList => "the list that begins here is not closed".into(),
+        Why::NoList => "no list of numbers begins here".into(),
+        Why::NoOffset => format!("{} is no offset", word()),
+        Why::WrongOffset(wanted) => format!("the offset is {}, and {wanted:08x} is wanted", word()),
+        Why::WrongCharacters => "the characters beside the bytes are not theirs".into(),
+        Why::NothingRepeated => "no line stands before the *".into(),
+        Why::TooMany => format!("the lines say more than {MOST} bytes"),
+        Why::Words => "an offset of hexdump or od, whose words are in the order of the machine; hexdump -C is read".into(),
+        Why::NoLine => format!("{} begins no line that the tool prints", word()),
+        Why::WrongCount(count) => format!("{} is not the number of the bytes, which is {count}", word()),
+        Why::Second => "a second descriptor or device; one is wanted".into(),
+        Why::NoDescriptor => "the text ends without a descriptor".into(),
+        Why::Ambiguous => "hex digits, and lines of hexdump as well; --from says which".into(),
+    }
+}
+
+/// What stands at a place, up to a blank or a comma, one byte at least.
+fn word_at(text: &[u8], place: usize) -> &[u8] {
+    let rest = &text[place..];
+    let end = rest.iter().position(|byte| matches!(byte, b' ' | b'\t' | b'\r' | b'\n' | b','));
+    &rest[..end.map_or(rest.len(), |end| end.max(1))]
+}
+
+/// The line and the column of a place.
+fn place_of(text: &[u8], place: usize) -> (usize, usize) {
+    let before = &text[..place];
+    let lines = before.iter().filter(|byte| **byte == b'\n').count();
+    (lines + 1, before.iter().rev().take_while(|byte| **byte != b'\n').count() + 1)
+}
+
+/// Why a report descriptor is refused: at which item (HID 1.11, sections 6.2.2.2 and 6.2.2.3), and for what.
+pub fn of_item(text: &[u8], error: ParseError) -> String {
+    let rest = text.get(error.offset..).unwrap_or_default();
+    let size = match rest {
+        [] => 0,
+        [0xFE, size, ..] => 3 + usize::from(*size),
+        [0xFE] => 1,
+        [prefix, ..] => [1, 2, 3, 5][usize::from(prefix % 4)],
+    };
+    let item = &rest[..size.min(rest.len())];
+    let bytes: String = item.iter().take(MOST_OF_ITEM).map(|byte| format!(" {byte:02x}")).collect();
+    let more = if item.len() > MOST_OF_ITEM { " .." } else { "" };
+    let item = if item.is_empty() { String::new() } else { format!(", item{bytes}{more}") };
+    format!("byte {}{item}: {}", error.offset, fault_words(error.fault))
+}
+
+/// The bytes of a word, of a long one the first: characters that can be seen, or else their numbers.
+fn shown(word: &[u8]) -> String {
+    let byte = |byte: &u8| if byte.is_ascii_graphic() { char::from(*byte).into() } else { format!("\\x{byte:02x}") };
+    let bytes: String = word.iter().take(MOST_OF_WORD).map(byte).collect();
+    if word.len() > MOST_OF_WORD { bytes + ".." } else { bytes }
+}

@@ -1,0 +1,79 @@
+//! Reports as large as the limits let them be: 256 fields, 65,535 places, 8,192 bytes.
+
+use wuzhikar_hid::{Asked, Kind, Reader, Setting, Target, WriteError};
+
+fn reader(start: &[u8], again: &[u8], times: usize, end: &[u8]) -> Reader {
+    Reader::new(&[start, &again.repeat(times), end].concat()).expect("a descriptor")
+}
+
+/// 255 fields of 256 places of a bit and one of 255, all of the usage 00010030h.
+fn many_places() -> Reader {
+    let start = [0x05, 0x01, 0x15, 0x00, 0x25, 0x01, 0x75, 0x01, 0x96, 0x00, 0x01];
+    reader(&start, &[0x09, 0x30, 0x81, 0x02], 255, &[0x95, 0xFF, 0x09, 0x30, 0x81, 0x02])
+}
+
+/// Eight Arrays of 1,024 places of a byte, for the usages 00070000h to 000700FFh.
+fn many_keys() -> Reader {
+    let start = [0x05, 0x07, 0x15, 0x00, 0x26, 0xFF, 0x00, 0x75, 0x08, 0x96, 0x00, 0x04];
+    reader(&start, &[0x19, 0x00, 0x29, 0xFF, 0x81, 0x00], 8, &[])
+}
+
+/// Eight fields of 1,024 places of a byte with Null State.
+fn many_nulls() -> Reader {
+    let start = [0x05, 0x01, 0x15, 0x00, 0x26, 0xFE, 0x00, 0x75, 0x08, 0x96, 0x00, 0x04];
+    reader(&start, &[0x09, 0x39, 0x81, 0x42], 8, &[])
+}
+
+fn at_place(field: usize, place: usize, value: i64) -> Setting {
+    Setting { target: Target::Field { field, place }, asked: Asked::Value(value) }
+}
+
+fn of_usage(usage: u32, place: usize, value: i64) -> Setting {
+    Setting { target: Target::Usage { usage, place }, asked: Asked::Value(value) }
+}
+
+fn written(reader: &Reader, settings: &[Setting]) -> Result<Vec<u8>, WriteError> {
+    reader.write(Kind::Input, 0, settings, None)
+}
+
+fn count(bytes: &[u8], wanted: u8) -> usize {
+    bytes.iter().filter(|&&byte| byte == wanted).count()
+}
+
+#[test]
+fn the_last_of_65535_places() {
+    let reader = many_places();
+    let report = written(&reader, &[of_usage(0x1_0030, 65_534, 1)]).expect("a report");
+    assert_eq!((report.len(), report[8_191], count(&report, 0)), (8_192, 0x40, 8_191));
+    assert_eq!(written(&reader, &[of_usage(0x1_0030, 65_535, 1)]), Err(WriteError::Unknown(0)));
+    let last_twice = [at_place(255, 254, 1), of_usage(0x1_0030, 65_534, 0)];
+    assert_eq!(written(&reader, &last_twice), Err(WriteError::Twice(1)));
+}
+
+#[test]
+fn each_of_65535_places() {
+    let reader = many_places();
+    let mut settings: Vec<Setting> = (0..65_535).map(|place| at_place(place / 256, place % 256, 1)).collect();
+    let report = written(&reader, &settings).expect("a report");
+    assert_eq!((count(&report, 0xFF), report[8_191]), (8_191, 0x7F));
+    assert_eq!(reader.read(Kind::Input, &report).expect("a report").filter(|value| value.raw == 1).count(), 65_535);
+    settings.push(at_place(0, 0, 1));
+    assert_eq!(written(&reader, &settings), Err(WriteError::Twice(65_535)));
+}
+
+/// Each key but the first one is set on the last Array, and then one is taken away.
+#[test]
+fn arrays_of_1024_places() {
+    let reader = many_keys();
+    let keys: Vec<Setting> = (0x7_0001..0x7_0100).map(|usage| of_usage(usage, 7, 1)).collect();
+    let all = written(&reader, &keys).expect("a report");
+    assert_eq!((all.len(), all[7_168], all[7_422], count(&all, 0)), (8_192, 1, 255, 7_937));
+    let off = reader.write(Kind::Input, 0, &[of_usage(0x7_0081, 7, 0)], Some(&all)).expect("a report");
+    assert_eq!((off[7_296], count(&off, 0)), (0, 7_938));
+}
+
+#[test]
+fn nulls_in_8192_places() {
+    let report = written(&many_nulls(), &[at_place(7, 1_023, 5)]).expect("a report");
+    assert_eq!((count(&report, 0xFF), report[8_191]), (8_191, 5));
+}

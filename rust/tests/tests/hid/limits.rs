@@ -1,0 +1,90 @@
+//! Texts of the greatest length, and numbers that are as large as they can be.
+
+use wuzhikar_hid::{Details, Kind, Naming, details, namings};
+
+/// A text of 4,096 bytes: these, and then the others over and over.
+fn filled(start: &[u8], again: &[u8]) -> Vec<u8> {
+    start.iter().chain(again.iter().cycle()).take(4096).copied().collect()
+}
+
+/// The same whose last two bytes are a data item.
+fn ended(start: &[u8], again: &[u8]) -> Vec<u8> {
+    let mut text = filled(start, again);
+    text[4094..].copy_from_slice(&[0x81, 2]);
+    text
+}
+
+fn told(text: &[u8]) -> Details {
+    details(text).expect("memory")
+}
+
+/// How many data items there are, the last one's first bit, ID and collection; how many collections, and the one around the
+/// last one.
+fn counts(told: &Details) -> String {
+    let last = told.fields.last().map(|detail| (detail.bit, detail.id, detail.inside));
+    let inner = told.collections.last().map(|inner| inner.outer);
+    format!("{} {last:?} {} {inner:?}", told.fields.len(), told.collections.len())
+}
+
+const ONE_BIT: [u8; 4] = [0x75, 1, 0x95, 1];
+
+#[test]
+fn as_many_data_items_as_there_can_be() {
+    let told = told(&filled(&ONE_BIT, &[0x81, 2]));
+    assert_eq!(counts(&told), "2046 Some((2045, 0, None)) 0 None");
+}
+
+/// Each within the one before.
+#[test]
+fn as_many_collections_as_there_can_be() {
+    assert_eq!(counts(&told(&filled(&[], &[0xA1, 1]))), "0 None 2048 Some(Some(2046))");
+}
+
+#[test]
+fn as_many_collections_around_as_there_can_be() {
+    let told = told(&ended(&ONE_BIT, &[0xA1, 1]));
+    assert!(told.around(0).eq(0..2045));
+    assert_eq!(told.application(0), Some(2044));
+}
+
+/// 4,089 Pushes, and what is in force after them.
+#[test]
+fn as_many_pushes_as_there_can_be() {
+    assert_eq!(counts(&told(&ended(&ONE_BIT, &[0xA4]))), "1 Some((0, 0, None)) 0 None");
+}
+
+/// Items of 2 ^ 64 - 2 ^ 33 + 1 bits, of which 64 bits count one.
+#[test]
+fn bits_past_what_64_bits_count() {
+    let start = [0x77, 0xFF, 0xFF, 0xFF, 0xFF, 0x97, 0xFF, 0xFF, 0xFF, 0xFF];
+    assert_eq!(counts(&told(&filled(&start, &[0x81, 2]))), "2043 Some((18446744073709551615, 0, None)) 0 None");
+}
+
+/// 256 fields of one report in an application, with a string each.
+#[test]
+fn as_many_fields_as_a_descriptor_has() {
+    let mut text = filled(&[0xA1, 1, 0x75, 1, 0x95, 1], &[0x79, 9, 0x81, 2]);
+    text.truncate(6 + 256 * 4);
+    text.push(0xC0);
+    let told = told(&text);
+    let places = |placed: &mut dyn Iterator<Item = usize>| placed.collect::<Vec<_>>();
+    assert_eq!(places(&mut told.data_fields().map(|it| it.place)), Vec::from_iter(0..256));
+    assert_eq!(places(&mut told.report(Kind::Input, 0).map(|it| it.place)), Vec::from_iter(0..256));
+    assert_eq!(told.padding().count(), 0);
+    assert_eq!(told.reports().last().map(|facts| facts.bits), Some(256));
+    assert_eq!(told.reports_of(0).last(), Some((Kind::Input, 0)));
+    assert_eq!(told.applications_of(Kind::Input, 0).last().map(|found| found.0), Some(0));
+    assert_eq!(told.around(255).last(), Some(0));
+    assert_eq!(namings(&text, 1028, Naming::String).last(), Some(9..=9));
+}
+
+/// 2,046 data items of padding, and 2,047 strings.
+#[test]
+fn as_much_as_there_can_be_is_asked() {
+    let padded = told(&filled(&ONE_BIT, &[0x81, 3]));
+    assert_eq!(padded.padding().last().map(|it| it.place), Some(2045));
+    assert_eq!(padded.data_fields().count(), 0);
+    assert_eq!(padded.reports().map(|facts| facts.bits).collect::<Vec<_>>(), [2046]);
+    let text = ended(&[], &[0x79, 7]);
+    assert_eq!(namings(&text, 4094, Naming::String).collect::<Vec<_>>(), vec![7..=7; 2047]);
+}

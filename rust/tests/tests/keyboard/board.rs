@@ -1,0 +1,117 @@
+//! A keyboard and its flash, and lines of a session: a call, and behind ` = ` what it answers.
+//!
+//! ```text
+//! setup BYTES           a SETUP packet
+//! out BYTES = ack       an OUT packet; or `nak`, `stall NUMBER`
+//! in = data BYTES       an IN token; or `nak`, `stall NUMBER`; `-` is the empty packet
+//! scans COUNT KEYS      so many equal scans
+//! poll = BYTES          the report of a poll, or `nak`
+//! work BYTES = working  a step of the flash work, torn by a mask if there are bytes; or `idle`, `settled`, `failed`
+//! cut BYTES             the power is cut, inside a step torn by the mask if there are bytes
+//! reset                 a bus reset
+//! leds = BYTE           the LEDs
+//! usage BYTE = 01       whether a usage of page 07h is held
+//! entry LAYER KEY = CODE
+//! slot PAGE SLOT = BYTES
+//! ```
+
+use wuzhikar::{EpAnswer, KeyNo, Keyboard, LayerNo, Mask, NorFlash, Scan, SimFlash, Work};
+use wuzhikar_tests::{bytes, expect, hex, images, number, repeated, word};
+
+pub struct Board {
+    pub keyboard: Keyboard,
+    pub flash: SimFlash,
+}
+
+impl Board {
+    pub fn on(flash: SimFlash) -> Board {
+        Board { keyboard: Keyboard::on(&flash).unwrap(), flash }
+    }
+
+    pub fn blank(pages: usize) -> Board {
+        Board::on(SimFlash::blank(pages).expect("a flash"))
+    }
+
+    pub fn rows(&mut self, script: &str) {
+        expect(script, |ask| self.take(ask));
+    }
+
+    /// The codes of all entries.
+    pub fn table(&self) -> images::Table {
+        let entry = |place: u16| {
+            let (layer, key) = (LayerNo::read((place / 96) as u8), KeyNo::read((place % 96) as u8));
+            self.keyboard.keymap().get(layer.expect("a layer"), key.expect("a key")).bits()
+        };
+        (0..384).map(entry).collect()
+    }
+
+    /// A step of the flash work, torn by a mask if there is one.
+    pub fn work(&mut self, mask: Option<&[u8]>) -> Work {
+        if let Some(mask) = mask {
+            self.flash.fault_next(Mask::try_from(mask).expect("a mask"));
+        }
+        let work = self.keyboard.work(&mut self.flash);
+        self.flash.disarm();
+        work
+    }
+
+    pub fn cut(&mut self) {
+        self.keyboard.restart(&self.flash);
+    }
+
+    fn take(&mut self, ask: &str) -> String {
+        match word(ask) {
+            ("setup", packet) => self.keyboard.setup(bytes(packet).try_into().expect("eight bytes")),
+            ("out", packet) => return answered(&self.keyboard.out(&repeated(packet))),
+            ("in", _) => return answered(&self.keyboard.in_packet()),
+            ("scans", rest) => self.scans(rest),
+            ("poll", _) => return self.keyboard.poll().map_or("nak".into(), |report| hex(&report)),
+            ("work", mask) => return format!("{:?}", self.work(mask_of(mask).as_deref())).to_lowercase(),
+            ("cut", mask) => {
+                if let Some(mask) = mask_of(mask) {
+                    let _torn = self.work(Some(&mask));
+                }
+                self.cut();
+            }
+            ("reset", _) => self.keyboard.bus_reset(),
+            ("leds", _) => return hex(&[self.keyboard.leds()]),
+            ("usage", usage) => return hex(&[u8::from(self.keyboard.usages().has_key(bytes(usage)[0]))]),
+            ("entry", rest) => {
+                let (layer, key) = two(rest);
+                return format!("{:04x}", self.table()[96 * layer + key]);
+            }
+            ("slot", rest) => {
+                let (page, slot) = two(rest);
+                return hex(&self.flash.read_slot(page, slot));
+            }
+            _ => panic!("no call: {ask}"),
+        }
+        String::new()
+    }
+
+    fn scans(&mut self, rest: &str) {
+        let (count, keys) = word(rest);
+        let keys = keys.split_whitespace().map(|key| KeyNo::read(number(key)).expect("a key"));
+        let scan = keys.fold(Scan::NONE, |scan, key| scan.with_key(key, true));
+        (0..number(count)).for_each(|_: u32| self.keyboard.scan(scan));
+    }
+}
+
+fn two(rest: &str) -> (usize, usize) {
+    let (one, other) = word(rest);
+    (number(one), number(other))
+}
+
+fn mask_of(digits: &str) -> Option<Vec<u8>> {
+    (!digits.is_empty()).then(|| bytes(digits))
+}
+
+fn answered(answer: &EpAnswer) -> String {
+    match answer {
+        EpAnswer::Ack => "ack".into(),
+        EpAnswer::Nak => "nak".into(),
+        EpAnswer::Stall(why) => format!("stall {}", why.number()),
+        EpAnswer::Packet(packet) if packet.is_empty() => "data -".into(),
+        EpAnswer::Packet(packet) => format!("data {}", hex(packet)),
+    }
+}

@@ -1,0 +1,6 @@
+//! What `wuzhikar` does: endpoint 0, the keys, and commands that outlive faults and cuts.
+
+mod board;
+mod commands;
+mod endpoint;
+mod sessions;

@@ -1,0 +1,10 @@
+//! What `wuzhikar-log` does: a flash in memory, the log of words on it, and the adapter for flash with error correction.
+
+mod flash;
+mod images;
+mod mounted;
+mod paired;
+mod rows;
+mod steps;
+mod torn;
+mod turns;

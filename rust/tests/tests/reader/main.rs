@@ -1,0 +1,8 @@
+//! What `wuzhikar-reader` says of report descriptors and of reports.
+
+mod faults;
+mod fields;
+mod large;
+mod pieces;
+mod questions;
+mod texts;

@@ -1,0 +1,73 @@
+"""Faults that are planted in the firmware: each has to be found by the test that would find it in a maker's."""
+
+import re
+from typing import NamedTuple
+
+
+class Edit(NamedTuple):
+    """What stands once in a file, and what takes its place."""
+
+    path: str
+    old: str
+    new: str
+
+
+class Fault(NamedTuple):
+    """A fault: what is wrong, its edits, the test that finds it, and how it is told."""
+
+    name: str
+    edits: list[Edit]
+    test: list[str]
+    found: str
+
+
+FIRMWARE = "examples/chip_nrf51/src"
+LOG = "rust/wuzhikar-log/src/parts/records"
+ERASE = "for at in (from..to)"
+
+FAULTS = [
+    Fault("the host is told before a command is stored",
+          [Edit(f"{FIRMWARE}/token.rs", "EpAnswer::Nak => Frame::of(b'N')", "EpAnswer::Nak => Frame::data(&[])")],
+          ["random", "300", "1"], "LOST"),
+    Fault("the second word of a slot is never programmed",
+          [Edit(f"{FIRMWARE}/nvmc.rs", "bytes.chunks_exact(4)) {\n            let word", "bytes.chunks_exact(4).take(1)) {\n            let word")],
+          ["random", "300", "1"], "LOST|refused|BROKEN"),
+    Fault("an erase leaves the last 1,024 bytes of a page",
+          [Edit(f"{FIRMWARE}/nvmc.rs", ERASE, "for at in (from..to - UNIT)")], ["random", "500", "1"], "LOST|BROKEN"),
+    Fault("an erase begins 1,024 bytes too early",
+          [Edit(f"{FIRMWARE}/nvmc.rs", ERASE, "for at in (from - UNIT..to)")], ["operations", "37"], "LOST|BROKEN"),
+    Fault("the flash controller is left open",
+          [Edit(f"{FIRMWARE}/nvmc.rs", "write(CONFIG, before);", "let _ = before;")], ["session"], "left open: true"),
+    Fault("a word is taken without its complement",
+          [Edit(f"{LOG}.rs", "} else if check == !word {", "} else if word != u32::MAX {"),
+           Edit(f"{LOG}/kernels.rs", "good: ones_of(words ^ checks)", "good: !ones_of(words & checks)")],
+          ["words", "8"], "LOST"),
+    Fault("RAM is read before it is written",
+          [Edit(f"{FIRMWARE}/main.rs", '"bhs 2f"', '"b 2f"'),
+           Edit("rust/wuzhikar/src/parts/keyboard/keyboard.rs", "self.keys.restart();", "")],
+          ["random", "100", "1"], "WRONG|a frame"),
+]
+
+
+def plant(root, fault):
+    """Plants a fault in a copy of the repository's folders; what gives the files back."""
+    kept = {}
+    for path, old, new in fault.edits:
+        with open(f"{root}/{path}", encoding="utf-8") as file:
+            text = kept[path] = file.read()
+        if text.count(old) != 1:
+            raise LookupError(f"{path} has {old!r} {text.count(old)} times, not once")
+        with open(f"{root}/{path}", "w", encoding="utf-8") as file:
+            file.write(text.replace(old, new))
+
+    def mend():
+        for path, text in kept.items():
+            with open(f"{root}/{path}", "w", encoding="utf-8") as file:
+                file.write(text)
+
+    return mend
+
+
+def is_found(fault, passed, told):
+    """Whether what the test told is that this fault is there, and no other."""
+    return not passed and re.search(fault.found, told) is not None

@@ -1,0 +1,398 @@
+// SPDX-License-Identifier: MIT OR Apache-2.0
+//! The chip: QEMU's machine "microbit" with the plugin `switch.so`.
+
+use std::ffi::{c_int, c_short, c_ulong};
+use std::io::{BufRead, BufReader, Error, ErrorKind, Read, Result, Write};
+use std::os::fd::AsRawFd;
+use std::os::unix::net::{UnixListener, UnixStream};
+use std::path::Path;
+use std::process::{Child, Command, Stdio};
+
+/// The last bytes of the flash, which the rig keeps while the power is off.
+pub const REGION: usize = 32 * 1024;
+/// The log's, at the end of them.
+pub const LOG: usize = 8 * 1024;
+/// What stands beside the log, and has to stay.
+const BESIDE: u8 = 0x5a;
+
+#[repr(C)]
+struct PollFd {
+    fd: c_int,
+    events: c_short,
+    revents: c_short,
+}
+
+unsafe extern "C" {
+    fn poll(fds: *mut PollFd, count: c_ulong, timeout: c_int) -> c_int;
+}
+
+/// Where the power goes.
+#[derive(Clone, Copy, Debug)]
+pub struct Order {
+    pub tick: u64,
+    pub operation: u64,
+    pub seed: u64,
+    /// Of 256: how many bits of a torn operation are left undone; 257 for a number that is drawn.
+    pub undone: u32,
+    pub noise: bool,
+    /// How long a program of a word and an erase of 1 KiB take.
+    pub takes: [u32; 2],
+}
+
+impl Order {
+    /// A word takes 46 us, a page of 1 KiB 22.3 ms, at 16 MHz and a tick for an instruction.
+    pub const NEVER: Order = Order { tick: u64::MAX, operation: 0, seed: 1, undone: 257, noise: true, takes: [736, 356_800] };
+}
+
+/// What the switch tells at a start or a cut.
+#[derive(Clone, Debug, Default)]
+pub struct Told {
+    pub cut: bool,
+    pub ticks: u64,
+    pub instructions: u64,
+    pub operations: u64,
+    /// 0 between two operations of the flash, 1 inside a program, 2 inside an erase.
+    pub inside: u64,
+    /// Words that were programmed while they were not blank, or more than twice, and operations outside of the log.
+    pub broken: [u64; 3],
+    pub erases: u64,
+    pub stack: u64,
+}
+
+#[derive(Clone, Debug, PartialEq, Eq)]
+pub struct Frame {
+    pub kind: u8,
+    pub leds: u8,
+    pub change: [u8; 2],
+    pub bytes: Vec<u8>,
+}
+
+/// Why there is no answer.
+#[derive(Debug)]
+pub enum Lost {
+    /// The power went.
+    Cut,
+    /// The firmware says nothing for 15 seconds, or what is no frame.
+    Dead(String),
+    Io(Error),
+}
+
+impl From<Error> for Lost {
+    fn from(error: Error) -> Lost {
+        Lost::Io(error)
+    }
+}
+
+pub struct Chip {
+    qemu: Child,
+    uart: UnixStream,
+    switch: UnixStream,
+    qmp: BufReader<UnixStream>,
+    /// The flash while the power is off.
+    pub flash: Vec<u8>,
+    pub told: Told,
+    came: Vec<u8>,
+    /// Whether the switch holds the processor at a cut.
+    held: bool,
+    /// Whether the chip has a flash that the rig does not know.
+    on: bool,
+    /// How often three seconds went by without an answer.
+    pub slow: u64,
+}
+
+fn qemu(firmware: &Path, plugin: &Path, folder: &Path) -> Result<Child> {
+    let at = |name: &str| folder.join(name).display().to_string();
+    Command::new("qemu-system-arm")
+        .args(["-M", "microbit", "-nodefaults", "-display", "none", "-accel", "tcg,thread=single,tb-size=32"])
+        .arg("-kernel")
+        .arg(firmware)
+        .args(["-chardev", &format!("socket,id=uart,path={}", at("uart")), "-serial", "chardev:uart"])
+        .args(["-qmp", &format!("unix:{}", at("qmp"))])
+        .args(["-plugin", &format!("{},rig={}", plugin.display(), at("switch"))])
+        .stdin(Stdio::null())
+        .spawn()
+}
+
+/// The connection that QEMU makes, unless it ends before.
+fn accepted(listener: &UnixListener, qemu: &mut Child) -> Result<UnixStream> {
+    listener.set_nonblocking(true)?;
+    loop {
+        match listener.accept() {
+            Ok((stream, _)) => return Ok(stream),
+            Err(error) if error.kind() != ErrorKind::WouldBlock => return Err(error),
+            Err(_) => std::thread::sleep(std::time::Duration::from_millis(5)),
+        }
+        if let Some(status) = qemu.try_wait()? {
+            return Err(Error::other(format!("it ended at its start, {status}")));
+        }
+    }
+}
+
+impl Chip {
+    /// A chip without power, with an erased region.
+    pub fn new(firmware: &Path, plugin: &Path, folder: &Path) -> Result<Chip> {
+        std::fs::create_dir_all(folder)?;
+        let listen = |name: &str| {
+            let path = folder.join(name);
+            let _ = std::fs::remove_file(&path);
+            UnixListener::bind(path)
+        };
+        let (uart, switch, qmp) = (listen("uart")?, listen("switch")?, listen("qmp")?);
+        let mut qemu = qemu(firmware, plugin, folder)?;
+        let (uart, switch, qmp) = (accepted(&uart, &mut qemu)?, accepted(&switch, &mut qemu)?, accepted(&qmp, &mut qemu)?);
+        let mut chip = Chip {
+            qemu,
+            uart,
+            switch,
+            qmp: BufReader::new(qmp),
+            flash: [vec![BESIDE; REGION - LOG], vec![0xff; LOG]].concat(),
+            told: Told::default(),
+            came: Vec::new(),
+            held: false,
+            on: false,
+            slow: 0,
+        };
+        chip.qmp.read_line(&mut String::new())?;
+        chip.ask_qmp("qmp_capabilities")?;
+        chip.hear_switch()?;
+        Ok(chip)
+    }
+
+    fn ask_qmp(&mut self, command: &str) -> Result<()> {
+        self.qmp.get_mut().write_all(format!("{{\"execute\":\"{command}\"}}\n").as_bytes())?;
+        self.hear_qmp()
+    }
+
+    fn hear_qmp(&mut self) -> Result<()> {
+        loop {
+            let mut line = String::new();
+            if self.qmp.read_line(&mut line)? == 0 {
+                return Err(ErrorKind::UnexpectedEof.into());
+            }
+            if line.contains("\"return\"") {
+                return Ok(());
+            }
+        }
+    }
+
+    /// Makes QEMU look at the UART again: its model of an nRF51 does not say that it takes bytes from now on.
+    pub fn begin(&mut self) -> std::result::Result<Frame, Lost> {
+        self.ask_qmp("query-status")?;
+        self.ask(b"\x16\x16\x16\x16\x16\x16\x16\x16\x16\x16\x16\x16\x16\x16\x17")
+    }
+
+    /// What QEMU's monitor says in answer to a line.
+    fn monitor(&mut self, line: &str) -> Result<String> {
+        let ask = format!(r#"{{"execute":"human-monitor-command","arguments":{{"command-line":"{line}"}}}}"#);
+        self.qmp.get_mut().write_all(format!("{ask}\n").as_bytes())?;
+        loop {
+            let mut told = String::new();
+            if self.qmp.read_line(&mut told)? == 0 || told.contains("\"return\"") {
+                return Ok(told);
+            }
+        }
+    }
+
+    /// Whether the flash controller (CONFIG) lets words be programmed or pages be erased now.
+    pub fn flash_is_open(&mut self) -> Result<bool> {
+        let told = self.monitor("xp /1wx 0x4001e504")?;
+        match told.split("0x").last().map(|word| &word[..word.len().min(8)]) {
+            Some("00000000") => Ok(false),
+            Some("00000001" | "00000002") => Ok(true),
+            _ => Err(Error::other(format!("CONFIG is not told: {told}"))),
+        }
+    }
+
+    /// What Linux says of QEMU's threads: the state, and the ticks of each.
+    fn threads(&self) -> String {
+        let folder = format!("/proc/{}/task", self.qemu.id());
+        let tasks = std::fs::read_dir(folder).into_iter().flatten().flatten();
+        let told = tasks.filter_map(|task| {
+            let stat = std::fs::read_to_string(task.path().join("stat")).ok()?;
+            let wchan = std::fs::read_to_string(task.path().join("wchan")).unwrap_or_default();
+            let words: Vec<&str> = stat.split_whitespace().collect();
+            Some(format!("[{} {} {} {wchan}]", words.get(1)?, words.get(2)?, words.get(13)?))
+        });
+        told.collect()
+    }
+
+    fn hear_switch(&mut self) -> Result<()> {
+        let mut bytes = [0; 8 * 10];
+        self.switch.read_exact(&mut bytes)?;
+        let number = |at: usize| u64::from_le_bytes(std::array::from_fn(|i| bytes[8 * at + i]));
+        self.told = Told {
+            cut: number(0) == 1,
+            ticks: number(1),
+            instructions: number(2),
+            operations: number(3),
+            inside: number(4),
+            broken: [number(5), number(6), number(7)],
+            erases: number(8),
+            stack: number(9),
+        };
+        let mut flash = vec![0; REGION];
+        self.switch.read_exact(&mut flash)?;
+        if self.told.cut || self.on {
+            self.flash = flash;
+        }
+        self.on = false;
+        Ok(())
+    }
+
+    /// Which of both sockets have something, after so many milliseconds at most.
+    fn wait(&self, milliseconds: c_int) -> (bool, bool) {
+        const IN: c_short = 1;
+        let watch = |socket: &UnixStream| PollFd { fd: socket.as_raw_fd(), events: IN, revents: 0 };
+        let mut both = [watch(&self.uart), watch(&self.switch)];
+        // SAFETY: two structs of the C library's shape.
+        unsafe { poll(both.as_mut_ptr(), 2, milliseconds) };
+        (both[0].revents != 0, both[1].revents != 0)
+    }
+
+    /// Takes what the UART has said.
+    fn drain(&mut self) -> Result<()> {
+        while self.wait(0).0 {
+            let mut bytes = [0; 1024];
+            let count = self.uart.read(&mut bytes)?;
+            if count == 0 {
+                return Err(ErrorKind::UnexpectedEof.into());
+            }
+            self.came.extend(&bytes[..count]);
+        }
+        Ok(())
+    }
+
+    /// The next frame.
+    pub fn frame(&mut self) -> std::result::Result<Frame, Lost> {
+        let mut waited = 0;
+        loop {
+            // What was said before a cut is heard before it.
+            if let Some(frame) = self.take_frame()? {
+                return Ok(frame);
+            }
+            if self.held {
+                return Err(Lost::Cut);
+            }
+            match self.wait(3_000) {
+                (_, true) => {
+                    self.hear_switch()?;
+                    if !self.told.cut {
+                        return Err(Lost::Dead("the chip was reset".to_string()));
+                    }
+                    self.held = true;
+                    self.drain()?;
+                }
+                (true, false) => self.drain()?,
+                (false, false) if waited < 4 => {
+                    waited += 1;
+                    self.slow += 1;
+                }
+                (false, false) => {
+                    let (registers, threads) = (self.monitor("info registers")?, self.threads());
+                    return Err(Lost::Dead(format!("nothing for 15 seconds, {registers}, {threads}")));
+                }
+            }
+        }
+    }
+
+    fn take_frame(&mut self) -> std::result::Result<Option<Frame>, Lost> {
+        let [kind, leds, change, value, length, rest @ ..] = &self.came[..] else { return Ok(None) };
+        if !b"BkANSD".contains(kind) {
+            return Err(Lost::Dead(format!("a frame {:02x?}", self.came)));
+        }
+        let Some(bytes) = rest.get(..usize::from(*length)) else { return Ok(None) };
+        let frame = Frame { kind: *kind, leds: *leds, change: [*change, *value], bytes: bytes.to_vec() };
+        self.came.drain(..5 + frame.bytes.len());
+        Ok(Some(frame))
+    }
+
+    /// The answer to a request.
+    pub fn ask(&mut self, request: &[u8]) -> std::result::Result<Frame, Lost> {
+        if !self.held {
+            self.uart.write_all(request)?;
+        }
+        self.frame()
+    }
+
+    /// Puts these bytes into the log's pages while the power is off.
+    pub fn put(&mut self, log: &[u8]) {
+        self.flash[REGION - LOG..].copy_from_slice(log);
+    }
+
+    /// What the switch told at the cut: whether the firmware broke a promise to the flash.
+    pub fn keeps_its_bounds(&self) -> std::result::Result<(), Lost> {
+        let [not_blank, often, outside] = self.told.broken;
+        if self.told.broken != [0; 3] || self.flash[..REGION - LOG].iter().any(|byte| *byte != BESIDE) {
+            let why = format!("{not_blank} words not blank, {often} more than twice, {outside} operations outside of the log");
+            return Err(Lost::Dead(format!("BROKEN, what was programmed or erased: {why}, or what stands beside the log")));
+        }
+        Ok(())
+    }
+
+    /// The power comes, and goes again as ordered. Behind a cut the machine is reset; what it says before that is lost.
+    pub fn power(&mut self, order: Order) -> Result<()> {
+        if self.held {
+            self.reset()?;
+        }
+        if self.told.cut {
+            return Err(Error::other("the switch has not told a start"));
+        }
+        self.on = true;
+        let mut bytes = order.bytes();
+        bytes.extend(&self.flash);
+        self.switch.write_all(&bytes)
+    }
+
+    /// Orders a cut while the chip runs: its operation is counted from here on.
+    pub fn order(&mut self, order: Order) -> Result<()> {
+        self.switch.write_all(&order.bytes())
+    }
+
+    /// The power goes now, between two operations, where the processor sleeps or begins a block of instructions.
+    pub fn cut(&mut self) -> Result<()> {
+        if self.held {
+            return Ok(());
+        }
+        self.reset()
+    }
+
+    /// Resets the machine, and drops what it says before. The answer by QMP may come behind the reset, which waits for the processor.
+    fn reset(&mut self) -> Result<()> {
+        self.qmp.get_mut().write_all(b"{\"execute\":\"system_reset\"}\n")?;
+        if self.held {
+            std::thread::sleep(std::time::Duration::from_micros(300));
+            self.switch.write_all(b"g")?;
+        }
+        self.hear_switch()?;
+        if self.told.cut {
+            // The cut that was ordered came first.
+            self.switch.write_all(b"g")?;
+            self.hear_switch()?;
+        }
+        self.hear_qmp()?;
+        self.drain()?;
+        self.came.clear();
+        self.held = false;
+        Ok(())
+    }
+}
+
+impl Order {
+    fn bytes(&self) -> Vec<u8> {
+        let mut bytes = Vec::new();
+        for number in [self.tick, self.operation, self.seed] {
+            bytes.extend(number.to_le_bytes());
+        }
+        for number in [self.undone, self.takes[0], self.takes[1], self.noise.into()] {
+            bytes.extend(number.to_le_bytes());
+        }
+        bytes
+    }
+}
+
+impl Drop for Chip {
+    fn drop(&mut self) {
+        let _ = self.qemu.kill();
+        let _ = self.qemu.wait();
+    }
+}

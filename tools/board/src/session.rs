@@ -1,0 +1,39 @@
+// SPDX-License-Identifier: MIT OR Apache-2.0
+//! A session with one cut, told line by line.
+
+use crate::Shop;
+use crate::chip::{Chip, Lost, Order};
+use crate::host::{self, Answer};
+use crate::model::Command;
+
+fn press(chip: &mut Chip) -> Answer<()> {
+    for keys in [&[0][..], &[]] {
+        for _ in 0..5 {
+            host::scan(chip, keys)?;
+        }
+        println!("endpoint 1: {:02x?}", &host::poll(chip)?[..4]);
+    }
+    Ok(())
+}
+
+fn power(chip: &mut Chip, order: Order) -> Answer<()> {
+    chip.power(order)?;
+    host::start(chip)?;
+    host::enumerate(chip)?;
+    println!("the power comes; the device has an address and is configured");
+    press(chip)
+}
+
+pub fn run(shop: &Shop) -> Answer<()> {
+    let mut chip = shop.chip()?;
+    power(&mut chip, Order::NEVER)?;
+    let set = |code| Command { operation: 1, layer: 0, key: 0, code };
+    println!("key 0 is to be a b; stored: {}", host::command(&mut chip, set(5))?);
+    println!("the flash controller is left open: {}", chip.flash_is_open()?);
+    chip.order(Order { operation: 1, undone: 128, ..Order::NEVER })?;
+    match host::command(&mut chip, set(6)) {
+        Err(Lost::Cut) => println!("key 0 is to be a c; the power goes inside the first word of it, which is torn"),
+        other => return Err(Lost::Dead(format!("no cut, {other:?}"))),
+    }
+    power(&mut chip, Order::NEVER)
+}

@@ -1,0 +1,243 @@
+// SPDX-License-Identifier: MIT OR Apache-2.0
+// The power switch: a plugin of QEMU 7.2 for the machine "microbit" with examples/chip_nrf51. It counts instructions, lets flash operations take their time,
+// and cuts the power at a tick or inside an operation of the flash, which is torn. The rig is at the other end of a socket.
+//
+// At the start the rig sends a struct order and the bytes of the log's region; at a cut it gets a struct told and these bytes, resets
+// the machine while the processor is held, and answers one byte. What the processor does until the reset takes effect is undone:
+// the region is the rig's at each start, and the RAM begins as noise.
+#include <signal.h>
+#include <stdbool.h>
+#include <stddef.h>
+#include <stdint.h>
+#include <stdio.h>
+#include <stdlib.h>
+#include <string.h>
+#include <sys/prctl.h>
+#include <sys/socket.h>
+#include <sys/un.h>
+#include <unistd.h>
+
+// What is used of qemu-plugin.h, version 1 of its API, which Debian does not package.
+typedef uint64_t qemu_plugin_id_t;
+struct qemu_plugin_tb;
+struct qemu_plugin_insn;
+typedef uint32_t qemu_plugin_meminfo_t;
+enum { NO_REGS, MEM_WRITE = 2 };
+__attribute__((visibility("default"))) int qemu_plugin_version = 1;
+extern void qemu_plugin_register_vcpu_tb_trans_cb(qemu_plugin_id_t, void (*)(qemu_plugin_id_t, struct qemu_plugin_tb *));
+extern size_t qemu_plugin_tb_n_insns(const struct qemu_plugin_tb *);
+extern struct qemu_plugin_insn *qemu_plugin_tb_get_insn(const struct qemu_plugin_tb *, size_t);
+extern uint64_t qemu_plugin_insn_vaddr(const struct qemu_plugin_insn *);
+extern void *qemu_plugin_insn_haddr(const struct qemu_plugin_insn *);
+extern void qemu_plugin_register_vcpu_insn_exec_cb(struct qemu_plugin_insn *, void (*)(unsigned, void *), int, void *);
+extern void qemu_plugin_register_vcpu_mem_cb(struct qemu_plugin_insn *, void (*)(unsigned, qemu_plugin_meminfo_t, uint64_t, void *), int, int, void *);
+extern bool qemu_plugin_mem_is_store(qemu_plugin_meminfo_t);
+extern void *qemu_plugin_get_hwaddr(qemu_plugin_meminfo_t, uint64_t);
+
+enum { FLASH = 256 * 1024, REGION = 32 * 1024, FIRST = FLASH - REGION, LOG = FLASH - 8 * 1024, UNIT = 1024 };
+static const uint64_t RAM = 0x20000000, RAM_BYTES = 16 * 1024, ERASE_PAGE = 0x4001E508;
+
+struct order { // where the power goes
+    uint64_t tick;      // at this tick
+    uint64_t operation; // inside this operation of the flash, counted from 1
+    uint64_t seed;
+    uint32_t undone;    // of 256: how many of an operation's bits are left undone; above 256 drawn
+    uint32_t program_ticks, erase_ticks;
+    uint32_t ram;       // 1: the RAM begins as noise
+};
+
+struct told {
+    uint64_t kind; // 0 a start, 1 a cut
+    uint64_t ticks, instructions, operations;
+    uint64_t inside; // 0 between two operations, 1 inside a program, 2 inside an erase
+    uint64_t not_blank, often, outside; // promises to the flash that were broken
+    uint64_t erases, stack;
+};
+
+static int rig = -1;
+static uint8_t *flash, *ram;
+static uint8_t shadow[FLASH], writes[FLASH / 4];
+static uint64_t reset_at, bss_end;
+static struct order order;
+static struct told told;
+static bool dead = true;
+static uint64_t lowest = RAM_BYTES;
+static uint64_t noise = 88172645463325252u;
+
+static uint64_t draw(void)
+{
+    noise ^= noise << 13;
+    noise ^= noise >> 7;
+    noise ^= noise << 17;
+    return noise;
+}
+
+static void give(const void *bytes, size_t length)
+{
+    for (const uint8_t *at = bytes; length;) {
+        ssize_t n = write(rig, at, length);
+        if (n <= 0) _exit(3);
+        at += n;
+        length -= (size_t)n;
+    }
+}
+
+static void get(void *bytes, size_t length)
+{
+    for (uint8_t *at = bytes; length;) {
+        ssize_t n = read(rig, at, length);
+        if (n <= 0) _exit(3);
+        at += n;
+        length -= (size_t)n;
+    }
+}
+
+static uint32_t word_at(const uint8_t *bytes)
+{
+    uint32_t word;
+    memcpy(&word, bytes, 4);
+    return word;
+}
+
+static void tell(uint64_t kind)
+{
+    told.kind = kind;
+    told.stack = RAM_BYTES - lowest;
+    give(&told, sizeof told);
+    give(flash + FIRST, REGION);
+}
+
+static void start(unsigned cpu, void *data)
+{
+    (void)cpu, (void)data;
+    tell(0);
+    get(&order, sizeof order);
+    get(flash + FIRST, REGION);
+    memcpy(shadow, flash, FLASH);
+    memset(writes, 0, sizeof writes);
+    noise = order.seed * 2654435761u + 88172645463325252u;
+    for (uint64_t at = 0; ram && order.ram && at < RAM_BYTES; at++) ram[at] = (uint8_t)(draw() >> 32);
+    memset(&told, 0, sizeof told);
+    lowest = RAM_BYTES;
+    dead = false;
+}
+
+static void cut(uint64_t inside)
+{
+    char go;
+    told.inside = inside;
+    dead = true;
+    tell(1);
+    get(&go, 1);
+}
+
+static void step(unsigned cpu, void *data)
+{
+    (void)cpu, (void)data;
+    if (dead) return;
+    if (told.ticks >= order.tick) {
+        cut(0);
+        return;
+    }
+    told.ticks++;
+    told.instructions++;
+}
+
+// Lets so many of the bits of an operation undone. Bytes that were clear in `data` and set before, or the other way.
+static void tear(size_t from, size_t length, uint32_t undone)
+{
+    for (size_t at = from; at < from + length; at++)
+        for (int bit = 1; bit < 256; bit <<= 1)
+            if ((draw() >> 40) % 256 < undone) flash[at] = (uint8_t)((flash[at] & ~bit) | (shadow[at] & bit));
+}
+
+// Takes another order that came meanwhile, which counts from here on.
+static void hear(void)
+{
+    struct order next;
+    if (recv(rig, &next, sizeof next, MSG_DONTWAIT | MSG_PEEK) != sizeof next) return;
+    get(&next, sizeof next);
+    order = next;
+    if (order.operation) order.operation += told.operations;
+}
+
+static void operated(size_t from, size_t length, uint32_t takes, uint64_t inside)
+{
+    hear();
+    told.operations++;
+    uint64_t began = told.ticks;
+    told.ticks += takes;
+    if (told.operations == order.operation || (began <= order.tick && order.tick < told.ticks)) {
+        tear(from, length, order.undone > 256 ? draw() % 257 : order.undone);
+        cut(inside);
+    }
+    memcpy(shadow + from, flash + from, length);
+}
+
+static void programmed(uint64_t address)
+{
+    if (address < LOG) told.outside++;
+    if (word_at(shadow + address) != UINT32_MAX) told.not_blank++;
+    if (++writes[address / 4] > 2) told.often++;
+    operated(address, 4, order.program_ticks, 1);
+}
+
+static void erased(void)
+{
+    told.erases++;
+    size_t page = FLASH;
+    for (size_t at = 0; at < FLASH; at += UNIT)
+        if (memcmp(flash + at, shadow + at, UNIT)) page = at;
+    if (page == FLASH) return; // it was blank
+    if (page < LOG) told.outside++;
+    memset(writes + page / 4, 0, UNIT / 4);
+    operated(page, UNIT, order.erase_ticks, 2);
+}
+
+static void stored(unsigned cpu, qemu_plugin_meminfo_t info, uint64_t address, void *data)
+{
+    (void)cpu, (void)data;
+    if (!qemu_plugin_mem_is_store(info)) return; // QEMU 7.2 calls it for loads, too
+    if (address - RAM < RAM_BYTES && !ram) {
+        // struct qemu_plugin_hwaddr of QEMU 7.2: two bools, then the host's address.
+        uint8_t *hardware = qemu_plugin_get_hwaddr(info, address);
+        if (hardware) {
+            memcpy(&ram, hardware + 8, sizeof ram);
+            ram -= address - RAM;
+        }
+    }
+    if (dead) return;
+    if (address < FLASH) programmed(address & ~3u);
+    else if (address == ERASE_PAGE) erased();
+    else if (address - RAM < RAM_BYTES && address >= bss_end && address - RAM < lowest) lowest = address - RAM;
+}
+
+static void translated(qemu_plugin_id_t id, struct qemu_plugin_tb *tb)
+{
+    (void)id;
+    for (size_t i = 0; i < qemu_plugin_tb_n_insns(tb); i++) {
+        struct qemu_plugin_insn *insn = qemu_plugin_tb_get_insn(tb, i);
+        uint64_t at = qemu_plugin_insn_vaddr(insn);
+        if (!flash) {
+            flash = (uint8_t *)qemu_plugin_insn_haddr(insn) - at;
+            reset_at = word_at(flash + 4) & ~1u;
+            bss_end = word_at(flash + 0x20);
+        }
+        if (at == reset_at) qemu_plugin_register_vcpu_insn_exec_cb(insn, start, NO_REGS, NULL);
+        qemu_plugin_register_vcpu_insn_exec_cb(insn, step, NO_REGS, NULL);
+        qemu_plugin_register_vcpu_mem_cb(insn, stored, NO_REGS, MEM_WRITE, NULL);
+    }
+}
+
+__attribute__((visibility("default"))) int qemu_plugin_install(qemu_plugin_id_t id, const void *info, int argc, char **argv)
+{
+    (void)info;
+    prctl(PR_SET_PDEATHSIG, SIGKILL); // QEMU ends with the rig
+    struct sockaddr_un to = {.sun_family = AF_UNIX};
+    if (argc != 1 || strncmp(argv[0], "rig=", 4)) return -1;
+    snprintf(to.sun_path, sizeof to.sun_path, "%s", argv[0] + 4);
+    rig = socket(AF_UNIX, SOCK_STREAM, 0);
+    if (rig < 0 || connect(rig, (struct sockaddr *)&to, sizeof to)) return -1;
+    qemu_plugin_register_vcpu_tb_trans_cb(id, translated);
+    return 0;
+}

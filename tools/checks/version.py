@@ -1,0 +1,91 @@
+"""Compares each version that the repository names with the file VERSION, and the Cargo.lock of each program with its manifests.
+Takes no time; bin/test calls it."""
+
+import argparse
+import glob
+import os
+import re
+import sys
+import tomllib
+
+ROOT = os.path.dirname(os.path.dirname(os.path.dirname(os.path.abspath(__file__))))
+NUMBER = r"(\d+\.\d+\.\d+)"
+# Files with a version, where it stands in them, and whether each has to be there.
+PLACES = [
+    ("crates/command_line/src/lib.rt", rf'^const VERSION: &str = "{NUMBER}";', True),
+    ("CHANGELOG.md", rf"^## {NUMBER}$", True),
+    ("README.md", rf"^\*\*How far it is \(version {NUMBER}\)", True),
+    ("rust/Cargo.toml", rf'^version = "{NUMBER}"', False),
+    ("rust/*/Cargo.toml", rf'^version = "{NUMBER}"', False),
+    ("docs/kbsim.1", rf'^\.TH KBSIM 1 .*"kbsim {NUMBER}"', True),
+    ("tools/make/completions/Cargo.toml", rf'^version = "{NUMBER}"', True),
+]
+
+# The programs whose Cargo.lock is kept, and the manifests that it is of.
+LOCKED = {"rust": "rust/*/Cargo.toml", "examples/keymap": "examples/keymap/Cargo.toml"}  # (of rust/ those of its workspace)
+REGISTRY = "registry+https://github.com/rust-lang/crates.io-index"
+
+
+def read_toml(path):
+    with open(path, "rb") as file:
+        return tomllib.load(file)
+
+
+def wrong_in_lock(root, folder, version):
+    """What is wrong with the Cargo.lock of a program, a sentence each."""
+    name = f"{folder}/Cargo.lock"
+    if not os.path.exists(f"{root}/{name}"):
+        return [f"{name} is not there"]
+    packages = {one["name"]: one for one in read_toml(f"{root}/{name}")["package"]}
+    wrong = []
+    for crate, one in packages.items():
+        ours = crate.startswith(("wuzhikar", "kbsim"))
+        if ours and one["version"] != version:
+            wrong.append(f"{name}: {crate} is {one['version']}, and VERSION {version}")
+        if "source" in one and (one["source"] != REGISTRY or not re.fullmatch("[0-9a-f]{64}", one.get("checksum", ""))):
+            wrong.append(f"{name}: {crate} is not the public registry's, with a checksum")
+    members = [read_toml(path) for path in glob.glob(f"{root}/{LOCKED[folder]}")]
+    wanted = {crate for one in members if folder != "rust" or "workspace" not in one for crate in one.get("dependencies", {})}
+    return wrong + [f"{name}: it has no {crate}" for crate in sorted(wanted - set(packages))]
+
+
+def found_in(path, pattern):
+    """The first version that stands in a file, and its line."""
+    with open(path, encoding="utf-8") as file:
+        for line, text in enumerate(file, 1):
+            match = re.search(pattern, text)
+            if match:
+                return match[1], line
+    return None, 0
+
+
+def wrong_places(root):
+    """What is wrong, a sentence each."""
+    with open(f"{root}/VERSION", encoding="utf-8") as file:
+        version = file.read().strip()
+    if not re.fullmatch(NUMBER, version):
+        return [f"VERSION: {version!r} is no version"]
+    wrong = []
+    for place, pattern, needed in PLACES:
+        paths = sorted(glob.glob(f"{root}/{place}"))
+        if needed and not paths:
+            wrong.append(f"{place} is not there")
+        for path in paths:
+            name, (found, line) = os.path.relpath(path, root), found_in(path, pattern)
+            if found is None and needed:
+                wrong.append(f"{name} names no version")
+            elif found not in (None, version):
+                wrong.append(f"{name}:{line} says {found}, and VERSION {version}")
+    return wrong + [sentence for folder in LOCKED for sentence in wrong_in_lock(root, folder, version)]
+
+
+def main():
+    words = argparse.ArgumentParser(description=__doc__)
+    words.add_argument("--root", default=ROOT, help="the repository that is looked at")
+    wrong = wrong_places(words.parse_args().root)
+    print("\n".join(wrong) or "one version everywhere")
+    sys.exit(1 if wrong else 0)
+
+
+if __name__ == "__main__":
+    main()

@@ -1,2 +1,0 @@
-#[cfg(test)]
-pub use wuzhikar_reader::rattle::{Vec, memory, vec};
