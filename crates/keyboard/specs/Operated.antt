@@ -3,6 +3,7 @@ use Rattle.shapes.specs.Shapes.{Bytes}
 use Rattle.std.specs.Prelude.{◌≡◌, ◌⊎◌, ℕ, suc, ◌+◌, ◌^◌, ◌<◌, ◌≤◌, List, [], ◌∷◌, ◌++◌, length, slice_get, slice_index, Some}
 use Rattle.records.specs.declared.Slot.TheVariants.{Free, Good}
 use Rattle.records.specs.Slots.{slot_of}
+use Rattle.flash_model.specs.declared.TheConstants.{PAGE_SLOTS}
 use Rattle.flash_model.specs.Image.{IsImage, slot_at, page_count}
 use Rattle.layers.specs.Commands.{word_of}
 use Rattle.layers.specs.Entries.{changed}
@@ -28,7 +29,7 @@ use Rattle.keyboard.specs.Bounded.{steps_since, accepted_image}
 -- the operation loses nothing: a word of 32 bits goes into a Free slot, or a page that is not the active one is erased
 abbrev pub LosesNothing : Bytes → Operation → Type 0
 LosesNothing old (Program page slot word) =
-    (page < page_count old) × (slot < 512) × (word < 2 ^ 32) × (slot_of (slot_at old page slot) ≡ Free)
+    (page < page_count old) × (slot < PAGE_SLOTS) × (word < 2 ^ 32) × (slot_of (slot_at old page slot) ≡ Free)
 LosesNothing old (Erase page) = (page < page_count old) × ((seq : ℕ) → active old ≡ Some (page, seq) → ⊥)
 
 -- there is room in the active page, and the operation programs the command's record into its tail slot

@@ -2,6 +2,7 @@
 use Rattle.shapes.specs.Shapes.{Bytes}
 use Rattle.std.specs.Prelude.{◌≡◌, ℕ, suc, ◌<◌, Some}
 use Rattle.layers.specs.Copies.{AreCopies, places}
+use Rattle.flash_model.specs.declared.TheConstants.{PAGE_SLOTS}
 use Rattle.flash_model.specs.Image.{slot_at}
 use Rattle.flash_model.specs.Operations.{OnePage}
 use Rattle.page_turnover.specs.Active.{active, format}
@@ -34,13 +35,13 @@ pub data Turns (old new : Bytes) : Type 0 where
 pub record Spares (old new : Bytes) : Type 0 where
   pub active_is : active new ≡ active old
   pub format_is : format new ≡ format old
-  pub same : (page seq s : ℕ) → active old ≡ Some (page, seq) → s < 512 → slot_at new page s ≡ slot_at old page s
+  pub same : (page seq s : ℕ) → active old ≡ Some (page, seq) → s < PAGE_SLOTS → slot_at new page s ≡ slot_at old page s
 
 -- of the active page, which stays the active one, no slot but its tail is touched
 pub record Fills (old new : Bytes) : Type 0 where
   pub active_is : active new ≡ active old
   pub format_is : format new ≡ format old
-  pub same : (page tail s : ℕ) → IsActiveTail old page tail → s < 512 → (s ≡ tail → ⊥) → slot_at new page s ≡ slot_at old page s
+  pub same : (page tail s : ℕ) → IsActiveTail old page tail → s < PAGE_SLOTS → (s ≡ tail → ⊥) → slot_at new page s ≡ slot_at old page s
 
 -- what an operation of a store, whole or torn, does to the active page
 pub data Wears (old new : Bytes) : Type 0 where

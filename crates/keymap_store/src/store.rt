@@ -2,6 +2,7 @@
 
 ghost use Rattle.std.specs.Prelude.{◌≡◌, ◌≢◌, ◌+◌, ◌%◌, ◌^◌, ◌≤◌, ◌↔◌, ℕ, List, [], Option, None, Some, Ok, false, unwrap_or};
 ghost use Rattle.flash_model.specs.Image.{page_count};
+ghost use Rattle.layers.specs.declared.code.TheConstants.{ENTRIES};
 ghost use Rattle.layers.specs.Commands.{IsCommand};
 ghost use Rattle.layers.specs.Formats.{command_in};
 ghost use Rattle.layers.specs.Keymaps.{HasEntries, StandsFor};
@@ -289,10 +290,10 @@ impl Store {
 /// seal where there is none, and says from which place on the next one is looked for.
 fn offer_next(log: &mut Log, keymap: &Keymap, from: u16) -> u16
     requires few { CanOfferIfWaiting log.old.task }
-    requires within { from ≤ 384 }
+    requires within { from ≤ ENTRIES }
     ensures stands { (image : List ℕ) (entries : ℕ → ℕ → ℕ) → HasEntries entries keymap.now → Describes image log.old → OffersBelow entries from image log.old.task
         → IsOffered entries image log.old log.new result }
-    ensures within { result ≤ 384 }
+    ensures within { result ≤ ENTRIES }
     ensures target { target_of log.new.task ≡ target_of log.old.task }
 {
     if !log.wants() {

@@ -24,6 +24,9 @@ pub(crate) const LAYERS: usize = 4;
 /// How many keys there are.
 pub(crate) const KEYS: usize = 96;
 
+/// How many entries a keymap has: one for each key on each layer.
+pub const ENTRIES: usize = LAYERS * KEYS;
+
 /// The usages of page 07h that are codes, from `a` on.
 const KEY_FIRST: u16 = 0x0004;
 
@@ -130,7 +133,7 @@ impl Code {
 
     /// The default code of the entry at a place, 96 times the layer plus the key.
     pub(crate) fn default_at(place: usize) -> Code
-        requires { place < 384 }
+        requires { place < ENTRIES }
         ensures { result ≡ default_at place }
     {
         match place {
@@ -208,7 +211,7 @@ impl LayerNo {
 
     /// The layer of a place.
     pub(crate) fn of_place(place: u16) -> LayerNo
-        requires { place < 384 }
+        requires { place < ENTRIES }
         ensures { result ≡ place / keys }
     {
         LayerNo {

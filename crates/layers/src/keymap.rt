@@ -10,12 +10,9 @@ ghost use Rattle.layers.specs.Entries.{changed, ChangesSome, ChangesNothing};
 ghost use Rattle.layers.specs.Copies.{IsNextChanged, IsDefaultFrom};
 ghost use Rattle.layers.specs.Keymaps.{code_at, place_of, HasEntries, StandsFor};
 
-use crate::code::KEYS;
+use crate::code::{ENTRIES, KEYS};
 use crate::{Code, Command, KeyNo, LayerNo};
 use std::marker::Model;
-
-/// How many entries there are, on 4 layers.
-const ENTRIES: usize = 384;
 
 /// The code of each key on each layer.
 #[derive(Clone, Debug, Drop)]
@@ -25,12 +22,13 @@ pub struct Keymap {
 
 impl Model for Keymap {
     ghost use Rattle.std.specs.Prelude.{◌≡◌, ℕ, List, length};
+    ghost use Rattle.layers.specs.declared.code.TheConstants.{ENTRIES};
 
     ghost Value = { List ℕ };
 
     ghost view = { λ m. m.codes };
 
-    ghost invariant = { λ m. length m.codes ≡ 384 };
+    ghost invariant = { λ m. length m.codes ≡ ENTRIES };
 }
 
 impl Keymap {
@@ -125,7 +123,7 @@ impl Eq for Keymap {
 
 /// The command that gives the entry at a place this code.
 fn set_key_at(place: u16, code: Code) -> Command
-    requires { place < 384 }
+    requires { place < ENTRIES }
     ensures value { result ≡ Command.SetKey (place / keys) (place % keys) code }
     ensures a_command { IsCommand result }
 {
@@ -139,7 +137,7 @@ fn set_key_at(place: u16, code: Code) -> Command
 /// Where the entry of a key on a layer stands.
 fn place(layer: LayerNo, key: KeyNo) -> usize
     ensures value { result ≡ place_of layer key }
-    ensures within { result < 384 }
+    ensures within { result < ENTRIES }
     ensures in_layers { layer < layers }
     ensures in_keys { key < keys }
 {
@@ -148,9 +146,9 @@ fn place(layer: LayerNo, key: KeyNo) -> usize
 
 /// Gives the entries from `start` up to `end` their default codes.
 fn reset(codes: &mut [Code], start: usize, end: usize)
-    requires whole { length codes.old ≡ 384 }
+    requires whole { length codes.old ≡ ENTRIES }
     requires ordered { start ≤ end }
-    requires within { end ≤ 384 }
+    requires within { end ≤ ENTRIES }
     ensures inside { (place : ℕ) → start ≤ place → place < end → slice_index codes.new place ≡ default_at place }
     ensures below { (place : ℕ) → place < start → slice_index codes.new place ≡ slice_index codes.old place }
     ensures above { (place : ℕ) → end ≤ place → slice_index codes.new place ≡ slice_index codes.old place }
@@ -179,9 +177,9 @@ fn end_of_layer_0(start: usize, end: usize) -> usize
 
 /// `reset` for entries of layer 0.
 fn reset_layer_0(codes: &mut [Code], start: usize, end: usize)
-    requires whole { length codes.old ≡ 384 }
+    requires whole { length codes.old ≡ ENTRIES }
     requires ordered { start ≤ end }
-    requires within { end ≤ 384 }
+    requires within { end ≤ ENTRIES }
     ensures inside { (place : ℕ) → start ≤ place → place < end → slice_index codes.new place ≡ default_at place }
     ensures below { (place : ℕ) → place < start → slice_index codes.new place ≡ slice_index codes.old place }
     ensures above { (place : ℕ) → end ≤ place → slice_index codes.new place ≡ slice_index codes.old place }
@@ -193,9 +191,9 @@ fn reset_layer_0(codes: &mut [Code], start: usize, end: usize)
 
 /// Makes the entries from `start` up to `end` transparent.
 fn make_transparent(codes: &mut [Code], start: usize, end: usize)
-    requires whole { length codes.old ≡ 384 }
+    requires whole { length codes.old ≡ ENTRIES }
     requires ordered { start ≤ end }
-    requires within { end ≤ 384 }
+    requires within { end ≤ ENTRIES }
     ensures inside { (place : ℕ) → start ≤ place → place < end → slice_index codes.new place ≡ transparent }
     ensures below { (place : ℕ) → place < start → slice_index codes.new place ≡ slice_index codes.old place }
     ensures above { (place : ℕ) → end ≤ place → slice_index codes.new place ≡ slice_index codes.old place }
@@ -207,8 +205,8 @@ fn make_transparent(codes: &mut [Code], start: usize, end: usize)
 
 /// Whether some entry from `start` up to `end` is not its default code.
 fn differs(codes: &[Code], start: usize, end: usize) -> bool
-    requires whole { length codes.now ≡ 384 }
-    requires within { end ≤ 384 }
+    requires whole { length codes.now ≡ ENTRIES }
+    requires within { end ≤ ENTRIES }
     ensures { MatchBool result ((place : ℕ) × (start ≤ place) × (place < end) × (slice_index codes.now place ≢ default_at place)) ((place : ℕ) → start ≤ place → place < end → slice_index codes.now place ≡ default_at place) }
 {
     for place in start..end {

@@ -23,7 +23,7 @@ pub fn entries_are_codes()
 {}
 
 /// The words of the commands that `next_changed` gives, one after the other from place 0 on, have
-/// the entries of the keymap on a page of format 2; they are at most 384.
+/// the entries of the keymap on a page of format 2; they are at most `ENTRIES`.
 pub fn copies()
     ensures start { (entries : ℕ → ℕ → ℕ) → AreCopies entries 0 [] }
     ensures next { (entries : ℕ → ℕ → ℕ) (from place : ℕ) (command : Command) (words : List ℕ) → AreCopies entries from words → IsNextChanged entries from place command → IsCommand command → AreCopies entries (place + 1) (words ++ word_of command ∷ []) }

@@ -18,7 +18,7 @@ pub mod keymap;
 pub mod laws;
 pub mod usages;
 
-pub use code::{Code, KeyNo, KeymapError, LayerNo};
+pub use code::{Code, ENTRIES, KeyNo, KeymapError, LayerNo};
 pub use command::Command;
 pub use held::Held;
 pub use keymap::Keymap;

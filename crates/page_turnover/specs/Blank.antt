@@ -3,6 +3,7 @@ use Rattle.shapes.specs.Shapes.{Bytes}
 use Rattle.std.specs.Prelude.{ℕ, zero, suc, ◌&&◌, Bool, true}
 use Rattle.records.specs.Slots.{slot_of}
 use Rattle.records.specs.Blocks.{is_free}
+use Rattle.flash_model.specs.declared.TheConstants.{PAGE_SLOTS}
 use Rattle.flash_model.specs.Image.{slot_at}
 
 -- whether each of the first n slots of a page is Free
@@ -12,4 +13,4 @@ is_free_below image page (suc n) = is_free (slot_of (slot_at image page n)) && i
 
 -- whether each slot of a page is Free: `IsBlank` as a test
 unfoldable pub is_blank : Bytes → ℕ → Bool
-is_blank image page = is_free_below image page 512
+is_blank image page = is_free_below image page PAGE_SLOTS

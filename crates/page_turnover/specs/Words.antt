@@ -4,6 +4,7 @@ use Rattle.std.specs.Prelude.{◌≡◌, ℕ, ◌-◌, ◌<◌, ◌≤◌, suc, 
 use Rattle.records.specs.declared.Slot.{Slot}
 use Rattle.records.specs.declared.Slot.TheVariants.{Free, Good, Spoiled}
 use Rattle.records.specs.Slots.{slot_of}
+use Rattle.flash_model.specs.declared.TheConstants.{PAGE_SLOTS}
 use Rattle.flash_model.specs.Image.{slot_at}
 use Rattle.page_turnover.specs.Active.{active, format}
 
@@ -29,7 +30,7 @@ words image = words_on image (active image)
 
 -- each slot from one on is Free
 abbrev pub FreeFrom : Bytes → ℕ → ℕ → Type 0
-FreeFrom image page slot = (s : ℕ) → slot ≤ s → s < 512 → slot_of (slot_at image page s) ≡ Free
+FreeFrom image page slot = (s : ℕ) → slot ≤ s → s < PAGE_SLOTS → slot_of (slot_at image page s) ≡ Free
 
 -- each slot of a page is Free
 abbrev pub IsBlank : Bytes → ℕ → Type 0
@@ -38,7 +39,7 @@ IsBlank image page = FreeFrom image page 0
 -- one more than the greatest slot of a page that is not Free, where slot 0 is not Free
 pub record IsTail (image : Bytes) (page tail : ℕ) : Type 0 where
   pub low : 1 ≤ tail
-  pub high : tail ≤ 512
+  pub high : tail ≤ PAGE_SLOTS
   pub free : FreeFrom image page tail
   pub used : 1 < tail → slot_of (slot_at image page (tail - 1)) ≡ Free → ⊥
 

@@ -1,6 +1,7 @@
 //! One flash operation, and whether it took effect.
 
 ghost use Rattle.std.specs.Prelude.{◌≡◌, ◌+◌, ◌%◌, ◌^◌, ◌<◌, ◌↔◌, IsTrue, true};
+ghost use Rattle.flash_model.specs.declared.TheConstants.{PAGE_SLOTS};
 ghost use Rattle.flash_model.specs.Image.{page_count, slot_at, IsImage};
 ghost use Rattle.records.specs.Slots.{slot_of};
 ghost use Rattle.page_turnover.specs.ties.Made.{CanMake, IsMade, RaisesFaults};
@@ -49,7 +50,7 @@ pub fn make<F: NorFlash>(flash: &mut F, operation: Operation) -> bool
 /// Whether a slot is Good with this word.
 fn holds<F: NorFlash>(flash: &F, page: usize, slot: usize, word: u32) -> bool
     requires in_pages { page < page_count (F.image flash.now) }
-    requires in_page { slot < 512 }
+    requires in_page { slot < PAGE_SLOTS }
     ensures { IsTrue result ↔ (slot_of (slot_at (F.image flash.now) page slot) ≡ Slot.Good word) }
 {
     match classify(flash.read_slot(page, slot)) {

@@ -1,6 +1,7 @@
 //! What a mount reads of a flash.
 
 ghost use Rattle.std.specs.Prelude.{◌≡◌, ◌-◌, ◌<◌, ◌≤◌, ℕ, Option, Some, None, IsTrue, ◌↔◌, MatchOption};
+ghost use Rattle.flash_model.specs.declared.TheConstants.{PAGE_SLOTS};
 ghost use Rattle.flash_model.specs.Image.{page_count, slot_at};
 ghost use Rattle.records.specs.Slots.{slot_of};
 ghost use Rattle.page_turnover.specs.Active.{active, newer};
@@ -71,7 +72,7 @@ pub fn tail<F: NorFlash>(flash: &F, page: usize) -> usize
 /// Whether a slot is Free.
 pub fn is_free<F: NorFlash>(flash: &F, page: usize, slot: usize) -> bool
     requires in_pages { page < page_count (F.image flash.now) }
-    requires in_page { slot < 512 }
+    requires in_page { slot < PAGE_SLOTS }
     ensures { IsTrue result ↔ (slot_of (slot_at (F.image flash.now) page slot) ≡ Slot.Free) }
 {
     match classify(flash.read_slot(page, slot)) {

@@ -27,13 +27,14 @@ pub struct Words<'a, F: NorFlash> {
 
 impl<'a, F: NorFlash> Model for Words<'a, F> {
     ghost use Rattle.std.specs.Prelude.{ℕ, List, ◌-◌, ◌<◌};
+    ghost use Rattle.flash_model.specs.declared.TheConstants.{PAGE_SLOTS};
     ghost use Rattle.flash_model.specs.Image.{page_count};
     ghost use Rattle.page_turnover.specs.ties.Words.{words_after};
     ghost use Rattle.page_turnover.specs.ties.Blocks.{AreGoodWithin};
 
     ghost Value = { List ℕ };
 
-    ghost view = { λ s. words_after (F.image s.flash.now) s.page s.next (512 - s.next) };
+    ghost view = { λ s. words_after (F.image s.flash.now) s.page s.next (PAGE_SLOTS - s.next) };
 
     ghost invariant = { λ s. (s.page < page_count (F.image s.flash.now)) × AreGoodWithin (F.image s.flash.now) s.page s.next s.good };
 }
@@ -92,7 +93,7 @@ impl<'a, F: NorFlash> Iterator for Words<'a, F> {
 /// Which slots are Good from this one to the end of its block, which is read at its first slot.
 fn good_from<F: NorFlash>(flash: &F, page: usize, slot: usize, good: u8) -> u8
     requires in_pages { page < page_count (F.image flash.now) }
-    requires in_page { slot < 512 }
+    requires in_page { slot < PAGE_SLOTS }
     requires within { AreGoodWithin (F.image flash.now) page slot good }
     ensures { AreGoodFrom (F.image flash.now) page slot result }
 {
@@ -106,7 +107,7 @@ fn good_from<F: NorFlash>(flash: &F, page: usize, slot: usize, good: u8) -> u8
 /// The word of a Good slot.
 fn word_at<F: NorFlash>(flash: &F, page: usize, slot: usize) -> u32
     requires in_pages { page < page_count (F.image flash.now) }
-    requires in_page { slot < 512 }
+    requires in_page { slot < PAGE_SLOTS }
     requires good { IsGood (slot_of (slot_at (F.image flash.now) page slot)) }
     ensures { slot_of (slot_at (F.image flash.now) page slot) ≡ Slot.Good result }
 {

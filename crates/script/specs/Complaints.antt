@@ -7,13 +7,14 @@ use Rattle.script.specs.declared.complaint.Complaint.TheVariants as complaint
 use Rattle.script.specs.declared.complaint.Wanted.{Wanted}
 use Rattle.script.specs.declared.complaint.Wanted.TheVariants as wanted
 use Rattle.script.specs.declared.statement.Keyword.{Keyword}
+use Rattle.flash_model.specs.declared.TheConstants.{PAGE_SLOTS}
 
 -- what a word is to be, on a flash of so many pages
 abbrev pub kind_of : ℕ → Wanted → Kind
 kind_of pages wanted.Key = Number 96
 kind_of pages wanted.Layer = Number 4
 kind_of pages wanted.Page = Number pages
-kind_of pages wanted.Slot = Number 512
+kind_of pages wanted.Slot = Number PAGE_SLOTS
 kind_of pages wanted.Scans = Count
 kind_of pages wanted.LayerByte = Number 256
 kind_of pages wanted.KeyByte = Number 256

@@ -12,6 +12,7 @@ use Rattle.script.specs.declared.statement.Keyword.{Keyword}
 use Rattle.script.specs.declared.statement.Keyword.TheVariants as keyword
 use Rattle.script.specs.declared.statement.Statement.{Statement}
 use Rattle.script.specs.declared.statement.Statement.TheVariants as statement
+use Rattle.flash_model.specs.declared.TheConstants.{PAGE_SLOTS}
 
 -- the first word of a line
 abbrev pub spelling : Keyword → Bytes
@@ -74,7 +75,7 @@ kinds pages keyword.Cut arguments = []
 kinds pages keyword.CutWork arguments = MaskBytes ∷ []
 kinds pages keyword.Reset arguments = []
 kinds pages keyword.Entry arguments = Number 4 ∷ Number 96 ∷ []
-kinds pages keyword.Slot arguments = Number pages ∷ Number 512 ∷ []
+kinds pages keyword.Slot arguments = Number pages ∷ Number PAGE_SLOTS ∷ []
 kinds pages keyword.Leds arguments = []
 kinds pages keyword.Set arguments = Number 256 ∷ Number 256 ∷ HexBytes 2 2 ∷ []
 kinds pages keyword.Fetch arguments = []
@@ -127,7 +128,7 @@ Says pages (statement.One action.Reset) words = words ≡ codes "reset" ∷ []
 Says pages (statement.One (action.Entry layer key)) words =
     (l k : Bytes) × (words ≡ codes "entry" ∷ l ∷ k ∷ []) × WritesNumber l layer × WritesNumber k key
 Says pages (statement.One (action.Slot page slot)) words =
-    (p s : Bytes) × (words ≡ codes "slot" ∷ p ∷ s ∷ []) × WritesNumber p page × WritesNumber s slot × (page < pages) × (slot < 512)
+    (p s : Bytes) × (words ≡ codes "slot" ∷ p ∷ s ∷ []) × WritesNumber p page × WritesNumber s slot × (page < pages) × (slot < PAGE_SLOTS)
 Says pages (statement.One action.Leds) words = words ≡ codes "leds" ∷ []
 Says pages (statement.Set layer key code) words =
     (l k c : Bytes) × (words ≡ codes "set" ∷ l ∷ k ∷ c ∷ []) × WritesNumber l layer × WritesNumber k key × ((high low : ℕ) × WritesBytes c (high ∷ low ∷ []) × (code ≡ 256 * high + low))

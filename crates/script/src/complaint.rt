@@ -9,6 +9,7 @@ use crate::mask::MaskWord;
 use crate::number::{byte, bytes, count, number, packet};
 use crate::statement::Keyword;
 use crate::words::Words;
+use flash_model::PAGE_SLOTS;
 
 /// The most words behind the first one of a line.
 const MOST_WORDS: usize = 97;
@@ -131,7 +132,7 @@ impl Wanted {
             Wanted::Key => number(word, 96).is_ok(),
             Wanted::Layer => number(word, 4).is_ok(),
             Wanted::Page => number(word, pages as u32).is_ok(),
-            Wanted::Slot => number(word, 512).is_ok(),
+            Wanted::Slot => number(word, PAGE_SLOTS as u32).is_ok(),
             Wanted::Scans => count(word).is_ok(),
             Wanted::LayerByte | Wanted::KeyByte => byte(word).is_ok(),
             Wanted::SetupPacket => bytes::<8>(word).is_ok(),

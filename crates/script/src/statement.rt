@@ -12,6 +12,7 @@ use crate::number::{byte, bytes, count, number, packet};
 use crate::words::Words;
 use arrayvec::ArrayVec;
 use debounce::Scan;
+use flash_model::PAGE_SLOTS;
 use layers::{KeyNo, LayerNo};
 use std::num::NonZeroU16;
 
@@ -290,7 +291,7 @@ fn slot(pages: usize, mut rest: Words<'_>) -> Result<Statement<'_>, LineFault>
     ensures { Reads pages Keyword.Slot (words rest.entry.rest.now) result }
 {
     let page = number(rest.word(), pages as u32)? as u8;
-    let slot = number(rest.word(), 512)? as u16;
+    let slot = number(rest.word(), PAGE_SLOTS as u32)? as u16;
     Ok(Statement::One(Action::Slot { page, slot }))
 }
 

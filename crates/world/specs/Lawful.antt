@@ -1,6 +1,7 @@
 -- Believed: what may come of each event, by what came before it.
 use Rattle.shapes.specs.Shapes.{Bytes}
 use Rattle.std.specs.Prelude.{◌≡◌, ℕ, ◌<◌, Bool, true, false, IsSome, Option, None, Some, List, [], ◌∷◌}
+use Rattle.flash_model.specs.declared.TheConstants.{PAGE_SLOTS}
 use Rattle.flash_model.specs.Image.{page_count, slot_at}
 use Rattle.flash_model.specs.Operated.{IsOperated}
 use Rattle.flash_model.specs.Sim.{SimValue}
@@ -70,7 +71,7 @@ pub record WorksIn (now : Session) (old armed : SimValue) (work : WorkAnswer) (n
 -- the bytes of a slot, or that there is none
 abbrev pub SlotAnswer : Bytes → ℕ → ℕ → Answer → Type 0
 SlotAnswer image page slot answer =
-    Where ((page < page_count image) × (slot < 512)) (answer ≡ SlotIs (slot_at image page slot)) (answer ≡ NoSlot)
+    Where ((page < page_count image) × (slot < PAGE_SLOTS)) (answer ≡ SlotIs (slot_at image page slot)) (answer ≡ NoSlot)
 
 -- what comes of an event in a session, to a host that has heard this, and the flash before and after it. A torn step of the
 -- flash work arms the flash by its mask, in place of what was armed before; a cut inside an operation is such a step, whose

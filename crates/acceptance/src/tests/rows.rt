@@ -1,6 +1,7 @@
 //! What rows are written in: numbers, bytes in hex digits and slots; numbers that look random; and the two sides of a row.
 
 use super::asserts::{made, same_text};
+use layers::ENTRIES;
 use std::alloc::Global;
 use std::fmt::Display;
 use std::process::Abort;
@@ -113,7 +114,7 @@ pub fn good(word: u32) -> [u8; 8] {
 /// 0005 and 0000.
 fn full_word(slot: u32) -> u32 {
     let place = slot.wrapping_sub(1);
-    let entry = if place < 384 {
+    let entry = if place < ENTRIES as u32 {
         place / 96 << 24 | place % 96 << 16
     } else {
         slot % 2 * 5

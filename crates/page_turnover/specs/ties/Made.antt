@@ -3,6 +3,7 @@ use Rattle.shapes.specs.Shapes.{Bytes}
 use Rattle.std.specs.Prelude.{◌≡◌, ◌≢◌, ℕ, ◌+◌, ◌%◌, ◌^◌, ◌<◌, ◌⊎◌, Bool, true, false, Some}
 use Rattle.records.specs.declared.Slot.TheVariants.{Free}
 use Rattle.records.specs.Slots.{slot_of}
+use Rattle.flash_model.specs.declared.TheConstants.{PAGE_SLOTS}
 use Rattle.flash_model.specs.Image.{IsImage, page_count, slot_at}
 use Rattle.page_turnover.specs.declared.log.ActivePage.{ActivePage}
 use Rattle.page_turnover.specs.declared.log.stepping.Plan.{Plan}
@@ -16,7 +17,7 @@ use Rattle.page_turnover.specs.Steps.{EndsAs}
 
 -- an operation is within the flash, and programs only a Free slot
 abbrev pub CanMake : Bytes → Operation → Type 0
-CanMake image (Program page slot word) = (page < page_count image) × (slot < 512) × (word < 2 ^ 32) × (slot_of (slot_at image page slot) ≡ Free)
+CanMake image (Program page slot word) = (page < page_count image) × (slot < PAGE_SLOTS) × (word < 2 ^ 32) × (slot_of (slot_at image page slot) ≡ Free)
 CanMake image (Erase page) = page < page_count image
 
 -- whole and read as intended, or torn and read otherwise
@@ -41,6 +42,6 @@ pub record IsPassedOver (image : Bytes) (before after : ActivePage) : Type 0 whe
   pub page_is : after.page ≡ before.page
   pub seq_is : after.seq ≡ before.seq
   pub format_is : after.format ≡ before.format
-  pub free : before.tail < 512 → slot_of (slot_at image before.page before.tail) ≡ Free → after.tail ≡ before.tail
-  pub used : before.tail < 512 → (slot_of (slot_at image before.page before.tail) ≡ Free → ⊥) → after.tail ≡ before.tail + 1
-  pub full : (before.tail < 512 → ⊥) → after.tail ≡ before.tail
+  pub free : before.tail < PAGE_SLOTS → slot_of (slot_at image before.page before.tail) ≡ Free → after.tail ≡ before.tail
+  pub used : before.tail < PAGE_SLOTS → (slot_of (slot_at image before.page before.tail) ≡ Free → ⊥) → after.tail ≡ before.tail + 1
+  pub full : (before.tail < PAGE_SLOTS → ⊥) → after.tail ≡ before.tail

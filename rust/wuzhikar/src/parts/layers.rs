@@ -17,7 +17,7 @@ pub mod held;
 pub mod keymap;
 pub mod usages;
 
-pub use code::{Code, KeyNo, KeymapError, LayerNo};
+pub use code::{Code, ENTRIES, KeyNo, KeymapError, LayerNo};
 pub use command::Command;
 pub use held::Held;
 pub use keymap::Keymap;

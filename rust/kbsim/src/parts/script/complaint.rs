@@ -6,6 +6,7 @@ use crate::parts::script::mask::MaskWord;
 use crate::parts::script::number::{byte, bytes, count, number, packet};
 use crate::parts::script::statement::Keyword;
 use crate::parts::script::words::Words;
+use wuzhikar_log::parts::flash_model::PAGE_SLOTS;
 
 /// The most words behind the first one of a line.
 const MOST_WORDS: usize = 97;
@@ -113,7 +114,7 @@ impl Wanted {
             Wanted::Key => number(word, 96).is_ok(),
             Wanted::Layer => number(word, 4).is_ok(),
             Wanted::Page => number(word, pages as u32).is_ok(),
-            Wanted::Slot => number(word, 512).is_ok(),
+            Wanted::Slot => number(word, PAGE_SLOTS as u32).is_ok(),
             Wanted::Scans => count(word).is_ok(),
             Wanted::LayerByte | Wanted::KeyByte => byte(word).is_ok(),
             Wanted::SetupPacket => bytes::<8>(word).is_ok(),

@@ -8,6 +8,7 @@ use crate::parts::script::number::{byte, bytes, count, number, packet};
 use crate::parts::script::words::Words;
 use arrayvec::ArrayVec;
 use wuzhikar::parts::debounce::Scan;
+use wuzhikar_log::parts::flash_model::PAGE_SLOTS;
 use wuzhikar::parts::layers::{KeyNo, LayerNo};
 use core::num::NonZeroU16;
 
@@ -240,7 +241,7 @@ fn entry(mut rest: Words<'_>) -> Result<Statement<'_>, LineFault> {
 
 fn slot(pages: usize, mut rest: Words<'_>) -> Result<Statement<'_>, LineFault> {
     let page = number(rest.word(), pages as u32)? as u8;
-    let slot = number(rest.word(), 512)? as u16;
+    let slot = number(rest.word(), PAGE_SLOTS as u32)? as u16;
     Ok(Statement::One(Action::Slot { page, slot }))
 }
 

@@ -20,6 +20,9 @@ pub(crate) const LAYERS: usize = 4;
 /// How many keys there are.
 pub(crate) const KEYS: usize = 96;
 
+/// How many entries a keymap has: one for each key on each layer.
+pub const ENTRIES: usize = LAYERS * KEYS;
+
 /// The usages of page 07h that are codes, from `a` on.
 const KEY_FIRST: u16 = 0x0004;
 

@@ -1,11 +1,8 @@
 // Exported from crates/layers/src/keymap.rt by bin/export-rust. Edit that file instead.
 //! The table of codes.
 
-use crate::parts::layers::code::KEYS;
+use crate::parts::layers::code::{ENTRIES, KEYS};
 use crate::parts::layers::{Code, Command, KeyNo, LayerNo};
-
-/// How many entries there are, on 4 layers.
-const ENTRIES: usize = 384;
 
 /// The code of each key on each layer.
 #[derive(Clone, Debug)]
