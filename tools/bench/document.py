@@ -7,7 +7,7 @@ CHIPS = ["thumbv7em", "thumbv6m", "x86"]
 MARKS = {"tables": ("<!-- bench: tables -->\n", "<!-- end -->\n"), "sentence": ("<!-- bench: sentence -->", "<!-- end -->")}
 
 # Which documents show what.
-SHOWN = {"docs/MEASUREMENTS.md": "tables", "docs/USING_FIRMWARE.md": "sentence", "README.md": "sentence"}
+SHOWN = {"docs/MEASUREMENTS.md": "tables", "docs/USING_FIRMWARE.md": "sentence"}
 
 # The row of code and constants.
 TEXT = "text of the smallest firmware, bytes"

@@ -14,7 +14,7 @@ NUMBER = r"(\d+\.\d+\.\d+)"
 PLACES = [
     ("crates/command_line/src/lib.rt", rf'^const VERSION: &str = "{NUMBER}";', True),
     ("CHANGELOG.md", rf"^## {NUMBER}$", True),
-    ("README.md", rf"^\*\*How far it is \(version {NUMBER}\)", True),
+    ("README.md", rf"^\*\*Version {NUMBER}\*\*$", True),
     ("rust/Cargo.toml", rf'^version = "{NUMBER}"', False),
     ("rust/*/Cargo.toml", rf'^version = "{NUMBER}"', False),
     ("docs/kbsim.1", rf'^\.TH KBSIM 1 .*"kbsim {NUMBER}"', True),
