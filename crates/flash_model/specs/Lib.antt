@@ -1,3 +1,4 @@
+pub mod Assured
 pub mod ByMask
 pub mod Image
 pub mod FlashOperation

@@ -12,6 +12,7 @@
 
 ghost use Rattle.std.specs.Prelude.{◌≡◌, ◌+◌, ◌%◌, ◌^◌, ◌<◌, ℕ, List, IsOk, MatchResult, is_ok, if◌then◌else◌};
 ghost use Rattle.flash_model.specs.Image.{slot_at, page_count, IsImage};
+ghost use Rattle.flash_model.specs.Assured.{IsAssured};
 ghost use Rattle.flash_model.specs.FlashOperation.{FlashOperation, programs, erases};
 ghost use Rattle.flash_model.specs.Operations.{Programs, MayProgram, Erases, MayErase};
 
@@ -47,7 +48,9 @@ pub trait NorFlash {
     /// How many of them were torn, modulo 2^64.
     ghost faults: { Self → ℕ };
 
-    /// No operation fails from here on. Of hardware nothing makes this hold.
+    /// From here on no erase fails, and no program of an erased slot with a word whose bit 31 is clear:
+    /// what else is programmed a flash with error correction may refuse. Of hardware nothing makes
+    /// this hold.
     ghost is_faultless: { Self → Type 0 };
 
     /// This program or erase makes the second flash of the first. What it says beside `image` and the
@@ -85,7 +88,7 @@ pub trait NorFlash {
         ensures same_pages { page_count (image self.new) ≡ page_count (image self.old) }
         ensures counted { operations self.new ≡ (operations self.old + 1) % 2 ^ 64 }
         ensures faulted { faults self.new ≡ (if is_ok result then faults self.old else (faults self.old + 1) % 2 ^ 64) }
-        ensures faultless { is_faultless self.old → IsOk result × is_faultless self.new }
+        ensures faultless { is_faultless self.old → IsAssured (image self.old) page slot bytes → IsOk result × is_faultless self.new }
         ensures operated { operates self.old (programs page slot bytes) self.new };
 
     /// Sets every bit of page `page`, below `pages()`; no other page is touched.

@@ -5,6 +5,7 @@ pub mod Counting
 pub mod Ordering
 pub mod Elsewhere
 pub mod Working
+pub mod Short
 pub mod Stepped
 pub mod Between
 pub mod Cutting

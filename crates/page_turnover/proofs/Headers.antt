@@ -55,6 +55,10 @@ pub header_word-small : (seq : ℕ) → seq < 2 ^ 28 → header_word 2 seq < 2 ^
 unfolding header_word
 header_word-small seq l = omega arith
 
+pub header_word-short : (seq : ℕ) → seq < 2 ^ 28 → header_word 2 seq < 2 ^ 31
+unfolding header_word
+header_word-short seq l = omega arith
+
 pub header_of-has : (image : List ℕ) (page seq : ℕ) → HasHeader image page seq → header_of (slot_of (slot_at image page 0)) ≡ Some seq
 header_of-has image page seq h = rw h.good (header_of-word h.format seq h.known h.bits)
 

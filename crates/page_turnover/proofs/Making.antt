@@ -1,13 +1,16 @@
 -- An operation that was made: whole and read as intended, or torn and read otherwise.
-use Rattle.std.proofs.Common.{◌≡◌, ◌↔◌, ℕ, refl, Bool, true, false, List}
+use Rattle.std.proofs.Common.{◌≡◌, ◌↔◌, ℕ, ◌^◌, ◌<◌, refl, arith, Bool, true, false, List}
 use Rattle.records.specs.declared.Slot.TheVariants.{Good}
 use Rattle.records.specs.Slots.{slot_of, encoded}
 use Rattle.flash_model.specs.Image.{slot_at, IsImage}
+use Rattle.records.proofs.ReadBack.{is_slot}
+use Rattle.records.proofs.SlotLemmas.{encoded_slot, first_is, first_half-encoded, free_is_blank, good_pairs, slot_of-encoded}
+use Rattle.flash_model.specs.Assured.{IsAssured, IsShortWord}
 use Rattle.flash_model.specs.Operations.{Programs, MayProgram, Erases, MayErase}
 use Rattle.page_turnover.specs.declared.operation.Operation.{Operation}
 use Rattle.page_turnover.specs.declared.operation.Operation.TheVariants.{Program, Erase}
 use Rattle.page_turnover.specs.Words.{IsBlank}
-use Rattle.page_turnover.specs.Next.{Makes, ReadsBack}
+use Rattle.page_turnover.specs.Next.{Makes, ProgramsShort, ReadsBack}
 use Rattle.page_turnover.specs.ties.Made.{CanMake, IsMade}
 use Rattle.page_turnover.proofs.Operating.{programmed_good}
 use Rattle.page_turnover.proofs.Torn.{program_whole, erase_whole}
@@ -20,6 +23,22 @@ program_read old new page slot word false h i j c g = (g, λ r. let f = h.1 r in
 erase_read : (old new : List ℕ) (page : ℕ) (blank : Bool) → ((blank ≡ true) ↔ IsBlank new page) → IsImage new → CanMake old (Erase page) → MayErase old page new → IsMade old (Erase page) blank new
 erase_read old new page true h j c g = (erase_whole old new page j c g (h.0 refl), h.0 refl)
 erase_read old new page false h j c g = (g, λ r. let f = h.1 r in cc)
+
+-- a healthy flash is sure to make the program of a short word
+pub assured : (old : List ℕ) (operation : Operation) (page slot word : ℕ) → operation ≡ Program page slot word → IsImage old → CanMake old operation → ProgramsShort operation → IsAssured old page slot (encoded word)
+assured old operation page slot word e i c s =
+    let k : CanMake old (Program page slot word) = rw e at c in
+    let short : word < 2 ^ 31 = rw e at s in
+    let e_first = first_is (encoded word) in
+    let e_word = first_half-encoded word k.2 in
+    record {
+      erased = free_is_blank (slot_at old page slot) (is_slot old page slot i k.0 k.1) k.3;
+      word = record {
+        eight = (encoded_slot word).eight;
+        pairs = good_pairs (encoded word) word (encoded_slot word) (slot_of-encoded word k.2);
+        clear = omega (arith, e_first, e_word, short);
+      };
+    }
 
 pub programmed : (old new : List ℕ) (operation : Operation) (page slot word : ℕ) → operation ≡ Program page slot word → IsImage old → IsImage new → CanMake old operation → Programs old page slot (encoded word) new → Makes old operation new × ReadsBack operation new
 programmed old new operation page slot word e i j c g =

@@ -9,14 +9,14 @@ use Rattle.page_turnover.specs.declared.operation.Operation.TheVariants.{Program
 use Rattle.page_turnover.specs.Value.{LogValue, Target, Unread, Holds, Task, Rest, Append, Wait, Copy, Seal}
 use Rattle.page_turnover.specs.Header.{header_word}
 use Rattle.page_turnover.specs.Words.{IsBlank}
-use Rattle.page_turnover.specs.Turn.{target_page, next_seq, copied}
+use Rattle.page_turnover.specs.Turn.{target_page, next_seq, copied, HasShortWord}
 use Rattle.page_turnover.specs.ties.Turn.{Appending, Copying, Turning, HoldsCopies}
 use Rattle.page_turnover.specs.ties.Log.{Describes}
-use Rattle.page_turnover.specs.Next.{next_operation, operation_for, append_operation, turn_operation, is_ready}
+use Rattle.page_turnover.specs.Next.{next_operation, operation_for, append_operation, turn_operation, is_ready, ProgramsShort}
 use Rattle.page_turnover.specs.Steps.{IsReady, EndsAs, StepsFor}
 use Rattle.page_turnover.specs.ties.Made.{CanMake, Plans}
 use Rattle.page_turnover.proofs.Blanks.{is_blank-blank, is_blank-used, blank_of}
-use Rattle.page_turnover.proofs.Headers.{header_word-small}
+use Rattle.page_turnover.proofs.Headers.{header_word-small, header_word-short}
 use Rattle.page_turnover.proofs.Describing.{held_active, held_inside, room_of_none}
 use Rattle.page_turnover.proofs.Turns.{target_inside, ready_holds}
 use Rattle.page_turnover.proofs.Endings.{under_way, append_room, append_ends, copy_ends_at, seal_ends_at, erase_for_copy, erase_for_seal, ready_of}
@@ -87,6 +87,19 @@ can_for old log operation d (erases_seal target t e) = rw e (target_inside old d
 
 pub can_make : (old : List ℕ) (log : LogValue) (operation : Operation) → Describes old log → next_operation old log ≡ Some operation → CanMake old operation
 can_make old log operation d e = can_for old log operation d (next_is old log operation e)
+
+-- it programs a word whose bit 31 is clear where the word that waits is one
+short_for : (old : List ℕ) (log : LogValue) (operation : Operation) → Describes old log → HasShortWord log.task → NextIs old log operation → ProgramsShort operation
+short_for old log operation d s (appends word a t h e) = let w : HasShortWord (Append word) = rw t at s in rw e w
+short_for old log operation d s (copies_word target word t r e) = let w : HasShortWord (Copy target word) = rw t at s in rw e w
+short_for old log operation d s (seals_turn target t r e) =
+    let u : Turning old target = under_way old log (Seal target) d t in
+    rw e (header_word-short (next_seq old) u.can.numbered)
+short_for old log operation d s (erases_copy target word t e) = rw e tt
+short_for old log operation d s (erases_seal target t e) = rw e tt
+
+pub programs_short : (old : List ℕ) (log : LogValue) (operation : Operation) → Describes old log → next_operation old log ≡ Some operation → HasShortWord log.task → ProgramsShort operation
+programs_short old log operation d e s = short_for old log operation d s (next_is old log operation e)
 
 -- nothing is next where nothing is pending
 append_some : (old : List ℕ) (log : LogValue) (word : ℕ) (held : Option ActivePage) → Describes old log → log.task ≡ Append word → log.active ≡ held → append_operation held word ≡ None → ⊥

@@ -1,6 +1,6 @@
 -- Believed: the operation that a step of a log makes next.
 use Rattle.shapes.specs.Shapes.{Bytes}
-use Rattle.std.specs.Prelude.{◌≡◌, ℕ, ◌+◌, Bool, true, false, Option, Some, None}
+use Rattle.std.specs.Prelude.{◌≡◌, ℕ, ◌+◌, ◌^◌, ◌<◌, Bool, true, false, Option, Some, None}
 use Rattle.records.specs.declared.Slot.TheVariants.{Good}
 use Rattle.records.specs.Slots.{slot_of, encoded}
 use Rattle.flash_model.specs.Image.{slot_at}
@@ -45,6 +45,11 @@ next_operation image log = operation_for log.task image log
 abbrev pub on_flash : Operation → FlashOperation
 on_flash (Program page slot word) = programs page slot (encoded word)
 on_flash (Erase page) = erases page
+
+-- the word that an operation programs, if it does, has bit 31 clear
+abbrev pub ProgramsShort : Operation → Type 0
+ProgramsShort (Program page slot word) = word < 2 ^ 31
+ProgramsShort (Erase page) = Unit {0}
 
 -- the whole of an operation
 abbrev pub Makes : Bytes → Operation → Bytes → Type 0

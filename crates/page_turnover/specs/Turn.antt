@@ -2,7 +2,7 @@
 use Rattle.shapes.specs.Shapes.{Bytes, SlotWords}
 use Rattle.std.specs.Prelude.{ℕ, ◌+◌, ◌%◌, ◌^◌, ◌<◌, [], ◌∷◌, Option, Some, None}
 use Rattle.flash_model.specs.Image.{page_count}
-use Rattle.page_turnover.specs.Value.{Target, Unread, Holds, Task, Rest, Wait, Copy, Seal}
+use Rattle.page_turnover.specs.Value.{Target, Unread, Holds, Task, Rest, Append, Wait, Copy, Seal}
 use Rattle.page_turnover.specs.Active.{active}
 use Rattle.page_turnover.specs.Words.{words_up_to}
 use Rattle.page_turnover.specs.Usable.{IsUsable}
@@ -46,6 +46,12 @@ copies image _ = []
 abbrev pub offered : Task → SlotWords
 offered (Copy target word) = word ∷ []
 offered _ = []
+
+-- the word that waits to be appended or copied, if one does, has bit 31 clear
+abbrev pub HasShortWord : Task → Type 0
+HasShortWord (Append word) = word < 2 ^ 31
+HasShortWord (Copy target word) = word < 2 ^ 31
+HasShortWord _ = Unit {0}
 
 -- a turn waits for a copy or its seal
 abbrev pub IsWaiting : Task → Type 0

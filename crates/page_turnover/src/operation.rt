@@ -5,7 +5,7 @@ ghost use Rattle.flash_model.specs.declared.TheConstants.{PAGE_SLOTS};
 ghost use Rattle.flash_model.specs.Image.{page_count, slot_at, IsImage};
 ghost use Rattle.records.specs.Slots.{slot_of};
 ghost use Rattle.page_turnover.specs.ties.Made.{CanMake, IsMade, RaisesFaults};
-ghost use Rattle.page_turnover.specs.Next.{on_flash};
+ghost use Rattle.page_turnover.specs.Next.{on_flash, ProgramsShort};
 
 use crate::reading::is_blank;
 use flash_model::NorFlash;
@@ -29,7 +29,7 @@ pub fn make<F: NorFlash>(flash: &mut F, operation: Operation) -> bool
     ensures made { IsMade (F.image flash.old) operation result (F.image flash.new) }
     ensures counted { F.operations flash.new ≡ (F.operations flash.old + 1) % 2 ^ 64 }
     ensures faulted { RaisesFaults result (F.faults flash.old) (F.faults flash.new) }
-    ensures faultless { F.is_faultless flash.old → F.is_faultless flash.new × (result ≡ true) }
+    ensures faultless { F.is_faultless flash.old → ProgramsShort operation → F.is_faultless flash.new × (result ≡ true) }
     ensures operated { F.operates flash.old (on_flash operation) flash.new }
 {
     let _pages = flash.pages();

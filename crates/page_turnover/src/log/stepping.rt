@@ -6,7 +6,7 @@ ghost use Rattle.page_turnover.specs.Words.{IsBlank};
 ghost use Rattle.page_turnover.specs.Usable.{IsUsable};
 ghost use Rattle.page_turnover.specs.Value.{Rest, Append, Copy, Seal, Unread};
 ghost use Rattle.page_turnover.specs.ties.Value.{target_value};
-ghost use Rattle.page_turnover.specs.Turn.{target_page, copied};
+ghost use Rattle.page_turnover.specs.Turn.{target_page, copied, HasShortWord};
 ghost use Rattle.page_turnover.specs.ties.Made.{IsPassedOver};
 
 use super::{ActivePage, Log, Target, Task};
@@ -75,7 +75,8 @@ impl Log {
         ensures torn { result ≡ Step.Failed → MayOperate (F.image flash.old) (F.image flash.new) }
         ensures fills { FillsAtMostOne (F.image flash.old) (F.image flash.new) }
         ensures counts { CountsAs (result ≡ Step.Idle) (result ≡ Step.Failed) (F.operations flash.old) (F.operations flash.new) (F.faults flash.old) (F.faults flash.new) }
-        ensures faultless { F.is_faultless flash.old → F.is_faultless flash.new × (result ≢ Step.Failed) }
+        // a healthy flash takes a word whose bit 31 is clear, and each header is one
+        ensures faultless { F.is_faultless flash.old → HasShortWord self.old.task → F.is_faultless flash.new × (result ≢ Step.Failed) }
         // what this flash says of that operation
         ensures operated { (operation : Operation) → next_operation (F.image flash.old) self.old ≡ Some operation → F.operates flash.old (on_flash operation) flash.new }
     {

@@ -1,4 +1,5 @@
-use Rattle.page_turnover.proofs.Making.{programmed, program_judged, erased, erase_judged}
+use Rattle.std.proofs.Common.{refl}
+use Rattle.page_turnover.proofs.Making.{assured, programmed, program_judged, erased, erase_judged}
 use Rattle.page_turnover.proofs.operation.make.Goals as goal
 
 pub returns-in-Ok-clause-made : goal.returns-in-Ok-clause-made
@@ -19,3 +20,16 @@ pub returns-in-Err-erase_page-clause-made : goal.returns-in-Err-erase_page-claus
 returns-in-Err-erase_page-clause-made g c =
     erase_judged (g.F.NorFlash.image c.args.flash.now) (g.F.NorFlash.image c.erase_page.new.self) c.args.operation c.in-Erase.page c.is_blank.result c.in-Erase.is
     c.is_blank.ensures c.in-Err-erase_page.ensures.whole c.requires c.in-Err-erase_page.ensures.outcome
+
+pub returns-in-Ok-clause-faultless : goal.returns-in-Ok-clause-faultless
+returns-in-Ok-clause-faultless g c f s =
+    let a = assured (g.F.NorFlash.image c.args.flash.now) c.args.operation c.in-Program.page c.in-Program.slot c.in-Program.word c.in-Program.is c.pages-pages.ensures.whole c.requires s in
+    let h = rw c.encode.ensures at c.in-Ok.ensures.faultless in
+    ((h f a).1, refl)
+
+pub returns-in-Err-clause-faultless : goal.returns-in-Err-clause-faultless
+returns-in-Err-clause-faultless g c f s =
+    let a = assured (g.F.NorFlash.image c.args.flash.now) c.args.operation c.in-Program.page c.in-Program.slot c.in-Program.word c.in-Program.is c.pages-pages.ensures.whole c.requires s in
+    let h = rw c.encode.ensures at c.in-Err.ensures.faultless in
+    let e = (h f a).0 in
+    cc

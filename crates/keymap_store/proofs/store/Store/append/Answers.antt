@@ -1,6 +1,7 @@
 use Rattle.std.proofs.Common.{refl, sym, ◌∙◌}
-use Rattle.keymap_store.proofs.Working.{appended, failed}
+use Rattle.keymap_store.proofs.Working.{appended, appending, failed}
 use Rattle.keymap_store.proofs.Ordering.{settled_order, failed_order}
+use Rattle.keymap_store.proofs.Short.{record_short}
 use Rattle.keymap_store.proofs.Stepped.{append_next, append_settled, append_failed, append_writes, append_fails}
 use Rattle.keymap_store.proofs.store.Store.append.Goals as goal
 
@@ -57,3 +58,13 @@ returns-in-Committed-clause-order g c =
 
 pub returns-in-Failed-clause-order : goal.returns-in-Failed-clause-order
 returns-in-Failed-clause-order g c = failed_order _
+
+pub returns-in-Committed-clause-faultless : goal.returns-in-Committed-clause-faultless
+returns-in-Committed-clause-faultless g c f =
+    let a = appending (g.F.NorFlash.image c.args.flash.now) _ c.args.command (rw (← c.self.view_is) at c.requires.mirrors) (rw (← c.self.view_is) at c.requires.job) in
+    ((c.step.ensures.faultless f (rw a.task_is (record_short c.args.command a.reads_back))).0, λ e. cc)
+
+pub returns-in-Failed-clause-faultless : goal.returns-in-Failed-clause-faultless
+returns-in-Failed-clause-faultless g c f =
+    let a = appending (g.F.NorFlash.image c.args.flash.now) _ c.args.command (rw (← c.self.view_is) at c.requires.mirrors) (rw (← c.self.view_is) at c.requires.job) in
+    absurd ((c.step.ensures.faultless f (rw a.task_is (record_short c.args.command a.reads_back))).1 c.in-Failed.is)

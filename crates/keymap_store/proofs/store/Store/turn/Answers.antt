@@ -4,6 +4,7 @@ use Rattle.keymap_store.specs.Keymap.{entries_of}
 use Rattle.keymap_store.specs.Left.{turn_left}
 use Rattle.keymap_store.proofs.Counting.{moved_left, committed_left, turning_left}
 use Rattle.keymap_store.proofs.Ordering.{moved_order, committed_order, failed_order}
+use Rattle.keymap_store.proofs.Short.{offered_short}
 use Rattle.keymap_store.proofs.Working.{turning, turn_few, turn_moves, turn_room, turn_commits, failed}
 use Rattle.keymap_store.proofs.Stepped.{turn_asks, turn_working, turn_failed, in_target, turn_prepares, turn_over, turn_fails}
 use Rattle.keymap_store.proofs.store.Store.turn.Goals as goal
@@ -182,3 +183,30 @@ returns-in-Committed-clause-order g c =
 
 pub returns-in-Failed-clause-order : goal.returns-in-Failed-clause-order
 returns-in-Failed-clause-order g c = failed_order _
+
+pub returns-in-Moved-clause-faultless : goal.returns-in-Moved-clause-faultless
+returns-in-Moved-clause-faultless g c f =
+    let old = g.F.NorFlash.image c.args.flash.now in
+    let m = rw (← c.self.view_is) at c.requires.mirrors in
+    let j = turning old _ c.args.command c.args.from m (rw (← c.self.view_is) at c.requires.job) in
+    let s = c.offer_next-from.ensures.stands old (entries_of old) m.keymap_is m.log_is j.offers in
+    let short = offered_short (entries_of old) c.offer_next-from.result old c.offer_next-from.new.log.task c.offer_next-from.ensures.within s.offers in
+    ((c.step.ensures.faultless f short).0, λ e. cc)
+
+pub returns-in-Committed-clause-faultless : goal.returns-in-Committed-clause-faultless
+returns-in-Committed-clause-faultless g c f =
+    let old = g.F.NorFlash.image c.args.flash.now in
+    let m = rw (← c.self.view_is) at c.requires.mirrors in
+    let j = turning old _ c.args.command c.args.from m (rw (← c.self.view_is) at c.requires.job) in
+    let s = c.offer_next-from.ensures.stands old (entries_of old) m.keymap_is m.log_is j.offers in
+    let short = offered_short (entries_of old) c.offer_next-from.result old c.offer_next-from.new.log.task c.offer_next-from.ensures.within s.offers in
+    ((c.step.ensures.faultless f short).0, λ e. cc)
+
+pub returns-in-Failed-clause-faultless : goal.returns-in-Failed-clause-faultless
+returns-in-Failed-clause-faultless g c f =
+    let old = g.F.NorFlash.image c.args.flash.now in
+    let m = rw (← c.self.view_is) at c.requires.mirrors in
+    let j = turning old _ c.args.command c.args.from m (rw (← c.self.view_is) at c.requires.job) in
+    let s = c.offer_next-from.ensures.stands old (entries_of old) m.keymap_is m.log_is j.offers in
+    let short = offered_short (entries_of old) c.offer_next-from.result old c.offer_next-from.new.log.task c.offer_next-from.ensures.within s.offers in
+    absurd ((c.step.ensures.faultless f short).1 c.in-Failed.is)

@@ -1,6 +1,6 @@
 use Rattle.page_turnover.proofs.Effects.{moved, committed, stays_usable}
 use Rattle.page_turnover.proofs.Operates.{operates}
-use Rattle.page_turnover.proofs.Planning.{can_make}
+use Rattle.page_turnover.proofs.Planning.{can_make, programs_short}
 use Rattle.page_turnover.proofs.Leaving.{leaves, fills, frame_whole}
 use Rattle.page_turnover.proofs.Failing.{failed_ends}
 use Rattle.page_turnover.proofs.Stepping.{attempts_done, attempts_failed, counts_done, inside_new}
@@ -53,7 +53,9 @@ pub returns-then-make-clause-counts : goal.returns-then-make-clause-counts
 returns-then-make-clause-counts g c = counts_done c.in-Some.plan.step _ _ _ _ c.in-Some.ensures.not_idle c.in-Some.ensures.not_failed c.make.ensures.counted c.if-make.ensures.faulted
 
 pub returns-then-make-clause-faultless : goal.returns-then-make-clause-faultless
-returns-then-make-clause-faultless g c f = ((c.make.ensures.faultless f).0, c.in-Some.ensures.not_failed)
+returns-then-make-clause-faultless g c f s =
+    let short = programs_short (g.F.NorFlash.image c.args.flash.now) c.args.self.now c.in-Some.plan.operation c.requires c.in-Some.ensures.next s in
+    ((c.make.ensures.faultless f short).0, c.in-Some.ensures.not_failed)
 
 pub returns-else-make-clause-ends : goal.returns-else-make-clause-ends
 returns-else-make-clause-ends g c =
@@ -75,3 +77,9 @@ returns-else-make-clause-torn g c f =
 pub returns-else-make-clause-fills : goal.returns-else-make-clause-fills
 returns-else-make-clause-fills g c =
     (leaves (g.F.NorFlash.image c.args.flash.now) (g.F.NorFlash.image c.make.new.flash) c.args.self.now c.in-Some.plan.operation c.requires c.in-Some.ensures.next c.make.ensures.whole c.if-make.ensures.made.0).fills
+
+pub returns-else-make-clause-faultless : goal.returns-else-make-clause-faultless
+returns-else-make-clause-faultless g c f s =
+    let short = programs_short (g.F.NorFlash.image c.args.flash.now) c.args.self.now c.in-Some.plan.operation c.requires c.in-Some.ensures.next s in
+    let e = (c.if-make.ensures.faultless f short).1 in
+    cc
