@@ -1,4 +1,4 @@
-/* Parses a report descriptor in hex and prints what `kbsim parse` prints of it (docs/DESCRIPTORS.md).
+/* Parses a report descriptor in hex and prints what `kbsim parse` prints of it (docs/simulator.md).
  *
  * parse [TIMES] < TEXT     with TIMES parses it so many times, and prints nothing: for a count of instructions */
 #include "parser.h"

@@ -1,5 +1,5 @@
 /* Plays a script of `kbsim run` on a keyboard behind reference/peer/keyboard.h, and prints what `kbsim` prints of it, but for
- * what its host reads in a report (docs/SCRIPT.md).
+ * what its host reads in a report (docs/simulator.md).
  *
  * play [--pages N | --image FILE] [--save FILE] < SCRIPT
  *

@@ -193,9 +193,9 @@ class Words(Calls):
         self.assertEqual((told[0], told[2]), (1, "error: the output can't be written\n"))
 
     def test_each_explanation_stands_behind_its_answer(self):
-        # Where both go to the same place, as docs/SCRIPT.md shows it.
+        # Where both go to the same place, as docs/simulator.md shows it.
         command = "$ kbsim run --explain examples/stored_key.kbs\n"
-        with open(f"{ROOT}/docs/SCRIPT.md", encoding="utf-8") as file:
+        with open(f"{ROOT}/docs/simulator.md", encoding="utf-8") as file:
             shown = file.read().split(command)[1].split("```")[0]
         words = [*KBSIM, "run", "--explain", "examples/stored_key.kbs"]
         told = subprocess.run(words, stdout=subprocess.PIPE, stderr=subprocess.STDOUT, cwd=ROOT, text=True)

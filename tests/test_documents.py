@@ -1,5 +1,5 @@
-"""Runs what the documents show: each fenced program, command and output of README.md, of docs/USING*.md and of the READMEs of
-examples/.
+"""Runs what the documents show: each fenced program, command and output of README.md, of docs/USING*.md and docs/simulator.md, and of
+the READMEs of examples/.
 
 A fence says what it is, and a copy of the repository's folders, called `wuzhikar`, is what it runs on:
 
@@ -7,6 +7,8 @@ A fence says what it is, and a copy of the repository's folders, called `wuzhika
   that package's src/main.rs.
 - `sh` are commands, run at the copy's root; `python` is a program that is run where the last `sh` of its page ended.
 - `text` is what the one before it prints on standard output, `text part` some lines of it that follow each other.
+- `console` are commands behind `$`, each above what a terminal shows of it; they are run in the repository itself, where `kbsim` is
+  bin/kbsim.
 - README.md runs in the repository itself, and shows what a terminal does: standard error, too.
 - What is not run has `<!-- not run: why -->` in the line before.
 
@@ -29,9 +31,9 @@ sys.path.insert(0, f"{ROOT}/tools")
 from debian_crates import OF_PROGRAM, environment  # noqa: E402
 
 README = f"{ROOT}/README.md"
-PAGES = [README, *sorted(glob.glob(f"{ROOT}/docs/USING*.md") + glob.glob(f"{ROOT}/examples/*/README.md"))]
+PAGES = [README, *sorted(glob.glob(f"{ROOT}/docs/USING*.md") + glob.glob(f"{ROOT}/examples/*/README.md")), f"{ROOT}/docs/simulator.md"]
 NOT_RUN = re.compile(r"<!-- not run: \S.* -->")
-KINDS = ("toml", "rust", "sh", "python", "text", "text part")
+KINDS = ("toml", "rust", "sh", "python", "console", "text", "text part")
 SECONDS = 1200  # (much, for a machine that many share)
 
 
@@ -197,6 +199,13 @@ class Page:
         told = self.ran(fence, ["bash", "-euo", "pipefail", "-c", f"{self.before}{fence.text}\npwd"], self.root)
         printed, self.folder = re.fullmatch(r"(.*?)([^\n]*)\n", told, re.S).groups()
         return printed
+
+    def console(self, fence):
+        for shown in fence.text.removeprefix("$ ").split("\n$ "):
+            command, _, wanted = shown.partition("\n")
+            script = f'kbsim() {{ "{ROOT}/bin/kbsim" --quiet --way plain "$@"; }}; exec 2>&1; {command} || true'
+            told = self.ran(fence, ["bash", "-c", script], ROOT)
+            self.test.assertEqual(told.rstrip("\n"), wanted.rstrip("\n"), f"{fence.place}: {command}")
 
     def python(self, fence):
         return self.ran(fence, ["python3", "-B", "-c", fence.text], self.folder)

@@ -1,6 +1,19 @@
-"""Tests of the program: the rows of tests/, whose README.md says how they are written, and inputs too long for rows.
+"""Tests of the program: the rows of tests/scripts and tests/descriptors, and inputs too long for rows.
 
-They run on the program that the variable KBSIM names, or else on bin/kbsim.
+They run on the program that the variable KBSIM names, or else on bin/kbsim. `-k WORD` runs the tests whose heading holds this word.
+
+Rows stand in files `*.rows`. `== NAME: WORDS` begins a test, whose cases the program runs with these words; `--image 2` stands for an
+image of two pages. `//` begins a remark. A case takes one of three forms; a blank line ends the first two.
+
+- A script beside its answers: `set 0 0 0005 = ack` is a line and what it prints after its number; a line that prints nothing stands
+  alone. `255 times: A = x; B = y` repeats rows. `# flash 0 1-511 05000010faffffef` says what slots of the image hold.
+- A dialog: lines with `>` are given, the last one without an LF; those below are what is printed, and lines with `!` at the end what is
+  said on standard error.
+- Columns that end in `|`: what is given and what is printed; or what is given, and its fault by line and name, or number and offset.
+  In columns and dialogs `\\n`, `\\r`, `\\t`, `\\xff` and `\\u{e4}` are escapes.
+
+The status is 1 where the last printed line begins with `fault`, and else 0. Where a case does not say what is on standard error, a
+sentence is wanted there beside a fault, and else nothing. A script without an image runs once more with `--explain`.
 """
 
 import difflib

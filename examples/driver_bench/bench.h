@@ -22,7 +22,7 @@ enum {
     BENCH_NAK = -1,
     BENCH_REFUSED = -2,
     BENCH_OFF = -3,    /* endpoint 1 is not there: the device is not configured */
-    BENCH_STALL = -100 /* less the reason's number, 1 to 16 (docs/SCRIPT.md), which a real bus does not show */
+    BENCH_STALL = -100 /* less the reason's number, 1 to 16 (docs/simulator.md), which a real bus does not show */
 };
 
 /* The reason's number of an answer that is a stall, and 0 of any other, and of a halted endpoint 1. */

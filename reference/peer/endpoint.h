@@ -1,6 +1,6 @@
 // SPDX-License-Identifier: MIT OR Apache-2.0
 /* Endpoint 0: SETUP packets and the packets of a transfer (USB 2.0, sections 8.5.3 and 9.3; HID 1.11, section 7; the order of
- * the checks is in docs/FORMATS.md). Part of keyboard.c. */
+ * the checks is in docs/formats.md). Part of keyboard.c. */
 #ifndef ENDPOINT_H
 #define ENDPOINT_H
 #include "descriptors.h"

@@ -1,5 +1,5 @@
 // SPDX-License-Identifier: MIT OR Apache-2.0
-/* The keyboard of docs/FORMATS.md, written by hand in C: 96 keys, four layers, three reports, the keymap in NOR flash.
+/* The keyboard of docs/formats.md, written by hand in C: 96 keys, four layers, three reports, the keymap in NOR flash.
  *
  * One device, no heap. Calls come one after another, from a main loop or from interrupts of one priority. Nothing waits: a
  * call of kb_work makes at most one flash operation. kb_start comes before any other call. */

@@ -1,5 +1,5 @@
 // SPDX-License-Identifier: MIT OR Apache-2.0
-/* Codes, the keymap, and commands as the words that records hold (docs/FORMATS.md). Part of keyboard.c. */
+/* Codes, the keymap, and commands as the words that records hold (docs/formats.md). Part of keyboard.c. */
 #ifndef KEYMAP_H
 #define KEYMAP_H
 #include "state.h"

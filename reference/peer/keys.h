@@ -1,5 +1,5 @@
 // SPDX-License-Identifier: MIT OR Apache-2.0
-/* Scans: debounce, presses and releases (docs/FORMATS.md). Part of keyboard.c. */
+/* Scans: debounce, presses and releases (docs/formats.md). Part of keyboard.c. */
 #ifndef KEYS_H
 #define KEYS_H
 #include "reports.h"

@@ -1,5 +1,5 @@
 // SPDX-License-Identifier: MIT OR Apache-2.0
-/* The log of records in flash: the start, and the work that stores a command (docs/FORMATS.md). Part of keyboard.c. */
+/* The log of records in flash: the start, and the work that stores a command (docs/formats.md). Part of keyboard.c. */
 #ifndef LOG_H
 #define LOG_H
 #include "keymap.h"

@@ -1,5 +1,5 @@
 // SPDX-License-Identifier: MIT OR Apache-2.0
-/* A parser of HID report descriptors (HID 1.11, section 6.2.2), written by hand in C: what docs/FORMATS.md says that the host
+/* A parser of HID report descriptors (HID 1.11, section 6.2.2), written by hand in C: what docs/formats.md says that the host
  * reads, with its limits and its faults. */
 #ifndef PARSER_H
 #define PARSER_H

@@ -1,5 +1,5 @@
 // SPDX-License-Identifier: MIT OR Apache-2.0
-/* Input reports: their bytes, the queue, and what a poll sends (docs/FORMATS.md, "Reports"). Part of keyboard.c. */
+/* Input reports: their bytes, the queue, and what a poll sends (docs/formats.md, "Reports"). Part of keyboard.c. */
 #ifndef REPORTS_H
 #define REPORTS_H
 #include "keymap.h"

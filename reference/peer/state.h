@@ -1,5 +1,5 @@
 // SPDX-License-Identifier: MIT OR Apache-2.0
-/* All that the keyboard keeps in RAM, and the numbers of docs/FORMATS.md. Part of keyboard.c. */
+/* All that the keyboard keeps in RAM, and the numbers of docs/formats.md. Part of keyboard.c. */
 #ifndef STATE_H
 #define STATE_H
 #include "flash.h"

@@ -1,4 +1,4 @@
-// Codes of the keymap (docs/FORMATS.md): which there are, their names, and what stands on a key.
+// Codes of the keymap (docs/formats.md): which there are, their names, and what stands on a key.
 
 import { hex } from "./bytes.js";
 import { KEYS, LAYERS, entryOf } from "./device.js";

@@ -1,4 +1,4 @@
-// A keymap as a file (docs/FORMATS.md, "A keymap as a file"), version 1.
+// A keymap as a file (docs/formats.md, "A keymap as a file"), version 1.
 
 import { Refused } from "./bytes.js";
 import { isCode } from "./codes.js";

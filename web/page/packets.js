@@ -3,7 +3,7 @@
 import { hex } from "./bytes.js";
 import { codeName } from "./codes.js";
 
-/** The reasons of a stall (docs/SCRIPT.md), with what each means. @type {Record<number, [string, string]>} */
+/** The reasons of a stall (docs/simulator.md), with what each means. @type {Record<number, [string, string]>} */
 export const REASONS = {
     1: ["UnknownRequest", "no such request"], 2: ["WrongInterface", "wIndex is not 0"], 3: ["UnknownDescriptor", "no such descriptor"],
     4: ["UnknownReport", "no such report"], 5: ["WrongLength", "wLength is wrong"], 6: ["BadProtocol", "no such protocol"],

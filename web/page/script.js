@@ -1,4 +1,4 @@
-// The language of scripts (docs/SCRIPT.md): what each line says, or its fault, and what is printed of it.
+// The language of scripts (docs/simulator.md): what each line says, or its fault, and what is printed of it.
 
 import { bytesHex, fromHex } from "./bytes.js";
 import { entryOf } from "./device.js";

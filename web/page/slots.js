@@ -1,4 +1,4 @@
-// What the slots of a flash say (docs/FORMATS.md), and images made of slots.
+// What the slots of a flash say (docs/formats.md), and images made of slots.
 
 import { Refused, fromHex } from "./bytes.js";
 import { codeName } from "./codes.js";

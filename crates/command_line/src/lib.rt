@@ -45,7 +45,7 @@ means: the reason of a stall, the name of a request, the usages of a report, the
 operation that a step of the flash work made. Standard output is the same.
 
 The line of a fault, as `fault line 2: bad number`, is the last one on standard
-output. docs/SCRIPT.md has the language.";
+output. docs/simulator.md has the language.";
 
 const DESCRIBE_HELP: &str = "\
 Prints the keyboard's device, configuration and report descriptors, each on a
@@ -76,7 +76,7 @@ Ranges and single usages are joined by commas, and - says that there are none.
 A fault is the only line: `fault hex` where the text is not pairs of hex digits,
 `fault parse N at OFFSET` for fault N of the descriptor, at the item with that
 offset in bytes, `fault too long`, `fault input` or `fault memory`.
-docs/DESCRIPTORS.md has more, docs/FORMATS.md the numbers of faults.";
+docs/simulator.md has more, docs/formats.md the numbers of faults.";
 
 const STATUS_HELP: &str = "\
 Exit status:

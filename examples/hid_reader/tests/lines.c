@@ -1,5 +1,5 @@
 // SPDX-License-Identifier: MIT OR Apache-2.0
-/* lines PIECE..: the fields of the descriptor on standard input as `kbsim parse` prints them (docs/DESCRIPTORS.md), once for
+/* lines PIECE..: the fields of the descriptor on standard input as `kbsim parse` prints them (docs/simulator.md), once for
  * each PIECE, read in pieces of so many bytes, or whole where that is 0. */
 #include "check.h"
 

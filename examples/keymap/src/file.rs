@@ -1,5 +1,5 @@
 // SPDX-License-Identifier: MIT OR Apache-2.0
-//! A keymap as a file: JSON, version 1 (docs/FORMATS.md, "A keymap as a file").
+//! A keymap as a file: JSON, version 1 (docs/formats.md, "A keymap as a file").
 
 use crate::keyboard::Entry;
 use serde::de::value::MapAccessDeserializer;

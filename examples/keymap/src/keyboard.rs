@@ -1,5 +1,5 @@
 // SPDX-License-Identifier: MIT OR Apache-2.0
-//! The keymap of a keyboard, by its feature report (docs/FORMATS.md, "The feature report that carries a command").
+//! The keymap of a keyboard, by its feature report (docs/formats.md, "The feature report that carries a command").
 
 use crate::file::{FileError, KEYS, Keymap, LAYERS};
 use std::path::PathBuf;

@@ -18,11 +18,11 @@ keymap [--device FILE] [--id VVVV:PPPP] COMMAND
   get L K          prints the code of key K (0 to 95) on layer L (0 to 3), four hex digits
   set L K CODE     sets it; it is stored when the program ends
   reset [L]        sets layer L, or all layers, back to the default
-  dump [NAME]      prints the whole keymap as a file (docs/FORMATS.md, \"A keymap as a file\")
+  dump [NAME]      prints the whole keymap as a file (docs/formats.md, \"A keymap as a file\")
   load FILE        makes the keyboard's keymap that of a file: sets what differs
 
 The keyboard is the one hidraw device with the ID 1209:0001, or that of --id; --device names its file, as /dev/hidraw0.
-Codes are those of docs/FORMATS.md, \"Codes\": 0004 is the letter a, 40e9 is volume up, 5001 is layer 1 while it is held.
+Codes are those of docs/formats.md, \"Codes\": 0004 is the letter a, 40e9 is volume up, 5001 is layer 1 while it is held.
 ";
 
 /// Prints what was asked for.

@@ -11,7 +11,7 @@
  *   packets COUNT LENGTH       the same from endpoint 1 itself, which no driver may have
  *   held COUNT                 waits until so many keys are down for Linux
  *   feature HEX                sets a feature report
- *   set LAYER KEY CODE         sets an entry of the keymap; CODE is hex (docs/FORMATS.md)
+ *   set LAYER KEY CODE         sets an entry of the keymap; CODE is hex (docs/formats.md)
  *   get LAYER KEY              prints one
  *   output HEX                 sends an output report
  *   led NUMBER 0|1             switches a LED

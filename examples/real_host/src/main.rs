@@ -35,7 +35,7 @@ Standard input has what the hands do, a line each. They go on when the host has 
   keys K..         holds these keys (0 to 95), until the next line that moves a key
   wait MILLISECONDS
   cut              the power goes and comes back
-  tear MASK        the power goes inside the flash operation of the next command, as far as this mask lets it (docs/SCRIPT.md)
+  tear MASK        the power goes inside the flash operation of the next command, as far as this mask lets it (docs/simulator.md)
   leds             prints the LEDs
   waits            prints how often packets of commands were told to wait, since the last such line
   say TEXT         prints it when all before is done

@@ -1,4 +1,4 @@
-//! What the bytes of a flash say, read slot by slot as `docs/FORMATS.md` has it. It shares nothing with the crates.
+//! What the bytes of a flash say, read slot by slot as `docs/formats.md` has it. It shares nothing with the crates.
 
 /// The eight bytes of a word: itself, and its complement.
 pub fn good(word: u32) -> [u8; 8] {

@@ -22,7 +22,7 @@ impl Command {
     }
 }
 
-/// docs/FORMATS.md, "Codes".
+/// docs/formats.md, "Codes".
 pub fn default_code(layer: usize, key: usize) -> u16 {
     match (layer, key) {
         (0, 0..88) => 4 + key as u16,

@@ -20,7 +20,7 @@ def is_whole(digits):
 
 
 def meaning(digits):
-    """What a slot says (docs/FORMATS.md, "Flash, slots and pages" and "Commands as words")."""
+    """What a slot says (docs/formats.md, "Flash, slots and pages" and "Commands as words")."""
     if digits == FREE:
         return "free"
     if not is_whole(digits):

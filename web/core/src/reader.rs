@@ -72,7 +72,7 @@ pub extern "C" fn item(from: usize, length: usize) -> i32 {
 }
 
 /// A number for each tag: 1 Input, 2 Output, 3 Feature, 4 Collection, 5 End Collection; 11 to 18 the Global items and 21 to
-/// 24 the Local ones, in the order of `docs/FORMATS.md`; 0 what is passed over.
+/// 24 the Local ones, in the order of `docs/formats.md`; 0 what is passed over.
 fn tag_number(tag: Tag) -> i32 {
     match tag {
         Tag::Main(MainTag::Data(kind)) => kind_number(kind),
