@@ -116,7 +116,8 @@ fn another(chip: &mut Chip, numbers: &mut Numbers, counts: &mut Counts) -> Sessi
     if records == 0 {
         bytes.fill(0xff);
     }
-    let damaged = numbers.below(8) == 0;
+    // What something else has left in a flash with error correction is outside of what is promised of it.
+    let damaged = numbers.below(8) == 0 && !chip.corrects();
     for _ in 0..if damaged { 1 + numbers.below(40) } else { 0 } {
         let at = if numbers.below(4) == 0 { numbers.below(8) } else { numbers.below(LOG as u64 / 2) } as usize;
         bytes[LOG / 2 * numbers.below(2) as usize + at] = numbers.draw() as u8;
