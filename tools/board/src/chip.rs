@@ -102,8 +102,9 @@ pub struct Chip {
     held: bool,
     /// Whether the chip has a flash that the rig does not know.
     on: bool,
-    /// How often three seconds went by without an answer.
-    pub slow: u64,
+    /// What QEMU's threads did when the power came last, and what they had done behind each three seconds without an answer.
+    began: String,
+    pub slow: Vec<String>,
 }
 
 fn qemu(firmware: &Path, plugin: &Path, folder: &Path) -> Result<Child> {
@@ -156,7 +157,8 @@ impl Chip {
             came: Vec::new(),
             held: false,
             on: false,
-            slow: 0,
+            began: String::new(),
+            slow: Vec::new(),
         };
         // All have connected, so that the names are no more needed.
         std::fs::remove_dir_all(folder)?;
@@ -214,15 +216,15 @@ impl Chip {
         }
     }
 
-    /// What Linux says of QEMU's threads: the state, and the ticks of each.
+    /// What Linux says of QEMU's threads: the state, and for how long each ran and waited for a processor, in milliseconds.
     fn threads(&self) -> String {
         let folder = format!("/proc/{}/task", self.qemu.id());
         let tasks = std::fs::read_dir(folder).into_iter().flatten().flatten();
         let told = tasks.filter_map(|task| {
-            let stat = std::fs::read_to_string(task.path().join("stat")).ok()?;
-            let wchan = std::fs::read_to_string(task.path().join("wchan")).unwrap_or_default();
-            let words: Vec<&str> = stat.split_whitespace().collect();
-            Some(format!("[{} {} {} {wchan}]", words.get(1)?, words.get(2)?, words.get(13)?))
+            let read = |name: &str| std::fs::read_to_string(task.path().join(name)).ok();
+            let (stat, times) = (read("stat")?, read("schedstat")?);
+            let mut times = times.split_whitespace().filter_map(|time| time.parse::<u64>().ok()).map(|time| time / 1_000_000);
+            Some(format!("[{} ran {}, waited {}]", stat.split_whitespace().nth(2)?, times.next()?, times.next()?))
         });
         told.collect()
     }
@@ -299,7 +301,7 @@ impl Chip {
                 (true, false) => self.drain()?,
                 (false, false) if waited < 4 => {
                     waited += 1;
-                    self.slow += 1;
+                    self.slow.push(format!("at the start {}, now {}", self.began, self.threads()));
                 }
                 (false, false) => {
                     let (registers, threads) = (self.monitor("info registers")?, self.threads());
@@ -364,6 +366,7 @@ impl Chip {
             return Err(Error::other("the switch has not told a start"));
         }
         self.on = true;
+        self.began = self.threads();
         let mut bytes = order.bytes();
         bytes.extend(&self.flash);
         self.switch.write_all(&bytes)
