@@ -1,5 +1,5 @@
 /* SPDX-License-Identifier: MIT OR Apache-2.0 */
-/* nRF51822 QFAA: 256 KB of flash, of which the last 8 KB are the log's (START in src/nvmc.rs), and 16 KB of RAM. */
+/* nRF51822 QFAA: 256 KB of flash, of which the last 8 KB are the log's (src/plain.rs; the program is far from the 24 KB of src/ecc.rs), and 16 KB of RAM. */
 ENTRY(reset)
 MEMORY { FLASH : ORIGIN = 0, LENGTH = 248K  RAM : ORIGIN = 0x20000000, LENGTH = 16K }
 SECTIONS {

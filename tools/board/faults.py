@@ -19,6 +19,7 @@ class Fault(NamedTuple):
     edits: list[Edit]
     test: list[str]
     found: str
+    features: str = ""
 
 
 FIRMWARE = "examples/chip_nrf51/src"
@@ -42,6 +43,10 @@ FAULTS = [
           [Edit(f"{LOG}.rs", "} else if check == !word {", "} else if word != u32::MAX {"),
            Edit(f"{LOG}/kernels.rs", "good: ones_of(words ^ checks)", "good: !ones_of(words & checks)")],
           ["words", "8"], "LOST"),
+    Fault("a unit of which one cell is cleared is taken for an erased one",
+          [Edit(f"{FIRMWARE}/ecc.rs", "if corrected && right == [0xff; 8]", "if corrected && right == [0; 8]"),
+           Edit(f"{FIRMWARE}/ecc.rs", "if self.words(at)? != ([0xff; 8], [0xff; 4])", "if self.words(at)?.0 == [0; 8]")],
+          ["random", "300", "1"], "BROKEN", "ecc"),
     Fault("RAM is read before it is written",
           [Edit(f"{FIRMWARE}/main.rs", '"bhs 2f"', '"b 2f"'),
            Edit("rust/wuzhikar/src/parts/keyboard/keyboard.rs", "self.keys.restart();", "")],

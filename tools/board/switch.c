@@ -22,7 +22,7 @@ typedef uint64_t qemu_plugin_id_t;
 struct qemu_plugin_tb;
 struct qemu_plugin_insn;
 typedef uint32_t qemu_plugin_meminfo_t;
-enum { NO_REGS, MEM_WRITE = 2 };
+enum { NO_REGS, MEM_BOTH = 3 };
 __attribute__((visibility("default"))) int qemu_plugin_version = 1;
 extern void qemu_plugin_register_vcpu_tb_trans_cb(qemu_plugin_id_t, void (*)(qemu_plugin_id_t, struct qemu_plugin_tb *));
 extern size_t qemu_plugin_tb_n_insns(const struct qemu_plugin_tb *);
@@ -34,8 +34,8 @@ extern void qemu_plugin_register_vcpu_mem_cb(struct qemu_plugin_insn *, void (*)
 extern bool qemu_plugin_mem_is_store(qemu_plugin_meminfo_t);
 extern void *qemu_plugin_get_hwaddr(qemu_plugin_meminfo_t, uint64_t);
 
-enum { FLASH = 256 * 1024, REGION = 32 * 1024, FIRST = FLASH - REGION, LOG = FLASH - 8 * 1024, UNIT = 1024 };
-static const uint64_t RAM = 0x20000000, RAM_BYTES = 16 * 1024, ERASE_PAGE = 0x4001E508;
+enum { FLASH = 256 * 1024, REGION = 32 * 1024, FIRST = FLASH - REGION, UNIT = 1024 };
+static const uint64_t RAM = 0x20000000, RAM_BYTES = 16 * 1024, ERASE_PAGE = 0x4001E508, RX_READY = 0x40002108;
 
 struct order { // where the power goes
     uint64_t tick;      // at this tick
@@ -51,17 +51,18 @@ struct told {
     uint64_t ticks, instructions, operations;
     uint64_t inside; // 0 between two operations, 1 inside a program, 2 inside an erase
     uint64_t not_blank, often, outside; // promises to the flash that were broken
-    uint64_t erases, stack;
+    uint64_t erases, stack, log;
+    uint64_t start, longest; // instructions up to the first look at the line, and the most between two looks since the last order
 };
 
 static int rig = -1;
 static uint8_t *flash, *ram;
 static uint8_t shadow[FLASH], writes[FLASH / 4];
-static uint64_t reset_at, bss_end;
+static uint64_t reset_at, bss_end, log_bytes;
 static struct order order;
 static struct told told;
 static bool dead = true;
-static uint64_t lowest = RAM_BYTES;
+static uint64_t lowest = RAM_BYTES, looked;
 static uint64_t noise = 88172645463325252u;
 
 static uint64_t draw(void)
@@ -103,6 +104,7 @@ static void tell(uint64_t kind)
 {
     told.kind = kind;
     told.stack = RAM_BYTES - lowest;
+    told.log = log_bytes;
     give(&told, sizeof told);
     give(flash + FIRST, REGION);
 }
@@ -119,6 +121,7 @@ static void start(unsigned cpu, void *data)
     for (uint64_t at = 0; ram && order.ram && at < RAM_BYTES; at++) ram[at] = (uint8_t)(draw() >> 32);
     memset(&told, 0, sizeof told);
     lowest = RAM_BYTES;
+    looked = 0;
     dead = false;
 }
 
@@ -159,6 +162,16 @@ static void hear(void)
     get(&next, sizeof next);
     order = next;
     if (order.operation) order.operation += told.operations;
+    told.longest = 0;
+}
+
+// The firmware looks whether a byte has come: what it called since the last look is over.
+static void look(void)
+{
+    if (!told.start) told.start = told.instructions;
+    else if (told.instructions - looked > told.longest) told.longest = told.instructions - looked;
+    looked = told.instructions;
+    hear();
 }
 
 static void operated(size_t from, size_t length, uint32_t takes, uint64_t inside)
@@ -176,7 +189,7 @@ static void operated(size_t from, size_t length, uint32_t takes, uint64_t inside
 
 static void programmed(uint64_t address)
 {
-    if (address < LOG) told.outside++;
+    if (address < FLASH - log_bytes) told.outside++;
     if (word_at(shadow + address) != UINT32_MAX) told.not_blank++;
     if (++writes[address / 4] > 2) told.often++;
     operated(address, 4, order.program_ticks, 1);
@@ -189,7 +202,7 @@ static void erased(void)
     for (size_t at = 0; at < FLASH; at += UNIT)
         if (memcmp(flash + at, shadow + at, UNIT)) page = at;
     if (page == FLASH) return; // it was blank
-    if (page < LOG) told.outside++;
+    if (page < FLASH - log_bytes) told.outside++;
     memset(writes + page / 4, 0, UNIT / 4);
     operated(page, UNIT, order.erase_ticks, 2);
 }
@@ -197,7 +210,10 @@ static void erased(void)
 static void stored(unsigned cpu, qemu_plugin_meminfo_t info, uint64_t address, void *data)
 {
     (void)cpu, (void)data;
-    if (!qemu_plugin_mem_is_store(info)) return; // QEMU 7.2 calls it for loads, too
+    if (!qemu_plugin_mem_is_store(info)) {
+        if (address == RX_READY && !dead) look();
+        return;
+    }
     if (address - RAM < RAM_BYTES && !ram) {
         // struct qemu_plugin_hwaddr of QEMU 7.2: two bools, then the host's address.
         uint8_t *hardware = qemu_plugin_get_hwaddr(info, address);
@@ -222,10 +238,11 @@ static void translated(qemu_plugin_id_t id, struct qemu_plugin_tb *tb)
             flash = (uint8_t *)qemu_plugin_insn_haddr(insn) - at;
             reset_at = word_at(flash + 4) & ~1u;
             bss_end = word_at(flash + 0x20);
+            log_bytes = word_at(flash + 0x24);
         }
         if (at == reset_at) qemu_plugin_register_vcpu_insn_exec_cb(insn, start, NO_REGS, NULL);
         qemu_plugin_register_vcpu_insn_exec_cb(insn, step, NO_REGS, NULL);
-        qemu_plugin_register_vcpu_mem_cb(insn, stored, NO_REGS, MEM_WRITE, NULL);
+        qemu_plugin_register_vcpu_mem_cb(insn, stored, NO_REGS, MEM_BOTH, NULL);
     }
 }
 

@@ -26,7 +26,6 @@ import parts
 from processes import Silent
 from values import Values
 
-HERE = f"{parts.ROOT}/examples/real_host/linux"
 SIZES = [8, 16, 32, 64]
 WIRE = 16  # the packet size of the keyboard behind the machine's own controller
 REFUSED = 16  # SeaBIOS takes no more bytes in a packet
@@ -39,8 +38,11 @@ class Test:
     def __init__(self, work, sizes):
         self.work, self.sizes, self.failed = work, sizes, False
         self.programs = parts.build(work)
-        self.program = self.programs["real_host"]
         self.values = None
+
+    def keyboard(self, size, serial="0001"):
+        """The one in memory, with packets of this size."""
+        return machines.Keyboard([self.programs["real_host"], "--packet", str(size), "--serial", serial], size, serial)
 
     def tell(self, name, begun, differing):
         """Says what came of a machine."""
@@ -63,17 +65,8 @@ class Test:
         print(f"linux-test: {spent:.0f} s altogether, of {ALLOWED} allowed on two processors", flush=True)
 
     def boot(self):
-        """Puts the kernel and the RAM disk of the guest into the folder: their paths, and the release."""
-        tree, release = parts.linux()
-        paths = f"{self.work}/kernel", f"{self.work}/disk.cpio.gz"
-        for path, content in zip(paths, (guest.unpacked(guest.read(f"{tree}/boot/vmlinuz-{release}")), self.disk(tree, release))):
-            with open(path, "wb") as file:
-                file.write(content)
-        return *paths, release
-
-    def disk(self, tree, release):
-        """The RAM disk."""
-        return guest.disk(tree, release, HERE, self.programs, self.values.lines() if self.values else b"")
+        """What the guest boots, and its release."""
+        return machines.boot(self.work, self.programs, self.values.lines() if self.values else b"")
 
     def linux(self):
         """A stock Linux, and the lists."""
@@ -86,23 +79,12 @@ class Test:
         except parts.Missing as error:
             print(f"linux-test: skipped: Linux: {error}")
             return
-        every = [name for name in lists.EVERY if name != "keymap_file" or "keymap" in self.programs]
+        every = lists.followed(self.programs)
         if "keymap" not in self.programs:
             print(f"linux-test: skipped: examples/keymap, whose crates are not there (Debian: {parts.KEYMAP[1]})")
-        words = f"attach={','.join(map(str, self.sizes))} wire={WIRE} lists={','.join(every)} alone={','.join(lists.ALONE)} values=1"
-        begun, said = time.monotonic(), ""
-        try:
-            said = machines.linux(self.work, self.program, kernel, disk, words, WIRE)
-            differing = []
-        except Silent as error:
-            said, differing = error.said, [str(error)]
-        found, times = lists.sections(said)
-        wanted = [(name, str(size), size) for size in self.sizes for name in every]
-        wanted += [(name, "wire", WIRE) for name in every + lists.ALONE]
-        for name, serial, size in wanted:
-            with open(f"{HERE}/lists/{name}", encoding="utf-8") as file:
-                lines = lists.differences(lists.expected(file.read(), size), found.get((name, serial), []))
-            differing += [f"{name}, serial number {serial}:", *lines] if lines else []
+        begun, words = time.monotonic(), f"attach={','.join(map(str, self.sizes))} values=1"
+        attached = [(name, str(size), size) for size in self.sizes for name in every]
+        found, differing = machines.follow(self.work, self.keyboard(WIRE, "wire"), (kernel, disk), every, words, attached)
         if self.values:
             differing += self.values.differences(found.get(("values", "uhid"), []))
         self.tell(f"Linux {release}, packets of {', '.join(map(str, self.sizes))} bytes", begun, differing)
@@ -114,7 +96,7 @@ class Test:
             for size in self.sizes:
                 wanted = "types" if size <= REFUSED else f"USB keyboard wMaxPacketSize={size}; aborting"
                 try:
-                    said = machines.bios(self.work, self.program, controller, size)
+                    said = machines.bios(self.work, self.keyboard(size), controller)
                 except Silent as error:
                     said = str(error)
                 if said != wanted:
@@ -128,7 +110,7 @@ class Test:
             return
         begun, differing = time.monotonic(), []
         try:
-            machines.uefi(self.work, self.program, parts.OVMF, self.sizes)
+            machines.uefi(self.work, [self.keyboard(size) for size in self.sizes], parts.OVMF)
         except Silent as error:
             differing = [str(error), *error.said.splitlines()[-5:]]
         self.tell("UEFI's shell", begun, differing)

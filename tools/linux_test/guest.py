@@ -7,6 +7,7 @@ import stat
 import struct
 import subprocess
 
+FILES = f"{os.path.dirname(os.path.dirname(os.path.dirname(os.path.abspath(__file__))))}/examples/real_host/linux"
 MODULES = ["evdev", "usbhid", "hid-generic", "vhci-hcd", "xhci-pci", "uhid"]
 PAGE, SLOTS, LAYERS, KEYS = 4096, 512, 4, 96
 
@@ -48,13 +49,13 @@ def modules(tree, release, names=MODULES):
     return list(dict.fromkeys(paths))
 
 
-def disk(tree, release, here, programs, reports):
-    """The RAM disk: busybox, modules, the files of `here`, programs by their names, and the reports for uhid."""
+def disk(tree, release, programs, reports):
+    """The RAM disk: busybox, modules, the files of examples/real_host/linux, programs by their names, and the reports for uhid."""
     paths = modules(tree, release)
     files = {f"modules.d/{os.path.basename(path)}": read(path) for path in paths}
     files["modules"] = "".join(f"/modules.d/{os.path.basename(path)}\n" for path in paths).encode()
-    files.update({name: read(f"{here}/{name}") for name in ("init", "commands")})
-    files.update({f"lists/{name}": read(f"{here}/lists/{name}") for name in os.listdir(f"{here}/lists")})
+    files.update({name: read(f"{FILES}/{name}") for name in ("init", "commands")})
+    files.update({f"lists/{name}": read(f"{FILES}/lists/{name}") for name in os.listdir(f"{FILES}/lists")})
     files.update({name: read(path) for name, path in programs.items()})
     files.update({"bin/busybox": read("/bin/busybox"), "bin/sh": read("/bin/busybox"), "full.image": full_image()})
     files["reports"] = reports

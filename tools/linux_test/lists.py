@@ -1,9 +1,17 @@
 """The lists: what a stock Linux is asked about the keyboard, and what it is to say."""
 
 import difflib
+import re
+
+from guest import FILES
 
 EVERY = ["typing", "keymap", "keymap_file", "cuts", "requests", "boot"]
 ALONE = ["asleep"]
+
+
+def followed(programs):
+    """The lists that can be followed with these programs."""
+    return [name for name in EVERY if name != "keymap_file" or "keymap" in programs]
 
 
 def expected(text, size):
@@ -30,3 +38,14 @@ def sections(said):
 def differences(wanted, said):
     """The lines in which two texts differ, with some before them."""
     return list(difflib.unified_diff(wanted, said, "what it should say", "what Linux says", lineterm="", n=3))
+
+
+def compared(name, serial, size, found):
+    """The lines in which what was said of a list on a keyboard is otherwise. One that counts no waits says so with a dash."""
+    said = found.get((name, serial), [])
+    with open(f"{FILES}/lists/{name}", encoding="utf-8") as file:
+        wanted = expected(file.read(), size)
+    if "waits -" in said:
+        wanted = [re.sub(r"^waits \d+$", "waits -", line) for line in wanted]
+    lines = differences(wanted, said)
+    return [f"{name}, serial number {serial}:", *lines] if lines else []

@@ -2,9 +2,12 @@
 
 import contextlib
 import socket
+from typing import NamedTuple
 
-from guest import full_image
-from processes import running
+import guest
+import lists
+import parts
+from processes import Silent, running
 
 # Prints "ready" on the first serial line, and then each character that INT 16h gives.
 SECTOR = bytes.fromhex(
@@ -30,55 +33,78 @@ def behind(number, path):
     return ["-chardev", f"socket,id=kb{number},path={path}", "-device", f"usb-redir,chardev=kb{number},bus=usb.0"]
 
 
-@contextlib.contextmanager
-def keyboard(program, path, size):
-    """A keyboard that waits for a machine at a socket, and its hands."""
-    with running([program, "--packet", str(size), "guest", path]) as hands:
-        hands.until("\n")
-        yield hands
+class Keyboard(NamedTuple):
+    """A keyboard: what runs it, whose last words say where it waits for a machine; the size of its packets, its serial number."""
+
+    command: list[str]
+    size: int
+    serial: str = ""
+
+    @contextlib.contextmanager
+    def at(self, path):
+        """It waits at a socket; its hands."""
+        with running([*self.command, "guest", path]) as hands:
+            hands.until("\n")
+            yield hands
+
+    @contextlib.contextmanager
+    def on_line(self, path, image):
+        """It waits at a socket, on a flash. Its hands are at the other end of a line, which is given."""
+        ours, theirs = socket.socketpair()
+        with ours, theirs:
+            streams = f'exec "$@" <&{ours.fileno()} >&{ours.fileno()} 2>&1'
+            with running(["sh", "-c", streams, "-", *self.command, "--image", image, "guest", path], (ours.fileno(),)):
+                # What it says when it is there would be echoed by a terminal that is not set yet.
+                while theirs.recv(1) not in (b"\n", b""):
+                    pass
+                yield theirs
 
 
-@contextlib.contextmanager
-def keyboard_on_line(program, path, size, *options):
-    """A keyboard that waits for a machine at a socket. Its hands are at the other end of a line, which is given."""
-    ours, theirs = socket.socketpair()
-    with ours, theirs:
-        streams = f'exec "$@" <&{ours.fileno()} >&{ours.fileno()} 2>&1'
-        command = [program, "--packet", str(size), *options, "guest", path]
-        with running(["sh", "-c", streams, "-", *command], (ours.fileno(),)):
-            # What it says when it is there would be echoed by a terminal that is not set yet.
-            while theirs.recv(1) not in (b"\n", b""):
-                pass
-            yield theirs
+def boot(work, programs, reports):
+    """Puts the kernel and the RAM disk of the guest into a folder: their paths, and the release."""
+    tree, release = parts.linux()
+    paths = f"{work}/kernel", f"{work}/disk.cpio.gz"
+    kernel = guest.unpacked(guest.read(f"{tree}/boot/vmlinuz-{release}"))
+    for path, content in zip(paths, (kernel, guest.disk(tree, release, programs, reports))):
+        with open(path, "wb") as file:
+            file.write(content)
+    return *paths, release
 
 
-def linux(work, program, kernel, disk, words, wire):
-    """What a stock Linux says that boots with these words. `wire` is the packet size of a keyboard behind its own controller, with
-    the serial number "wire", whose hands are at the second serial line; None for none."""
-    append = f"console=ttyS0 quiet panic=-1 i8042.nokbd i8042.noaux suspend.pm_test_delay=1 {words}"
-    command = qemu("-kernel", kernel, "-initrd", disk, "-append", append)
-    with contextlib.ExitStack() as stack:
-        fds = ()
-        if wire:
-            with open(f"{work}/full.image", "wb") as file:
-                file.write(full_image())
-            options = ["--serial", "wire", "--image", f"{work}/full.image"]
-            line = stack.enter_context(keyboard_on_line(program, f"{work}/wire", wire, *options))
-            fds = (line.fileno(),)
-            command += ["-chardev", f"socket,id=hands,fd={line.fileno()}", "-serial", "chardev:hands"]
-            command += ["-device", "qemu-xhci,id=usb", *behind(0, f"{work}/wire")]
-        machine = stack.enter_context(running(command, fds))
-        machine.until("--- off")
-        return machine.text()
+def linux(work, keyboard, booted, words):
+    """What a stock Linux says that boots with these words, with a keyboard behind its own controller, whose hands are at the second
+    serial line."""
+    words = f"console=ttyS0 quiet panic=-1 i8042.nokbd i8042.noaux suspend.pm_test_delay=1 nowatchdog wire={keyboard.serial} {words}"
+    path, image = f"{work}/{keyboard.serial}", f"{work}/{keyboard.serial}.image"
+    with open(image, "wb") as file:
+        file.write(guest.full_image())
+    with keyboard.on_line(path, image) as line:
+        command = qemu("-kernel", booted[0], "-initrd", booted[1], "-append", words)
+        command += ["-chardev", f"socket,id=hands,fd={line.fileno()}", "-serial", "chardev:hands"]
+        with running([*command, "-device", "qemu-xhci,id=usb", *behind(0, path)], (line.fileno(),)) as machine:
+            machine.until("--- off")
+            return machine.text()
 
 
-def bios(work, program, controller, size):
+def follow(work, keyboard, booted, names, words="", attached=()):
+    """Follows lists on a keyboard, and on those that the words attach: what was said of each, and where it is otherwise."""
+    words = f"{words} lists={','.join(names)} alone={','.join(lists.ALONE)}"
+    try:
+        said, differing = linux(work, keyboard, booted, words), []
+    except Silent as error:
+        said, differing = error.said, [str(error)]
+    found, _ = lists.sections(said)
+    wanted = [*attached, *((name, keyboard.serial, keyboard.size) for name in names + lists.ALONE)]
+    return found, differing + [line for one in wanted for line in lists.compared(*one, found)]
+
+
+def bios(work, keyboard, controller):
     """What SeaBIOS makes of a keyboard: "types", or the line with which it refuses it."""
     with open(f"{work}/disk", "wb") as file:
         file.write(SECTOR.ljust(510, b"\0") + b"\x55\xaa" + bytes(2879 * 512))
     path = f"{work}/bios"
-    refusal = f"USB keyboard wMaxPacketSize={size}; aborting"
-    with keyboard(program, path, size) as hands:
+    refusal = f"USB keyboard wMaxPacketSize={keyboard.size}; aborting"
+    with keyboard.at(path) as hands:
         command = qemu("-device", f"{CONTROLLERS[controller]},id=usb", *behind(0, path))
         command += ["-drive", f"file={work}/disk,format=raw,if=ide"]
         command += ["-chardev", f"file,id=log,path={work}/log", "-device", "isa-debugcon,iobase=0x402,chardev=log"]
@@ -92,17 +118,17 @@ def bios(work, program, controller, size):
             return "types"
 
 
-def uefi(work, program, firmware, sizes):
-    """Waits until the shell of UEFI has done what each of some keyboards of these sizes has typed."""
+def uefi(work, keyboards, firmware):
+    """Waits until the shell of UEFI has done what each of these keyboards has typed."""
     with contextlib.ExitStack() as stack:
         command = qemu("-machine", "q35", "-bios", firmware, "-device", "qemu-xhci,id=usb")
         hands = []
-        for number, size in enumerate(sizes):
-            hands.append(stack.enter_context(keyboard(program, f"{work}/uefi{number}", size)))
+        for number, keyboard in enumerate(keyboards):
+            hands.append(stack.enter_context(keyboard.at(f"{work}/uefi{number}")))
             command += behind(number, f"{work}/uefi{number}")
         machine = stack.enter_context(running(command))
         machine.until("Shell> ")
-        for size, keys in zip(sizes, hands):
+        for number, keys in enumerate(hands):
             # A character that is typed is shown with a movement of the cursor, so the text stands whole in the answer alone.
-            keys.say(f"type echo Typed by {size} bytes\n{ENTER}")
-            machine.until(f"Typed by {size} bytes")
+            keys.say(f"type echo Typed by {number}.\n{ENTER}")
+            machine.until(f"Typed by {number}.")

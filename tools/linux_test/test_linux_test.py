@@ -2,6 +2,7 @@
 
 import gzip
 import os
+import re
 import subprocess
 import sys
 import tempfile
@@ -126,6 +127,14 @@ class Lists(unittest.TestCase):
     def test_a_difference_is_shown(self):
         self.assertEqual(lists.differences(["> a", "ack"], ["> a", "ack"]), [])
         self.assertEqual(lists.differences(["> a", "ack"], ["> a"])[-1], "-ack")
+
+    def test_a_keyboard_that_counts_no_waits_is_compared_without(self):
+        with open(f"{HERE}/lists/keymap", encoding="utf-8") as file:
+            lines = lists.expected(file.read(), 16)
+        without = [re.sub(r"^waits [0-9]+$", "waits -", line) for line in lines]
+        self.assertNotEqual(lines, without)
+        self.assertEqual([lists.compared("keymap", "k", 16, {("keymap", "k"): said}) for said in (lines, without)], [[], []])
+        self.assertIn("keymap, serial number k:", lists.compared("keymap", "k", 16, {("keymap", "k"): without[1:]}))
 
     def test_each_list_is_followed_and_its_commands_are_there(self):
         self.assertEqual(sorted(os.listdir(f"{HERE}/lists")), sorted(lists.EVERY + lists.ALONE))

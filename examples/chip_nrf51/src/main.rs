@@ -20,8 +20,12 @@
 
 #[cfg(feature = "buffers")]
 mod buffers;
+#[cfg(feature = "ecc")]
+mod ecc;
 mod frames;
 mod nvmc;
+#[cfg(not(feature = "ecc"))]
+mod plain;
 mod registers;
 #[cfg(not(feature = "buffers"))]
 mod token;
@@ -30,7 +34,11 @@ mod uart;
 #[cfg(feature = "buffers")]
 use buffers as main_loop;
 use core::panic::PanicInfo;
+#[cfg(feature = "ecc")]
+use ecc as pages;
 use frames::Frame;
+#[cfg(not(feature = "ecc"))]
+use plain as pages;
 #[cfg(not(feature = "buffers"))]
 use token as main_loop;
 use uart::Uart;
@@ -48,7 +56,7 @@ extern "C" fn run() -> ! {
     let mut uart = Uart::start();
     // SAFETY: it runs once, and nothing else names the memory.
     let memory = unsafe { &mut *(&raw mut MEMORY) };
-    let Some(flash) = nvmc::flash() else { stopped() };
+    let Some(flash) = pages::flash() else { stopped() };
     // The flash has 2 pages, so that none is refused.
     let Ok(device) = Device::start_in(memory, flash, &IDENTITY) else { stopped() };
     Frame::of(b'B').send(&mut uart, 0);
@@ -75,7 +83,7 @@ core::arch::global_asm!(
     ".section .vectors, \"a\"",
     ".word stack_top, reset, hard_fault, hard_fault",
     ".word 0, 0, 0, 0",                // reserved by the core
-    ".word bss_end, 0, 0, hard_fault", // reserved: bin/board-test reads how deep the stack may go
+    ".word bss_end, {log}, 0, hard_fault", // reserved: bin/board-test reads how deep the stack may go, and the bytes of the log
     ".word 0, 0, hard_fault, hard_fault",
     ".rept 32",
     ".word hard_fault",
@@ -96,4 +104,5 @@ core::arch::global_asm!(
     ".thumb_func",
     "hard_fault: b hard_fault",
     ".pool",
+    log = const pages::LOG,
 );

@@ -4,7 +4,7 @@
 
 use crate::registers::{read, write};
 use core::convert::Infallible;
-use wuzhikar::wuzhikar_log::{FlashDriver, SlotFlash};
+use wuzhikar::wuzhikar_log::FlashDriver;
 
 const NVMC: usize = 0x4001_E000;
 const READY: usize = NVMC + 0x400;
@@ -13,17 +13,9 @@ const ERASE_PAGE: usize = NVMC + 0x508;
 const WRITE: u32 = 1;
 const ERASE: u32 = 2;
 
-/// The log's pages, the last of the flash.
-const END: u32 = 256 * 1024;
-const PAGES: usize = 2;
-const START: u32 = END - 4096 * PAGES as u32;
+/// Where the flash ends.
+pub const END: u32 = 256 * 1024;
 const UNIT: u32 = 1024;
-
-pub type Flash = SlotFlash<Nvmc>;
-
-pub fn flash() -> Option<Flash> {
-    SlotFlash::new(Nvmc, START, PAGES).ok()
-}
 
 pub struct Nvmc;
 

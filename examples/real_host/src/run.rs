@@ -1,8 +1,8 @@
 // SPDX-License-Identifier: MIT OR Apache-2.0
 //! The keyboard between its hands and its host, event by event.
 
-use real_host::device::{Device, plug, scan_of};
-use real_host::{hands, print, tell, usbip, usbredir};
+use crate::on_bus::{OnBus, plug, scan_of};
+use crate::{hands, print, tell, usbip, usbredir};
 use std::collections::VecDeque;
 use std::ffi::OsString;
 use std::fmt::Display;
@@ -135,7 +135,7 @@ const PATIENCE: u32 = 5_000;
 
 /// The keyboard between its hands and its host.
 pub struct Run {
-    device: Device,
+    device: Box<dyn OnBus>,
     wire: Option<(u32, Socket, Wire)>,
     plugs: u32,
     scan: Scan,
@@ -175,7 +175,7 @@ impl Kept {
 
 impl Run {
     /// A keyboard that nothing is plugged to. Its flash is kept in this file from now on, where there is one.
-    pub fn new(device: Device, save: Option<PathBuf>, events: Sender<Event>) -> Run {
+    pub fn new(device: Box<dyn OnBus>, save: Option<PathBuf>, events: Sender<Event>) -> Run {
         let kept = save.map(|path| Kept { path, image: Vec::new() });
         let (scan, hands) = (Scan::NONE, VecDeque::new());
         Run {
@@ -204,7 +204,7 @@ impl Run {
         self.plugs += 1;
         let (plug, mut from) = (self.plugs, socket.again()?);
         self.listen(plug, move || usbip::read_urb(&mut from).map(|urb| Event::Urb(plug, urb)));
-        let wire = usbip::Wire::plug(socket.again()?, &mut self.device);
+        let wire = usbip::Wire::plug(socket.again()?, &mut *self.device);
         (self.waiting, self.patience) = (true, PATIENCE);
         self.wire = Some((plug, socket, Wire::Usbip(wire)));
         Ok(())
@@ -241,7 +241,7 @@ impl Run {
             let message = usbredir::read_message(&mut from, std::mem::take(&mut first))?;
             Ok(Event::Message(plug, message))
         });
-        let wire = usbredir::Wire::plug(socket.again()?, &mut self.device)?;
+        let wire = usbredir::Wire::plug(socket.again()?, &mut *self.device)?;
         (self.waiting, self.patience) = (true, PATIENCE);
         self.wire = Some((plug, socket, Wire::Usbredir(wire)));
         Ok(())
@@ -253,7 +253,7 @@ impl Run {
             Some((_, _, Wire::Usbredir(wire))) => {
                 wire.unplug()?;
                 std::thread::sleep(Duration::from_millis(200));
-                plug(&mut self.device);
+                plug(&mut *self.device);
                 wire.connect()?;
                 (self.waiting, self.patience) = (true, PATIENCE);
             }
@@ -313,10 +313,13 @@ impl Run {
                     self.device.cut();
                     self.replug()?;
                 }
-                Some(hands::Act::Tear(mask)) => self.device.tear = Some(mask),
+                Some(hands::Act::Tear(mask)) => self.device.tear(mask),
                 Some(hands::Act::Say(text)) => print(text)?,
                 Some(hands::Act::Leds) => print(format_args!("leds {:02x}", self.device.leds()))?,
-                Some(hands::Act::Waits) => print(format_args!("waits {}", std::mem::take(&mut self.device.waits)))?,
+                Some(hands::Act::Waits) => match self.device.waits() {
+                    Some(count) => print(format_args!("waits {count}"))?,
+                    None => print("waits -")?,
+                },
                 Some(hands::Act::End) => return Ok(false),
                 None => break,
             }
@@ -339,8 +342,8 @@ impl Run {
             kept.keep(self.device.image()).map_err(|error| named(kept.path.display(), error))?;
         }
         let polled = match &mut self.wire {
-            Some((_, _, Wire::Usbip(wire))) => wire.poll(&mut self.device),
-            Some((_, _, Wire::Usbredir(wire))) => wire.poll(&mut self.device),
+            Some((_, _, Wire::Usbip(wire))) => wire.poll(&mut *self.device),
+            Some((_, _, Wire::Usbredir(wire))) => wire.poll(&mut *self.device),
             None => Ok(true),
         };
         self.pass(polled.as_ref().is_ok_and(|all| *all));
@@ -353,14 +356,14 @@ impl Run {
         match event {
             Event::Urb(plug, urb) => {
                 let taken = match &mut self.wire {
-                    Some((at, _, Wire::Usbip(wire))) if *at == plug => wire.take(urb, &mut self.device),
+                    Some((at, _, Wire::Usbip(wire))) if *at == plug => wire.take(urb, &mut *self.device),
                     _ => Ok(()),
                 };
                 self.met(taken)
             }
             Event::Message(plug, message) => {
                 let taken = match &mut self.wire {
-                    Some((at, _, Wire::Usbredir(wire))) if *at == plug => wire.take(message, &mut self.device),
+                    Some((at, _, Wire::Usbredir(wire))) if *at == plug => wire.take(message, &mut *self.device),
                     _ => Ok(()),
                 };
                 self.met(taken)

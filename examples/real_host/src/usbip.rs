@@ -3,7 +3,7 @@
 //!
 //! A host asks by URBs: a whole control transfer, or a packet of endpoint 1, which waits until there is one.
 
-use crate::device::{Device, Ended, plug};
+use crate::on_bus::{Ended, OnBus, plug};
 use std::collections::VecDeque;
 use std::io::{Error, ErrorKind, Read, Result, Write};
 use wuzhikar_device::PollAnswer;
@@ -120,17 +120,19 @@ fn shape() -> Vec<u8> {
 pub struct Wire<S> {
     to: S,
     polls: VecDeque<(u32, usize)>,
+    /// The packets of the report that the host has not got whole.
+    partial: Vec<u8>,
 }
 
 impl<S: Write> Wire<S> {
     /// The device is plugged in: a host resets the bus and gives it an address. Neither is told by usbip.
-    pub fn plug(to: S, device: &mut Device) -> Wire<S> {
+    pub fn plug(to: S, device: &mut dyn OnBus) -> Wire<S> {
         plug(device);
-        Wire { to, polls: VecDeque::new() }
+        Wire { to, polls: VecDeque::new(), partial: Vec::new() }
     }
 
     /// An URB.
-    pub fn take(&mut self, urb: Urb, device: &mut Device) -> Result<()> {
+    pub fn take(&mut self, urb: Urb, device: &mut dyn OnBus) -> Result<()> {
         match urb {
             Urb::Submit { seq, to_host, endpoint: 0, setup, length, .. } if !fits(setup, to_host, length) => {
                 crate::tell(format_args!("an URB of {length} bytes for the request {setup:02x?}"));
@@ -146,7 +148,7 @@ impl<S: Write> Wire<S> {
                 let before = self.polls.len();
                 self.polls.retain(|poll| poll.0 != which);
                 if self.polls.is_empty() {
-                    device.give_up();
+                    self.partial.clear();
                 }
                 let status = if self.polls.len() < before { ECONNRESET } else { 0 };
                 let mut answer = head(RET_UNLINK, seq);
@@ -157,9 +159,10 @@ impl<S: Write> Wire<S> {
     }
 
     /// A control transfer.
-    fn control(&mut self, seq: u32, setup: [u8; 8], data: &[u8], device: &mut Device) -> Result<()> {
+    fn control(&mut self, seq: u32, setup: [u8; 8], data: &[u8], device: &mut dyn OnBus) -> Result<()> {
         // Linux asks for 64 bytes of the device descriptor behind a reset, and at no other time.
         if setup == [0x80, 6, 0, 1, 0, 0, 64, 0] {
+            self.partial.clear();
             plug(device);
         }
         match device.control(setup, data) {
@@ -176,9 +179,9 @@ impl<S: Write> Wire<S> {
     }
 
     /// Polls endpoint 1, where the host waits for a packet. Whether the host polls, and has all that was to be sent.
-    pub fn poll(&mut self, device: &mut Device) -> Result<bool> {
+    pub fn poll(&mut self, device: &mut dyn OnBus) -> Result<bool> {
         while let Some((seq, length)) = self.polls.front().copied() {
-            match device.transfer(length) {
+            match self.transfer(length, device) {
                 PollAnswer::Data(report) => {
                     let sent = &report[..report.len().min(length)];
                     self.submitted(seq, 0, sent.len(), sent)?;
@@ -190,6 +193,26 @@ impl<S: Write> Wire<S> {
             self.polls.pop_front();
         }
         Ok(false)
+    }
+
+    /// A transfer of up to so many bytes on endpoint 1, which is over at a short packet or when all is there.
+    fn transfer(&mut self, length: usize, device: &mut dyn OnBus) -> PollAnswer {
+        loop {
+            match device.poll() {
+                PollAnswer::Data(packet) => {
+                    self.partial.extend_from_slice(&packet);
+                    if packet.len() < device.identity().packet_size.bytes() || self.partial.len() >= length {
+                        return PollAnswer::Data(std::mem::take(&mut self.partial).into_iter().take(length).collect());
+                    }
+                }
+                other => {
+                    if other != PollAnswer::Nak {
+                        self.partial.clear();
+                    }
+                    return other;
+                }
+            }
+        }
     }
 
     fn submitted(&mut self, seq: u32, status: i32, length: usize, data: &[u8]) -> Result<()> {
@@ -217,7 +240,8 @@ fn head(command: u32, seq: u32) -> [u8; 48] {
 #[cfg(test)]
 mod tests {
     use super::*;
-    use crate::device::scan_of;
+    use crate::device::Device;
+    use crate::on_bus::scan_of;
 
     /// What a host gets of an URB: status and data.
     fn ask(wire: &mut Wire<Vec<u8>>, device: &mut Device, urb: Urb) -> Vec<(i32, Vec<u8>)> {

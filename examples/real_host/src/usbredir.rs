@@ -4,9 +4,9 @@
 //! A host asks by messages: a bus reset, a whole control transfer, and once to receive the packets of endpoint 1, which are
 //! pushed from then on. SET_CONFIGURATION and SET_INTERFACE come as messages of their own; SET_ADDRESS doesn't come.
 
-use crate::device::{Device, Ended, IDENTITY, plug};
+use crate::on_bus::{Ended, OnBus, plug};
 use std::io::{Error, ErrorKind, Read, Result, Write};
-use wuzhikar_device::{PacketSize, PollAnswer};
+use wuzhikar_device::{Identity, PollAnswer};
 
 const HELLO: u32 = 0;
 const DEVICE_CONNECT: u32 = 1;
@@ -68,20 +68,18 @@ pub struct Wire<S> {
     to: S,
     receives: bool,
     sent: u64,
-    size: PacketSize,
-    interval: u8,
+    identity: &'static Identity<'static>,
 }
 
 impl<S: Write> Wire<S> {
     /// The device is plugged in.
-    pub fn plug(mut to: S, device: &mut Device) -> Result<Wire<S>> {
+    pub fn plug(mut to: S, device: &mut dyn OnBus) -> Result<Wire<S>> {
         let mut hello = b"wuzhikar".to_vec();
         hello.resize(64, 0);
         hello.extend(CAPABILITIES.to_le_bytes());
         to.write_all(&[&HELLO.to_le_bytes()[..], &68u32.to_le_bytes(), &[0; 4], &hello].concat())?;
         plug(device);
-        let identity = device.identity();
-        Ok(Wire { to, receives: false, sent: 0, size: identity.packet_size, interval: identity.interval.count() })
+        Ok(Wire { to, receives: false, sent: 0, identity: device.identity() })
     }
 
     /// The device is unplugged.
@@ -94,14 +92,14 @@ impl<S: Write> Wire<S> {
     pub fn connect(&mut self) -> Result<()> {
         self.shape()?;
         let mut about = vec![FULL_SPEED, 0, 0, 0];
-        for number in [IDENTITY.vendor_id, IDENTITY.product_id, IDENTITY.release] {
+        for number in [self.identity.vendor_id, self.identity.product_id, self.identity.release] {
             about.extend(number.to_le_bytes());
         }
         self.say(DEVICE_CONNECT, 0, &about)
     }
 
     /// A message of the host.
-    pub fn take(&mut self, message: Message, device: &mut Device) -> Result<()> {
+    pub fn take(&mut self, message: Message, device: &mut dyn OnBus) -> Result<()> {
         let Message { kind, id, data } = message;
         match kind {
             HELLO => self.connect(),
@@ -127,7 +125,7 @@ impl<S: Write> Wire<S> {
     }
 
     /// A message that sets or asks the configuration or an alternate setting; any other changes nothing.
-    fn configure(&mut self, kind: u32, id: u64, data: &[u8], device: &mut Device) -> Result<()> {
+    fn configure(&mut self, kind: u32, id: u64, data: &[u8], device: &mut dyn OnBus) -> Result<()> {
         let at = |place: usize| data.get(place).copied().unwrap_or(0);
         match kind {
             SET_CONFIGURATION => {
@@ -153,7 +151,7 @@ impl<S: Write> Wire<S> {
     }
 
     /// `usb_redir_control_packet_header`: endpoint, bRequest, bmRequestType, status, wValue, wIndex, wLength.
-    fn control(&mut self, id: u64, data: &[u8], device: &mut Device) -> Result<()> {
+    fn control(&mut self, id: u64, data: &[u8], device: &mut dyn OnBus) -> Result<()> {
         let (head, sent) = data.split_at(10);
         let mut setup = [0; 8];
         (setup[0], setup[1]) = (head[2], head[1]);
@@ -187,7 +185,7 @@ impl<S: Write> Wire<S> {
     }
 
     /// Polls endpoint 1 for a host that receives its packets. Whether the host does, and has all that was to be sent.
-    pub fn poll(&mut self, device: &mut Device) -> Result<bool> {
+    pub fn poll(&mut self, device: &mut dyn OnBus) -> Result<bool> {
         while self.receives {
             let (status, report) = match device.poll() {
                 PollAnswer::Data(report) => (SUCCESS, report.to_vec()),
@@ -212,8 +210,8 @@ impl<S: Write> Wire<S> {
         let interfaces = [only_first(0), only_first(3), only_first(1), only_first(1)].concat();
         self.say(INTERFACE_INFO, 0, &[&1u32.to_le_bytes()[..], &interfaces].concat())?;
         let (mut kinds, mut intervals, mut sizes) = ([255; 32], [0; 32], [0u8; 64]);
-        (kinds[0], kinds[16], kinds[17], intervals[17]) = (0, 0, 3, self.interval);
-        (sizes[0], sizes[32], sizes[34]) = (8, 8, self.size.bytes() as u8);
+        (kinds[0], kinds[16], kinds[17], intervals[17]) = (0, 0, 3, self.identity.interval.count());
+        (sizes[0], sizes[32], sizes[34]) = (8, 8, self.identity.packet_size.bytes() as u8);
         self.say(EP_INFO, 0, &[&kinds[..], &intervals, &[0; 32], &sizes].concat())
     }
 
@@ -239,6 +237,7 @@ fn value(ended: &Ended) -> u8 {
 #[cfg(test)]
 mod tests {
     use super::*;
+    use crate::device::Device;
 
     /// What is said of a message: type and data.
     fn said(wire: &mut Wire<Vec<u8>>, device: &mut Device, kind: u32, data: &[u8]) -> Vec<(u32, Vec<u8>)> {
@@ -274,7 +273,7 @@ mod tests {
         let set = said(&mut wire, &mut device, SET_CONFIGURATION, &[1]);
         assert_eq!(set.last(), Some(&(CONFIGURATION_STATUS, vec![SUCCESS, 1])));
         assert_eq!(said(&mut wire, &mut device, GET_CONFIGURATION, &[]), [(CONFIGURATION_STATUS, vec![SUCCESS, 1])]);
-        (0..5).for_each(|_| device.millisecond(crate::device::scan_of(&[0])));
+        (0..5).for_each(|_| device.millisecond(crate::on_bus::scan_of(&[0])));
         let packets = said(&mut wire, &mut device, START_INTERRUPT, &[0x81]);
         let lengths: Vec<usize> = packets[1..].iter().map(|(_, data)| data.len() - 4).collect();
         assert_eq!((packets[0].clone(), lengths), ((INTERRUPT_STATUS, vec![SUCCESS, 0x81]), vec![16, 7]));
@@ -284,7 +283,7 @@ mod tests {
     fn a_host_is_told_of_a_command_in_which_the_power_went() {
         let mut device = Device::blank();
         let mut wire = Wire::plug(Vec::new(), &mut device).expect("a wire of memory");
-        device.tear = Some(vec![0x0f]);
+        device.tear(vec![0x0f]);
         wire.to.clear();
         let data = control([0x21, 9, 3, 3, 0, 0, 6, 0], &[3, 1, 0, 0, 5, 0]);
         let error = wire.take(Message { kind: CONTROL, id: 7, data }, &mut device).err().map(|error| error.kind());

@@ -1,6 +1,7 @@
 // SPDX-License-Identifier: MIT OR Apache-2.0
 //! The chip: QEMU's machine "microbit" with the plugin `switch.so`.
 
+use crate::ecc;
 use std::ffi::{c_int, c_short, c_ulong};
 use std::io::{BufRead, BufReader, Error, ErrorKind, Read, Result, Write};
 use std::os::fd::AsRawFd;
@@ -10,7 +11,7 @@ use std::process::{Child, Command, Stdio};
 
 /// The last bytes of the flash, which the rig keeps while the power is off.
 pub const REGION: usize = 32 * 1024;
-/// The log's, at the end of them.
+/// What the log's slots take.
 pub const LOG: usize = 8 * 1024;
 /// What stands beside the log, and has to stay.
 const BESIDE: u8 = 0x5a;
@@ -57,6 +58,11 @@ pub struct Told {
     pub broken: [u64; 3],
     pub erases: u64,
     pub stack: u64,
+    /// The bytes of the log, at the end of the flash: more than its slots take where there is error correction.
+    pub log: u64,
+    /// The instructions up to the first look at the line, and the most between two looks since the last order.
+    pub start: u64,
+    pub longest: u64,
 }
 
 #[derive(Clone, Debug, PartialEq, Eq)]
@@ -96,8 +102,9 @@ pub struct Chip {
     held: bool,
     /// Whether the chip has a flash that the rig does not know.
     on: bool,
-    /// How often three seconds went by without an answer.
-    pub slow: u64,
+    /// What QEMU's threads did when the power came last, and what they had done behind each three seconds without an answer.
+    began: String,
+    pub slow: Vec<String>,
 }
 
 fn qemu(firmware: &Path, plugin: &Path, folder: &Path) -> Result<Child> {
@@ -145,16 +152,22 @@ impl Chip {
             uart,
             switch,
             qmp: BufReader::new(qmp),
-            flash: [vec![BESIDE; REGION - LOG], vec![0xff; LOG]].concat(),
+            flash: Vec::new(),
             told: Told::default(),
             came: Vec::new(),
             held: false,
             on: false,
-            slow: 0,
+            began: String::new(),
+            slow: Vec::new(),
         };
+        // All have connected, so that the names are no more needed.
+        std::fs::remove_dir_all(folder)?;
         chip.qmp.read_line(&mut String::new())?;
         chip.ask_qmp("qmp_capabilities")?;
         chip.hear_switch()?;
+        chip.flash = vec![BESIDE; REGION];
+        let from = chip.log();
+        chip.flash[from..].fill(0xff);
         Ok(chip)
     }
 
@@ -203,21 +216,21 @@ impl Chip {
         }
     }
 
-    /// What Linux says of QEMU's threads: the state, and the ticks of each.
+    /// What Linux says of QEMU's threads: the state, and for how long each ran and waited for a processor, in milliseconds.
     fn threads(&self) -> String {
         let folder = format!("/proc/{}/task", self.qemu.id());
         let tasks = std::fs::read_dir(folder).into_iter().flatten().flatten();
         let told = tasks.filter_map(|task| {
-            let stat = std::fs::read_to_string(task.path().join("stat")).ok()?;
-            let wchan = std::fs::read_to_string(task.path().join("wchan")).unwrap_or_default();
-            let words: Vec<&str> = stat.split_whitespace().collect();
-            Some(format!("[{} {} {} {wchan}]", words.get(1)?, words.get(2)?, words.get(13)?))
+            let read = |name: &str| std::fs::read_to_string(task.path().join(name)).ok();
+            let (stat, times) = (read("stat")?, read("schedstat")?);
+            let mut times = times.split_whitespace().filter_map(|time| time.parse::<u64>().ok()).map(|time| time / 1_000_000);
+            Some(format!("[{} ran {}, waited {}]", stat.split_whitespace().nth(2)?, times.next()?, times.next()?))
         });
         told.collect()
     }
 
     fn hear_switch(&mut self) -> Result<()> {
-        let mut bytes = [0; 8 * 10];
+        let mut bytes = [0; 8 * 13];
         self.switch.read_exact(&mut bytes)?;
         let number = |at: usize| u64::from_le_bytes(std::array::from_fn(|i| bytes[8 * at + i]));
         self.told = Told {
@@ -229,6 +242,9 @@ impl Chip {
             broken: [number(5), number(6), number(7)],
             erases: number(8),
             stack: number(9),
+            log: number(10),
+            start: number(11),
+            longest: number(12),
         };
         let mut flash = vec![0; REGION];
         self.switch.read_exact(&mut flash)?;
@@ -285,7 +301,7 @@ impl Chip {
                 (true, false) => self.drain()?,
                 (false, false) if waited < 4 => {
                     waited += 1;
-                    self.slow += 1;
+                    self.slow.push(format!("at the start {}, now {}", self.began, self.threads()));
                 }
                 (false, false) => {
                     let (registers, threads) = (self.monitor("info registers")?, self.threads());
@@ -314,15 +330,27 @@ impl Chip {
         self.frame()
     }
 
-    /// Puts these bytes into the log's pages while the power is off.
-    pub fn put(&mut self, log: &[u8]) {
-        self.flash[REGION - LOG..].copy_from_slice(log);
+    /// Where the log begins in the flash that is kept.
+    pub fn log(&self) -> usize {
+        REGION - self.told.log as usize
+    }
+
+    /// Whether the flash has error correction.
+    pub fn corrects(&self) -> bool {
+        self.told.log as usize > LOG
+    }
+
+    /// Puts these slots into the log's pages while the power is off.
+    pub fn put(&mut self, slots: &[u8]) {
+        let from = self.log();
+        let bytes = if self.corrects() { ecc::units(slots) } else { slots.to_vec() };
+        self.flash[from..].copy_from_slice(&bytes);
     }
 
     /// What the switch told at the cut: whether the firmware broke a promise to the flash.
     pub fn keeps_its_bounds(&self) -> std::result::Result<(), Lost> {
         let [not_blank, often, outside] = self.told.broken;
-        if self.told.broken != [0; 3] || self.flash[..REGION - LOG].iter().any(|byte| *byte != BESIDE) {
+        if self.told.broken != [0; 3] || self.flash[..self.log()].iter().any(|byte| *byte != BESIDE) {
             let why = format!("{not_blank} words not blank, {often} more than twice, {outside} operations outside of the log");
             return Err(Lost::Dead(format!("BROKEN, what was programmed or erased: {why}, or what stands beside the log")));
         }
@@ -338,6 +366,7 @@ impl Chip {
             return Err(Error::other("the switch has not told a start"));
         }
         self.on = true;
+        self.began = self.threads();
         let mut bytes = order.bytes();
         bytes.extend(&self.flash);
         self.switch.write_all(&bytes)

@@ -121,6 +121,8 @@ pub fn operations(shop: &Shop, stride: u64) -> Answer<()> {
 /// So many tears of each word of a record that leave few of its bits undone: such a word may pass for another.
 pub fn words(shop: &Shop, tears: u64) -> Answer<()> {
     let torn = |operation| move |undone| move |seed| Order { operation, undone, seed, ..Order::NEVER };
-    let orders = [1, 2].into_iter().flat_map(|word| [8, 16, 24].map(torn(word)));
+    // With error correction two units are programmed, each with its checks.
+    let count = if shop.chip()?.corrects() { 6 } else { 2 };
+    let orders = (1..=count).flat_map(|word| [8, 16, 24].map(torn(word)));
     session(3, false).at_all(shop, "the words of a record", orders.flat_map(|order| (1..=tears).map(order)))
 }
