@@ -85,7 +85,7 @@ KEYBOARD = Rules(
            ("debounce", "Scan::has"): "ScanCalls", ("debounce", "Scan::with"): "ScanCalls", ("debounce", "Debouncer::is_down"): "DebouncerCalls"},
     unstarted={("layers", "Code"): None, ("layers", "LayerNo"): None, ("layers", "KeyNo"): None, ("layers", "Keymap"): None,
                ("layers", "Command"): "Command::SetKey { layer: LayerNo::UNSTARTED, key: KeyNo::UNSTARTED, code: Code::UNSTARTED }",
-               ("layers", "Held"): None, ("layers", "Usages"): None, ("debounce", "Scan"): None, ("debounce", "Debouncer"): None,
+               ("layers", "Held"): None, ("layers", "Usages"): None, ("debounce", "Scan"): None, ("debounce", "Matrix"): None,
                ("reports", "Protocol"): "Protocol::Boot", ("reports", "Input"): "Input::Boot", ("reports", "Sent"): None,
                ("reports", "Queue"): None, ("reports", "Poller"): None, ("key_reports", "KeyReports"): None,
                ("control_ep", "Source"): "Source::Copied(ArrayVec::new_const())", ("control_ep", "ReadData"): None,

@@ -1,14 +1,16 @@
 -- A scan is taken by pairs of rows.
-use Rattle.std.proofs.Common.{◌≡◌, ℕ, zero, suc, ◌+◌, ◌-◌, ◌*◌, ◌<◌, ◌≤◌, ◌/◌, ◌%◌, ◌^◌, ◌==◌, ◌&&◌, ◌⊎◌, min, not, Bool, List, [], ◌∷◌, length, get_or, refl, arith, ◌∙◌, sym, ap, subst, inl, inr, bit_and, bit_xor}
+use Rattle.std.proofs.Common.{◌≡◌, ℕ, zero, suc, ◌+◌, ◌-◌, ◌*◌, ◌<◌, ◌≤◌, ◌/◌, ◌%◌, ◌^◌, ◌==◌, ◌&&◌, min, not, Bool, true, false, List, [], ◌∷◌, length, get_or, refl, arith, ◌∙◌, sym, ap, subst, inl, inr, bit_and, bit_xor, w32}
 use Rattle.std.specs.Int.{bit_at}
+use Rattle.std.proofs.Math.ListN.{set}
 use Rattle.std.proofs.lemmas.Bool.{cases_lt}
-use Rattle.std.proofs.lemmas.Nat.Bits.{bit_at_and, bit_at_xor, bit_at-lt, bit_at_cat_low, bit_at_cat_high}
+use Rattle.std.proofs.lemmas.List.{length-set, get_or-set_same, get_or-set_other}
+use Rattle.std.proofs.lemmas.Nat.Bits.{bit_at_and, bit_at_xor, bit_at_not, bit_at-lt, bit_at_cat_low, bit_at_cat_high}
 use Rattle.debounce.specs.declared.Scan.{Scan}
 use Rattle.debounce.specs.declared.row.Row.{Row}
 use Rattle.debounce.specs.Scans.{has}
-use Rattle.debounce.specs.Samples.{samples, down}
-use Rattle.debounce.specs.ties.Kept.{Kept, row_of}
-use Rattle.debounce.specs.ties.Rows.{KeyBits, KeyStandsFor, Sampled, bits_of, parts}
+use Rattle.debounce.specs.Samples.{samples, down, same, equal_latest}
+use Rattle.debounce.specs.ties.Kept.{Kept, row_of, planes_of}
+use Rattle.debounce.specs.ties.Rows.{KeyStandsFor, Sampled, bits_of, parts, rows_of}
 use Rattle.debounce.specs.ties.Stands.{StandsFor}
 
 -- ---- the halves of a word
@@ -53,163 +55,218 @@ parts_second a b c = record { low = refl; high = refl }
 pub parts_third : (a b c : ℕ) → AreHalves (parts a b c) 2 c
 parts_third a b c = record { low = refl; high = refl }
 
+half_of : (words : List ℕ) (key pair word : ℕ) → key / 32 ≡ pair → get_or words pair 0 ≡ word → AreHalves (rows_of words) pair word
+    → bit_at (get_or (rows_of words) (key / 16) 0) (key % 16) ≡ bit_at (get_or words (key / 32) 0) (key % 32)
+half_of words key pair word at e h =
+    half_bit (rows_of words) pair word key h at ∙ ap (λ (w : ℕ). bit_at w (key % 32)) (sym e) ∙ ap (λ (p : ℕ). bit_at (get_or words p 0) (key % 32)) (sym at)
+
+of_word : (words : List ℕ) (key pair word : ℕ) → key / 32 ≡ pair → get_or words pair 0 ≡ word → AreHalves (rows_of words) pair word
+    → (bit_at (get_or (rows_of words) (key / 16) 0) (key % 16) == 1) ≡ (bit_at (get_or words (key / 32) 0) (key % 32) == 1)
+of_word words key pair word at e h = ap (λ (b : ℕ). b == 1) (half_of words key pair word at e h)
+
+-- a scan by its rows
+pub by_rows : (scan : Scan) (rows : List ℕ) (key : ℕ) → scan.rows ≡ rows → has scan key ≡ has (record { rows = rows }) key
+unfolding has
+by_rows scan rows key e = ap (λ (r : List ℕ). bit_at (get_or r (key / 16) 0) (key % 16) == 1) e
+
+-- words of the rows of a scan
+pub of_halves : (scan : Scan) (a b c key : ℕ) → ((key : ℕ) → key / 32 ≡ 0 → bit_at a (key % 32) ≡ bit_at (get_or scan.rows (key / 16) 0) (key % 16))
+    → ((key : ℕ) → key / 32 ≡ 1 → bit_at b (key % 32) ≡ bit_at (get_or scan.rows (key / 16) 0) (key % 16))
+    → ((key : ℕ) → key / 32 ≡ 2 → bit_at c (key % 32) ≡ bit_at (get_or scan.rows (key / 16) 0) (key % 16)) → key < 96
+    → has (record { rows = rows_of (a ∷ b ∷ c ∷ []) }) key ≡ has scan key
+unfolding has
+of_halves scan a b c key x y z l = elim (cases_lt key 32) [
+  | inl m ↦ (let e : key / 32 ≡ 0 = omega arith in
+      ap (λ (n : ℕ). n == 1) (half_bit (rows_of (a ∷ b ∷ c ∷ [])) 0 a key (parts_first a b c) e ∙ x key e))
+  | inr m ↦ elim (cases_lt key 64) [
+    | inl n ↦ (let e : key / 32 ≡ 1 = omega arith in
+        ap (λ (n : ℕ). n == 1) (half_bit (rows_of (a ∷ b ∷ c ∷ [])) 1 b key (parts_second a b c) e ∙ y key e))
+    | inr n ↦ (let e : key / 32 ≡ 2 = omega arith in
+        ap (λ (n : ℕ). n == 1) (half_bit (rows_of (a ∷ b ∷ c ∷ [])) 2 c key (parts_third a b c) e ∙ z key e))
+  ]
+]
+
+-- the keys of three words
+pub has_word : (words : List ℕ) (key : ℕ) → key < 96 → has (record { rows = rows_of words }) key ≡ (bit_at (get_or words (key / 32) 0) (key % 32) == 1)
+unfolding has
+has_word words key l = elim (cases_lt key 32) [
+  | inl a ↦ of_word words key 0 (get_or words 0 0) (omega arith) refl (parts_first _ _ _)
+  | inr a ↦ elim (cases_lt key 64) [
+    | inl b ↦ of_word words key 1 (get_or words 1 0) (omega arith) refl (parts_second _ _ _)
+    | inr b ↦ of_word words key 2 (get_or words 2 0) (omega arith) refl (parts_third _ _ _)
+  ]
+]
+
 -- ---- a pair of rows
 
--- a pair of rows has had its sample
-pub record PairFed (pair : ℕ) (scan : Scan) (old : Kept) (before after : Row) (sample : ℕ) : Type 0 where
-  pub before_is : (key : ℕ) → key / 32 ≡ pair → bits_of before (key % 32) ≡ bits_of (row_of old (key / 16)) (key % 16)
+-- a pair of rows has had its sample, and its flips are those of its keys that changed
+pub record PairFed (scan : Scan) (old new : Kept) (flips : List ℕ) (pair : ℕ) : Type 0 where
+  pub sample : ℕ
   pub sample_is : (key : ℕ) → key / 32 ≡ pair → bit_at sample (key % 32) ≡ bit_at (get_or scan.rows (key / 16) 0) (key % 16)
-  pub sampled : Sampled before sample after
+  pub sampled : Sampled (row_of old pair) sample (row_of new pair)
+  pub flips_are : get_or flips pair 0 ≡ bit_xor (get_or old.down pair 0) (get_or new.down pair 0)
 
--- and is kept
-pub record PairKept (pair : ℕ) (new : Kept) (after : Row) : Type 0 where
-  pub ones : AreHalves (get_or new.planes 0 []) pair after.ones
-  pub twos : AreHalves (get_or new.planes 1 []) pair after.twos
-  pub fours : AreHalves (get_or new.planes 2 []) pair after.fours
-  pub last : AreHalves new.last.rows pair after.last
-  pub down : AreHalves new.down.rows pair after.down
+-- the pairs below n have, and the others are as they were
+pub record FedSoFar (scan : Scan) (old new : Kept) (flips : List ℕ) (n : ℕ) : Type 0 where
+  pub size : length flips ≡ 3
+  pub done : (pair : ℕ) → pair < n → PairFed scan old new flips pair
+  pub rest : (pair : ℕ) → n ≤ pair → row_of new pair ≡ row_of old pair
 
--- the key before the sample, and after it
-was_kept : (pair : ℕ) (scans : List Scan) (scan : Scan) (old : Kept) (before after : Row) (sample key : ℕ) → PairFed pair scan old before after sample → key / 32 ≡ pair → key < 96 → StandsFor scans old
-    → KeyStandsFor (samples scans key) (bits_of before (key % 32))
-was_kept pair scans scan old before after sample key f at l h = subst (λ (k : KeyBits). KeyStandsFor (samples scans key) k) (sym (f.before_is key at)) (h.each key l)
+pub fed_none : (scan : Scan) (old : Kept) (flips : List ℕ) → length flips ≡ 3 → FedSoFar scan old old flips 0
+fed_none scan old flips e = record { size = e; done = λ pair l. absurd (omega arith); rest = λ pair l. refl }
 
-is_kept : (pair : ℕ) (scans : List Scan) (scan : Scan) (old : Kept) (before after : Row) (sample key : ℕ) → PairFed pair scan old before after sample → key / 32 ≡ pair → key < 96 → StandsFor scans old
-    → KeyStandsFor (samples (scan ∷ scans) key) (bits_of after (key % 32))
+pub fed_more : (scan : Scan) (old mid new : Kept) (flips : List ℕ) (n : ℕ) (before after : Row) (sample word : ℕ) → n < 3 → FedSoFar scan old mid flips n
+    → before ≡ row_of mid n → ((key : ℕ) → key / 32 ≡ n → bit_at sample (key % 32) ≡ bit_at (get_or scan.rows (key / 16) 0) (key % 16))
+    → Sampled before sample after → word ≡ bit_xor before.down after.down
+    → row_of new n ≡ after → ((other : ℕ) → (other ≡ n → ⊥) → row_of new other ≡ row_of mid other) → FedSoFar scan old new (set flips n word) (n + 1)
+fed_more scan old mid new flips n before after sample word l s was sample_is sampled word_is is others =
+    let in_flips : n < length flips = omega (arith, s.size) in
+    let was_old : before ≡ row_of old n = was ∙ s.rest n (omega arith) in
+    record {
+      size = length-set flips n word ∙ s.size;
+      done = λ pair m. elim (cases_lt pair n) [
+        | inl less ↦ (let p = s.done pair less in
+            let same = others pair (λ e. omega arith) in
+            record {
+              sample = p.sample;
+              sample_is = p.sample_is;
+              sampled = subst (λ (r : Row). Sampled (row_of old pair) p.sample r) (sym same) p.sampled;
+              flips_are = get_or-set_other flips n pair word 0 (λ e. omega arith) ∙ p.flips_are ∙ ap (λ (r : Row). bit_xor (get_or old.down pair 0) r.down) (sym same);
+            })
+        | inr more ↦ (let e : n ≡ pair = omega arith in
+            subst (λ (k : ℕ). PairFed scan old new (set flips n word) k) e (record {
+              sample = sample;
+              sample_is = sample_is;
+              sampled = subst (λ (r : Row). Sampled (row_of old n) sample r) (sym is) (subst (λ (r : Row). Sampled r sample after) was_old sampled);
+              flips_are = get_or-set_same flips n word 0 in_flips ∙ word_is ∙ ap (λ (r : Row). bit_xor r.down after.down) was_old ∙ ap (λ (r : Row). bit_xor (get_or old.down n 0) r.down) (sym is);
+            }))
+      ];
+      rest = λ pair m. others pair (λ e. omega arith) ∙ s.rest pair (omega arith);
+    }
+
+pub stands-fed : (scans : List Scan) (scan : Scan) (old new : Kept) (flips : List ℕ) (n : ℕ) → 3 ≤ n → FedSoFar scan old new flips n → StandsFor scans old → StandsFor (scan ∷ scans) new
 unfolding has
-is_kept pair scans scan old before after sample key f at l h =
-    subst (λ (b : ℕ). KeyStandsFor ((b == 1) ∷ samples scans key) (bits_of after (key % 32))) (f.sample_is key at)
-    (f.sampled.each (key % 32) (omega arith) (samples scans key) (was_kept pair scans scan old before after sample key f at l h))
+stands-fed scans scan old new flips n all s h = record {
+  each = λ key l. (let f = s.done (key / 32) (omega arith) in
+      subst (λ (b : ℕ). KeyStandsFor ((b == 1) ∷ samples scans key) (bits_of (row_of new (key / 32)) (key % 32))) (f.sample_is key refl)
+      (f.sampled.each (key % 32) (omega arith) (samples scans key) (h.each key l)));
+}
 
-pub pair_stands : (pair : ℕ) (scans : List Scan) (scan : Scan) (old new : Kept) (before after : Row) (sample key : ℕ) → PairFed pair scan old before after sample → PairKept pair new after
-    → key / 32 ≡ pair → key < 96 → StandsFor scans old → KeyStandsFor (samples (scan ∷ scans) key) (bits_of (row_of new (key / 16)) (key % 16))
-pair_stands pair scans scan old new before after sample key f k at l h =
-    rw (
-      half_bit (get_or new.planes 0 []) pair after.ones key k.ones at,
-      half_bit (get_or new.planes 1 []) pair after.twos key k.twos at,
-      half_bit (get_or new.planes 2 []) pair after.fours key k.fours at,
-      half_bit new.down.rows pair after.down key k.down at,
-      half_bit new.last.rows pair after.last key k.last at,
-    )
-    (is_kept pair scans scan old before after sample key f at l h)
-
--- ---- the edges
-
--- the keys that differ between two words and are set in this one
-abbrev pub edge_word : ℕ → ℕ → ℕ → ℕ
-edge_word before after set = bit_and (bit_xor before after) set
+-- ---- the keys that changed
 
 two_of : (P : ℕ → Type 0) → P 0 → P 1 → (n : ℕ) → n < 2 → P n
 two_of P a b zero l = a
 two_of P a b (suc zero) l = b
 two_of P a b (suc (suc n)) l = absurd (omega arith)
 
--- the bits of the edges
-released_test : (x y : ℕ) → x < 2 → y < 2 → (min ((x + y) % 2) x == 1) ≡ ((x == 1) && not (y == 1))
-released_test x y l m =
-    two_of (λ x. (y : ℕ) → y < 2 → (min ((x + y) % 2) x == 1) ≡ ((x == 1) && not (y == 1)))
-    (two_of (λ y. (min ((0 + y) % 2) 0 == 1) ≡ ((0 == 1) && not (y == 1))) refl refl)
-    (two_of (λ y. (min ((1 + y) % 2) 1 == 1) ≡ ((1 == 1) && not (y == 1))) refl refl) x l y m
+flip_test : (x y : ℕ) → x < 2 → y < 2 → ((x + y) % 2 == 1) ≡ not (same (x == 1) (y == 1))
+flip_test x y l m =
+    two_of (λ x. (y : ℕ) → y < 2 → ((x + y) % 2 == 1) ≡ not (same (x == 1) (y == 1)))
+    (two_of (λ y. ((0 + y) % 2 == 1) ≡ not (same (0 == 1) (y == 1))) refl refl)
+    (two_of (λ y. ((1 + y) % 2 == 1) ≡ not (same (1 == 1) (y == 1))) refl refl) x l y m
 
-pressed_test : (x y : ℕ) → x < 2 → y < 2 → (min ((x + y) % 2) y == 1) ≡ ((y == 1) && not (x == 1))
-pressed_test x y l m =
-    two_of (λ x. (y : ℕ) → y < 2 → (min ((x + y) % 2) y == 1) ≡ ((y == 1) && not (x == 1)))
-    (two_of (λ y. (min ((0 + y) % 2) y == 1) ≡ ((y == 1) && not (0 == 1))) refl refl)
-    (two_of (λ y. (min ((1 + y) % 2) y == 1) ≡ ((y == 1) && not (1 == 1))) refl refl) x l y m
+up_test : (f d : ℕ) → f < 2 → d < 2 → (min f (1 - d) == 1) ≡ ((f == 1) && not (d == 1))
+up_test f d l m =
+    two_of (λ f. (d : ℕ) → d < 2 → (min f (1 - d) == 1) ≡ ((f == 1) && not (d == 1)))
+    (two_of (λ d. (min 0 (1 - d) == 1) ≡ ((0 == 1) && not (d == 1))) refl refl)
+    (two_of (λ d. (min 1 (1 - d) == 1) ≡ ((1 == 1) && not (d == 1))) refl refl) f l d m
 
-edge_bit : (x y set column : ℕ) → bit_at (edge_word x y set) column ≡ min ((bit_at x column + bit_at y column) % 2) (bit_at set column)
-edge_bit x y set column = rw (bit_at_and (bit_xor x y) set column, bit_at_xor x y column) refl
+down_test : (f d : ℕ) → f < 2 → d < 2 → (min f d == 1) ≡ ((f == 1) && (d == 1))
+down_test f d l m =
+    two_of (λ f. (d : ℕ) → d < 2 → (min f d == 1) ≡ ((f == 1) && (d == 1)))
+    (two_of (λ d. (min 0 d == 1) ≡ ((0 == 1) && (d == 1))) refl refl)
+    (two_of (λ d. (min 1 d == 1) ≡ ((1 == 1) && (d == 1))) refl refl) f l d m
 
-released_bit : (x y column : ℕ) (a b : Bool) → (bit_at x column == 1) ≡ a → (bit_at y column == 1) ≡ b → (bit_at (edge_word x y x) column == 1) ≡ (a && not b)
-released_bit x y column a b e f = rw (edge_bit x y x column, ← e, ← f) (released_test (bit_at x column) (bit_at y column) (bit_at-lt x column) (bit_at-lt y column))
+-- whether a key is down, by its bit
+down_is : (scans : List Scan) (kept : Kept) (key : ℕ) → key < 96 → StandsFor scans kept → (bit_at (get_or kept.down (key / 32) 0) (key % 32) == 1) ≡ down scans key
+unfolding down
+down_is scans kept key l h = (h.each key l).down
 
-pressed_bit : (x y column : ℕ) (a b : Bool) → (bit_at x column == 1) ≡ a → (bit_at y column == 1) ≡ b → (bit_at (edge_word x y y) column == 1) ≡ (b && not a)
-pressed_bit x y column a b e f = rw (edge_bit x y y column, ← e, ← f) (pressed_test (bit_at x column) (bit_at y column) (bit_at-lt x column) (bit_at-lt y column))
+pub flips-fed : (scans : List Scan) (scan : Scan) (old new : Kept) (flips : List ℕ) (n key : ℕ) → 3 ≤ n → FedSoFar scan old new flips n → StandsFor scans old → key < 96
+    → has (record { rows = rows_of flips }) key ≡ not (same (down scans key) (down (scan ∷ scans) key))
+flips-fed scans scan old new flips n key all s h l =
+    let f = s.done (key / 32) (omega arith) in
+    let x = get_or old.down (key / 32) 0 in
+    let y = get_or new.down (key / 32) 0 in
+    has_word flips key l
+    ∙ rw (f.flips_are, bit_at_xor x y (key % 32), ← down_is scans old key l h, ← down_is (scan ∷ scans) new key l (stands-fed scans scan old new flips n all s h))
+    (flip_test (bit_at x (key % 32)) (bit_at y (key % 32)) (bit_at-lt x (key % 32)) (bit_at-lt y (key % 32)))
 
-pub pair_released : (pair : ℕ) (scans : List Scan) (scan : Scan) (old : Kept) (before after : Row) (sample key : ℕ) (released : Scan) → PairFed pair scan old before after sample
-    → AreHalves released.rows pair (edge_word before.down after.down before.down)
-    → key / 32 ≡ pair → key < 96 → StandsFor scans old → has released key ≡ (down scans key && not (down (scan ∷ scans) key))
-unfolding has down
-pair_released pair scans scan old before after sample key released f k at l h =
-    rw (half_bit released.rows pair (edge_word before.down after.down before.down) key k at)
-    (released_bit before.down after.down (key % 32) _ _ (was_kept pair scans scan old before after sample key f at l h).down (is_kept pair scans scan old before after sample key f at l h).down)
+-- the words of those that are up, and of those that are down
+abbrev ups : List ℕ → List ℕ → ℕ → ℕ
+ups flips downs pair = bit_and (get_or flips pair 0) (4294967295 - get_or downs pair 0)
 
-pub pair_pressed : (pair : ℕ) (scans : List Scan) (scan : Scan) (old : Kept) (before after : Row) (sample key : ℕ) (pressed : Scan) → PairFed pair scan old before after sample
-    → AreHalves pressed.rows pair (edge_word before.down after.down after.down)
-    → key / 32 ≡ pair → key < 96 → StandsFor scans old → has pressed key ≡ (down (scan ∷ scans) key && not (down scans key))
-unfolding has down
-pair_pressed pair scans scan old before after sample key pressed f k at l h =
-    rw (half_bit pressed.rows pair (edge_word before.down after.down after.down) key k at)
-    (pressed_bit before.down after.down (key % 32) _ _ (was_kept pair scans scan old before after sample key f at l h).down (is_kept pair scans scan old before after sample key f at l h).down)
+abbrev downs_of : List ℕ → List ℕ → ℕ → ℕ
+downs_of flips downs pair = bit_and (get_or flips pair 0) (get_or downs pair 0)
 
--- ---- all three pairs
+three_of : (P : ℕ → ℕ → Type 0) (a b c : ℕ) → P 0 a → P 1 b → P 2 c → (pair : ℕ) → pair < 3 → P pair (get_or (a ∷ b ∷ c ∷ []) pair 0)
+three_of P a b c x y z zero l = x
+three_of P a b c x y z (suc zero) l = y
+three_of P a b c x y z (suc (suc zero)) l = z
+three_of P a b c x y z (suc (suc (suc n))) l = absurd (omega arith)
 
--- a key is of one of three pairs
-pub record OfPair (P : ℕ → Type 0) : Type 0 where
-  pub first : (key : ℕ) → key / 32 ≡ 0 → key < 96 → P key
-  pub second : (key : ℕ) → key / 32 ≡ 1 → key < 96 → P key
-  pub third : (key : ℕ) → key / 32 ≡ 2 → key < 96 → P key
+fits_at : (words : List ℕ) → get_or words 0 0 < 2 ^ 32 → get_or words 1 0 < 2 ^ 32 → get_or words 2 0 < 2 ^ 32 → (pair : ℕ) → pair < 3 → get_or words pair 0 < 2 ^ 32
+fits_at words x y z zero l = x
+fits_at words x y z (suc zero) l = y
+fits_at words x y z (suc (suc zero)) l = z
+fits_at words x y z (suc (suc (suc n))) l = absurd (omega arith)
 
-by_pair : (P : ℕ → Type 0) → OfPair P → (key : ℕ) → key < 96 → P key
-by_pair P o key l = elim (cases_lt key 32) [
-  | inl a ↦ o.first key (omega arith) l
+pub released-of : (scans : List Scan) (kept : Kept) (flips : List ℕ) (set result : Scan) (key : ℕ) → set.rows ≡ rows_of flips
+    → result.rows ≡ rows_of (ups flips kept.down 0 ∷ ups flips kept.down 1 ∷ ups flips kept.down 2 ∷ []) → get_or kept.down 0 0 < 2 ^ 32 → get_or kept.down 1 0 < 2 ^ 32 → get_or kept.down 2 0 < 2 ^ 32
+    → StandsFor scans kept → key < 96
+    → has result key ≡ (has set key && not (down scans key))
+released-of scans kept flips set result key e r x0 x1 x2 h l =
+    let x = get_or flips (key / 32) 0 in
+    let d = get_or kept.down (key / 32) 0 in
+    let words = ups flips kept.down 0 ∷ ups flips kept.down 1 ∷ ups flips kept.down 2 ∷ [] in
+    let is : get_or words (key / 32) 0 ≡ ups flips kept.down (key / 32) =
+    three_of (λ pair word. word ≡ ups flips kept.down pair) (ups flips kept.down 0) (ups flips kept.down 1) (ups flips kept.down 2) refl refl refl (key / 32) (omega arith) in
+    by_rows result (rows_of words) key r
+    ∙ has_word words key l
+    ∙ rw (is, by_rows set (rows_of flips) key e, has_word flips key l, ← down_is scans kept key l h, bit_at_and x (4294967295 - d) (key % 32), bit_at_not w32 d (key % 32) (fits_at kept.down x0 x1 x2 (key / 32) (omega arith)) (omega arith))
+    (up_test (bit_at x (key % 32)) (bit_at d (key % 32)) (bit_at-lt x (key % 32)) (bit_at-lt d (key % 32)))
+
+pub pressed-of : (scans : List Scan) (kept : Kept) (flips : List ℕ) (set result : Scan) (key : ℕ) → set.rows ≡ rows_of flips
+    → result.rows ≡ rows_of (downs_of flips kept.down 0 ∷ downs_of flips kept.down 1 ∷ downs_of flips kept.down 2 ∷ []) → StandsFor scans kept → key < 96
+    → has result key ≡ (has set key && down scans key)
+pressed-of scans kept flips set result key e r h l =
+    let x = get_or flips (key / 32) 0 in
+    let d = get_or kept.down (key / 32) 0 in
+    let words = downs_of flips kept.down 0 ∷ downs_of flips kept.down 1 ∷ downs_of flips kept.down 2 ∷ [] in
+    let is : get_or words (key / 32) 0 ≡ downs_of flips kept.down (key / 32) =
+    three_of (λ pair word. word ≡ downs_of flips kept.down pair) (downs_of flips kept.down 0) (downs_of flips kept.down 1) (downs_of flips kept.down 2) refl refl refl (key / 32) (omega arith) in
+    by_rows result (rows_of words) key r
+    ∙ has_word words key l
+    ∙ rw (is, by_rows set (rows_of flips) key e, has_word flips key l, ← down_is scans kept key l h, bit_at_and x d (key % 32))
+    (down_test (bit_at x (key % 32)) (bit_at d (key % 32)) (bit_at-lt x (key % 32)) (bit_at-lt d (key % 32)))
+
+-- the edges of the keys that changed
+pub was_down : (was is f : Bool) → f ≡ not (same was is) → (f && not is) ≡ (was && not is)
+was_down true true f e = rw e refl
+was_down true false f e = rw e refl
+was_down false true f e = rw e refl
+was_down false false f e = rw e refl
+
+pub is_down_now : (was is f : Bool) → f ≡ not (same was is) → (f && is) ≡ (is && not was)
+is_down_now true true f e = rw e refl
+is_down_now true false f e = rw e refl
+is_down_now false true f e = rw e refl
+is_down_now false false f e = rw e refl
+
+-- ---- the planes
+
+by_half : (words : List ℕ) (key : ℕ) → key < 96 → bit_at (get_or (rows_of words) (key / 16) 0) (key % 16) ≡ bit_at (get_or words (key / 32) 0) (key % 32)
+by_half words key l = elim (cases_lt key 32) [
+  | inl a ↦ half_of words key 0 (get_or words 0 0) (omega arith) refl (parts_first _ _ _)
   | inr a ↦ elim (cases_lt key 64) [
-    | inl b ↦ o.second key (omega arith) l
-    | inr b ↦ o.third key (omega arith) l
+    | inl b ↦ half_of words key 1 (get_or words 1 0) (omega arith) refl (parts_second _ _ _)
+    | inr b ↦ half_of words key 2 (get_or words 2 0) (omega arith) refl (parts_third _ _ _)
   ]
 ]
 
--- each pair has had its sample
-pub record AllFed (scan : Scan) (old : Kept) (b1 b2 b3 a1 a2 a3 : Row) (s1 s2 s3 : ℕ) : Type 0 where
-  pub first : PairFed 0 scan old b1 a1 s1
-  pub second : PairFed 1 scan old b2 a2 s2
-  pub third : PairFed 2 scan old b3 a3 s3
-
--- what is kept then
-abbrev pub kept_of : Row → Row → Row → Kept
-kept_of a b c = record {
-  planes = parts a.ones b.ones c.ones ∷ parts a.twos b.twos c.twos ∷ parts a.fours b.fours c.fours ∷ [];
-  last = record { rows = parts a.last b.last c.last };
-  down = record { rows = parts a.down b.down c.down };
-}
-
-pub stands-fed : (scans : List Scan) (scan : Scan) (old : Kept) (b1 b2 b3 a1 a2 a3 : Row) (s1 s2 s3 : ℕ) → AllFed scan old b1 b2 b3 a1 a2 a3 s1 s2 s3 → StandsFor scans old
-    → StandsFor (scan ∷ scans) (kept_of a1 a2 a3)
-stands-fed scans scan old b1 b2 b3 a1 a2 a3 s1 s2 s3 f h =
-    let new = kept_of a1 a2 a3 in
-    record {
-      each = by_pair (λ key. KeyStandsFor (samples (scan ∷ scans) key) (bits_of (row_of new (key / 16)) (key % 16))) (record {
-        first = λ key at l. pair_stands 0 scans scan old new b1 a1 s1 key f.first
-            (record { ones = parts_first a1.ones a2.ones a3.ones; twos = parts_first a1.twos a2.twos a3.twos; fours = parts_first a1.fours a2.fours a3.fours; last = parts_first a1.last a2.last a3.last; down = parts_first a1.down a2.down a3.down }) at l h;
-        second = λ key at l. pair_stands 1 scans scan old new b2 a2 s2 key f.second
-            (record { ones = parts_second a1.ones a2.ones a3.ones; twos = parts_second a1.twos a2.twos a3.twos; fours = parts_second a1.fours a2.fours a3.fours; last = parts_second a1.last a2.last a3.last; down = parts_second a1.down a2.down a3.down }) at l h;
-        third = λ key at l. pair_stands 2 scans scan old new b3 a3 s3 key f.third
-            (record { ones = parts_third a1.ones a2.ones a3.ones; twos = parts_third a1.twos a2.twos a3.twos; fours = parts_third a1.fours a2.fours a3.fours; last = parts_third a1.last a2.last a3.last; down = parts_third a1.down a2.down a3.down }) at l h;
-      });
-    }
-
-pub released-fed : (scans : List Scan) (scan : Scan) (old : Kept) (b1 b2 b3 a1 a2 a3 : Row) (s1 s2 s3 : ℕ) → AllFed scan old b1 b2 b3 a1 a2 a3 s1 s2 s3 → StandsFor scans old
-    → (key : ℕ) → key < 96
-    → has (record { rows = parts (edge_word b1.down a1.down b1.down) (edge_word b2.down a2.down b2.down) (edge_word b3.down a3.down b3.down) }) key ≡ (down scans key && not (down (scan ∷ scans) key))
-released-fed scans scan old b1 b2 b3 a1 a2 a3 s1 s2 s3 f h =
-    let e1 = edge_word b1.down a1.down b1.down in
-    let e2 = edge_word b2.down a2.down b2.down in
-    let e3 = edge_word b3.down a3.down b3.down in
-    by_pair (λ key. has (record { rows = parts e1 e2 e3 }) key ≡ (down scans key && not (down (scan ∷ scans) key))) (record {
-      first = λ key at l. pair_released 0 scans scan old b1 a1 s1 key (record { rows = parts e1 e2 e3 }) f.first (parts_first e1 e2 e3) at l h;
-      second = λ key at l. pair_released 1 scans scan old b2 a2 s2 key (record { rows = parts e1 e2 e3 }) f.second (parts_second e1 e2 e3) at l h;
-      third = λ key at l. pair_released 2 scans scan old b3 a3 s3 key (record { rows = parts e1 e2 e3 }) f.third (parts_third e1 e2 e3) at l h;
-    })
-
-pub pressed-fed : (scans : List Scan) (scan : Scan) (old : Kept) (b1 b2 b3 a1 a2 a3 : Row) (s1 s2 s3 : ℕ) → AllFed scan old b1 b2 b3 a1 a2 a3 s1 s2 s3 → StandsFor scans old
-    → (key : ℕ) → key < 96
-    → has (record { rows = parts (edge_word b1.down a1.down a1.down) (edge_word b2.down a2.down a2.down) (edge_word b3.down a3.down a3.down) }) key ≡ (down (scan ∷ scans) key && not (down scans key))
-pressed-fed scans scan old b1 b2 b3 a1 a2 a3 s1 s2 s3 f h =
-    let e1 = edge_word b1.down a1.down a1.down in
-    let e2 = edge_word b2.down a2.down a2.down in
-    let e3 = edge_word b3.down a3.down a3.down in
-    by_pair (λ key. has (record { rows = parts e1 e2 e3 }) key ≡ (down (scan ∷ scans) key && not (down scans key))) (record {
-      first = λ key at l. pair_pressed 0 scans scan old b1 a1 s1 key (record { rows = parts e1 e2 e3 }) f.first (parts_first e1 e2 e3) at l h;
-      second = λ key at l. pair_pressed 1 scans scan old b2 a2 s2 key (record { rows = parts e1 e2 e3 }) f.second (parts_second e1 e2 e3) at l h;
-      third = λ key at l. pair_pressed 2 scans scan old b3 a3 s3 key (record { rows = parts e1 e2 e3 }) f.third (parts_third e1 e2 e3) at l h;
-    })
+pub planes-stand : (scans : List Scan) (kept : Kept) (plane key : ℕ) → StandsFor scans kept → plane < 3 → key < 96
+    → bit_at (get_or (get_or (planes_of kept) plane []) (key / 16) 0) (key % 16) ≡ bit_at (equal_latest (samples scans key)) plane
+planes-stand scans kept zero key h p l = by_half kept.ones key l ∙ (h.each key l).ones
+planes-stand scans kept (suc zero) key h p l = by_half kept.twos key l ∙ (h.each key l).twos
+planes-stand scans kept (suc (suc zero)) key h p l = by_half kept.fours key l ∙ (h.each key l).fours
+planes-stand scans kept (suc (suc (suc n))) key h p l = absurd (omega arith)

@@ -4,7 +4,9 @@ use Rattle.std.specs.Int.{bit_at}
 use Rattle.std.proofs.lemmas.List.{get_or-replicate}
 use Rattle.std.proofs.lemmas.Nat.Bits.{bit_at-zero}
 use Rattle.debounce.specs.Samples.{debounced, down, equal_latest}
+use Rattle.debounce.specs.ties.Kept.{Kept}
 use Rattle.debounce.specs.ties.Rows.{KeyStandsFor}
+use Rattle.debounce.specs.ties.Stands.{StandsFor}
 
 -- every key is up
 pub down-none : (key : ℕ) → down [] key ≡ false
@@ -15,15 +17,11 @@ zeroes_stand : (a b c d e : ℕ) → a ≡ 0 → b ≡ 0 → c ≡ 0 → d ≡ 0
 unfolding debounced equal_latest
 zeroes_stand a b c d e ea eb ec ed ee = rw (ea, eb, ec, ed, ee) (record { other = refl; ones = refl; twos = refl; fours = refl; down = refl })
 
-row_zero : (words : List ℕ) (key : ℕ) → words ≡ replicate 6 0 → key < 96 → bit_at (get_or words (key / 16) 0) (key % 16) ≡ 0
-row_zero words key e l = rw (e, get_or-replicate {A = ℕ} 6 (key / 16) 0 0 (omega arith)) (bit_at-zero (key % 16))
+word_zero : (words : List ℕ) (key : ℕ) → words ≡ replicate 3 0 → key < 96 → bit_at (get_or words (key / 32) 0) (key % 32) ≡ 0
+word_zero words key e l = rw (e, get_or-replicate {A = ℕ} 3 (key / 32) 0 0 (omega arith)) (bit_at-zero (key % 32))
 
-pub none-stands : (a b c d e : List ℕ) (key : ℕ) → a ≡ replicate 6 0 → b ≡ replicate 6 0 → c ≡ replicate 6 0 → d ≡ replicate 6 0 → e ≡ replicate 6 0 → key < 96
-    → KeyStandsFor [] (record {
-      ones = bit_at (get_or a (key / 16) 0) (key % 16);
-      twos = bit_at (get_or b (key / 16) 0) (key % 16);
-      fours = bit_at (get_or c (key / 16) 0) (key % 16);
-      last = bit_at (get_or d (key / 16) 0) (key % 16);
-      down = bit_at (get_or e (key / 16) 0) (key % 16);
-    })
-none-stands a b c d e key ea eb ec ed ee l = zeroes_stand _ _ _ _ _ (row_zero a key ea l) (row_zero b key eb l) (row_zero c key ec l) (row_zero d key ed l) (row_zero e key ee l)
+pub none-stands : (kept : Kept) → kept.ones ≡ replicate 3 0 → kept.twos ≡ replicate 3 0 → kept.fours ≡ replicate 3 0 → kept.last ≡ replicate 3 0 → kept.down ≡ replicate 3 0
+    → StandsFor [] kept
+none-stands kept a b c d e = record {
+  each = λ key l. zeroes_stand _ _ _ _ _ (word_zero kept.ones key a l) (word_zero kept.twos key b l) (word_zero kept.fours key c l) (word_zero kept.last key d l) (word_zero kept.down key e l);
+}

@@ -1,10 +1,12 @@
 -- Edges without a bit.
-use Rattle.std.proofs.Common.{◌≡◌, ℕ, ◌<◌, ◌/◌, ◌%◌, ◌==◌, true, false, max, get_or, bit_or, refl, arith, ◌∙◌, sym, inl, inr}
+use Rattle.std.proofs.Common.{◌≡◌, ℕ, ◌<◌, ◌/◌, ◌%◌, ◌==◌, true, false, List, max, get_or, bit_or, refl, arith, ◌∙◌, sym, inl, inr}
 use Rattle.std.specs.Int.{bit_at}
 use Rattle.std.proofs.lemmas.Bool.{cases_lt, eqb-true}
 use Rattle.std.proofs.lemmas.Nat.Bits.{bit_at-zero, bit_at_or}
 use Rattle.debounce.specs.declared.Scan.{Scan}
 use Rattle.debounce.specs.Scans.{has}
+use Rattle.debounce.specs.ties.Rows.{rows_of}
+use Rattle.debounce.proofs.Fed.{half_bit, parts_first, parts_second, parts_third}
 
 left_clear : (a b i : ℕ) → bit_at (bit_or a b) i ≡ 0 → bit_at a i ≡ 0
 left_clear a b i e = let z : max (bit_at a i) (bit_at b i) ≡ 0 = sym (bit_at_or a b i) ∙ e in omega (arith, z)
@@ -36,3 +38,12 @@ none_released scan a b c other key w e l = none_in scan a b c key w (λ i. left_
 
 pub none_pressed : (scan : Scan) (a b c other key : ℕ) → AreWords scan a b c → (bit_or other (bit_or (bit_or a b) c) == 0) ≡ true → key < 96 → has scan key ≡ false
 none_pressed scan a b c other key w e l = none_in scan a b c key w (λ i. right_clear other (bit_or (bit_or a b) c) i (clear (bit_or other (bit_or (bit_or a b) c)) i e)) l
+
+-- words without a bit
+pub none_of_words : (scan : Scan) (words : List ℕ) (key : ℕ) → scan.rows ≡ rows_of words → (bit_or (bit_or (get_or words 0 0) (get_or words 1 0)) (get_or words 2 0) == 0) ≡ true → key < 96 → has scan key ≡ false
+none_of_words scan words key e z l =
+    none_in scan (get_or words 0 0) (get_or words 1 0) (get_or words 2 0) key (record {
+      first = λ k at. sym (rw e (half_bit (rows_of words) 0 (get_or words 0 0) k (parts_first _ _ _) at));
+      second = λ k at. sym (rw e (half_bit (rows_of words) 1 (get_or words 1 0) k (parts_second _ _ _) at));
+      third = λ k at. sym (rw e (half_bit (rows_of words) 2 (get_or words 2 0) k (parts_third _ _ _) at));
+    }) (λ i. clear (bit_or (bit_or (get_or words 0 0) (get_or words 1 0)) (get_or words 2 0)) i z) l

@@ -1,7 +1,7 @@
 -- The bits of a row's words after one sample.
-use Rattle.std.proofs.Common.{◌≡◌, ℕ, ◌+◌, ◌-◌, ◌<◌, ◌%◌, ◌^◌, min, max, refl, arith, ◌∙◌, ap, bit_and, bit_or, bit_xor, w32}
+use Rattle.std.proofs.Common.{◌≡◌, ℕ, zero, suc, ◌+◌, ◌-◌, ◌<◌, ◌%◌, ◌^◌, min, max, refl, arith, ◌∙◌, ap, bit_and, bit_or, bit_xor, w32}
 use Rattle.std.specs.Int.{bit_at}
-use Rattle.std.proofs.lemmas.Nat.{xor_of_32, and_le_r}
+use Rattle.std.proofs.lemmas.Nat.{xor_of_32}
 use Rattle.std.proofs.lemmas.Nat.Bits.{bit_at_and, bit_at_or, bit_at_xor, bit_at_not, bit_at-lt}
 use Rattle.debounce.specs.declared.row.Row.{Row}
 use Rattle.debounce.specs.ties.Rows.{Sampled, bits_of}
@@ -18,7 +18,7 @@ abbrev fours_word : Row → ℕ → ℕ
 fours_word row changed = bit_and (bit_or row.fours (bit_and row.twos row.ones)) (4294967295 - changed)
 
 abbrev down_word : ℕ → ℕ → ℕ → ℕ
-down_word down sample decided = bit_or (bit_and down (4294967295 - decided)) (bit_and sample decided)
+down_word down sample decided = bit_xor down (bit_and (bit_xor down sample) decided)
 
 and_bits : (a b i x y : ℕ) → bit_at a i ≡ x → bit_at b i ≡ y → bit_at (bit_and a b) i ≡ min x y
 and_bits a b i x y e f = rw (bit_at_and a b i, e, f) refl
@@ -49,11 +49,27 @@ fours_bit row changed i c m =
     (or_bits row.fours (bit_and row.twos row.ones) i _ _ refl (and_bits row.twos row.ones i _ _ refl refl))
     (not_bits changed i _ c m refl)
 
-down_bit : (down sample decided i : ℕ) → decided < 2 ^ 32 → i < 32 → bit_at (down_word down sample decided) i ≡ down_after (bit_at down i) (bit_at sample i) (bit_at decided i)
-down_bit down sample decided i l m =
-    or_bits (bit_and down (4294967295 - decided)) (bit_and sample decided) i _ _
-    (and_bits down (4294967295 - decided) i _ _ refl (not_bits decided i _ l m refl))
-    (and_bits sample decided i _ _ refl refl)
+two_of : (P : ℕ → Type 0) → P 0 → P 1 → (n : ℕ) → n < 2 → P n
+two_of P a b zero l = a
+two_of P a b (suc zero) l = b
+two_of P a b (suc (suc n)) l = absurd (omega arith)
+
+-- a bit that takes a sample where that is decided
+taken : (d s c : ℕ) → d < 2 → s < 2 → c < 2 → (d + min ((d + s) % 2) c) % 2 ≡ down_after d s c
+taken d s c ld ls lc =
+    two_of (λ d. (s c : ℕ) → s < 2 → c < 2 → (d + min ((d + s) % 2) c) % 2 ≡ down_after d s c)
+    (λ s c ls lc. two_of (λ s. (c : ℕ) → c < 2 → (0 + min ((0 + s) % 2) c) % 2 ≡ down_after 0 s c)
+    (two_of (λ c. (0 + min ((0 + 0) % 2) c) % 2 ≡ down_after 0 0 c) refl refl)
+    (two_of (λ c. (0 + min ((0 + 1) % 2) c) % 2 ≡ down_after 0 1 c) refl refl) s ls c lc)
+    (λ s c ls lc. two_of (λ s. (c : ℕ) → c < 2 → (1 + min ((1 + s) % 2) c) % 2 ≡ down_after 1 s c)
+    (two_of (λ c. (1 + min ((1 + 0) % 2) c) % 2 ≡ down_after 1 0 c) refl refl)
+    (two_of (λ c. (1 + min ((1 + 1) % 2) c) % 2 ≡ down_after 1 1 c) refl refl) s ls c lc)
+    d ld s c ls lc
+
+down_bit : (down sample decided i : ℕ) → bit_at (down_word down sample decided) i ≡ down_after (bit_at down i) (bit_at sample i) (bit_at decided i)
+down_bit down sample decided i =
+    rw (bit_at_xor down (bit_and (bit_xor down sample) decided) i, bit_at_and (bit_xor down sample) decided i, bit_at_xor down sample i)
+    (taken (bit_at down i) (bit_at sample i) (bit_at decided i) (bit_at-lt down i) (bit_at-lt sample i) (bit_at-lt decided i))
 
 abbrev row_after : Row → ℕ → ℕ → ℕ → Row
 row_after row sample changed decided = record {
@@ -68,8 +84,6 @@ pub sampled_row : (row : Row) (sample : ℕ) → row.ones < 2 ^ 32 → row.fours
     → Sampled row sample (row_after row sample (bit_xor sample row.last) (bit_and (ones_word row (bit_xor sample row.last)) (fours_word row (bit_xor sample row.last))))
 sampled_row row sample o f l s =
     let c : bit_xor sample row.last < 2 ^ 32 = xor_of_32 sample row.last s l in
-    let d : bit_and (ones_word row (bit_xor sample row.last)) (fours_word row (bit_xor sample row.last)) < 2 ^ 32 =
-    omega (arith, c, and_le_r (ones_word row (bit_xor sample row.last)) (fours_word row (bit_xor sample row.last)), and_le_r (bit_or row.fours (bit_and row.twos row.ones)) (4294967295 - bit_xor sample row.last)) in
     record {
       last = refl;
       each = λ column m past h.
@@ -77,7 +91,7 @@ sampled_row row sample o f l s =
           let p : bit_at (ones_word row (bit_xor sample row.last)) column ≡ ones_after (bit_at row.ones column) (bit_at row.fours column) ((bit_at sample column + bit_at row.last column) % 2) = rw x at (ones_bit row (bit_xor sample row.last) column o m) in
           let q : bit_at (twos_word row (bit_xor sample row.last)) column ≡ twos_after (bit_at row.ones column) (bit_at row.twos column) (bit_at row.fours column) ((bit_at sample column + bit_at row.last column) % 2) = rw x at (twos_bit row (bit_xor sample row.last) column f c m) in
           let r : bit_at (fours_word row (bit_xor sample row.last)) column ≡ fours_after (bit_at row.ones column) (bit_at row.twos column) (bit_at row.fours column) ((bit_at sample column + bit_at row.last column) % 2) = rw x at (fours_bit row (bit_xor sample row.last) column c m) in
-          let t = down_bit row.down sample (bit_and (ones_word row (bit_xor sample row.last)) (fours_word row (bit_xor sample row.last))) column d m in
+          let t = down_bit row.down sample (bit_and (ones_word row (bit_xor sample row.last)) (fours_word row (bit_xor sample row.last))) column in
           let u = and_bits (ones_word row (bit_xor sample row.last)) (fours_word row (bit_xor sample row.last)) column _ _ p r in
           rw (p, q, r, t, u) (after_sample past (bits_of row column) (bit_at sample column) (bit_at-lt sample column) (bit_at-lt row.last column) (bit_at-lt row.down column) h);
     }

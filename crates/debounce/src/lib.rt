@@ -2,9 +2,10 @@
 //! bounces when it closes or opens, so a key takes a new value only after five equal samples in a
 //! row. One scan is one millisecond.
 //!
-//! A `Debouncer` keeps of each key its latest sample, how many of the latest are equal, and whether
-//! it is down. The promise is that a key has the value of the newest five equal samples in a row,
-//! and that an edge is a change of it. `key_reports` calls it at each scan.
+//! A `Matrix` keeps of each key its latest sample, how many of the latest are equal, and whether it is
+//! down, 32 keys to a word. The promise is that a key has the value of the newest five equal samples in
+//! a row, and that an edge is a change of it. `key_reports` calls it at each scan. A `Debouncer` is the
+//! same by scans, and lends the planes of the counts.
 #![tactic(auto)]
 
 ghost use Rattle.std.specs.Prelude.{◌≡◌, ◌/◌, ◌%◌, ◌<◌, ◌&&◌, ◌||◌, ◌==◌, ℕ, length, slice_index};
@@ -14,10 +15,14 @@ ghost use Rattle.debounce.specs.Scans.{has, set_keys};
 pub mod debouncer;
 pub mod keys;
 pub mod laws;
+pub mod matrix;
 mod row;
+pub mod set;
 
 pub use debouncer::{Debouncer, Edges};
 pub use keys::Keys;
+pub use matrix::Matrix;
+pub use set::KeySet;
 
 /// One look at the matrix, six rows of 16 keys: bit c of row r is set where key 16 * r + c is
 /// pressed.
@@ -43,7 +48,7 @@ impl Scan {
     pub fn keys(&self) -> Keys
         ensures { result ≡ set_keys self.now }
     {
-        Keys::of(*self)
+        KeySet::of(self).keys()
     }
 
     /// This scan, with a key, one of 0 to 95, too where `on` says so.

@@ -33,7 +33,7 @@ impl Row {
         let twos = (self.twos ^ self.ones) & !self.fours & !changed;
         let fours = (self.fours | (self.twos & self.ones)) & !changed;
         let decided = ones & fours;
-        let down = (self.down & !decided) | (sample & decided);
+        let down = self.down ^ ((self.down ^ sample) & decided);
         Row {
             ones,
             twos,

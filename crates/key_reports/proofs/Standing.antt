@@ -4,8 +4,10 @@ use Rattle.std.proofs.Math.Path.{fun_ext}
 use Rattle.debounce.specs.declared.Scan.{Scan}
 use Rattle.debounce.specs.declared.debouncer.Edges.{Edges}
 use Rattle.debounce.specs.Scans.{has, set_keys}
-use Rattle.debounce.specs.Samples.{down}
+use Rattle.debounce.specs.Samples.{down, same}
+use Rattle.debounce.specs.ties.Kept as debounce_kept
 use Rattle.debounce.specs.ties.Stands as debounce
+use Rattle.debounce.proofs.Fed.{was_down, is_down_now}
 use Rattle.layers.specs.Codes.{keys}
 use Rattle.layers.specs.Held.{HeldCall, any_below, code}
 use Rattle.layers.specs.ties.HeldStands.{HeldValue, HeldStandsFor}
@@ -22,7 +24,7 @@ use Rattle.key_reports.specs.Calls.{KeyCall, Scanned, Asked}
 use Rattle.key_reports.specs.Past.{scans_of, held_calls, poller_calls, those_below, presses, releases, keys_after, consumer_after, wanted_after, answer_after}
 use Rattle.key_reports.specs.ties.Edges.{with_releases, with_presses, with_edges, Takes}
 use Rattle.key_reports.specs.ties.Value.{KeysValue}
-use Rattle.key_reports.specs.ties.Stands.{StandsFor}
+use Rattle.key_reports.specs.ties.Stands.{StandsFor, IsFed}
 use Rattle.key_reports.proofs.Those.{those_below-same, those_below-none, those-keys}
 
 -- the wanted bytes by sets that are those of the held keys
@@ -87,77 +89,90 @@ pub made_cleared : (held : HeldValue) (f g : ℕ → Bool) (poller : reports_kep
 unfolding held_calls
 made_cleared held f g poller s u m = subst (λ (w : Input → List ℕ). reports.IsMade w poller) (wanted-held [] held f g s u) m
 
--- a scan: its edges, the releases and the presses
-pub record Scans (scan : Scan) (keymap : List ℕ) (old new : KeysValue) (edges : Edges) : Type 0 where
-  pub fed : (scans : List Scan) → debounce.StandsFor scans old.debouncer → debounce.StandsFor (scan ∷ scans) new.debouncer
-  pub released_is : (scans : List Scan) → debounce.StandsFor scans old.debouncer → (key : ℕ) → key < 96 → has edges.released key ≡ (down scans key && not (down (scan ∷ scans) key))
-  pub pressed_is : (scans : List Scan) → debounce.StandsFor scans old.debouncer → (key : ℕ) → key < 96 → has edges.pressed key ≡ (down (scan ∷ scans) key && not (down scans key))
-  pub takes : Takes (with_edges keymap edges) old.held new.held
+-- the edges of the keys that a scan changed
+pub record AreEdges (scan : Scan) (scans : List Scan) (edges : Edges) : Type 0 where
+  pub released_is : (key : ℕ) → key < 96 → has edges.released key ≡ (down scans key && not (down (scan ∷ scans) key))
+  pub pressed_is : (key : ℕ) → key < 96 → has edges.pressed key ≡ (down (scan ∷ scans) key && not (down scans key))
 
-held-scanned : (past : List KeyCall) (scan : Scan) (keymap : List ℕ) (protocol : Protocol) (old new : KeysValue) (edges : Edges)
-    → Scans scan keymap old new edges → StandsFor past old → HeldStandsFor (held_calls (Scanned scan keymap protocol ∷ past)) new.held
+pub edges_of : (scan flips : Scan) (scans : List Scan) (edges : Edges) → ((key : ℕ) → key < 96 → has flips key ≡ not (same (down scans key) (down (scan ∷ scans) key)))
+    → ((key : ℕ) → key < 96 → has edges.released key ≡ (has flips key && not (down (scan ∷ scans) key)))
+    → ((key : ℕ) → key < 96 → has edges.pressed key ≡ (has flips key && down (scan ∷ scans) key)) → AreEdges scan scans edges
+edges_of scan flips scans edges f r p = record {
+  released_is = λ key l. r key l ∙ was_down (down scans key) (down (scan ∷ scans) key) (has flips key) (f key l);
+  pressed_is = λ key l. p key l ∙ is_down_now (down scans key) (down (scan ∷ scans) key) (has flips key) (f key l);
+}
+
+held-scanned : (past : List KeyCall) (scan : Scan) (keymap : List ℕ) (protocol : Protocol) (old new : HeldValue) (edges : Edges)
+    → AreEdges scan (scans_of past) edges → Takes (with_edges keymap edges) old new → HeldStandsFor (held_calls past) old → HeldStandsFor (held_calls (Scanned scan keymap protocol ∷ past)) new
 unfolding held_calls with_releases with_presses with_edges
-held-scanned past scan keymap protocol old new edges c s =
+held-scanned past scan keymap protocol old new edges c t s =
     let was = scans_of past in
     let rs : reverse (set_keys edges.released) ≡ those_below (releases scan was) keys =
-    those-keys edges.released ∙ those_below-same (has edges.released) (releases scan was) keys (c.released_is was s.debouncer) in
+    those-keys edges.released ∙ those_below-same (has edges.released) (releases scan was) keys c.released_is in
     let ps : reverse (set_keys edges.pressed) ≡ those_below (presses scan was) keys =
-    those-keys edges.pressed ∙ those_below-same (has edges.pressed) (presses scan was) keys (c.pressed_is was s.debouncer) in
-    rw (← rs, ← ps) (c.takes.each (held_calls past) s.held)
+    those-keys edges.pressed ∙ those_below-same (has edges.pressed) (presses scan was) keys c.pressed_is in
+    rw (← rs, ← ps) (t.each (held_calls past) s)
 
--- and the tick, from the bytes that were made to those of the keys now
-pub record Ticks (protocol : Protocol) (old new : KeysValue) (fn gn : ℕ → Bool) : Type 0 where
+-- the keys and the tick, from the bytes that were made to those of the keys now
+pub record TakesOn (scan : Scan) (keymap : List ℕ) (protocol : Protocol) (past : List KeyCall) (old new : KeysValue) (edges : Edges) (fn gn : ℕ → Bool) : Type 0 where
+  pub debouncer : new.debouncer ≡ old.debouncer
+  pub takes : Takes (with_edges keymap edges) old.held new.held
   pub now : AreUsages new.held fn gn
-  pub ticks : (past : List KeyCall) → StandsFor past old → (calls : List PollerCall) → reports.StandsFor calls old.poller → reports.StandsFor (ticked protocol (wanted_after past) (wanted fn gn) ∷ calls) new.poller
-  pub made : (past : List KeyCall) → StandsFor past old → reports.IsMade (wanted fn gn) new.poller
+  pub ticks : HeldStandsFor (held_calls past) old.held → reports.IsMade (wanted_after past) old.poller
+      → reports.StandsFor (poller_calls past) old.poller → reports.StandsFor (ticked protocol (wanted_after past) (wanted fn gn) ∷ poller_calls past) new.poller
+  pub made : HeldStandsFor (held_calls past) old.held → reports.IsMade (wanted_after past) old.poller → reports.IsMade (wanted fn gn) new.poller
 
-pub stands-scanned : (past : List KeyCall) (scan : Scan) (keymap : List ℕ) (protocol : Protocol) (old new : KeysValue) (edges : Edges) (fn gn : ℕ → Bool)
-    → Scans scan keymap old new edges → Ticks protocol old new fn gn → StandsFor past old → StandsFor (Scanned scan keymap protocol ∷ past) new
+pub stands-scanned : (past : List KeyCall) (scan flips : Scan) (keymap : List ℕ) (protocol : Protocol) (old new : KeysValue) (edges : Edges) (fn gn : ℕ → Bool)
+    → AreEdges scan (scans_of past) edges → TakesOn scan keymap protocol past old new edges fn gn → IsFed scan flips past old → StandsFor (Scanned scan keymap protocol ∷ past) new
 unfolding scans_of poller_calls
-stands-scanned past scan keymap protocol old new edges fn gn c t s =
-    let h = held-scanned past scan keymap protocol old new edges c s in
+stands-scanned past scan flips keymap protocol old new edges fn gn c t s =
+    let h = held-scanned past scan keymap protocol old.held new.held edges c t.takes s.held in
     let wn : wanted fn gn ≡ wanted_after (Scanned scan keymap protocol ∷ past) = wanted-held (Scanned scan keymap protocol ∷ past) new.held fn gn h t.now in
     record {
-      debouncer = c.fed (scans_of past) s.debouncer;
+      debouncer = subst (λ (kept : debounce_kept.Kept). debounce.StandsFor (scan ∷ scans_of past) kept) (sym t.debouncer) s.debouncer;
       held = h;
-      poller = subst (λ (w : Input → List ℕ). reports.StandsFor (ticked protocol (wanted_after past) w ∷ poller_calls past) new.poller) wn (t.ticks past s (poller_calls past) s.poller);
-      made = subst (λ (w : Input → List ℕ). reports.IsMade w new.poller) wn (t.made past s);
+      poller = subst (λ (w : Input → List ℕ). reports.StandsFor (ticked protocol (wanted_after past) w ∷ poller_calls past) new.poller) wn (t.ticks s.held s.made s.poller);
+      made = subst (λ (w : Input → List ℕ). reports.IsMade w new.poller) wn (t.made s.held s.made);
     }
 
 -- a scan without edges
-pub record Passes (scan : Scan) (old new : KeysValue) (edges : Edges) : Type 0 where
+pub record Passes (scan flips : Scan) (old new : KeysValue) : Type 0 where
   pub fed : (scans : List Scan) → debounce.StandsFor scans old.debouncer → debounce.StandsFor (scan ∷ scans) new.debouncer
-  pub released_is : (scans : List Scan) → debounce.StandsFor scans old.debouncer → (key : ℕ) → key < 96 → has edges.released key ≡ (down scans key && not (down (scan ∷ scans) key))
-  pub pressed_is : (scans : List Scan) → debounce.StandsFor scans old.debouncer → (key : ℕ) → key < 96 → has edges.pressed key ≡ (down (scan ∷ scans) key && not (down scans key))
-  pub none_released : (key : ℕ) → key < 96 → has edges.released key ≡ false
-  pub none_pressed : (key : ℕ) → key < 96 → has edges.pressed key ≡ false
+  pub flips_are : (scans : List Scan) → debounce.StandsFor scans old.debouncer → (key : ℕ) → key < 96 → has flips key ≡ not (same (down scans key) (down (scan ∷ scans) key))
+  pub none : (key : ℕ) → key < 96 → has flips key ≡ false
   pub held : new.held ≡ old.held
   pub ticks : (calls : List PollerCall) (protocol : Protocol) (bytes : Input → List ℕ) → reports.StandsFor calls old.poller → reports.StandsFor (ticked protocol bytes bytes ∷ calls) new.poller
   pub made : (bytes : Input → List ℕ) → reports.IsMade bytes old.poller → reports.IsMade bytes new.poller
 
+no_release : (was is f : Bool) → f ≡ not (same was is) → f ≡ false → (was && not is) ≡ false
+no_release was is f e n = sym (was_down was is f e) ∙ rw n refl
+
+no_press : (was is f : Bool) → f ≡ not (same was is) → f ≡ false → (is && not was) ≡ false
+no_press was is f e n = sym (is_down_now was is f e) ∙ rw n refl
+
 -- the held keys take no calls
-calls-passed : (past : List KeyCall) (scan : Scan) (keymap : List ℕ) (protocol : Protocol) (old new : KeysValue) (edges : Edges)
-    → Passes scan old new edges → StandsFor past old → held_calls (Scanned scan keymap protocol ∷ past) ≡ held_calls past
+calls-passed : (past : List KeyCall) (scan flips : Scan) (keymap : List ℕ) (protocol : Protocol) (old new : KeysValue)
+    → Passes scan flips old new → StandsFor past old → held_calls (Scanned scan keymap protocol ∷ past) ≡ held_calls past
 unfolding held_calls
-calls-passed past scan keymap protocol old new edges p s =
+calls-passed past scan flips keymap protocol old new p s =
     let was = scans_of past in
-    let rs : those_below (releases scan was) keys ≡ [] = those_below-none (releases scan was) keys (λ key l. sym (p.released_is was s.debouncer key l) ∙ p.none_released key l) in
-    let ps : those_below (presses scan was) keys ≡ [] = those_below-none (presses scan was) keys (λ key l. sym (p.pressed_is was s.debouncer key l) ∙ p.none_pressed key l) in
+    let rs : those_below (releases scan was) keys ≡ [] = those_below-none (releases scan was) keys (λ key l. no_release (down was key) (down (scan ∷ was) key) (has flips key) (p.flips_are was s.debouncer key l) (p.none key l)) in
+    let ps : those_below (presses scan was) keys ≡ [] = those_below-none (presses scan was) keys (λ key l. no_press (down was key) (down (scan ∷ was) key) (has flips key) (p.flips_are was s.debouncer key l) (p.none key l)) in
     rw (rs, ps) refl
 
 wanted-passed : (past now : List KeyCall) → held_calls now ≡ held_calls past → wanted_after past ≡ wanted_after now
 unfolding keys_after consumer_after
 wanted-passed past now e = ap (λ (calls : List HeldCall). wanted (key_usages calls) (consumer_usages calls)) (sym e)
 
-pub stands-passed : (past : List KeyCall) (scan : Scan) (keymap : List ℕ) (protocol : Protocol) (old new : KeysValue) (edges : Edges)
-    → Passes scan old new edges → StandsFor past old → StandsFor (Scanned scan keymap protocol ∷ past) new
+pub stands-passed : (past : List KeyCall) (scan flips : Scan) (keymap : List ℕ) (protocol : Protocol) (old new : KeysValue)
+    → Passes scan flips old new → StandsFor past old → StandsFor (Scanned scan keymap protocol ∷ past) new
 unfolding scans_of poller_calls
-stands-passed past scan keymap protocol old new edges p s =
-    let same = calls-passed past scan keymap protocol old new edges p s in
-    let wn : wanted_after past ≡ wanted_after (Scanned scan keymap protocol ∷ past) = wanted-passed past (Scanned scan keymap protocol ∷ past) same in
+stands-passed past scan flips keymap protocol old new p s =
+    let calls_same = calls-passed past scan flips keymap protocol old new p s in
+    let wn : wanted_after past ≡ wanted_after (Scanned scan keymap protocol ∷ past) = wanted-passed past (Scanned scan keymap protocol ∷ past) calls_same in
     record {
       debouncer = p.fed (scans_of past) s.debouncer;
-      held = subst (λ (calls : List HeldCall). HeldStandsFor calls new.held) (sym same) (subst (λ (held : HeldValue). HeldStandsFor (held_calls past) held) (sym p.held) s.held);
+      held = subst (λ (calls : List HeldCall). HeldStandsFor calls new.held) (sym calls_same) (subst (λ (held : HeldValue). HeldStandsFor (held_calls past) held) (sym p.held) s.held);
       poller = subst (λ (w : Input → List ℕ). reports.StandsFor (ticked protocol (wanted_after past) w ∷ poller_calls past) new.poller) wn (p.ticks (poller_calls past) protocol (wanted_after past) s.poller);
       made = subst (λ (w : Input → List ℕ). reports.IsMade w new.poller) wn (p.made (wanted_after past) s.made);
     }
@@ -181,3 +196,16 @@ bitmap_after past usages k = ap bitmap_bytes (fun_ext k)
 
 pub consumer_bytes_after : (past : List KeyCall) (usages : UsageSets) → ((usage : ℕ) → has_consumer usages usage ≡ consumer_after past usage) → consumer_bytes (has_consumer usages) ≡ wanted_after past Two
 consumer_bytes_after past usages k = ap consumer_bytes (fun_ext k)
+
+-- the keys where the debouncer has had one scan more
+pub fed-stands : (past : List KeyCall) (scan flips : Scan) (value : KeysValue) (debouncer : debounce_kept.Kept)
+    → ((scans : List Scan) → debounce.StandsFor scans value.debouncer → debounce.StandsFor (scan ∷ scans) debouncer)
+    → ((scans : List Scan) → debounce.StandsFor scans value.debouncer → (key : ℕ) → key < 96 → has flips key ≡ not (same (down scans key) (down (scan ∷ scans) key)))
+    → StandsFor past value → IsFed scan flips past (record { debouncer = debouncer; held = value.held; poller = value.poller })
+fed-stands past scan flips value debouncer fed is s = record {
+  debouncer = fed (scans_of past) s.debouncer;
+  flips_are = is (scans_of past) s.debouncer;
+  held = s.held;
+  poller = s.poller;
+  made = s.made;
+}

@@ -1,6 +1,5 @@
 -- Believed: what the keys were asked, and what they answered.
 use Rattle.shapes.specs.Shapes.{KeyCodes}
-use Rattle.std.specs.Prelude.{ℕ}
 use Rattle.debounce.specs.declared.Scan.{Scan}
 use Rattle.reports.specs.declared.Protocol.{Protocol}
 use Rattle.reports.specs.Calls.{PollerCall}

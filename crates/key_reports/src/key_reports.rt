@@ -2,6 +2,7 @@
 
 ghost use Rattle.std.specs.Prelude.{◌≡◌, ℕ, List, [], ◌∷◌, IfOk};
 ghost use Rattle.std.specs.Option.{option_map};
+ghost use Rattle.debounce.specs.declared.Scan.{Scan};
 ghost use Rattle.layers.specs.Keymaps.{HasEntries};
 ghost use Rattle.layers.specs.Usages.{has_key, has_consumer};
 ghost use Rattle.reports.specs.declared.Input.{Input};
@@ -13,7 +14,7 @@ ghost use Rattle.key_reports.specs.Past.{keys_after, consumer_after, wanted_afte
 ghost use Rattle.key_reports.specs.Tables.{table};
 
 use crate::keys::{make_for, take_edges};
-use debounce::{Debouncer, Scan};
+use debounce::{KeySet, Matrix, Scan};
 use layers::{Held, Keymap, Usages};
 use reports::{IdleId, Poller, Protocol, Report};
 use std::alloc::{AllocError, Global};
@@ -22,7 +23,7 @@ use std::marker::Model;
 /// The keys of the device, and what the host was sent of them.
 #[derive(Debug, Drop)]
 pub struct KeyReports {
-    debouncer: Debouncer,
+    matrix: Matrix,
     held: Held,
     poller: Poller,
 }
@@ -33,13 +34,13 @@ impl Model for KeyReports {
 
     ghost Value = { KeysValue };
 
-    ghost view = { λ k. record { debouncer = k.debouncer; held = k.held; poller = k.poller } };
+    ghost view = { λ k. record { debouncer = k.matrix; held = k.held; poller = k.poller } };
 
     ghost invariant = { λ k. k.held.named ≡ true };
 }
 
 impl KeyReports {
-    ghost use Rattle.key_reports.specs.ties.Stands.{StandsFor};
+    ghost use Rattle.key_reports.specs.ties.Stands.{StandsFor, IsFed};
 
     /// Every key up, and nothing sent. Takes the memory of the reports that wait, and is refused where
     /// there is none; no other call takes memory.
@@ -48,7 +49,7 @@ impl KeyReports {
     {
         let poller = Poller::new(alloc)?;
         Ok(KeyReports {
-            debouncer: Debouncer::new(),
+            matrix: Matrix::new(),
             held: Held::new(),
             poller,
         })
@@ -59,7 +60,7 @@ impl KeyReports {
     pub fn restart(&mut self)
         ensures { StandsFor [] self.new }
     {
-        self.debouncer = Debouncer::new();
+        self.matrix = Matrix::new();
         self.held.clear();
         self.poller.reset();
         self.poller.make(self.held.lent(), Protocol::Report);
@@ -74,14 +75,25 @@ impl KeyReports {
         ensures entries { (past : List KeyCall) (entries : ℕ → ℕ → ℕ) → HasEntries entries keymap.now
             → StandsFor past self.old → StandsFor (Scanned scan (table entries) protocol ∷ past) self.new }
     {
-        let edges = self.debouncer.feed(scan);
-        if edges.is_none() {
+        let flips = self.matrix.feed(&scan);
+        if flips.is_empty() {
             self.poller.pass();
         } else {
-            make_for(&mut self.poller, &self.held, protocol);
-            take_edges(&mut self.held, keymap, &edges);
-            self.poller.tick_to(self.held.lent(), protocol);
+            self.take(&flips, keymap, protocol);
         }
+    }
+
+    /// Takes the keys that a scan changed.
+    #[inline(never)]
+    fn take(&mut self, flips: &KeySet, keymap: &Keymap, protocol: Protocol)
+        ensures { (past : List KeyCall) (scan : Scan) → IsFed scan flips.now past self.old
+            → StandsFor (Scanned scan keymap.now protocol ∷ past) self.new }
+    {
+        make_for(&mut self.poller, &self.held, protocol);
+        let released = self.matrix.released(flips);
+        let pressed = self.matrix.pressed(flips);
+        take_edges(&mut self.held, keymap, &released, &pressed);
+        self.poller.tick_to(self.held.lent(), protocol);
     }
 
     /// The answer to a poll of endpoint 1: the report that has waited longest. Where none waits, the

@@ -1,6 +1,7 @@
 //! The held keys after the edges of a scan, and the bytes of the reports for them.
 
 ghost use Rattle.std.specs.Prelude.{◌≡◌, true, List};
+ghost use Rattle.debounce.specs.declared.debouncer.Edges.{Edges};
 ghost use Rattle.layers.specs.ties.HeldStands.{HeldStandsFor};
 ghost use Rattle.reports.specs.Calls.{PollerCall};
 ghost use Rattle.reports.specs.ties.Stands.{StandsFor, IsMade, IsMadeFor};
@@ -8,22 +9,22 @@ ghost use Rattle.key_reports.specs.Calls.{KeyCall};
 ghost use Rattle.key_reports.specs.ties.Edges.{with_releases, with_presses, with_edges, Takes};
 ghost use Rattle.key_reports.specs.Past.{held_calls, wanted_after};
 
-use debounce::{Edges, Scan};
+use debounce::KeySet;
 use layers::{Held, KeyNo, Keymap};
 use reports::{Poller, Protocol};
 
 /// Takes the edges of a scan: the releases, then the presses, each by rising number.
-pub(crate) fn take_edges(held: &mut Held, keymap: &Keymap, edges: &Edges)
-    ensures takes { Takes (with_edges keymap.now edges.now) held.old held.new }
+pub(crate) fn take_edges(held: &mut Held, keymap: &Keymap, released: &KeySet, pressed: &KeySet)
+    ensures takes { Takes (with_edges keymap.now (record { released = released.now; pressed = pressed.now })) held.old held.new }
     ensures named { held.new.named ≡ true }
 {
-    release_all(held, &edges.released);
-    press_all(held, keymap, &edges.pressed);
+    release_all(held, released);
+    press_all(held, keymap, pressed);
     held.name_usages();
 }
 
 /// Releases these keys, by rising number.
-fn release_all(held: &mut Held, released: &Scan)
+fn release_all(held: &mut Held, released: &KeySet)
     ensures { Takes (with_releases released.now) held.old held.new }
 {
     for key in released.keys() {
@@ -32,7 +33,7 @@ fn release_all(held: &mut Held, released: &Scan)
 }
 
 /// Presses these keys, by rising number.
-fn press_all(held: &mut Held, keymap: &Keymap, pressed: &Scan)
+fn press_all(held: &mut Held, keymap: &Keymap, pressed: &KeySet)
     ensures { Takes (with_presses keymap.now pressed.now) held.old held.new }
 {
     for key in pressed.keys() {

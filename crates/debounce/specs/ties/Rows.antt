@@ -1,5 +1,5 @@
 -- Only ties code to its definitions: what is kept of two rows, and of each of their keys: a bit of each word.
-use Rattle.std.specs.Prelude.{◌≡◌, ℕ, ◌/◌, ◌%◌, ◌<◌, ◌==◌, not, Bool, List, [], ◌∷◌}
+use Rattle.std.specs.Prelude.{◌≡◌, ℕ, ◌/◌, ◌%◌, ◌<◌, ◌==◌, not, Bool, List, [], ◌∷◌, slice_index}
 use Rattle.std.specs.Int.{bit_at}
 use Rattle.debounce.specs.declared.row.Row.{Row}
 use Rattle.debounce.specs.Samples.{run_of, debounced, equal_latest}
@@ -16,6 +16,10 @@ pub record KeyBits : Type 0 where
 abbrev pub parts : ℕ → ℕ → ℕ → List ℕ
 parts first second third =
     first % 65536 ∷ first / 65536 ∷ second % 65536 ∷ second / 65536 ∷ third % 65536 ∷ third / 65536 ∷ []
+
+-- the six rows of a list of three words
+abbrev pub rows_of : List ℕ → List ℕ
+rows_of words = parts (slice_index words 0) (slice_index words 1) (slice_index words 2)
 
 -- those of the key in this column
 abbrev pub bits_of : Row → ℕ → KeyBits

@@ -1,6 +1,6 @@
 -- Only ties code to its definitions: the releases and presses that the edges of a scan come to, newest first.
 use Rattle.shapes.specs.Shapes.{KeyCodes}
-use Rattle.std.specs.Prelude.{ℕ, List, ◌++◌, map, reverse}
+use Rattle.std.specs.Prelude.{List, ◌++◌, map, reverse}
 use Rattle.debounce.specs.declared.Scan.{Scan}
 use Rattle.debounce.specs.declared.debouncer.Edges.{Edges}
 use Rattle.debounce.specs.Scans.{set_keys}

@@ -1,17 +1,17 @@
 // Exported from crates/debounce/src/keys.rt by bin/export-rust. Edit that file instead.
 //! An iterator over the keys of a scan.
 
-use crate::parts::debounce::Scan;
-
 /// The numbers of the keys of a scan that are left, in rising order.
 #[derive(Debug)]
 pub struct Keys {
-    left: Scan,
+    /// The keys that are left, 32 to a word.
+    left: [u32; 3],
 }
 
 impl Keys {
-    /// The keys of this scan.
-    pub(crate) fn of(left: Scan) -> Keys {
+    /// The keys of these words.
+    #[inline(always)]
+    pub(crate) fn of(left: [u32; 3]) -> Keys {
         Keys { left }
     }
 }
@@ -20,12 +20,12 @@ impl Iterator for Keys {
     type Item = u8;
 
     fn next(&mut self) -> Option<u8> {
-        for row in 0..6usize {
-            let set = self.left.rows[row];
+        for word in 0..3usize {
+            let set = self.left[word];
             if set != 0 {
                 let column = set.trailing_zeros() as u8;
-                self.left.rows[row] = set & !(1 << column);
-                return Some(16 * row as u8 + column);
+                self.left[word] = set & !(1 << column);
+                return Some(32 * word as u8 + column);
             }
         }
         None

@@ -2,7 +2,7 @@
 //! The debouncer, the held keys and the poller as one value.
 
 use crate::parts::key_reports::keys::{make_for, take_edges};
-use crate::parts::debounce::{Debouncer, Scan};
+use crate::parts::debounce::{KeySet, Matrix, Scan};
 use crate::parts::layers::{Held, Keymap, Usages};
 use crate::parts::reports::{IdleId, Poller, Protocol, Report};
 use crate::rattle::alloc::{AllocError, Global};
@@ -10,14 +10,14 @@ use crate::rattle::alloc::{AllocError, Global};
 /// The keys of the device, and what the host was sent of them.
 #[derive(Debug)]
 pub struct KeyReports {
-    debouncer: Debouncer,
+    matrix: Matrix,
     held: Held,
     poller: Poller,
 }
 
 impl KeyReports {
     /// Zeros, where memory waits for a keyboard to start there.
-    pub(crate) const UNSTARTED: Self = KeyReports { debouncer: Debouncer::UNSTARTED, held: Held::UNSTARTED, poller: Poller::UNSTARTED };
+    pub(crate) const UNSTARTED: Self = KeyReports { matrix: Matrix::UNSTARTED, held: Held::UNSTARTED, poller: Poller::UNSTARTED };
 }
 
 impl KeyReports {
@@ -26,7 +26,7 @@ impl KeyReports {
     pub fn new(alloc: Global) -> Result<KeyReports, AllocError> {
         let poller = Poller::new(alloc)?;
         Ok(KeyReports {
-            debouncer: Debouncer::new(),
+            matrix: Matrix::new(),
             held: Held::new(),
             poller,
         })
@@ -35,7 +35,7 @@ impl KeyReports {
     /// Leaves what `new` gives: every key up, nothing sent, nothing waiting, and the idle values of the
     /// start.
     pub fn restart(&mut self) {
-        self.debouncer = Debouncer::new();
+        self.matrix = Matrix::new();
         self.held.clear();
         self.poller.reset();
         self.poller.make(self.held.lent(), Protocol::Report);
@@ -45,14 +45,22 @@ impl KeyReports {
     /// released, then those that it presses are pressed, each by rising key and with this keymap. The
     /// reports of the protocol whose bytes this changes wait for a poll.
     pub fn scan(&mut self, scan: Scan, keymap: &Keymap, protocol: Protocol) {
-        let edges = self.debouncer.feed(scan);
-        if edges.is_none() {
+        let flips = self.matrix.feed(&scan);
+        if flips.is_empty() {
             self.poller.pass();
         } else {
-            make_for(&mut self.poller, &self.held, protocol);
-            take_edges(&mut self.held, keymap, &edges);
-            self.poller.tick_to(self.held.lent(), protocol);
+            self.take(&flips, keymap, protocol);
         }
+    }
+
+    /// Takes the keys that a scan changed.
+    #[inline(never)]
+    fn take(&mut self, flips: &KeySet, keymap: &Keymap, protocol: Protocol) {
+        make_for(&mut self.poller, &self.held, protocol);
+        let released = self.matrix.released(flips);
+        let pressed = self.matrix.pressed(flips);
+        take_edges(&mut self.held, keymap, &released, &pressed);
+        self.poller.tick_to(self.held.lent(), protocol);
     }
 
     /// The answer to a poll of endpoint 1: the report that has waited longest. Where none waits, the

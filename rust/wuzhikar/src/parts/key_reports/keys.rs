@@ -1,26 +1,26 @@
 // Exported from crates/key_reports/src/keys.rt by bin/export-rust. Edit that file instead.
 //! The held keys after the edges of a scan, and the bytes of the reports for them.
 
-use crate::parts::debounce::{Edges, Scan};
+use crate::parts::debounce::KeySet;
 use crate::parts::layers::{Held, KeyNo, Keymap};
 use crate::parts::reports::{Poller, Protocol};
 
 /// Takes the edges of a scan: the releases, then the presses, each by rising number.
-pub(crate) fn take_edges(held: &mut Held, keymap: &Keymap, edges: &Edges) {
-    release_all(held, &edges.released);
-    press_all(held, keymap, &edges.pressed);
+pub(crate) fn take_edges(held: &mut Held, keymap: &Keymap, released: &KeySet, pressed: &KeySet) {
+    release_all(held, released);
+    press_all(held, keymap, pressed);
     held.name_usages();
 }
 
 /// Releases these keys, by rising number.
-fn release_all(held: &mut Held, released: &Scan) {
+fn release_all(held: &mut Held, released: &KeySet) {
     for key in released.keys() {
         held.release(KeyNo::known(key));
     }
 }
 
 /// Presses these keys, by rising number.
-fn press_all(held: &mut Held, keymap: &Keymap, pressed: &Scan) {
+fn press_all(held: &mut Held, keymap: &Keymap, pressed: &KeySet) {
     for key in pressed.keys() {
         held.press(keymap, KeyNo::known(key));
     }

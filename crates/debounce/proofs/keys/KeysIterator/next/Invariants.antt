@@ -1,5 +1,5 @@
-use Rattle.debounce.proofs.SetKeys.{NoneAbove}
+use Rattle.debounce.proofs.SetKeys.{NoneBefore}
 use Rattle.debounce.proofs.keys.KeysIterator.next.Given as goal
 
-abbrev pub invariant-loop-row : goal.invariant-loop-row
-invariant-loop-row l = NoneAbove l.self-inside.left.rows l.row l.fn.self
+abbrev pub invariant-loop-word : goal.invariant-loop-word
+invariant-loop-word l = NoneBefore l.self-inside.left l.word l.fn.self

@@ -1,4 +1,3 @@
-use Rattle.std.proofs.Common.{◌∙◌}
 use Rattle.reports.specs.Calls.{polled}
 use Rattle.reports.proofs.Made.{is_made, same_made}
 use Rattle.key_reports.specs.Past.{wanted_after, poller_calls}
@@ -8,7 +7,7 @@ use Rattle.key_reports.proofs.key_reports.KeyReports.poll.Goals as goal
 pub returns-clause-stands : goal.returns-clause-stands
 returns-clause-stands c past s =
     let h = rw (← c.self.view_is) at s in
-    stands-asked past (polled c.args.protocol _) (record { debouncer = c.self.inside.debouncer; held = c.self.inside.held; poller = c.self.inside.poller }) c.poll_made.new.self h
+    stands-asked past (polled c.args.protocol _) (record { debouncer = c.self.inside.matrix; held = c.self.inside.held; poller = c.self.inside.poller }) c.poll_made.new.self h
     (λ calls p. c.poll_made.ensures.stands calls (c.make_for.ensures.stands calls p))
     (same_made _ _ _ c.poll_made.ensures.made (is_made c.args.protocol _ _ (c.make_for.ensures.made past h.held h.made)))
 
