@@ -1,7 +1,7 @@
 -- Believed: endpoint 1 of a controller with buffers, the data toggles of both sides, and what may happen on its bus (USB 2.0
 -- sections 5.7.5 and 8.6). A host takes a packet as new where it has the toggle that it wants, and drops it as a repetition
 -- where it has the other one; it acknowledges both. The acknowledgement may be lost: then the packet is sent again.
-use Rattle.std.specs.Prelude.{◌≡◌, ◌⊎◌, ℕ, ◌+◌, Bool, true, false, not, List, [], ◌∷◌, ◌++◌, Some, None}
+use Rattle.std.specs.Prelude.{◌≡◌, ◌⊎◌, ℕ, ◌+◌, Bool, true, false, not, List, [], ◌∷◌, ◌++◌, Some}
 use Rattle.usb_device.specs.Calls.{EpCall, Polled, BusReset}
 
 -- what endpoint 1 brought the host

@@ -1,5 +1,5 @@
 -- Only ties code to its definitions: the scans that endpoint 1 still waits.
-use Rattle.std.specs.Prelude.{◌≡◌, ℕ, Bool, List, nat_lt}
+use Rattle.std.specs.Prelude.{◌≡◌, ℕ, List, nat_lt}
 use Rattle.usb_device.specs.Waits.{Moment, waits}
 
 abbrev pub Waited : List Moment → ℕ → Type 0

@@ -1,4 +1,4 @@
-use Rattle.std.proofs.Common.{sym, subst, inr, ◌≡◌, ◌∷◌, Some, None, refl}
+use Rattle.std.proofs.Common.{sym, subst, inr, ◌≡◌, ◌∷◌, refl}
 use Rattle.std.specs.Option.{option_map}
 use Rattle.usb_device.specs.declared.report_buffers.Course.TheVariants.{Rests, Begins}
 use Rattle.usb_device.specs.Calls.{Polled}

@@ -1,8 +1,7 @@
 use Rattle.std.proofs.Common.{sym, subst}
 use Rattle.usb_device.specs.declared.report_buffers.Course.TheVariants.{Goes}
-use Rattle.usb_device.specs.contracts.report_buffers.ReportBuffers.{the_view}
 use Rattle.usb_device.specs.ties.Link1.{ReportState, Link1}
-use Rattle.usb_device.proofs.Reporting.{first_link}
+use Rattle.usb_device.proofs.Handing.{first_link}
 use Rattle.usb_device.proofs.report_buffers.ReportBuffers.first.Goals as goal
 
 pub returns-clause-linked : goal.returns-clause-linked

@@ -1,8 +1,7 @@
 use Rattle.std.proofs.Common.{sym, subst, ap, ◌∙◌, ◌+◌, arith, ◌<◌}
-use Rattle.usb_device.specs.contracts.report_buffers.ReportBuffers.{the_view}
 use Rattle.usb_device.specs.ties.Link1.{ReportState, Link1}
 use Rattle.usb_device.specs.Bus1.{room_of}
-use Rattle.usb_device.proofs.Reporting.{more_link}
+use Rattle.usb_device.proofs.Handing.{more_link}
 use Rattle.usb_device.proofs.report_buffers.ReportBuffers.more.Goals as goal
 
 pub returns-then-is_more-clause-linked : goal.returns-then-is_more-clause-linked

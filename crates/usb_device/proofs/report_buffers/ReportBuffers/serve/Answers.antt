@@ -1,8 +1,7 @@
-use Rattle.std.proofs.Common.{◌≡◌, ◌∙◌, Bool, true, false, sym, subst, ap, inl, inr}
-use Rattle.usb_device.specs.declared.report_buffers.Course.TheVariants.{Rests}
+use Rattle.std.proofs.Common.{◌≡◌, ◌∙◌, true, false, sym, ap, inl, inr}
 use Rattle.usb_device.specs.ties.Link1.{ReportState, NothingWithheld, may_send}
 use Rattle.usb_device.specs.Bus1.{room_of}
-use Rattle.usb_device.proofs.Reporting.{goes_held, rests_none, not_waiting, may_by}
+use Rattle.usb_device.proofs.Handing.{goes_held, rests_none, not_waiting, may_by}
 use Rattle.usb_device.proofs.report_buffers.ReportBuffers.serve.Goals as goal
 
 pub returns-then-self-eq0-clause-linked : goal.returns-then-self-eq0-clause-linked
