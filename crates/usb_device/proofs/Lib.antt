@@ -4,7 +4,9 @@ pub mod Moving
 pub mod Resting
 pub mod Behind
 pub mod Stating
+pub mod Carrying
 pub mod Reporting
+pub mod Handing
 pub mod Confirming
 pub mod Characters
 pub mod Scans

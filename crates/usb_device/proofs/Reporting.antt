@@ -1,105 +1,454 @@
 -- What keeps the link of endpoint 1.
-use Rattle.std.proofs.Common.{◌≡◌, ℕ, Bool, true, false, List, [], ◌∷◌, Some, None, refl, sym, ap, subst, ◌∙◌, ◌⊎◌, inl, inr, nat_lt}
+use Rattle.std.proofs.Common.{◌≡◌, ℕ, ◌+◌, Bool, true, false, not, List, [], ◌∷◌, ◌++◌, length, ◌-◌, ◌==◌, ◌&&◌, ◌||◌, ◌<◌, zero, Some, None, refl, sym, ap, subst, ◌∙◌, ◌⊎◌, inl, inr, nat_lt, arith, suc}
+use Rattle.usb_device.specs.declared.report_buffers.Course.{Course}
+use Rattle.usb_device.specs.declared.report_buffers.Course.TheVariants.{Rests, Begins, Goes}
 use Rattle.usb_device.specs.Calls.{EpCall, Polled}
-use Rattle.usb_device.specs.Bus1.{Slot, Empty, Full, Bus1, grown, Happens1, takes, loses, Goes1, told, reports_of, GotInOrder, all, but_one, NothingWithheld, holds, took}
-use Rattle.usb_device.specs.Waits.{Moment, is_waiting}
-use Rattle.usb_device.specs.ties.Waited.{Waited}
-use Rattle.usb_device.specs.ties.Link1.{GotBy, IsFull, Link1}
+use Rattle.usb_device.specs.Bus1.{Got, Anew, Bus1, blank, same, agree, received, with_taken1, with_lost1, with_host_anew, Happens1, takes, loses, host_begins, resets1, Goes1, told, unless_reset, anew, reports_of}
+use Rattle.usb_device.specs.Reports.{cut, packets_of, with_new, Carries, Begun, GotInOrder, all, but_one}
+use Rattle.usb_device.specs.ties.Link1.{ReportState, is_more, is_over, to_hand, copies, new_of, ArePackets, Agrees, Free, Resting, Beginning, Going, Now1, Link1}
+use Rattle.usb_device.proofs.Carrying.{true_false, marked_carries, received_begun, received_will, same_self, same_not}
 
-had : (packet : List ℕ) (has : Bool) (got sent : List (List ℕ)) → GotBy (Full packet has) got sent → sent ≡ grown packet has got
-had packet true got sent g = g
-had packet false got sent g = g
+-- a packet is with the host
+pub taken_step : (s : ReportState) (b : Bus1) (calls : List EpCall) (packet : List ℕ) (rest : List (List ℕ)) → b.slots ≡ packet ∷ rest → Going s b calls
+    → Going s (with_taken1 b packet rest) calls
+taken_step s b calls packet rest e h =
+    let hand = to_hand s in
+    let agrees = same_self (not b.device) in
+    let O : List (List ℕ) → Type 0 = λ x. ArePackets s.size s.report (x ++ hand) in
+    let W : List (List ℕ) → Type 0 = λ x. Carries s.size (with_new (new_of (agree b) (x ++ hand)) b.got) (s.report ∷ h.earlier) in
+    let C : List Got → Type 0 = λ x. Carries s.size x (s.report ∷ h.earlier) in
+    let K : Bool → Type 0 = λ x. Carries s.size (with_new (new_of x (rest ++ hand)) (received (agree b) packet b.got)) (s.report ∷ h.earlier) in
+    let ours = subst O e h.ours in
+    let lengths = ap (λ (x : List (List ℕ)). length x) e in
+    let counted = h.counted in
+    record {
+      counted = grind (arith, counted, lengths);
+      closed = h.closed;
+      sure = h.sure;
+      earlier = h.earlier;
+      sent = h.sent;
+      begun = received_begun (agree b) s.size s.report packet b.got h.earlier ours.0 h.begun;
+      will = subst K (sym agrees) (subst C (received_will (agree b) packet (rest ++ hand) b.got) (subst W e h.will));
+      ours = ours.1;
+      even = λ _. agrees;
+      busy = h.busy;
+    }
 
-step : (full : Bool) (b next : Bus1) (calls : List EpCall) → Happens1 b next → Link1 full b calls → Link1 full next calls
-step full b next calls (takes packet has s e) h =
-    let P : Bus1 → Type 0 = λ x. Link1 full x calls in
-    let G : Slot → Type 0 = λ x. GotBy x b.got (reports_of calls) in
-    subst P (sym e) (record { got = had packet has b.got (reports_of calls) (subst G s h.got); free = λ f. absurd (let x : Empty ≡ Full packet has = sym (h.free f).0 ∙ s in cc); told = λ t. refl; held = λ f. inr refl })
-step full b next calls (loses packet has s e) h =
-    let P : Bus1 → Type 0 = λ x. Link1 full x calls in
-    let G : Slot → Type 0 = λ x. GotBy x b.got (reports_of calls) in
+pub lost_step : (s : ReportState) (b : Bus1) (calls : List EpCall) (packet : List ℕ) (rest : List (List ℕ)) → b.slots ≡ packet ∷ rest → Going s b calls
+    → Going s (with_lost1 b packet) calls
+lost_step s b calls packet rest e h =
+    let hand = to_hand s in
+    let differs = same_not b.device in
+    let O : List (List ℕ) → Type 0 = λ x. ArePackets s.size s.report (x ++ hand) in
+    let W : List (List ℕ) → Type 0 = λ x. Carries s.size (with_new (new_of (agree b) (x ++ hand)) b.got) (s.report ∷ h.earlier) in
+    let C : List Got → Type 0 = λ x. Carries s.size x (s.report ∷ h.earlier) in
+    let K : List (List ℕ) → Type 0 = λ x. Carries s.size (with_new (new_of false (x ++ hand)) (received (agree b) packet b.got)) (s.report ∷ h.earlier) in
+    let L : Bool → Type 0 = λ x. Carries s.size (with_new (new_of x (b.slots ++ hand)) (received (agree b) packet b.got)) (s.report ∷ h.earlier) in
+    record {
+      counted = h.counted;
+      closed = h.closed;
+      sure = h.sure;
+      earlier = h.earlier;
+      sent = h.sent;
+      begun = received_begun (agree b) s.size s.report packet b.got h.earlier (subst O e h.ours).0 h.begun;
+      will = subst L (sym differs) (subst K (sym e) (subst C (received_will (agree b) packet (rest ++ hand) b.got) (subst W e h.will)));
+      ours = h.ours;
+      even = λ n. absurd (let x : [] ≡ packet ∷ rest = sym n ∙ e in cc);
+      busy = h.busy;
+    }
+
+-- the host begins anew
+pub host_agrees : (unsure : Bool) (b : Bus1) → b.opened ≡ true → Agrees unsure b → Agrees unsure (with_host_anew b)
+host_agrees true b o a = a
+host_agrees false b o a = let S : Bool → Type 0 = λ x. same false x ≡ true in (subst S (sym (a.1 o)) refl, a.1)
+
+pub host_free : (unsure : Bool) (b : Bus1) → b.opened ≡ true → Free unsure b → Free unsure (with_host_anew b)
+host_free unsure b o f = record { empty = f.empty; told = f.told; agrees = host_agrees unsure b o f.agrees }
+
+pub host_now : (course : Course) (s : ReportState) (b : Bus1) (calls : List EpCall) → b.opened ≡ true → Now1 course s b calls → Now1 course s (with_host_anew b) calls
+host_now Rests s b calls o h = record { free = host_free s.unsure b o h.free; carried = h.carried; marked = h.marked }
+host_now Begins s b calls o h = record { free = host_free s.unsure b o h.free; earlier = h.earlier; sent = h.sent; begun = h.begun; once = h.once; marked = h.marked }
+host_now Goes s b calls o h = absurd (true_false (sym o ∙ h.closed))
+
+pub took_now : (course : Course) (s : ReportState) (b : Bus1) (calls : List EpCall) (packet : List ℕ) (rest : List (List ℕ)) → b.slots ≡ packet ∷ rest
+    → Now1 course s b calls → Now1 course s (with_taken1 b packet rest) calls × Now1 course s (with_lost1 b packet) calls
+took_now Rests s b calls packet rest e h = absurd (let x : [] ≡ packet ∷ rest = sym h.free.empty ∙ e in cc)
+took_now Begins s b calls packet rest e h = absurd (let x : [] ≡ packet ∷ rest = sym h.free.empty ∙ e in cc)
+took_now Goes s b calls packet rest e h = (taken_step s b calls packet rest e h, lost_step s b calls packet rest e h)
+
+pub blank_slots : (b : Bus1) (packet : List ℕ) (rest : List (List ℕ)) → b ≡ blank true → b.slots ≡ packet ∷ rest → ⊥
+blank_slots b packet rest e s = let x : [] ≡ packet ∷ rest = sym (ap (λ (y : Bus1). y.slots) e) ∙ s in cc
+
+pub step1 : (s : ReportState) (b next : Bus1) (calls : List EpCall) → Happens1 b next → Link1 s b calls → Link1 s next calls
+step1 s b next calls (takes packet rest i e) h =
+    let P : Bus1 → Type 0 = λ x. Link1 s x calls in
     subst P (sym e) (record {
-      got = had packet has b.got (reports_of calls) (subst G s h.got);
-      free = λ f. absurd (let x : Empty ≡ Full packet has = sym (h.free f).0 ∙ s in cc);
-      told = λ t. absurd (let x : Empty ≡ Full packet has = sym (h.told t) ∙ s in cc);
-      held = λ f. inl tt;
+      fresh = λ r. absurd (blank_slots b packet rest (h.fresh r) i);
+      current = λ r. (took_now s.course s b calls packet rest i (h.current r)).0;
     })
-
-goes1 : (steps : List Bus1) (full : Bool) (b next : Bus1) (calls : List EpCall) → Goes1 steps b next → Link1 full b calls → Link1 full next calls
-goes1 [] full b next calls e h = let P : Bus1 → Type 0 = λ x. Link1 full x calls in subst P (sym e) h
-goes1 (mid ∷ rest) full b next calls g h = goes1 rest full mid next calls g.1 (step full b mid calls g.0 h)
-
-still_full : (b : Bus1) → b.taken ≡ false → IsFull b.slot ⊎ (b.taken ≡ true) → IsFull b.slot
-still_full b t (inl f) = f
-still_full b t (inr f) = absurd (let x : true ≡ false = sym f ∙ t in cc)
-
-pub looked1 : (steps : List Bus1) (mid b new : Bus1) (full : Bool) (calls : List EpCall) → Goes1 steps b mid → mid.taken ≡ false → new ≡ told mid → Link1 full b calls
-    → Link1 full new calls
-looked1 steps mid b new full calls g t e h =
-    let P : Bus1 → Type 0 = λ x. Link1 full x calls in
-    let m = goes1 steps full b mid calls g h in
-    subst P (sym e) (record { got = m.got; free = λ f. ((m.free f).0, refl); told = λ x. absurd (let y : false ≡ true = x in cc); held = λ f. inl (still_full mid t (m.held f)) })
-
-pub freed1 : (steps : List Bus1) (mid b new : Bus1) (full : Bool) (calls : List EpCall) → Goes1 steps b mid → mid.taken ≡ true → new ≡ told mid → Link1 full b calls
-    → Link1 false new calls
-freed1 steps mid b new full calls g t e h =
-    let P : Bus1 → Type 0 = λ x. Link1 false x calls in
-    let m = goes1 steps full b mid calls g h in
-    subst P (sym e) (record { got = m.got; free = λ f. (m.told t, refl); told = λ x. absurd (let y : false ≡ true = x in cc); held = λ f. absurd (let y : false ≡ true = f in cc) })
-
-pub filled1 : (b new : Bus1) (report : List ℕ) (calls : List EpCall) → (b.slot ≡ Empty → new ≡ record { got = b.got; slot = Full report false; taken = b.taken })
-    → Link1 false b calls → Link1 true new (Polled (Some report) ∷ calls)
-filled1 b new report calls f h =
-    let P : Bus1 → Type 0 = λ x. Link1 true x (Polled (Some report) ∷ calls) in
-    let G : Slot → Type 0 = λ x. GotBy x b.got (reports_of calls) in
-    let e = (h.free refl).0 in
-    let g : reports_of calls ≡ b.got = subst G e h.got in
-    let t = (h.free refl).1 in
-    subst P (sym (f e)) (record {
-      got = ap (λ rest. report ∷ rest) g;
-      free = λ x. absurd (let y : true ≡ false = x in cc);
-      told = λ x. absurd (let y : false ≡ true = sym t ∙ x in cc);
-      held = λ x. inl tt;
+step1 s b next calls (loses packet rest i e) h =
+    let P : Bus1 → Type 0 = λ x. Link1 s x calls in
+    subst P (sym e) (record {
+      fresh = λ r. absurd (blank_slots b packet rest (h.fresh r) i);
+      current = λ r. (took_now s.course s b calls packet rest i (h.current r)).1;
     })
+step1 s b next calls (host_begins o e) h =
+    let P : Bus1 → Type 0 = λ x. Link1 s x calls in
+    subst P (sym e) (record {
+      fresh = λ r. absurd (true_false (sym o ∙ ap (λ (y : Bus1). y.opened) (h.fresh r)));
+      current = λ r. host_now s.course s b calls o (h.current r);
+    })
+step1 s b next calls (resets1 e) h =
+    let P : Bus1 → Type 0 = λ x. Link1 s x calls in
+    subst P (sym e) (record { fresh = λ r. refl; current = λ r. absurd (true_false r) })
 
-pub polled_none : (b : Bus1) (full : Bool) (calls : List EpCall) → Link1 full b calls → Link1 full b (Polled None ∷ calls)
-polled_none b full calls h = record { got = h.got; free = h.free; told = h.told; held = h.held }
+pub goes1 : (steps : List Bus1) (s : ReportState) (b next : Bus1) (calls : List EpCall) → Goes1 steps b next → Link1 s b calls → Link1 s next calls
+goes1 [] s b next calls e h = let P : Bus1 → Type 0 = λ x. Link1 s x calls in subst P (sym e) h
+goes1 (mid ∷ rest) s b next calls g h = goes1 rest s mid next calls g.1 (step1 s b mid calls g.0 h)
 
-got_in_order : (slot : Slot) (got sent : List (List ℕ)) → GotBy slot got sent → GotInOrder got sent
-got_in_order Empty got sent g = all g
-got_in_order (Full packet true) got sent g = all g
-got_in_order (Full packet false) got sent g = but_one packet g
+-- only the scans are others
+pub left_now : (course : Course) (s : ReportState) (left : ℕ) (b : Bus1) (calls : List EpCall) → Now1 course s b calls → Now1 course (record s { left = left }) b calls
+left_now Rests s left b calls h = record { free = h.free; carried = h.carried; marked = h.marked }
+left_now Begins s left b calls h = record { free = h.free; earlier = h.earlier; sent = h.sent; begun = h.begun; once = h.once; marked = h.marked }
+left_now Goes s left b calls h = record {
+  counted = h.counted;
+  closed = h.closed;
+  sure = h.sure;
+  earlier = h.earlier;
+  sent = h.sent;
+  begun = h.begun;
+  will = h.will;
+  ours = h.ours;
+  even = h.even;
+  busy = h.busy;
+}
 
-pub in_order : (full : Bool) (b : Bus1) (calls : List EpCall) → Link1 full b calls → GotInOrder b.got (reports_of calls)
-in_order full b calls h = got_in_order b.slot b.got (reports_of calls) h.got
-
--- nothing is withheld
-holds_full : (slot : Slot) (waiting : Bool) (b : Bus1) (calls : List EpCall) → b.slot ≡ slot → IsFull slot → NothingWithheld waiting b calls
-holds_full Empty waiting b calls e f = absurd f
-holds_full (Full packet has) waiting b calls e f = holds packet has e
-
-holds_by : (waiting : Bool) (b : Bus1) (calls : List EpCall) → IsFull b.slot ⊎ (b.taken ≡ true) → NothingWithheld waiting b calls
-holds_by waiting b calls (inl f) = holds_full b.slot waiting b calls refl f
-holds_by waiting b calls (inr t) = took t
-
-pub holding : (full waiting : Bool) (b : Bus1) (calls : List EpCall) → full ≡ true → Link1 full b calls → NothingWithheld waiting b calls
-holding full waiting b calls f h = holds_by waiting b calls (h.held f)
-
-pub filled_holds : (waiting : Bool) (b new : Bus1) (full : Bool) (report : List ℕ) (calls later : List EpCall)
-    → (b.slot ≡ Empty → new ≡ record { got = b.got; slot = Full report false; taken = b.taken }) → full ≡ false → Link1 full b calls → NothingWithheld waiting new later
-filled_holds waiting b new full report calls later f i h = holds report false (ap (λ (x : Bus1). x.slot) (f (h.free i).0))
-
-pub not_waiting : (moments : List Moment) (left : ℕ) → Waited moments left → left ≡ 0 → is_waiting moments ≡ false
-not_waiting moments left w e = let P : ℕ → Type 0 = λ x. nat_lt 0 x ≡ is_waiting moments in sym (subst P e (w 0))
-
-pub still_waits : (moments : List Moment) (left : ℕ) → Waited moments left → nat_lt 0 left ≡ true → is_waiting moments ≡ true
-still_waits moments left w e = sym (w 0) ∙ e
-
-pub weaker : (waiting : Bool) (b : Bus1) (calls : List EpCall) → waiting ≡ false → NothingWithheld false b calls → NothingWithheld waiting b calls
-weaker waiting b calls e n = let P : Bool → Type 0 = λ x. NothingWithheld x b calls in subst P (sym e) n
+pub left_same : (s : ReportState) (left : ℕ) (b : Bus1) (calls : List EpCall) → Link1 s b calls → Link1 (record s { left = left }) b calls
+left_same s left b calls h = record { fresh = h.fresh; current = λ r. left_now s.course s left b calls (h.current r) }
 
 -- nothing of endpoint 0 changes it
-pub same_reports : (full : Bool) (b : Bus1) (calls later : List EpCall) → Link1 full b calls → reports_of later ≡ reports_of calls → Link1 full b later
-same_reports full b calls later h e =
-    let G : List (List ℕ) → Type 0 = λ x. GotBy b.slot b.got x in
-    record { got = subst G (sym e) h.got; free = h.free; told = h.told; held = h.held }
+pub sent_now : (course : Course) (s : ReportState) (b : Bus1) (calls later : List EpCall) → reports_of later ≡ reports_of calls → Now1 course s b calls → Now1 course s b later
+sent_now Rests s b calls later e h =
+    let C : List (List ℕ) → Type 0 = λ x. Carries s.size b.got x in
+    let M : List (List ℕ) → Type 0 = λ x. s.unsure ≡ true → (before : List Got) × (b.got ≡ Anew ∷ before) × Carries s.size before x in
+    record { free = h.free; carried = subst C (sym e) h.carried; marked = subst M (sym e) h.marked }
+sent_now Begins s b calls later e h = record { free = h.free; earlier = h.earlier; sent = e ∙ h.sent; begun = h.begun; once = h.once; marked = h.marked }
+sent_now Goes s b calls later e h = record {
+  counted = h.counted;
+  closed = h.closed;
+  sure = h.sure;
+  earlier = h.earlier;
+  sent = e ∙ h.sent;
+  begun = h.begun;
+  will = h.will;
+  ours = h.ours;
+  even = h.even;
+  busy = h.busy;
+}
+
+pub same_reports : (s : ReportState) (b : Bus1) (calls later : List EpCall) → Link1 s b calls → reports_of later ≡ reports_of calls → Link1 s b later
+same_reports s b calls later h e = record { fresh = h.fresh; current = λ r. sent_now s.course s b calls later e (h.current r) }
+
+-- the device begins anew
+pub anew_course : Course → Course
+anew_course Rests = Rests
+anew_course Begins = Begins
+anew_course Goes = Begins
+
+pub anew_begun : (size : ℕ) (report : List ℕ) (got : List Got) (earlier : List (List ℕ)) → Begun size report got earlier → Begun size report (Anew ∷ got) earlier
+anew_begun size report got earlier b = record {
+  pieces = Anew ∷ b.pieces;
+  before = b.before;
+  got_is = ap (λ x. Anew ∷ x) b.got_is;
+  are = b.are;
+  carried = b.carried;
+}
+
+pub set_anew : Bus1 → Bus1
+set_anew b = record { got = Anew ∷ b.got; host = b.host; device = false; slots = []; taken = 0; opened = true; reset = b.reset }
+
+pub anew_now : (course : Course) (s : ReportState) (left : ℕ) (b : Bus1) (calls : List EpCall) → Now1 course s b calls
+    → Now1 (anew_course course) (record s { course = anew_course course; unsure = true; left = left }) (set_anew b) calls
+unfolding anew_course set_anew anew_begun
+anew_now Rests s left b calls h = record {
+  free = record { empty = refl; told = refl; agrees = (refl, refl) };
+  carried = marked_carries s.size b.got (reports_of calls) h.carried;
+  marked = λ _. (b.got, refl, h.carried);
+}
+anew_now Begins s left b calls h = record {
+  free = record { empty = refl; told = refl; agrees = (refl, refl) };
+  earlier = h.earlier;
+  sent = h.sent;
+  begun = anew_begun s.size s.report b.got h.earlier h.begun;
+  once = inr tt;
+  marked = λ _. tt;
+}
+anew_now Goes s left b calls h = record {
+  free = record { empty = refl; told = refl; agrees = (refl, refl) };
+  earlier = h.earlier;
+  sent = h.sent;
+  begun = anew_begun s.size s.report b.got h.earlier h.begun;
+  once = inr tt;
+  marked = λ _. tt;
+}
+
+pub anew_by : (reset : Bool) (s : ReportState) (left : ℕ) (b : Bus1) (calls : List EpCall) → b.reset ≡ reset → Link1 s b calls
+    → Link1 (record s { course = anew_course s.course; unsure = true; left = left }) (unless_reset reset b (set_anew b)) calls
+unfolding set_anew
+anew_by true s left b calls e h = record { fresh = h.fresh; current = λ r. absurd (true_false (sym e ∙ r)) }
+anew_by false s left b calls e h = record { fresh = λ r. absurd (true_false (sym r ∙ e)); current = λ r. anew_now s.course s left b calls (h.current e) }
+
+pub anew_link : (s : ReportState) (left : ℕ) (b : Bus1) (calls : List EpCall) → Link1 s b calls
+    → Link1 (record s { course = anew_course s.course; unsure = true; left = left }) (anew b) calls
+unfolding set_anew
+anew_link s left b calls h = anew_by b.reset s left b calls refl h
+
+pub anew_went : (s : ReportState) (left : ℕ) (b : Bus1) (calls : List EpCall) → s.course ≡ Goes → Link1 s b calls
+    → Link1 (record s { course = Begins; unsure = true; left = left }) (anew b) calls
+unfolding anew_course
+anew_went s left b calls e h =
+    let P : Course → Type 0 = λ x. Link1 (record s { course = x; unsure = true; left = left }) (anew b) calls in
+    subst P (ap (λ x. anew_course x) e) (anew_link s left b calls h)
+
+pub anew_rested : (s : ReportState) (left : ℕ) (b : Bus1) (calls : List EpCall) → s.course ≡ Rests → Link1 s b calls
+    → Link1 (record s { unsure = true; left = left }) (anew b) calls
+unfolding anew_course
+anew_rested s left b calls e h =
+    let P : Course → Type 0 = λ x. Link1 (record s { course = x; unsure = true; left = left }) (anew b) calls in
+    subst P (ap (λ x. anew_course x) e ∙ sym e) (anew_link s left b calls h)
+
+pub anew_begins : (s : ReportState) (left : ℕ) (b : Bus1) (calls : List EpCall) → s.course ≡ Begins → Link1 s b calls
+    → Link1 (record s { unsure = true; left = left }) (anew b) calls
+unfolding anew_course
+anew_begins s left b calls e h =
+    let P : Course → Type 0 = λ x. Link1 (record s { course = x; unsure = true; left = left }) (anew b) calls in
+    subst P (ap (λ x. anew_course x) e ∙ sym e) (anew_link s left b calls h)
+
+-- the host is known to have begun anew
+pub sure_agrees : (unsure : Bool) (b : Bus1) → (b.opened ≡ true → b.host ≡ false) → Agrees unsure b → Agrees false b
+sure_agrees true b k a =
+    let S : Bool → Type 0 = λ x. same x b.device ≡ true in
+    let T : Bool → Type 0 = λ x. same false x ≡ true in
+    (subst S (sym (k a.0)) (subst T (sym a.1) refl), λ _. a.1)
+sure_agrees false b k a = a
+
+pub sure_free : (unsure : Bool) (b : Bus1) → (b.opened ≡ true → b.host ≡ false) → Free unsure b → Free false b
+sure_free unsure b k f = record { empty = f.empty; told = f.told; agrees = sure_agrees unsure b k f.agrees }
+
+pub sure_now : (course : Course) (s : ReportState) (left : ℕ) (b : Bus1) (calls : List EpCall) → (b.opened ≡ true → b.host ≡ false) → Now1 course s b calls
+    → Now1 course (record s { unsure = false; left = left }) b calls
+sure_now Rests s left b calls k h = record { free = sure_free s.unsure b k h.free; carried = h.carried; marked = λ x. absurd (true_false (sym x)) }
+sure_now Begins s left b calls k h = record {
+  free = sure_free s.unsure b k h.free;
+  earlier = h.earlier;
+  sent = h.sent;
+  begun = h.begun;
+  once = h.once;
+  marked = λ x. absurd (true_false (sym x));
+}
+sure_now Goes s left b calls k h = record {
+  counted = h.counted;
+  closed = h.closed;
+  sure = refl;
+  earlier = h.earlier;
+  sent = h.sent;
+  begun = h.begun;
+  will = h.will;
+  ours = h.ours;
+  even = h.even;
+  busy = h.busy;
+}
+
+pub sure_link : (s : ReportState) (left : ℕ) (b : Bus1) (calls : List EpCall) → (b.opened ≡ true → b.host ≡ false) → Link1 s b calls
+    → Link1 (record s { unsure = false; left = left }) b calls
+sure_link s left b calls k h = record { fresh = h.fresh; current = λ r. sure_now s.course s left b calls k (h.current r) }
+
+-- a poll
+pub polled_rest : (s : ReportState) (b : Bus1) (calls : List EpCall) → Resting s b calls → Resting s b (Polled None ∷ calls)
+polled_rest s b calls h = record { free = h.free; carried = h.carried; marked = h.marked }
+
+pub polled_none : (s : ReportState) (b : Bus1) (calls : List EpCall) → s.course ≡ Rests → Link1 s b calls → Link1 s b (Polled None ∷ calls)
+polled_none s b calls e h = same_reports s b calls (Polled None ∷ calls) h refl
+
+pub begin_by : (unsure : Bool) (s : ReportState) (b : Bus1) (calls : List EpCall) (report : List ℕ) → s.unsure ≡ unsure → Resting s b calls
+    → Beginning (record s { course = Begins; report = report }) b (Polled (Some report) ∷ calls)
+begin_by true s b calls report e h = let m = h.marked e in record {
+  free = h.free;
+  earlier = reports_of calls;
+  sent = refl;
+  begun = record { pieces = Anew ∷ []; before = m.0; got_is = m.1; are = tt; carried = m.2 };
+  once = inr tt;
+  marked = λ _. tt;
+}
+begin_by false s b calls report e h = record {
+  free = h.free;
+  earlier = reports_of calls;
+  sent = refl;
+  begun = record { pieces = []; before = b.got; got_is = refl; are = tt; carried = h.carried };
+  once = inl refl;
+  marked = λ x. absurd (true_false (sym x ∙ e));
+}
+
+pub polled_some : (s : ReportState) (b : Bus1) (calls : List EpCall) (report : List ℕ) → s.course ≡ Rests → Link1 s b calls
+    → Link1 (record s { course = Begins; report = report }) b (Polled (Some report) ∷ calls)
+polled_some s b calls report e h = record {
+  fresh = h.fresh;
+  current = λ r. (let N : Course → Type 0 = λ x. Now1 x s b calls in begin_by s.unsure s b calls report refl (subst N e (h.current r)));
+}
+
+-- the host has all reports, or all but the newest
+pub in_order_now : (course : Course) (s : ReportState) (b : Bus1) (calls : List EpCall) → Now1 course s b calls → GotInOrder s.size b.got (reports_of calls)
+in_order_now Rests s b calls h = all h.carried
+in_order_now Begins s b calls h = but_one s.report h.earlier h.sent h.begun
+in_order_now Goes s b calls h = but_one s.report h.earlier h.sent h.begun
+
+pub in_order : (s : ReportState) (b : Bus1) (calls : List EpCall) → b.reset ≡ false → Link1 s b calls → GotInOrder s.size b.got (reports_of calls)
+in_order s b calls r h = in_order_now s.course s b calls (h.current r)
+
+-- what was taken is told
+pub told_agrees : (unsure : Bool) (b : Bus1) → Agrees unsure b → Agrees unsure (told b)
+told_agrees true b a = a
+told_agrees false b a = a
+
+pub lt_true : {n : ℕ} → 0 < n → nat_lt 0 n ≡ true
+lt_true {n} e = grind (arith, e)
+
+pub positive : (n : ℕ) → nat_lt 0 (n + 1) ≡ true
+positive n = grind arith
+
+pub told_rest : (s : ReportState) (count : ℕ) (b : Bus1) (calls : List EpCall) → Resting s b calls → Resting (record s { buffered = count }) (told b) calls
+told_rest s count b calls h = record { free = record { empty = h.free.empty; told = refl; agrees = told_agrees s.unsure b h.free.agrees }; carried = h.carried; marked = h.marked }
+
+pub told_begin : (s : ReportState) (count : ℕ) (b : Bus1) (calls : List EpCall) → Beginning s b calls → Beginning (record s { buffered = count }) (told b) calls
+told_begin s count b calls h = record {
+  free = record { empty = h.free.empty; told = refl; agrees = told_agrees s.unsure b h.free.agrees };
+  earlier = h.earlier;
+  sent = h.sent;
+  begun = h.begun;
+  once = h.once;
+  marked = h.marked;
+}
+
+pub taken_rests : (s : ReportState) (count : ℕ) (b : Bus1) (calls : List EpCall) → s.course ≡ Rests → b.reset ≡ false → Link1 s b calls
+    → Link1 (record s { buffered = count }) (told b) calls
+taken_rests s count b calls e r h =
+    let N : Course → Type 0 = λ x. Now1 x s b calls in
+    let M : Course → Type 0 = λ x. Now1 x (record s { buffered = count }) (told b) calls in
+    record { fresh = λ x. absurd (true_false (sym x)); current = λ _. subst M (sym e) (told_rest s count b calls (subst N e (h.current r))) }
+
+pub taken_begins : (s : ReportState) (count : ℕ) (b : Bus1) (calls : List EpCall) → s.course ≡ Begins → b.reset ≡ false → Link1 s b calls
+    → Link1 (record s { buffered = count }) (told b) calls
+taken_begins s count b calls e r h =
+    let N : Course → Type 0 = λ x. Now1 x s b calls in
+    let M : Course → Type 0 = λ x. Now1 x (record s { buffered = count }) (told b) calls in
+    record { fresh = λ x. absurd (true_false (sym x)); current = λ _. subst M (sym e) (told_begin s count b calls (subst N e (h.current r))) }
+
+pub lt_suc : (n : ℕ) → nat_lt 0 (suc n) ≡ true
+lt_suc n = grind arith
+
+pub suc_not : (n : ℕ) → (suc n == 0) ≡ false
+suc_not n = grind arith
+
+pub cut_some : (size due : ℕ) (rest : List ℕ) (more : List (List ℕ)) → nat_lt 0 due ≡ true → cut size due rest ++ more ≡ [] → ⊥
+cut_some size zero rest more d e = cc
+cut_some size (suc n) rest more d e = cc
+
+pub append_some : {A : Type 0} (xs : List A) (y : A) (ys : List A) → xs ++ y ∷ ys ≡ [] → ⊥
+append_some [] y ys e = cc
+append_some (x ∷ xs) y ys e = cc
+
+-- packets are to be handed over exactly where there are some
+pub hand_some_by : (more again : Bool) (size due : ℕ) (rest report : List ℕ) → nat_lt 0 due ≡ more → (more || again) ≡ true
+    → cut size due rest ++ copies again (packets_of size report) ≡ [] → ⊥
+hand_some_by true again size due rest report d m e = cut_some size due rest (copies again (packets_of size report)) d e
+hand_some_by false true size due rest report d m e = append_some (cut size due rest) _ _ e
+hand_some_by false false size due rest report d m e = true_false (sym m)
+
+pub hand_some : (s : ReportState) → is_more s ≡ true → to_hand s ≡ [] → ⊥
+hand_some s m e = hand_some_by (nat_lt 0 s.due) s.again s.size s.due s.rest s.report refl m e
+
+pub cut_none : (size due : ℕ) (rest : List ℕ) → nat_lt 0 due ≡ false → cut size due rest ≡ []
+cut_none size zero rest d = refl
+cut_none size (suc n) rest d = absurd (true_false (sym (lt_suc n) ∙ d))
+
+pub hand_none_by : (more again : Bool) (size due : ℕ) (rest report : List ℕ) → nat_lt 0 due ≡ more → (more || again) ≡ false
+    → cut size due rest ++ copies again (packets_of size report) ≡ []
+hand_none_by true again size due rest report d m = absurd (true_false m)
+hand_none_by false true size due rest report d m = absurd (true_false m)
+hand_none_by false false size due rest report d m = ap (λ (x : List (List ℕ)). x ++ []) (cut_none size due rest d)
+
+pub hand_none : (s : ReportState) → is_more s ≡ false → to_hand s ≡ []
+hand_none s m = hand_none_by (nat_lt 0 s.due) s.again s.size s.due s.rest s.report refl m
+
+pub bool_cases : (x : Bool) → (x ≡ true) ⊎ (x ≡ false)
+bool_cases true = inl refl
+bool_cases false = inr refl
+
+pub busy_by : (more : Bool) (n : ℕ) → ((n == 0) && not more) ≡ false → (more ≡ true) ⊎ (nat_lt 0 n ≡ true)
+busy_by true n e = inl refl
+busy_by false zero e = cc
+busy_by false (suc n) e = inr (lt_suc n)
+
+pub busy_of : (s : ReportState) (n : ℕ) → is_over (record s { buffered = n }) ≡ false → to_hand s ≡ [] → nat_lt 0 n ≡ true
+busy_of s n o e = elim (busy_by (is_more s) n o) [ inl m ↦ absurd (hand_some s m e) | inr b ↦ b ]
+
+pub over_none : (more : Bool) (n : ℕ) → ((n == 0) && not more) ≡ true → (more ≡ false) × (n ≡ 0)
+over_none true zero e = absurd (true_false (sym e))
+over_none true (suc n) e = absurd (true_false (sym e ∙ ap (λ x. x && false) (suc_not n)))
+over_none false zero e = (refl, refl)
+over_none false (suc n) e = absurd (true_false (sym e ∙ ap (λ x. x && true) (suc_not n)))
+
+pub no_length : {A : Type 0} (xs : List A) → length xs ≡ 0 → xs ≡ []
+no_length [] e = refl
+no_length (x ∷ xs) e = cc
+
+pub taken_goes : (s : ReportState) (n count : ℕ) (b : Bus1) (calls : List EpCall) → n ≡ s.buffered - count → s.course ≡ Goes → b.reset ≡ false → b.taken ≡ count
+    → is_over (record s { buffered = n }) ≡ false → Link1 s b calls → Link1 (record s { buffered = n }) (told b) calls
+taken_goes s n count b calls m e r t o h =
+    let N : Course → Type 0 = λ x. Now1 x s b calls in
+    let M : Course → Type 0 = λ x. Now1 x (record s { buffered = n }) (told b) calls in
+    let g : Going s b calls = subst N e (h.current r) in
+    let counted = g.counted in
+    record {
+      fresh = λ x. absurd (true_false (sym x));
+      current = λ _. subst M (sym e) (record {
+        counted = omega (arith, counted, t, m);
+        closed = g.closed;
+        sure = g.sure;
+        earlier = g.earlier;
+        sent = g.sent;
+        begun = g.begun;
+        will = g.will;
+        ours = g.ours;
+        even = g.even;
+        busy = λ x. busy_of s n o x;
+      });
+    }
+
+pub new_none : (a : Bool) → new_of a [] ≡ []
+new_none true = refl
+new_none false = refl
+
+pub taken_over : (s : ReportState) (k count : ℕ) (b : Bus1) (calls : List EpCall) → k ≡ s.buffered - count → s.course ≡ Goes → b.reset ≡ false → b.taken ≡ count
+    → is_over (record s { buffered = k }) ≡ true → Link1 s b calls → Link1 (record s { buffered = k; course = Rests }) (told b) calls
+taken_over s k count b calls m e r t o h =
+    let N : Course → Type 0 = λ x. Now1 x s b calls in
+    let g : Going s b calls = subst N e (h.current r) in
+    let n = over_none (is_more s) k o in
+    let counted = g.counted in
+    let left = n.1 in
+    let none : length b.slots ≡ 0 = omega (arith, counted, t, left, m) in
+    let empty : b.slots ≡ [] = no_length b.slots none in
+    let W : List (List ℕ) → Type 0 = λ x. Carries s.size (with_new (new_of (agree b) (x ++ to_hand s)) b.got) (s.report ∷ g.earlier) in
+    let V : List (List ℕ) → Type 0 = λ x. Carries s.size (with_new (new_of (agree b) x) b.got) (s.report ∷ g.earlier) in
+    let U : List (List ℕ) → Type 0 = λ x. Carries s.size (with_new x b.got) (s.report ∷ g.earlier) in
+    let C : List (List ℕ) → Type 0 = λ x. Carries s.size b.got x in
+    let A : Bool → Type 0 = λ x. Agrees x b in
+    record {
+      fresh = λ x. absurd (true_false (sym x));
+      current = λ _. record {
+        free = record { empty = empty; told = refl; agrees = told_agrees s.unsure b (subst A (sym g.sure) (g.even empty, λ x. absurd (true_false (sym x ∙ g.closed)))) };
+        carried = subst C (sym g.sent) (subst U (new_none (agree b)) (subst V (hand_none s n.0) (subst W empty g.will)));
+        marked = λ x. absurd (true_false (sym x ∙ g.sure));
+      };
+    }

@@ -1,53 +1,132 @@
--- Believed: endpoint 1 of a controller with one buffer, and what may happen on its bus (USB 2.0 sections 5.7.5 and 8.6.4).
-use Rattle.std.specs.Prelude.{Option, ◌⊎◌, ◌≡◌, ℕ, Bool, true, false, List, [], ◌∷◌, Some, None}
-use Rattle.usb_device.specs.Calls.{EpCall, Polled}
+-- Believed: endpoint 1 of a controller with buffers, the data toggles of both sides, and what may happen on its bus (USB 2.0
+-- sections 5.7.5 and 8.6). A host takes a packet as new where it has the toggle that it wants, and drops it as a repetition
+-- where it has the other one; it acknowledges both. The acknowledgement may be lost: then the packet is sent again.
+use Rattle.std.specs.Prelude.{◌≡◌, ◌⊎◌, ℕ, ◌+◌, Bool, true, false, not, List, [], ◌∷◌, ◌++◌, Some}
+use Rattle.usb_device.specs.Calls.{EpCall, Polled, BusReset}
 
--- the buffer: empty, or a packet, and whether the host has it already, its ACK being lost
-pub data Slot : Type 0 where
-  Empty : Slot
-  Full : List ℕ → Bool → Slot
+-- what endpoint 1 brought the host
+pub data Got : Type 0 where
+  -- it took this packet as new
+  New : List ℕ → Got
+  -- the device emptied its buffers, and began with DATA0
+  Anew : Got
 
 pub record Bus1 : Type 0 where
-  -- the packets that were new to the host, newest first
-  pub got : List (List ℕ)
-  pub slot : Slot
-  -- a packet was taken, and that was not told
-  pub taken : Bool
+  -- since the last reset of the bus, newest first
+  pub got : List Got
+  -- whether the toggle that the host wants, and that of the oldest packet in the buffers, is DATA1
+  pub host : Bool
+  pub device : Bool
+  -- the packets in the buffers, oldest first
+  pub slots : List (List ℕ)
+  -- how many packets were acknowledged, and that was not told
+  pub taken : ℕ
+  -- the device began anew, and no packet was handed over since: the host may begin anew, too
+  pub opened : Bool
+  -- the bus was reset, and that was not told
+  pub reset : Bool
 
--- the host drops a repetition
-abbrev pub grown : List ℕ → Bool → List (List ℕ) → List (List ℕ)
-grown packet true got = got
-grown packet false got = packet ∷ got
+-- nothing has happened since a reset
+abbrev pub blank : Bool → Bus1
+blank reset = record { got = []; host = false; device = false; slots = []; taken = 0; opened = false; reset = reset }
 
+abbrev pub same : Bool → Bool → Bool
+same true b = b
+same false b = not b
+
+-- whether the host takes the next packet as new
+abbrev pub agree : Bus1 → Bool
+agree b = same b.host b.device
+
+abbrev pub received : Bool → List ℕ → List Got → List Got
+received true packet got = New packet ∷ got
+received false packet got = got
+
+-- the host has the packet, so that it wants the other toggle; and the device knows
+abbrev pub with_taken1 : Bus1 → List ℕ → List (List ℕ) → Bus1
+with_taken1 b packet rest = record {
+  got = received (agree b) packet b.got;
+  host = not b.device;
+  device = not b.device;
+  slots = rest;
+  taken = b.taken + 1;
+  opened = b.opened;
+  reset = b.reset;
+}
+
+-- or does not
+abbrev pub with_lost1 : Bus1 → List ℕ → Bus1
+with_lost1 b packet = record {
+  got = received (agree b) packet b.got;
+  host = not b.device;
+  device = b.device;
+  slots = b.slots;
+  taken = b.taken;
+  opened = b.opened;
+  reset = b.reset;
+}
+
+-- the host wants DATA0
+abbrev pub with_host_anew : Bus1 → Bus1
+with_host_anew b = record { got = b.got; host = false; device = b.device; slots = b.slots; taken = b.taken; opened = b.opened; reset = b.reset }
+
+-- one thing happens. A host that has the status packet of a request which sets endpoint 1 begins anew (sections 9.4.1, 9.4.7,
+-- 9.4.10): at some time before the device hands over another packet, for which it waits (`Waits`).
 pub data Happens1 (b next : Bus1) : Type 0 where
-  takes : (packet : List ℕ) (has : Bool) → b.slot ≡ Full packet has → next ≡ record { got = grown packet has b.got; slot = Empty; taken = true } → Happens1 b next
-  loses : (packet : List ℕ) (has : Bool) → b.slot ≡ Full packet has → next ≡ record { got = grown packet has b.got; slot = Full packet true; taken = b.taken } → Happens1 b next
+  takes : (packet : List ℕ) (rest : List (List ℕ)) → b.slots ≡ packet ∷ rest → next ≡ with_taken1 b packet rest → Happens1 b next
+  loses : (packet : List ℕ) (rest : List (List ℕ)) → b.slots ≡ packet ∷ rest → next ≡ with_lost1 b packet → Happens1 b next
+  host_begins : b.opened ≡ true → next ≡ with_host_anew b → Happens1 b next
+  resets1 : next ≡ blank true → Happens1 b next
 
 abbrev pub Goes1 : List Bus1 → Bus1 → Bus1 → Type 0
 Goes1 [] b next = next ≡ b
 Goes1 (mid ∷ rest) b next = Happens1 b mid × Goes1 rest mid next
 
+-- looked at
 abbrev pub told : Bus1 → Bus1
-told b = record { got = b.got; slot = b.slot; taken = false }
+told b = record { got = b.got; host = b.host; device = b.device; slots = b.slots; taken = 0; opened = b.opened; reset = false }
 
--- the reports that the device gave, newest first
+-- a command has no effect where a reset has come that was not told
+abbrev pub unless_reset : Bool → Bus1 → Bus1 → Bus1
+unless_reset true b next = b
+unless_reset false b next = next
+
+-- a packet is put into a buffer
+abbrev pub filled : Bus1 → List ℕ → Bus1
+filled b packet = unless_reset b.reset b (record {
+  got = b.got;
+  host = b.host;
+  device = b.device;
+  slots = b.slots ++ packet ∷ [];
+  taken = b.taken;
+  opened = false;
+  reset = b.reset;
+})
+
+-- the device begins anew: the buffers are empty, and the next packet has DATA0
+abbrev pub anew : Bus1 → Bus1
+anew b = unless_reset b.reset b (record {
+  got = Anew ∷ b.got;
+  host = b.host;
+  device = false;
+  slots = [];
+  taken = 0;
+  opened = true;
+  reset = b.reset;
+})
+
+-- how many buffers there are
+abbrev pub room_of : Bool → ℕ
+room_of true = 2
+room_of false = 1
+
+-- the reports that the device gave since the last reset, newest first
 abbrev pub reports_of : List EpCall → List (List ℕ)
 reports_of [] = []
 reports_of (Polled (Some report) ∷ before) = report ∷ reports_of before
+reports_of (BusReset ∷ before) = []
 reports_of (_ ∷ before) = reports_of before
 
--- the host got all reports, or all but the newest, which is in the buffer: each once, in their order
-pub data GotInOrder (got sent : List (List ℕ)) : Type 0 where
-  all : sent ≡ got → GotInOrder got sent
-  but_one : (newest : List ℕ) → sent ≡ newest ∷ got → GotInOrder got sent
-
--- nothing is withheld: endpoint 1 waits, or a report is in the buffer or was just taken, or the device, asked last, has none
-pub data NothingWithheld (waiting : Bool) (b : Bus1) (calls : List EpCall) : Type 0 where
-  waits : waiting ≡ true → NothingWithheld waiting b calls
-  holds : (packet : List ℕ) (has : Bool) → b.slot ≡ Full packet has → NothingWithheld waiting b calls
-  took : b.taken ≡ true → NothingWithheld waiting b calls
-  has_none : (before : List EpCall) → calls ≡ Polled None ∷ before → NothingWithheld waiting b calls
-
--- the calls are these, or one poll more
-abbrev pub PolledOnce : List EpCall → List EpCall → Type 0
-PolledOnce calls later = (later ≡ calls) ⊎ ((answer : Option (List ℕ)) × (later ≡ Polled answer ∷ calls))
+-- these reports are kept, or the bus was reset
+abbrev pub KeptOrReset : List EpCall → List EpCall → Type 0
+KeptOrReset calls later = (reports_of later ≡ reports_of calls) ⊎ (reports_of later ≡ [])

@@ -11,6 +11,7 @@ pub mod Bus
 pub mod Confirmed
 pub mod Transfers
 pub mod Bus1
+pub mod Reports
 pub mod KeyboardSessions
 pub mod Through
 pub mod ties

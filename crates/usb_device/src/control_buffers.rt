@@ -5,7 +5,7 @@ ghost use Rattle.std.specs.Option.{option_map};
 ghost use Rattle.usb_device.specs.Requests.{word_at};
 ghost use Rattle.usb_device.specs.Calls.{EpCall, SetUp, BusReset};
 ghost use Rattle.usb_device.specs.Bus.{is_pending, Bus, Goes, Sends, Takes, with_input, with_output, is_write, looked, mode_of, out_mode_of};
-ghost use Rattle.usb_device.specs.Bus1.{reports_of};
+ghost use Rattle.usb_device.specs.Bus1.{reports_of, KeptOrReset};
 ghost use Rattle.usb_device.specs.Transfers.{TransferState, Idle, Refused, Over, ReadDue, Closing, Opening, Due, IsOpen, WasAsked, last_0, Rests, NothingWithheld0};
 ghost use Rattle.usb_device.specs.ties.Link.{Link, Ready, IsBegun, ended, on_taken, met_view, transfer_view};
 
@@ -138,7 +138,7 @@ impl ControlBuffers {
         ensures { (calls : List EpCall) → E.stands calls device.old → Link self.old (C.bus controller.old) calls
             → NothingWithheld0 self.old (C.bus controller.old) calls
             → (later : List EpCall) × E.stands later device.new × Link self.new (C.bus controller.new) later
-            × NothingWithheld0 self.new (C.bus controller.new) later × (reports_of later ≡ reports_of calls) }
+            × NothingWithheld0 self.new (C.bus controller.new) later × KeptOrReset calls later }
     {
         let met = controller.waiting();
         self.take(met, device);
@@ -150,7 +150,7 @@ impl ControlBuffers {
         ensures { (b : Bus) (calls : List EpCall) → E.stands calls device.old → Link self.old b calls → met_view met ≡ b.met
             → NothingWithheld0 self.old b calls
             → (later : List EpCall) × E.stands later device.new × Link self.new (looked b) later × Ready self.new (looked b) later
-            × (reports_of later ≡ reports_of calls) }
+            × KeptOrReset calls later }
     {
         match met.setup {
             Some(setup) => {

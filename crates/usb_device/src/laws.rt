@@ -9,9 +9,10 @@ ghost use Rattle.usb_device.specs.Steps.{AllAnswered, session, state_of};
 ghost use Rattle.usb_device.specs.States.{endpoint_by};
 ghost use Rattle.usb_device.specs.Through.{calls_of};
 ghost use Rattle.usb_device.specs.Bus.{Bus, Seen, InGot, Naks, NaksOut, nothing_met, is_write, setup_of, write_of};
-ghost use Rattle.usb_device.specs.Bus1.{Bus1, GotInOrder, reports_of};
+ghost use Rattle.usb_device.specs.Bus1.{Bus1, reports_of};
+ghost use Rattle.usb_device.specs.Reports.{GotInOrder};
 ghost use Rattle.usb_device.specs.Waits.{Moment, is_waiting, scans_last};
-ghost use Rattle.usb_device.specs.ties.Link1.{Link1};
+ghost use Rattle.usb_device.specs.ties.Link1.{ReportState, Link1};
 ghost use Rattle.usb_device.specs.KeyboardCalls.{KbCall, usb_calls};
 ghost use Rattle.usb_device.specs.KeyboardSessions.{IsConfirmedIn};
 ghost use Rattle.usb_device.specs.Confirmed.{WasConfirmed};
@@ -45,13 +46,13 @@ pub fn endpoint_is_looked_back()
     ensures { (lent : Lent) (past : List Event) → AllAnswered lent past → (state_of lent past).endpoint ≡ endpoint_by lent past }
 {}
 
-/// Of the reports that the device gave, the host got all, or all but the newest: each once, in their order, whatever ACKs were
-/// lost.
+/// What the host took as new since the last reset are the reports that the device gave, whole and in their order: all of them, or
+/// all but the newest, whatever acknowledgements were lost, and whatever toggle the host wanted.
 pub fn reports_are_got_in_order()
-    ensures { (full : Bool) (b : Bus1) (calls : List EpCall) → Link1 full b calls → GotInOrder b.got (reports_of calls) }
+    ensures { (s : ReportState) (b : Bus1) (calls : List EpCall) → b.reset ≡ false → Link1 s b calls → GotInOrder s.size b.got (reports_of calls) }
 {}
 
-/// What `ReportBuffer` asks of the device is nothing to endpoint 0.
+/// What `ReportBuffers` asks of the device is nothing to endpoint 0.
 pub fn a_poll_is_nothing_to_endpoint_0()
     ensures linked { (t : TransferState) (b : Bus) (answer : Option (List ℕ)) (calls : List EpCall) → Link t b calls → Link t b (Polled answer ∷ calls) }
     ensures rests { (t : TransferState) (b : Bus) (answer : Option (List ℕ)) (calls : List EpCall) → NothingWithheld0 t b calls
@@ -61,7 +62,7 @@ pub fn a_poll_is_nothing_to_endpoint_0()
 /// What `ControlBuffers` asks of the device is nothing to endpoint 1.
 #[tactic(auto, using(crate::proofs::Reporting::same_reports))]
 pub fn a_transfer_is_nothing_to_endpoint_1()
-    ensures { (full : Bool) (b : Bus1) (calls later : List EpCall) → Link1 full b calls → reports_of later ≡ reports_of calls → Link1 full b later }
+    ensures { (s : ReportState) (b : Bus1) (calls later : List EpCall) → Link1 s b calls → reports_of later ≡ reports_of calls → Link1 s b later }
 {}
 
 /// What was confirmed on the bus is confirmed in the session of the keyboard, by calls of which scans and flash work are some.

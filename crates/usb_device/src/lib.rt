@@ -2,18 +2,19 @@
 //!
 //! `DeviceLayer` serves the standard requests of USB 2.0 chapter 9 in each state of the device, with descriptors and names
 //! that a maker lends (`Descriptors`), and hands everything else on to the device behind it (`Endpoints`).
-//! `ControlBuffers` and `ReportBuffer` hand the packets of endpoints 0 and 1 to a controller beforehand (`Controller`,
-//! `Buffer`). It takes no memory and needs no `unsafe`. Sections are those of USB 2.0.
+//! `ControlBuffers` and `ReportBuffers` hand the packets of endpoints 0 and 1 to a controller beforehand (`Controller`,
+//! `Buffers`). It takes no memory and needs no `unsafe`. Sections are those of USB 2.0.
 //!
 //! The guarantee: a control write that the host saw the end of was acknowledged, and then confirmed by the empty packet, in
 //! the session of the device behind, whatever acknowledgements were lost (`laws::seen_is_confirmed`,
 //! `laws::confirmed_behind`, `laws::confirmed_in_session`). Each answer of a standard request is that of tables 9-3 and
-//! 9-4 in the state that the events before give (`laws::endpoint_is_looked_back`). The host gets the reports of the device
-//! in their order, each once (`laws::reports_are_got_in_order`). Endpoint 1 waits at most 50 scans for a host that does not
-//! take a status packet. Nothing else is withheld.
+//! 9-4 in the state that the events before give (`laws::endpoint_is_looked_back`). The host takes as new the reports of the
+//! device, each whole, in their order (`laws::reports_are_got_in_order`): once, and at least once where endpoint 1 begins
+//! anew, whatever data toggle the host then wants. Endpoint 1 waits at most 50 scans for a host that does not take a status
+//! packet. Nothing else is withheld.
 //!
-//! Not yet here: data toggles behind a dropped report, reports of several packets, suspend and remote wakeup. The change of
-//! a status stage is an answer of `DeviceLayer::in_packet`, and no controller is told of it yet.
+//! Not yet here: suspend and remote wakeup. The change of a status stage is an answer of `DeviceLayer::in_packet`, and no
+//! controller is told of it yet.
 #![tactic(auto)]
 
 mod answer;
@@ -27,7 +28,7 @@ mod keyboard_shape;
 pub mod laws;
 mod packets;
 mod quiet_controller;
-mod report_buffer;
+mod report_buffers;
 mod request;
 mod strings;
 
@@ -40,5 +41,5 @@ pub use device_layer::DeviceLayer;
 pub use endpoints::Endpoints;
 pub use keyboard_shape::{Keys, Session};
 pub use quiet_controller::QuietController;
-pub use report_buffer::{Buffer, ReportBuffer};
+pub use report_buffers::{Buffers, PacketSize, ReportBuffers};
 pub use strings::string_descriptor;

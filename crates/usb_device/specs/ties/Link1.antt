@@ -1,19 +1,126 @@
--- Only ties code to its definitions: how the buffer of endpoint 1 and the session hang together.
-use Rattle.std.specs.Prelude.{◌≡◌, ◌⊎◌, ℕ, Bool, true, false, List, ◌∷◌}
-use Rattle.usb_device.specs.Calls.{EpCall}
-use Rattle.usb_device.specs.Bus1.{Slot, Empty, Full, Bus1, reports_of}
+-- Only ties code to its definitions: how the buffers of endpoint 1 and the session hang together.
+use Rattle.std.specs.Prelude.{◌≡◌, ◌⊎◌, ◌≤◌, nat_lt, ◌==◌, ◌&&◌, ◌||◌, not, ℕ, ◌+◌, Bool, true, false, List, [], ◌∷◌, ◌++◌, length, Option, None}
+use Rattle.usb_device.specs.declared.report_buffers.PacketSize.{PacketSize}
+use Rattle.usb_device.specs.declared.report_buffers.PacketSize.TheVariants as Sizes
+use Rattle.usb_device.specs.Waits.{Moment, is_waiting}
+use Rattle.usb_device.specs.declared.report_buffers.Course.{Course}
+use Rattle.usb_device.specs.declared.report_buffers.Course.TheVariants.{Rests, Begins, Goes}
+use Rattle.usb_device.specs.Calls.{EpCall, Polled}
+use Rattle.usb_device.specs.Bus1.{Got, Anew, Bus1, blank, agree, reports_of}
+use Rattle.usb_device.specs.Reports.{cut, packets_of, with_new, IsPacket, HasAnew, Carries, Begun}
 
-abbrev pub GotBy : Slot → List (List ℕ) → List (List ℕ) → Type 0
-GotBy Empty got sent = sent ≡ got
-GotBy (Full packet true) got sent = sent ≡ got
-GotBy (Full packet false) got sent = sent ≡ packet ∷ got
+abbrev pub size_of : PacketSize → ℕ
+size_of Sizes.Bytes8 = 8
+size_of Sizes.Bytes16 = 16
+size_of Sizes.Bytes32 = 32
+size_of Sizes.Bytes64 = 64
 
-abbrev pub IsFull : Slot → Type 0
-IsFull Empty = ⊥
-IsFull (Full packet has) = Unit {0}
+pub record ReportState : Type 0 where
+  -- the bytes of a packet
+  pub size : ℕ
+  pub course : Course
+  -- the report under way, what is to be handed over of it in so many packets, and whether it then is to be handed over again
+  pub report : List ℕ
+  pub rest : List ℕ
+  pub due : ℕ
+  pub again : Bool
+  -- the packets that were handed over, and not told as taken
+  pub buffered : ℕ
+  -- whether the toggles may differ
+  pub unsure : Bool
+  -- the scans that are waited
+  pub left : ℕ
 
-pub record Link1 (full : Bool) (b : Bus1) (calls : List EpCall) : Type 0 where
-  pub got : GotBy b.slot b.got (reports_of calls)
-  pub free : full ≡ false → (b.slot ≡ Empty) × (b.taken ≡ false)
-  pub told : b.taken ≡ true → b.slot ≡ Empty
-  pub held : full ≡ true → IsFull b.slot ⊎ (b.taken ≡ true)
+-- whether packets are still to be handed over
+abbrev pub is_more : ReportState → Bool
+is_more s = nat_lt 0 s.due || s.again
+
+-- whether the host has all packets of the report under way
+abbrev pub is_over : ReportState → Bool
+is_over s = (s.buffered == 0) && not (is_more s)
+
+abbrev pub copies : Bool → List (List ℕ) → List (List ℕ)
+copies true packets = packets
+copies false packets = []
+
+-- the packets that are still to be handed over
+abbrev pub to_hand : ReportState → List (List ℕ)
+to_hand s = cut s.size s.due s.rest ++ copies s.again (packets_of s.size s.report)
+
+-- those that the host will take as new: not the first, where it wants the other toggle
+abbrev pub new_of : Bool → List (List ℕ) → List (List ℕ)
+new_of true packets = packets
+new_of false [] = []
+new_of false (packet ∷ rest) = rest
+
+abbrev pub ArePackets : ℕ → List ℕ → List (List ℕ) → Type 0
+ArePackets size report [] = Unit {0}
+ArePackets size report (packet ∷ rest) = IsPacket packet (packets_of size report) × ArePackets size report rest
+
+-- the buffers are empty. Where the device is sure, the toggles agree, and go on to agree where the host begins anew
+abbrev pub Agrees : Bool → Bus1 → Type 0
+Agrees true b = (b.opened ≡ true) × (b.device ≡ false)
+Agrees false b = (agree b ≡ true) × (b.opened ≡ true → b.device ≡ false)
+
+pub record Free (unsure : Bool) (b : Bus1) : Type 0 where
+  pub empty : b.slots ≡ []
+  pub told : b.taken ≡ 0
+  pub agrees : Agrees unsure b
+
+-- no report is under way
+pub record Resting (s : ReportState) (b : Bus1) (calls : List EpCall) : Type 0 where
+  pub free : Free s.unsure b
+  pub carried : Carries s.size b.got (reports_of calls)
+  pub marked : s.unsure ≡ true → (before : List Got) × (b.got ≡ Anew ∷ before) × Carries s.size before (reports_of calls)
+
+-- one is to be handed over from its first packet on
+pub record Beginning (s : ReportState) (b : Bus1) (calls : List EpCall) : Type 0 where
+  pub free : Free s.unsure b
+  pub earlier : List (List ℕ)
+  pub sent : reports_of calls ≡ s.report ∷ earlier
+  pub begun : Begun s.size s.report b.got earlier
+  pub once : (begun.pieces ≡ []) ⊎ HasAnew begun.pieces
+  pub marked : s.unsure ≡ true → HasAnew begun.pieces
+
+-- packets of one are in the buffers, or are to come there
+pub record Going (s : ReportState) (b : Bus1) (calls : List EpCall) : Type 0 where
+  pub counted : s.buffered ≡ length b.slots + b.taken
+  pub closed : b.opened ≡ false
+  pub sure : s.unsure ≡ false
+  pub earlier : List (List ℕ)
+  pub sent : reports_of calls ≡ s.report ∷ earlier
+  pub begun : Begun s.size s.report b.got earlier
+  pub will : Carries s.size (with_new (new_of (agree b) (b.slots ++ to_hand s)) b.got) (s.report ∷ earlier)
+  pub ours : ArePackets s.size s.report (b.slots ++ to_hand s)
+  pub even : b.slots ≡ [] → agree b ≡ true
+  pub busy : to_hand s ≡ [] → nat_lt 0 s.buffered ≡ true
+
+abbrev pub Now1 : Course → ReportState → Bus1 → List EpCall → Type 0
+Now1 Rests s b calls = Resting s b calls
+Now1 Begins s b calls = Beginning s b calls
+Now1 Goes s b calls = Going s b calls
+
+pub record Link1 (s : ReportState) (b : Bus1) (calls : List EpCall) : Type 0 where
+  pub fresh : b.reset ≡ true → b ≡ blank true
+  pub current : b.reset ≡ false → Now1 s.course s b calls
+
+-- all is handed over, or the buffers are full
+abbrev pub IsHeld : ℕ → ReportState → Type 0
+IsHeld room s = (to_hand s ≡ []) ⊎ (room ≤ s.buffered)
+
+-- endpoint 1 is ready, and waits for nothing
+abbrev pub may_send : Bool → List Moment → Bool
+may_send is_ready moments = is_ready && not (is_waiting moments)
+
+-- nothing is withheld: endpoint 1 may not send; or a reset is to be looked at; or packets are in the buffers or were just taken,
+-- and all of the report is handed over, or as much as there are buffers; or the device, asked last, has none
+pub data NothingWithheld (may : Bool) (room : ℕ) (s : ReportState) (b : Bus1) (calls : List EpCall) : Type 0 where
+  may_not : may ≡ false → NothingWithheld may room s b calls
+  was_reset : b.reset ≡ true → NothingWithheld may room s b calls
+  all_handed : nat_lt 0 (length b.slots + b.taken) ≡ true → to_hand s ≡ [] → NothingWithheld may room s b calls
+  all_full : nat_lt 0 (length b.slots + b.taken) ≡ true → room ≤ length b.slots + b.taken → NothingWithheld may room s b calls
+  has_none : (before : List EpCall) → b.slots ≡ [] → calls ≡ Polled None ∷ before → NothingWithheld may room s b calls
+
+-- the calls are these, or one poll more
+abbrev pub PolledOnce : List EpCall → List EpCall → Type 0
+PolledOnce calls later = (later ≡ calls) ⊎ ((answer : Option (List ℕ)) × (later ≡ Polled answer ∷ calls))

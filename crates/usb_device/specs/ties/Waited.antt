@@ -1,10 +1,6 @@
 -- Only ties code to its definitions: the scans that endpoint 1 still waits.
-use Rattle.std.specs.Prelude.{◌≡◌, ℕ, Bool, List, nat_lt}
+use Rattle.std.specs.Prelude.{◌≡◌, ℕ, List, nat_lt}
 use Rattle.usb_device.specs.Waits.{Moment, waits}
-
-pub record ReportState : Type 0 where
-  pub full : Bool
-  pub left : ℕ
 
 abbrev pub Waited : List Moment → ℕ → Type 0
 Waited moments left = (scans : ℕ) → nat_lt scans left ≡ waits moments scans

@@ -1,4 +1,4 @@
-use Rattle.std.proofs.Common.{List, ◌∷◌, Some, None, true, false, refl, sym, ap, ◌∙◌, ◌≡◌}
+use Rattle.std.proofs.Common.{List, ◌∷◌, Some, None, true, false, refl, inl, inr, sym, ap, ◌∙◌, ◌≡◌}
 use Rattle.usb_device.specs.Calls.{EpCall, SetUp, BusReset}
 use Rattle.usb_device.specs.Bus.{Met, looked}
 use Rattle.usb_device.specs.ties.Link.{transfer_view}
@@ -19,17 +19,18 @@ returns-in-Some g c = λ b calls s h e r.
       stood S b.met.reset setup calls (λ y. c.hand_on.ensures.behind_a_reset calls (q ∙ y) s) (λ n. c.hand_on.ensures.alone calls (q ∙ n) s),
       begins c.args.self.now (transfer_view t) b calls before setup h n (kept_behind b.met.reset c.args.self.now b calls h) f.write,
       begun_ready (transfer_view t) (looked b) (SetUp setup ∷ before) f.begun,
-      same_behind b.met.reset calls,
+      same_behind b.met.reset setup calls,
     )
 
 pub returns-then-met : goal.returns-then-met
 returns-then-met g c = λ b calls s h e r.
     let n : b.met.setup ≡ None = sym (ap (λ (m : Met). m.setup) e) ∙ c.in-None.is in
     let q : b.met.reset ≡ true = sym (ap (λ (m : Met). m.reset) e) ∙ c.if-met.true in
-    (BusReset ∷ calls, c.bus_reset.ensures calls s, resets c.args.self.now b calls h q n, refl, refl)
+    (BusReset ∷ calls, c.bus_reset.ensures calls s, resets c.args.self.now b calls h q n, refl, inr refl)
 
 pub returns-else-met : goal.returns-else-met
 returns-else-met g c = λ b calls s h e r.
     let n : b.met.setup ≡ None = sym (ap (λ (m : Met). m.setup) e) ∙ c.in-None.is in
     let q : b.met.reset ≡ false = sym (ap (λ (m : Met). m.reset) e) ∙ c.if-met.false in
-    c.follow.ensures b calls s h q n (sym (ap (λ (m : Met). m.out) e)) (sym (ap (λ (m : Met). m.taken) e)) (r (not_pending b.met q n))
+    let f = c.follow.ensures b calls s h q n (sym (ap (λ (m : Met). m.out) e)) (sym (ap (λ (m : Met). m.taken) e)) (r (not_pending b.met q n)) in
+    (f.0, f.1, f.2, f.3, inl f.4)

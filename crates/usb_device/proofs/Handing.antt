@@ -1,0 +1,191 @@
+-- What is handed over to the buffers of endpoint 1.
+use Rattle.std.proofs.Common.{◌≡◌, ℕ, ◌+◌, Bool, true, false, not, List, [], ◌∷◌, ◌++◌, length, ◌&&◌, ◌||◌, ◌<◌, ◌≤◌, None, refl, sym, ap, subst, ◌∙◌, ◌⊎◌, inl, inr, nat_lt, arith}
+use Rattle.usb_device.specs.declared.report_buffers.Course.{Course}
+use Rattle.usb_device.specs.declared.report_buffers.Course.TheVariants.{Rests, Begins, Goes}
+use Rattle.usb_device.specs.Calls.{EpCall, Polled}
+use Rattle.usb_device.specs.Bus1.{Bus1, blank, agree, Goes1, unless_reset, filled, room_of}
+use Rattle.usb_device.specs.Waits.{Moment, is_waiting}
+use Rattle.usb_device.specs.ties.Waited.{Waited}
+use Rattle.usb_device.specs.Reports.{cut, count_of, packets_of, with_new, Carries}
+use Rattle.usb_device.specs.ties.Link1.{may_send, IsHeld, NothingWithheld, all_handed, all_full, was_reset, has_none, ReportState, is_more, to_hand, copies, new_of, ArePackets, Agrees, Beginning, Going, Now1, Link1}
+use Rattle.usb_device.proofs.Carrying.{true_false, all_own, own-append, own_copies, snoc-append, snoc_some, snoc-length, will}
+use Rattle.usb_device.proofs.Reporting.{goes1, lt_true, positive, lt_suc, bool_cases}
+
+-- a packet is put into a buffer
+pub set_full : Bus1 → List ℕ → Bus1
+set_full b packet = record { got = b.got; host = b.host; device = b.device; slots = b.slots ++ packet ∷ []; taken = b.taken; opened = false; reset = b.reset }
+
+pub agrees_sure : (unsure : Bool) (b : Bus1) → Agrees unsure b → unsure ≡ false → agree b ≡ true
+agrees_sure true b a e = absurd (true_false e)
+agrees_sure false b a e = a.0
+
+pub first_going : (s : ReportState) (b : Bus1) (calls : List EpCall) (packet rest : List ℕ) (due : ℕ) (again : Bool)
+    → packets_of s.size s.report ++ copies s.unsure (packets_of s.size s.report) ≡ packet ∷ (cut s.size due rest ++ copies again (packets_of s.size s.report))
+    → Beginning s b calls → Going (record s { rest = rest; due = due; again = again; unsure = false; course = Goes; buffered = 1 }) (set_full b packet) calls
+unfolding set_full
+first_going s b calls packet rest due again e h =
+    let p = packets_of s.size s.report in
+    let hand = cut s.size due rest ++ copies again p in
+    let empty = sym h.free.empty in
+    let W : List (List ℕ) → Type 0 = λ x. Carries s.size (with_new (new_of (agree b) x) b.got) (s.report ∷ h.earlier) in
+    let X : List (List ℕ) → Type 0 = λ x. Carries s.size (with_new (new_of (agree b) ((x ++ packet ∷ []) ++ hand)) b.got) (s.report ∷ h.earlier) in
+    let O : List (List ℕ) → Type 0 = λ x. ArePackets s.size s.report x in
+    let Q : List (List ℕ) → Type 0 = λ x. ArePackets s.size s.report ((x ++ packet ∷ []) ++ hand) in
+    let L : List (List ℕ) → Type 0 = λ x. 1 ≡ length (x ++ packet ∷ []) + b.taken in
+    let told = h.free.told in
+    record {
+      counted = subst L empty (omega (arith, told));
+      closed = refl;
+      sure = refl;
+      earlier = h.earlier;
+      sent = h.sent;
+      begun = h.begun;
+      will = subst X empty (subst W e (will s.unsure (agree b) s.size s.report b.got h.begun.pieces h.begun.before h.earlier h.begun.got_is h.begun.are h.once h.marked (agrees_sure s.unsure b h.free.agrees) h.begun.carried));
+      ours = subst Q empty (subst O e (own-append s.size s.report p (copies s.unsure p) (all_own s.size s.report) (own_copies s.size s.report s.unsure)));
+      even = λ n. absurd (snoc_some b.slots packet n);
+      busy = λ _. refl;
+    }
+
+pub more_going : (s : ReportState) (b : Bus1) (calls : List EpCall) (packet rest : List ℕ) (due : ℕ) (again : Bool)
+    → to_hand s ≡ packet ∷ (cut s.size due rest ++ copies again (packets_of s.size s.report))
+    → Going s b calls → Going (record s { rest = rest; due = due; again = again; buffered = s.buffered + 1 }) (set_full b packet) calls
+unfolding set_full
+more_going s b calls packet rest due again e h =
+    let hand = cut s.size due rest ++ copies again (packets_of s.size s.report) in
+    let same : b.slots ++ to_hand s ≡ (b.slots ++ packet ∷ []) ++ hand = ap (λ x. b.slots ++ x) e ∙ sym (snoc-append b.slots packet hand) in
+    let W : List (List ℕ) → Type 0 = λ x. Carries s.size (with_new (new_of (agree b) x) b.got) (s.report ∷ h.earlier) in
+    let O : List (List ℕ) → Type 0 = λ x. ArePackets s.size s.report x in
+    let counted = h.counted in
+    let longer = snoc-length b.slots packet in
+    record {
+      counted = omega (arith, counted, longer);
+      closed = refl;
+      sure = h.sure;
+      earlier = h.earlier;
+      sent = h.sent;
+      begun = h.begun;
+      will = subst W same h.will;
+      ours = subst O same h.ours;
+      even = λ n. absurd (snoc_some b.slots packet n);
+      busy = λ _. positive s.buffered;
+    }
+
+pub filled_by : (reset : Bool) (s n : ReportState) (b : Bus1) (calls : List EpCall) (packet : List ℕ) → b.reset ≡ reset → Link1 s b calls
+    → n.course ≡ Goes → (b.reset ≡ false → Going n (set_full b packet) calls) → Link1 n (unless_reset reset b (set_full b packet)) calls
+unfolding set_full
+filled_by true s n b calls packet e h c k = record { fresh = h.fresh; current = λ r. absurd (true_false (sym e ∙ r)) }
+filled_by false s n b calls packet e h c k =
+    let M : Course → Type 0 = λ x. Now1 x n (set_full b packet) calls in
+    record { fresh = λ r. absurd (true_false (sym r ∙ e)); current = λ r. subst M (sym c) (k e) }
+
+pub slots_of_blank : (b : Bus1) → b ≡ blank true → b.slots ≡ []
+slots_of_blank b e = ap (λ (y : Bus1). y.slots) e
+
+pub one_room : (two : Bool) → 0 < room_of two
+one_room true = omega arith
+one_room false = omega arith
+
+-- the first packet of a report
+pub first_link : (s r n : ReportState) (steps : List Bus1) (b mid new : Bus1) (calls : List EpCall) (packet : List ℕ) (two : Bool) → s.course ≡ Begins
+    → r ≡ record s { rest = s.report; due = count_of s.size s.report; again = s.unsure; unsure = false }
+    → n ≡ record r { rest = n.rest; due = n.due; again = n.again } → (is_more r ≡ true → to_hand r ≡ packet ∷ to_hand n)
+    → Goes1 steps b mid → (length mid.slots < room_of two → new ≡ filled mid packet) → Link1 s b calls
+    → Link1 (record n { course = Goes; buffered = 1 }) new calls
+unfolding set_full
+first_link s r n steps b mid new calls packet two c er en p g f h =
+    let m = goes1 steps s b mid calls g h in
+    let N : Course → Type 0 = λ x. Now1 x s mid calls in
+    let start : ReportState = record s { rest = s.report; due = count_of s.size s.report; again = s.unsure; unsure = false } in
+    let M : ReportState → Type 0 = λ x. is_more x ≡ true in
+    let more : is_more r ≡ true = subst M (sym er) (ap (λ x. x || s.unsure) (lt_suc _)) in
+    let end : ReportState = record start { rest = n.rest; due = n.due; again = n.again } in
+    let E : ReportState → Type 0 = λ x. n ≡ record x { rest = n.rest; due = n.due; again = n.again } in
+    let same : n ≡ end = subst E er en in
+    let F : ReportState → ReportState → Type 0 = λ x y. to_hand x ≡ packet ∷ to_hand y in
+    let F1 : ReportState → Type 0 = λ x. F x n in
+    let F2 : ReportState → Type 0 = λ x. F start x in
+    let handed : F start end = subst F2 same (subst F1 er (p more)) in
+    let L : ReportState → Type 0 = λ x. Link1 (record x { course = Goes; buffered = 1 }) (filled mid packet) calls in
+    let empty : mid.slots ≡ [] = elim (bool_cases mid.reset) [ inl x ↦ slots_of_blank mid (m.fresh x) | inr x ↦ (subst N c (m.current x)).free.empty ] in
+    let R : List (List ℕ) → Type 0 = λ x. length x < room_of two in
+    let P : Bus1 → Type 0 = λ x. Link1 (record n { course = Goes; buffered = 1 }) x calls in
+    subst P (sym (f (subst R (sym empty) (one_room two))))
+    (subst L (sym same) (filled_by mid.reset s (record end { course = Goes; buffered = 1 }) mid calls packet refl m refl
+    (λ x. first_going s mid calls packet n.rest n.due n.again handed (subst N c (m.current x)))))
+
+-- another packet of it
+pub more_link : (s n : ReportState) (steps : List Bus1) (b mid new : Bus1) (calls : List EpCall) (packet : List ℕ) (two : Bool) → s.course ≡ Goes
+    → n ≡ record s { rest = n.rest; due = n.due; again = n.again } → to_hand s ≡ packet ∷ to_hand n → s.buffered < room_of two
+    → Goes1 steps b mid → (length mid.slots < room_of two → new ≡ filled mid packet) → Link1 s b calls
+    → Link1 (record n { buffered = n.buffered + 1 }) new calls
+unfolding set_full
+more_link s n steps b mid new calls packet two c en p room g f h =
+    let m = goes1 steps s b mid calls g h in
+    let N : Course → Type 0 = λ x. Now1 x s mid calls in
+    let end : ReportState = record s { rest = n.rest; due = n.due; again = n.again } in
+    let F : ReportState → Type 0 = λ x. to_hand s ≡ packet ∷ to_hand x in
+    let L : ReportState → Type 0 = λ x. Link1 (record x { buffered = x.buffered + 1 }) (filled mid packet) calls in
+    let E : List (List ℕ) → Type 0 = λ x. length x < room_of two in
+    let fits : length mid.slots < room_of two = elim (bool_cases mid.reset) [
+      | inl x ↦ subst E (sym (slots_of_blank mid (m.fresh x))) (one_room two)
+      | inr x ↦ (let k = (subst N c (m.current x)).counted in omega (arith, k, room))
+    ] in
+    let P : Bus1 → Type 0 = λ x. Link1 (record n { buffered = n.buffered + 1 }) x calls in
+    subst P (sym (f fits))
+    (subst L (sym en) (filled_by mid.reset s (record end { buffered = s.buffered + 1 }) mid calls packet refl m c
+    (λ x. more_going s mid calls packet n.rest n.due n.again (subst F en p) (subst N c (m.current x)))))
+
+-- two packets more fill the buffers, or all are handed over
+pub room_most : (two : Bool) → room_of two ≤ 2
+room_most true = omega arith
+room_most false = omega arith
+
+pub held_first : (two : Bool) (n m : ReportState) → n.buffered ≡ 1 → (m ≡ n) × IsHeld (room_of two) n ⊎ (m.buffered ≡ n.buffered + 1) → IsHeld (room_of two) m
+held_first two n m e (inl x) = let P : ReportState → Type 0 = λ y. IsHeld (room_of two) y in subst P (sym x.0) x.1
+held_first two n m e (inr x) = let most = room_most two in inr (omega (arith, e, x, most))
+
+pub held_twice : (two : Bool) (s n m : ReportState) → (n ≡ s) × IsHeld (room_of two) s ⊎ (n.buffered ≡ s.buffered + 1)
+    → (IsHeld (room_of two) n → m ≡ n) → (m ≡ n) × IsHeld (room_of two) n ⊎ (m.buffered ≡ n.buffered + 1) → IsHeld (room_of two) m
+held_twice two s n m x k (inl y) = let P : ReportState → Type 0 = λ z. IsHeld (room_of two) z in subst P (sym y.0) y.1
+held_twice two s n m (inl x) k (inr y) =
+    let P : ReportState → Type 0 = λ z. IsHeld (room_of two) z in
+    let held : IsHeld (room_of two) n = subst P (sym x.0) x.1 in
+    subst P (sym (k held)) held
+held_twice two s n m (inr x) k (inr y) = let most = room_most two in inr (omega (arith, x, y, most))
+
+-- nothing is withheld
+pub going_held : (may : Bool) (two : Bool) (s : ReportState) (b : Bus1) (calls : List EpCall) → Going s b calls → IsHeld (room_of two) s
+    → NothingWithheld may (room_of two) s b calls
+going_held may two s b calls g (inl n) =
+    let P : ℕ → Type 0 = λ x. nat_lt 0 x ≡ true in all_handed (subst P g.counted (g.busy n)) n
+going_held may two s b calls g (inr f) =
+    let counted = g.counted in
+    let some = one_room two in
+    all_full (lt_true (omega (arith, f, some, counted))) (omega (arith, f, counted))
+
+pub goes_held : (may : Bool) (two : Bool) (s : ReportState) (b : Bus1) (calls : List EpCall) → s.course ≡ Goes → Link1 s b calls → IsHeld (room_of two) s
+    → NothingWithheld may (room_of two) s b calls
+goes_held may two s b calls e h held = elim (bool_cases b.reset) [
+  | inl r ↦ was_reset r
+  | inr r ↦ (let N : Course → Type 0 = λ x. Now1 x s b calls in going_held may two s b calls (subst N e (h.current r)) held)
+]
+
+pub rests_none : (may : Bool) (room : ℕ) (s : ReportState) (b : Bus1) (before calls : List EpCall) → s.course ≡ Rests → Link1 s b calls → calls ≡ Polled None ∷ before
+    → NothingWithheld may room s b calls
+rests_none may room s b before calls e h c = elim (bool_cases b.reset) [
+  | inl r ↦ was_reset r
+  | inr r ↦ (let N : Course → Type 0 = λ x. Now1 x s b calls in has_none before (subst N e (h.current r)).free.empty c)
+]
+
+pub not_waiting : (moments : List Moment) (left : ℕ) → Waited moments left → left ≡ 0 → is_waiting moments ≡ false
+not_waiting moments left w e = let P : ℕ → Type 0 = λ x. nat_lt 0 x ≡ is_waiting moments in sym (subst P e (w 0))
+
+pub still_waits : (moments : List Moment) (left : ℕ) → Waited moments left → nat_lt 0 left ≡ true → is_waiting moments ≡ true
+still_waits moments left w e = sym (w 0) ∙ e
+
+pub may_by : (is_ready : Bool) (moments : List Moment) → is_ready ≡ true → is_waiting moments ≡ false → may_send is_ready moments ≡ true
+may_by is_ready moments r w = ap (λ x. x && not (is_waiting moments)) r ∙ ap (λ x. true && not x) w
+
+pub may_not_by : (is_ready : Bool) (moments : List Moment) → is_waiting moments ≡ true → may_send is_ready moments ≡ false
+may_not_by true moments w = ap (λ x. true && not x) w
+may_not_by false moments w = refl

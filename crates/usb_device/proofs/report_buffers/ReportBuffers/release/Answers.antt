@@ -1,0 +1,15 @@
+use Rattle.std.proofs.Common.{sym, subst}
+use Rattle.usb_device.specs.contracts.report_buffers.ReportBuffers.{the_view}
+use Rattle.usb_device.specs.ties.Link1.{ReportState, Link1}
+use Rattle.usb_device.proofs.Reporting.{left_same, sure_link}
+use Rattle.usb_device.proofs.report_buffers.ReportBuffers.release.Goals as goal
+
+pub returns-then-knows-clause-linked : goal.returns-then-knows-clause-linked
+returns-then-knows-clause-linked c = λ b calls k h.
+    let P : ReportState → Type 0 = λ x. Link1 x b calls in
+    sure_link (the_view c.self.inside) 0 b calls (k c.if-knows.true) (subst P (sym c.self.view_is) h)
+
+pub returns-else-knows-clause-linked : goal.returns-else-knows-clause-linked
+returns-else-knows-clause-linked c = λ b calls k h.
+    let P : ReportState → Type 0 = λ x. Link1 x b calls in
+    left_same (the_view c.self.inside) 0 b calls (subst P (sym c.self.view_is) h)

@@ -1,0 +1,382 @@
+//! Endpoint 1 behind buffers: reports in packets, and data toggles.
+
+ghost use Rattle.std.specs.Prelude.{◌≡◌, ◌⊎◌, ◌≤◌, ◌+◌, ◌-◌, ◌/◌, ◌∷◌, ℕ, ◌<◌, nat_lt, suc, length, Bool, true, false, List, [], take, drop, None};
+ghost use Rattle.usb_device.specs.Calls.{EpCall, BusReset, Polled};
+ghost use Rattle.usb_device.specs.Bus1.{Bus1, Goes1, filled, room_of, told, anew, blank};
+ghost use Rattle.usb_device.specs.Reports.{count_of};
+ghost use Rattle.usb_device.specs.Waits.{Moment, Held, Scanned, Released, is_waiting};
+ghost use Rattle.usb_device.specs.ties.Waited.{Waited};
+ghost use Rattle.usb_device.specs.ties.Link1.{ReportState, Link1, to_hand, NothingWithheld, PolledOnce, size_of, may_send, is_more, is_over, IsHeld};
+ghost use Rattle.usb_device.specs.declared.report_buffers.Course.TheVariants.{Rests, Begins, Goes};
+
+use crate::{Endpoints, Report};
+use arrayvec::ArrayVec;
+use std::marker::Model;
+
+/// The buffers of endpoint 1.
+pub trait Buffers {
+    /// They, and what the host got from them.
+    ghost bus: { Self → Bus1 };
+
+    /// Whether there are two, which are sent in turns, or one.
+    ghost two: { Bool };
+
+    /// Whether there are two.
+    fn has_two(&self) -> bool
+        ensures { result ≡ two };
+
+    /// Puts a packet into a free buffer; there is one. Without effect after a reset that was not told.
+    fn input_1(&mut self, packet: Report)
+        ensures { (steps : List Bus1) × (mid : Bus1) × Goes1 steps (bus self.old) mid
+            × (length mid.slots < room_of two → bus self.new ≡ filled mid packet.items) };
+}
+
+/// The bytes of a packet of endpoint 1 (section 5.7.3).
+#[derive(Clone, Copy, Debug, PartialEq, Eq)]
+pub enum PacketSize {
+    Bytes8,
+    Bytes16,
+    Bytes32,
+    Bytes64,
+}
+
+impl PacketSize {
+    /// The number of bytes.
+    pub fn bytes(self) -> usize
+        ensures size { result ≡ size_of self }
+        ensures some { 8 ≤ result }
+    {
+        match self {
+            PacketSize::Bytes8 => 8,
+            PacketSize::Bytes16 => 16,
+            PacketSize::Bytes32 => 32,
+            PacketSize::Bytes64 => 64,
+        }
+    }
+}
+
+/// The scans, a millisecond each, in which a host that asks takes the packet of a status stage (section 9.2.6.4).
+const STATUS_SCANS: u8 = 50;
+
+/// Where the report under way stands.
+#[derive(Clone, Copy, PartialEq, Eq)]
+pub(crate) enum Course {
+    /// None is under way.
+    Rests,
+    /// It is to be handed over from its first packet on.
+    Begins,
+    /// Packets of it were handed over.
+    Goes,
+}
+
+/// What is known of the buffers, and the report under way.
+///
+/// A change of endpoint 1 is made before the host knows of it. So no packet is handed over until the host has taken the
+/// status packet, has begun another transfer, or has let 50 scans go by: the acknowledgement may be lost, and then the
+/// device never knows that the host has the packet (section 8.5.3.3). Then the host may want either data toggle, and drops a
+/// packet that has the other one. So the next report is handed over twice, and the host has it whole.
+#[derive(Drop)]
+pub struct ReportBuffers {
+    size: PacketSize,
+    course: Course,
+    report: Report,
+    rest: Report,
+    due: usize,
+    again: bool,
+    buffered: usize,
+    unsure: bool,
+    waits: u8,
+}
+
+impl Model for ReportBuffers {
+    ghost use Rattle.usb_device.specs.ties.Link1.{ReportState, size_of};
+
+    ghost Value = { ReportState };
+
+    ghost view = { λ r. record {
+      size = size_of r.size;
+      course = r.course;
+      report = r.report.items;
+      rest = r.rest.items;
+      due = r.due;
+      again = r.again;
+      buffered = r.buffered;
+      unsure = r.unsure;
+      left = r.waits;
+    } };
+}
+
+/// How many buffers there are.
+fn room<B: Buffers>(buffers: &B) -> usize
+    ensures { result ≡ room_of B.two }
+{
+    if buffers.has_two() { 2 } else { 1 }
+}
+
+/// At most 23 bytes, held.
+fn held(bytes: &[u8]) -> Report
+    ensures { length bytes.now ≤ 23 → result.items ≡ bytes.now }
+{
+    let mut held = ArrayVec::new();
+    let _full = held.try_extend_from_slice(bytes);
+    held
+}
+
+/// So many of at most 23 bytes, or all of fewer.
+fn first_bytes(bytes: &[u8], count: usize) -> Report
+    ensures { length bytes.now ≤ 23 → result.items ≡ take count bytes.now }
+{
+    held(&bytes[..bytes.len().min(count)])
+}
+
+/// The bytes behind these.
+fn behind(bytes: &[u8], count: usize) -> Report
+    ensures { length bytes.now ≤ 23 → result.items ≡ drop count bytes.now }
+{
+    held(&bytes[bytes.len().min(count)..])
+}
+
+impl ReportBuffers {
+    /// Empty buffers that wait for nothing, behind a reset of the bus.
+    pub fn new(size: PacketSize) -> ReportBuffers
+        ensures linked { Link1 result (blank false) [] }
+        ensures waits { Waited [] result.left }
+    {
+        ReportBuffers {
+            size,
+            course: Course::Rests,
+            report: ArrayVec::new(),
+            rest: ArrayVec::new(),
+            due: 0,
+            again: false,
+            buffered: 0,
+            unsure: false,
+            waits: 0,
+        }
+    }
+
+    /// The controller empties the buffers, and begins with DATA0: a request that sets endpoint 1 is answered by its status
+    /// packet. A report that the host has not whole begins anew, and nothing is handed over until `release` or 50 scans.
+    pub fn begin_anew(&mut self)
+        ensures linked { (b : Bus1) (calls : List EpCall) → Link1 self.old b calls → Link1 self.new (anew b) calls }
+        ensures waits { (moments : List Moment) → Waited (Held ∷ moments) self.new.left }
+    {
+        self.unsure = true;
+        self.waits = STATUS_SCANS;
+        match self.course {
+            Course::Goes => self.course = Course::Begins,
+            Course::Rests | Course::Begins => {}
+        }
+    }
+
+    /// A scan of the matrix, a millisecond after the one before.
+    pub fn scan(&mut self)
+        ensures waits { (moments : List Moment) → Waited moments self.old.left → Waited (Scanned ∷ moments) self.new.left }
+        ensures linked { (b : Bus1) (calls : List EpCall) → Link1 self.old b calls → Link1 self.new b calls }
+    {
+        self.waits = self.waits.saturating_sub(1);
+    }
+
+    /// The host has taken the status packet (`knows`), or has sent a SETUP packet, which may be instead. A host that has it
+    /// has begun anew with DATA0.
+    pub fn release(&mut self, knows: bool)
+        ensures waits { (moments : List Moment) → Waited (Released ∷ moments) self.new.left }
+        ensures linked { (b : Bus1) (calls : List EpCall) → (knows ≡ true → b.opened ≡ true → b.host ≡ false)
+            → Link1 self.old b calls → Link1 self.new b calls }
+    {
+        self.waits = 0;
+        if knows {
+            self.unsure = false;
+        }
+    }
+
+    /// A reset of the bus. The report under way is dropped, as the host has forgotten what it knew.
+    pub fn reset(&mut self)
+        ensures linked { (calls : List EpCall) → Link1 self.new (blank false) (BusReset ∷ calls) }
+        ensures waits { (moments : List Moment) → Waited (Released ∷ moments) self.new.left }
+    {
+        self.course = Course::Rests;
+        self.unsure = false;
+        self.waits = 0;
+    }
+
+    /// So many packets were taken since this was told before.
+    pub fn taken(&mut self, count: usize)
+        ensures linked { (b : Bus1) (calls : List EpCall) → b.reset ≡ false → b.taken ≡ count → Link1 self.old b calls
+            → Link1 self.new (told b) calls }
+        ensures waits { self.new.left ≡ self.old.left }
+    {
+        self.buffered = self.buffered.saturating_sub(count);
+        match self.course {
+            Course::Goes => {
+                if self.is_over() {
+                    self.course = Course::Rests;
+                }
+            }
+            Course::Rests | Course::Begins => {}
+        }
+    }
+
+    /// Whether the host has all packets of the report under way.
+    fn is_over(&self) -> bool
+        ensures { result ≡ is_over self.now }
+    {
+        self.buffered == 0 && !self.is_more()
+    }
+
+    /// Whether packets are still to be handed over, of the report under way.
+    fn is_more(&self) -> bool
+        ensures { result ≡ is_more self.now }
+    {
+        self.due > 0 || self.again
+    }
+
+    /// Fills the free buffers, where endpoint 1 is ready and nothing is waited for: with packets of the report under way, or
+    /// of the next one that is due.
+    ///
+    /// What the host takes as new are the reports that the device gave, each whole, in their order: once, or more often where
+    /// the device began anew. Nothing is withheld: behind the call all of a report, or as much as there are buffers, is in
+    /// them or was just taken, or the device has none.
+    pub fn serve<E: Endpoints, B: Buffers>(
+        &mut self,
+        is_ready: bool,
+        device: &mut E,
+        buffers: &mut B,
+    )
+        ensures linked { (moments : List Moment) (calls : List EpCall) → Waited moments self.old.left → E.stands calls device.old
+            → Link1 self.old (B.bus buffers.old) calls
+            → (later : List EpCall) × E.stands later device.new × Link1 self.new (B.bus buffers.new) later
+            × NothingWithheld (may_send is_ready moments) (room_of B.two) self.new (B.bus buffers.new) later
+            × (may_send is_ready moments ≡ false → (later ≡ calls) × (buffers.new ≡ buffers.old)) × PolledOnce calls later }
+        ensures waits { self.new.left ≡ self.old.left }
+    {
+        if is_ready && self.waits == 0 {
+            self.ask(device);
+            self.fill(buffers);
+        }
+    }
+
+    /// Asks the device for a report, where none is under way.
+    fn ask<E: Endpoints>(&mut self, device: &mut E)
+        ensures linked { (b : Bus1) (calls : List EpCall) → E.stands calls device.old → Link1 self.old b calls
+            → (later : List EpCall) × E.stands later device.new × Link1 self.new b later × PolledOnce calls later
+            × (self.new.course ≡ Rests → (before : List EpCall) × (later ≡ Polled None ∷ before)) }
+        ensures waits { self.new.left ≡ self.old.left }
+    {
+        match self.course {
+            Course::Rests => match device.poll() {
+                Some(report) => {
+                    self.report = report;
+                    self.course = Course::Begins;
+                }
+                None => {}
+            },
+            Course::Begins | Course::Goes => {}
+        }
+    }
+
+    /// Hands over packets of the report under way, while there are free buffers.
+    fn fill<B: Buffers>(&mut self, buffers: &mut B)
+        ensures linked { (calls : List EpCall) → Link1 self.old (B.bus buffers.old) calls → Link1 self.new (B.bus buffers.new) calls }
+        ensures held { (self.new.course ≡ Goes) × IsHeld (room_of B.two) self.new ⊎ (self.old.course ≡ Rests) × (buffers.new ≡ buffers.old) × (self.new ≡ self.old) }
+        ensures waits { self.new.left ≡ self.old.left }
+    {
+        match self.course {
+            Course::Rests => {}
+            Course::Begins => {
+                self.first(buffers);
+                self.more(buffers);
+            }
+            Course::Goes => {
+                self.more(buffers);
+                self.more(buffers);
+            }
+        }
+    }
+
+    /// Hands over the first packet of the report, which is to be handed over twice where the toggles may differ.
+    fn first<B: Buffers>(&mut self, buffers: &mut B)
+        ensures linked { (calls : List EpCall) → self.old.course ≡ Begins → Link1 self.old (B.bus buffers.old) calls
+            → Link1 self.new (B.bus buffers.new) calls }
+        ensures goes { self.new.course ≡ Goes }
+        ensures one { self.new.buffered ≡ 1 }
+        ensures waits { self.new.left ≡ self.old.left }
+    {
+        self.restart();
+        let packet = self.next_packet();
+        self.buffered = 1;
+        self.course = Course::Goes;
+        buffers.input_1(packet);
+    }
+
+    /// Hands over another packet of the report, where there is one, and a free buffer.
+    fn more<B: Buffers>(&mut self, buffers: &mut B)
+        ensures linked { (calls : List EpCall) → self.old.course ≡ Goes → Link1 self.old (B.bus buffers.old) calls
+            → Link1 self.new (B.bus buffers.new) calls }
+        ensures goes { self.new.course ≡ self.old.course }
+        ensures none { IsHeld (room_of B.two) self.old → self.new ≡ self.old }
+        ensures more { (self.new ≡ self.old) × IsHeld (room_of B.two) self.old ⊎ (self.new.buffered ≡ self.old.buffered + 1) }
+        ensures waits { self.new.left ≡ self.old.left }
+    {
+        if self.buffered < room(buffers) && self.is_more() {
+            let packet = self.next_packet();
+            self.buffered += 1;
+            buffers.input_1(packet);
+        }
+    }
+
+    /// Begins the report: once more, where the toggles may differ.
+    fn restart(&mut self)
+        ensures { self.new ≡ record self.old {
+          rest = self.old.report;
+          due = count_of self.old.size self.old.report;
+          again = self.old.unsure;
+          unsure = false;
+        } }
+    {
+        self.rest = held(self.report.as_slice());
+        self.due = self.count();
+        self.again = self.unsure;
+        self.unsure = false;
+    }
+
+    /// How many packets the report has.
+    fn count(&self) -> usize
+        ensures { result ≡ count_of self.now.size self.now.report }
+    {
+        self.report.len().saturating_sub(1) / self.size.bytes() + 1
+    }
+
+    /// The next packet of the report.
+    fn next_packet(&mut self) -> Report
+        ensures packet { is_more self.old ≡ true → to_hand self.old ≡ result.items ∷ to_hand self.new }
+        ensures same { self.new ≡ record self.old { rest = self.new.rest; due = self.new.due; again = self.new.again } }
+    {
+        self.refill();
+        self.take_packet()
+    }
+
+    /// Begins the report once more where all of it was handed over.
+    fn refill(&mut self)
+        ensures packets { is_more self.old ≡ true → (to_hand self.new ≡ to_hand self.old) × (nat_lt 0 self.new.due ≡ true) }
+        ensures same { self.new ≡ record self.old { rest = self.new.rest; due = self.new.due; again = self.new.again } }
+    {
+        if self.due == 0 {
+            self.rest = held(self.report.as_slice());
+            self.due = self.count();
+            self.again = false;
+        }
+    }
+
+    /// Takes a packet from what is to be handed over.
+    fn take_packet(&mut self) -> Report
+        ensures packet { nat_lt 0 self.old.due ≡ true → to_hand self.old ≡ result.items ∷ to_hand self.new }
+        ensures same { self.new ≡ record self.old { rest = self.new.rest; due = self.new.due } }
+    {
+        let size = self.size.bytes();
+        let packet = first_bytes(self.rest.as_slice(), size);
+        self.rest = behind(self.rest.as_slice(), size);
+        self.due = self.due.saturating_sub(1);
+        packet
+    }
+}
