@@ -1,4 +1,4 @@
-use Rattle.std.proofs.Common.{◌≡◌, ℕ, zero, suc, ◌<◌, List, true, false, refl, arith, inl, inr}
+use Rattle.std.proofs.Common.{◌≡◌, ◌↔◌, Bool, sym, ℕ, zero, suc, ◌<◌, List, true, false, refl, arith, inl, inr}
 use Rattle.std.proofs.lemmas.Bool.{cases_eq, cases_Bool, and_parts}
 use Rattle.records.specs.declared.Slot.{Slot}
 use Rattle.records.specs.declared.Slot.TheVariants.{Free, Good, Spoiled}
@@ -44,3 +44,8 @@ is_blank-used image page u = elim (cases_Bool (is_blank image page)) [
   | inl e ↦ absurd (u (λ s a l. free_of image page 512 e s l))
   | inr e ↦ e
 ]
+
+-- a test that tells of each page whether it is blank is this one
+pub blank_test : (image : List ℕ) (page : ℕ) (held : Bool) → ((held ≡ true) ↔ IsBlank image page) → held ≡ is_blank image page
+blank_test image page true h = sym (is_blank-blank image page (h.0 refl))
+blank_test image page false h = sym (is_blank-used image page (λ b. let e = h.1 b in cc))

@@ -191,21 +191,7 @@ seal_ends old before target new d e ready i g =
       kept = λ x. cc;
     }
 
--- the same with the page, the number and the count that the code has
-pub ready_of : (image : List ℕ) (target : Target) → (target ≡ Unread → IsBlank image (target_page image)) → IsReady image target
-ready_of image Unread h = h refl
-ready_of image (Holds n) h = tt
-
-pub copy_ends_at : (old : List ℕ) (before : LogValue) (target : Target) (word page n : ℕ) (new : List ℕ) → Describes old before → before.task ≡ Copy target word → page ≡ target_page old → n ≡ copied target → (target ≡ Unread → IsBlank old page) → IsImage new → Programs old page (n + 1) (encoded word) new
-    → EndsAs old before Moved new (record before { task = Wait (Holds (n + 1)) })
-copy_ends_at old before target word page n new d e p m r i g =
-    rw m (copy_ends old before target word new d e (ready_of old target (rw p at r)) i (rw (p, m) at g))
-
-pub seal_ends_at : (old : List ℕ) (before : LogValue) (target : Target) (page seq n : ℕ) (new : List ℕ) → Describes old before → before.task ≡ Seal target → page ≡ target_page old → seq ≡ next_seq old → n ≡ copied target → (target ≡ Unread → IsBlank old page) → IsImage new → Programs old page 0 (encoded (header_word 2 seq)) new
-    → EndsAs old before Committed new (record { active = Some (record { page = page; seq = seq; format = 2; tail = n + 1 }); unsound = before.unsound; task = Rest })
-seal_ends_at old before target page seq n new d e p q m r i g =
-    rw (p, q, m) (seal_ends old before target new d e (ready_of old target (rw p at r)) i (rw (p, q) at g))
-
+-- the number that the code has
 seq_by : (image : List ℕ) (held : Option ActivePage) (seq : ℕ) → MatchOption held (active image ≡ None) (λ a. IsHeld image a) → MatchOption held (seq ≡ 1) (λ a. seq ≡ a.seq + 1) → seq ≡ next_seq image
 seq_by image None seq h e = e ∙ sym (next_seq-none image h)
 seq_by image (Some a) seq h e = e ∙ sym (next_seq-some image a.page a.seq h.is_active)

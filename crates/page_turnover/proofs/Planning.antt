@@ -1,25 +1,24 @@
 -- The operation that is next, case by case, and what a step does once it is made.
 use Rattle.std.proofs.Common.{◌≡◌, ℕ, ◌+◌, ◌≤◌, refl, arith, Bool, true, false, List, Option, Some, None}
 use Rattle.page_turnover.specs.declared.log.ActivePage.{ActivePage}
-use Rattle.page_turnover.specs.declared.log.Target.TheVariants as Targets
-use Rattle.page_turnover.specs.declared.log.Task.TheVariants as Tasks
 use Rattle.page_turnover.specs.declared.log.stepping.Step.TheVariants.{Idle, Moved, Committed}
 use Rattle.page_turnover.specs.declared.operation.Operation.{Operation}
 use Rattle.page_turnover.specs.declared.operation.Operation.TheVariants.{Program, Erase}
 use Rattle.page_turnover.specs.Value.{LogValue, Target, Unread, Holds, Task, Rest, Append, Wait, Copy, Seal}
 use Rattle.page_turnover.specs.Header.{header_word}
 use Rattle.page_turnover.specs.Words.{IsBlank}
+use Rattle.page_turnover.specs.Blank.{is_blank}
 use Rattle.page_turnover.specs.Turn.{target_page, next_seq, copied, HasShortWord}
-use Rattle.page_turnover.specs.ties.Turn.{Appending, Copying, Turning, HoldsCopies}
+use Rattle.page_turnover.specs.ties.Turn.{Appending, Copying, Turning, HoldsCopies, TargetIs}
 use Rattle.page_turnover.specs.ties.Log.{Describes}
 use Rattle.page_turnover.specs.Next.{next_operation, operation_for, append_operation, turn_operation, is_ready, ProgramsShort}
 use Rattle.page_turnover.specs.Steps.{IsReady, EndsAs, StepsFor}
-use Rattle.page_turnover.specs.ties.Made.{CanMake, Plans}
+use Rattle.page_turnover.specs.ties.Made.{CanMake, CanAdvance, Advances}
 use Rattle.page_turnover.proofs.Blanks.{is_blank-blank, is_blank-used, blank_of}
 use Rattle.page_turnover.proofs.Headers.{header_word-small, header_word-short}
-use Rattle.page_turnover.proofs.Describing.{held_active, held_inside, room_of_none}
+use Rattle.page_turnover.proofs.Describing.{held_active, held_inside, room_of_none, tail_room}
 use Rattle.page_turnover.proofs.Turns.{target_inside, ready_holds}
-use Rattle.page_turnover.proofs.Endings.{under_way, append_room, append_ends, copy_ends_at, seal_ends_at, erase_for_copy, erase_for_seal, ready_of}
+use Rattle.page_turnover.proofs.Endings.{under_way, append_room, append_ends, copy_ends, seal_ends, seq_small, erase_for_copy, erase_for_seal}
 
 -- the cases of the operation that is next
 pub data NextIs (old : List ℕ) (log : LogValue) (operation : Operation) : Type 0 where
@@ -32,15 +31,7 @@ pub data NextIs (old : List ℕ) (log : LogValue) (operation : Operation) : Type
 some_same : (a b : Operation) → Some a ≡ Some b → b ≡ a
 some_same a b e = cc
 
--- the test of a ready target
-pub ready_test : (image : List ℕ) (target : Target) → IsReady image target → is_ready image target ≡ true
-ready_test image Unread r = is_blank-blank image (target_page image) r
-ready_test image (Holds n) r = refl
-
-pub unready_test : (image : List ℕ) (target : Target) → target ≡ Unread → (IsBlank image (target_page image) → ⊥) → is_ready image target ≡ false
-unready_test image Unread e u = is_blank-used image (target_page image) u
-unready_test image (Holds n) e u = cc
-
+-- a target that the test says to be ready
 test_ready : (image : List ℕ) (target : Target) → is_ready image target ≡ true → IsReady image target
 test_ready image Unread e = blank_of image (target_page image) e
 test_ready image (Holds n) e = tt
@@ -129,54 +120,98 @@ none_of_rest old log e = rw e refl
 pub none_of_wait : (old : List ℕ) (log : LogValue) (target : Target) → log.task ≡ Wait target → next_operation old log ≡ None
 none_of_wait old log target e = rw e refl
 
--- the plan of an append
-pub append_plan : (old : List ℕ) (log : LogValue) (word : ℕ) (a : ActivePage) → Describes old log → log.task ≡ Append word → log.active ≡ Some a
-    → Plans old log (record { operation = Program a.page a.tail word; active = Some (record a { tail = a.tail + 1 }); task = Tasks.Rest; step = Committed })
-append_plan old log word a d t h = record {
-  next = rw (t, h) refl;
-  not_idle = λ x. cc;
-  not_failed = λ x. cc;
-  ends = λ new i g. append_ends old log word a new d t h i g;
-}
-
--- the plan of a copy
-pub copy_plan : (old : List ℕ) (log : LogValue) (target : Target) (word page n : ℕ) → Describes old log → log.task ≡ Copy target word → page ≡ target_page old → n ≡ copied target → (target ≡ Unread → IsBlank old page)
-    → Plans old log (record { operation = Program page (n + 1) word; active = log.active; task = Tasks.Wait (Targets.Holds (n + 1)); step = Moved })
-copy_plan old log target word page n d t p m r = record {
-  next = rw (t, ready_test old target (ready_of old target (rw p at r)), p, m) refl;
-  not_idle = λ x. cc;
-  not_failed = λ x. cc;
-  ends = λ new i g. copy_ends_at old log target word page n new d t p m r i g;
-}
-
-pub copy_erase_plan : (old : List ℕ) (log : LogValue) (target : Target) (word page : ℕ) → Describes old log → log.task ≡ Copy target word → page ≡ target_page old → target ≡ Unread → (IsBlank old page → ⊥)
-    → Plans old log (record { operation = Erase page; active = log.active; task = Tasks.Copy (Targets.Holds 0) word; step = Moved })
-copy_erase_plan old log target word page d t p unread used =
-    let u : IsBlank old (target_page old) → ⊥ = rw p at used in
+-- the log after an append
+pub append_advances : (old : List ℕ) (log : LogValue) (operation : Operation) (word : ℕ) (a : ActivePage) → Describes old log → log.task ≡ Append word → log.active ≡ Some a → next_operation old log ≡ Some operation
+    → Advances old log operation Committed (record { active = Some (record a { tail = a.tail + 1 }); unsound = log.unsound; task = Rest })
+append_advances old log operation word a d t h e =
+    let o : operation ≡ Program a.page a.tail word = some_same _ _ (rw (t, h) at e) in
     record {
-      next = rw (t, unready_test old target unread u, p) refl;
       not_idle = λ x. cc;
       not_failed = λ x. cc;
-      ends = λ new i g. erase_for_copy old log target word new d t unread u i (rw p at g);
+      ends = λ new i g. append_ends old log word a new d t h i (rw o at g);
     }
 
--- the plan of a seal
-pub seal_plan : (old : List ℕ) (log : LogValue) (target : Target) (page seq n word : ℕ) → Describes old log → log.task ≡ Seal target → page ≡ target_page old → seq ≡ next_seq old → n ≡ copied target → (target ≡ Unread → IsBlank old page) → word ≡ header_word 2 seq
-    → Plans old log (record { operation = Program page 0 word; active = Some (record { page = page; seq = seq; format = 2; tail = n + 1 }); task = Tasks.Rest; step = Committed })
-seal_plan old log target page seq n word d t p q m r w = record {
-  next = rw (t, ready_test old target (ready_of old target (rw p at r)), p, w, q) refl;
-  not_idle = λ x. cc;
-  not_failed = λ x. cc;
-  ends = λ new i g. seal_ends_at old log target page seq n new d t p q m r i (rw w at g);
-}
+unready : (image : List ℕ) (target : Target) → is_ready image target ≡ false → (target ≡ Unread) × (IsBlank image (target_page image) → ⊥)
+unready image Unread e = (refl, λ b. let t : is_blank image (target_page image) ≡ true = is_blank-blank image (target_page image) b in cc)
+unready image (Holds n) e = cc
 
-pub seal_erase_plan : (old : List ℕ) (log : LogValue) (target : Target) (page : ℕ) → Describes old log → log.task ≡ Seal target → page ≡ target_page old → target ≡ Unread → (IsBlank old page → ⊥)
-    → Plans old log (record { operation = Erase page; active = log.active; task = Tasks.Seal (Targets.Holds 0); step = Moved })
-seal_erase_plan old log target page d t p unread used =
-    let u : IsBlank old (target_page old) → ⊥ = rw p at used in
+-- the log after a copy
+copy_by : (old : List ℕ) (log : LogValue) (operation : Operation) (target : Target) (word page slot w : ℕ) (test : Bool) → Describes old log → log.task ≡ Copy target word → operation ≡ Program page slot w → is_ready old target ≡ test → Some (turn_operation test old (copied target + 1) word) ≡ Some operation
+    → Advances old log operation Moved (record log { task = Wait (Holds (copied target + 1)) })
+copy_by old log operation target word page slot w true d t p r e =
+    let o : operation ≡ Program (target_page old) (copied target + 1) word = some_same _ _ e in
     record {
-      next = rw (t, unready_test old target unread u, p) refl;
       not_idle = λ x. cc;
       not_failed = λ x. cc;
-      ends = λ new i g. erase_for_seal old log target new d t unread u i (rw p at g);
+      ends = λ new i g. copy_ends old log target word new d t (test_ready old target r) i (rw o at g);
     }
+copy_by old log operation target word page slot w false d t p r e = cc
+
+pub copy_advances : (old : List ℕ) (log : LogValue) (operation : Operation) (target : Target) (word page slot w : ℕ) → Describes old log → log.task ≡ Copy target word → operation ≡ Program page slot w → next_operation old log ≡ Some operation
+    → Advances old log operation Moved (record log { task = Wait (Holds (copied target + 1)) })
+copy_advances old log operation target word page slot w d t p e = copy_by old log operation target word page slot w (is_ready old target) d t p refl (rw t at e)
+
+-- and after the erase before it
+copy_erased_by : (old : List ℕ) (log : LogValue) (operation : Operation) (target : Target) (word page : ℕ) (test : Bool) → Describes old log → log.task ≡ Copy target word → operation ≡ Erase page → is_ready old target ≡ test → Some (turn_operation test old (copied target + 1) word) ≡ Some operation
+    → Advances old log operation Moved (record log { task = Copy (Holds 0) word })
+copy_erased_by old log operation target word page true d t p r e = cc
+copy_erased_by old log operation target word page false d t p r e =
+    let o : operation ≡ Erase (target_page old) = some_same _ _ e in
+    let u = unready old target r in
+    record {
+      not_idle = λ x. cc;
+      not_failed = λ x. cc;
+      ends = λ new i g. erase_for_copy old log target word new d t u.0 u.1 i (rw o at g);
+    }
+
+pub copy_erased : (old : List ℕ) (log : LogValue) (operation : Operation) (target : Target) (word page : ℕ) → Describes old log → log.task ≡ Copy target word → operation ≡ Erase page → next_operation old log ≡ Some operation
+    → Advances old log operation Moved (record log { task = Copy (Holds 0) word })
+copy_erased old log operation target word page d t p e = copy_erased_by old log operation target word page (is_ready old target) d t p refl (rw t at e)
+
+-- the log after a seal
+seal_by : (old : List ℕ) (log : LogValue) (operation : Operation) (target : Target) (page slot w seq : ℕ) (test : Bool) → Describes old log → log.task ≡ Seal target → operation ≡ Program page slot w → seq ≡ next_seq old → is_ready old target ≡ test → Some (turn_operation test old 0 (header_word 2 (next_seq old))) ≡ Some operation
+    → Advances old log operation Committed (record { active = Some (record { page = page; seq = seq; format = 2; tail = copied target + 1 }); unsound = log.unsound; task = Rest })
+seal_by old log operation target page slot w seq true d t p q r e =
+    let o : operation ≡ Program (target_page old) 0 (header_word 2 (next_seq old)) = some_same _ _ e in
+    let at : page ≡ target_page old = cc in
+    rw (at, q) (record {
+      not_idle = λ x. cc;
+      not_failed = λ x. cc;
+      ends = λ new i g. seal_ends old log target new d t (test_ready old target r) i (rw o at g);
+    })
+seal_by old log operation target page slot w seq false d t p q r e = cc
+
+pub seal_advances : (old : List ℕ) (log : LogValue) (operation : Operation) (target : Target) (page slot w seq : ℕ) → Describes old log → log.task ≡ Seal target → operation ≡ Program page slot w → seq ≡ next_seq old → next_operation old log ≡ Some operation
+    → Advances old log operation Committed (record { active = Some (record { page = page; seq = seq; format = 2; tail = copied target + 1 }); unsound = log.unsound; task = Rest })
+seal_advances old log operation target page slot w seq d t p q e = seal_by old log operation target page slot w seq (is_ready old target) d t p q refl (rw t at e)
+
+seal_erased_by : (old : List ℕ) (log : LogValue) (operation : Operation) (target : Target) (page : ℕ) (test : Bool) → Describes old log → log.task ≡ Seal target → operation ≡ Erase page → is_ready old target ≡ test → Some (turn_operation test old 0 (header_word 2 (next_seq old))) ≡ Some operation
+    → Advances old log operation Moved (record log { task = Seal (Holds 0) })
+seal_erased_by old log operation target page true d t p r e = cc
+seal_erased_by old log operation target page false d t p r e =
+    let o : operation ≡ Erase (target_page old) = some_same _ _ e in
+    let u = unready old target r in
+    record {
+      not_idle = λ x. cc;
+      not_failed = λ x. cc;
+      ends = λ new i g. erase_for_seal old log target new d t u.0 u.1 i (rw o at g);
+    }
+
+pub seal_erased : (old : List ℕ) (log : LogValue) (operation : Operation) (target : Target) (page : ℕ) → Describes old log → log.task ≡ Seal target → operation ≡ Erase page → next_operation old log ≡ Some operation
+    → Advances old log operation Moved (record log { task = Seal (Holds 0) })
+seal_erased old log operation target page d t p e = seal_erased_by old log operation target page (is_ready old target) d t p refl (rw t at e)
+
+-- what is counted on stays within a page
+few_in : (image : List ℕ) (target : Target) → TargetIs image target → copied target ≤ 511
+few_in image Unread t = omega arith
+few_in image (Holds n) t = t.few
+
+can_advance_by : (old : List ℕ) (log : LogValue) (task : Task) → Describes old log → log.task ≡ task → CanAdvance task log
+can_advance_by old log Rest d t = tt
+can_advance_by old log (Append word) d t = tail_room old log d (under_way old log (Append word) d t).room
+can_advance_by old log (Wait target) d t = tt
+can_advance_by old log (Copy target word) d t = (under_way old log (Copy target word) d t).few
+can_advance_by old log (Seal target) d t = (few_in old target (under_way old log (Seal target) d t).target_is, seq_small old log d)
+
+pub can_advance : (old : List ℕ) (log : LogValue) → Describes old log → CanAdvance log.task log
+can_advance old log d = can_advance_by old log log.task d refl

@@ -10,14 +10,14 @@ use flash_model::{NorFlash, PAGE_SLOTS};
 use records::{Slot, all_ones, kinds8};
 
 /// How many slots are read at once.
-pub const BLOCK_SLOTS: usize = 8;
+pub const BLOCK_SLOTS: u32 = 8;
 
 /// How many blocks a page has.
-pub const PAGE_BLOCKS: usize = PAGE_SLOTS / BLOCK_SLOTS;
+pub const PAGE_BLOCKS: u32 = PAGE_SLOTS as u32 / BLOCK_SLOTS;
 
 /// Whether each slot of a block is Free.
 #[inline]
-pub fn is_free_block<F: NorFlash>(flash: &F, page: usize, block: usize) -> bool
+pub fn is_free_block<F: NorFlash>(flash: &F, page: usize, block: u32) -> bool
     requires in_pages { page < page_count (F.image flash.now) }
     requires in_page { block < 64 }
     ensures { IsTrue result ↔ ((i : ℕ) → i < 8 → slot_of (slot_at (F.image flash.now) page (8 * block + i)) ≡ Slot.Free) }
@@ -28,7 +28,7 @@ pub fn is_free_block<F: NorFlash>(flash: &F, page: usize, block: usize) -> bool
 
 /// Which slots of a block are Good: bit `i` is that of slot `i` of the block.
 #[inline]
-pub fn good_in_block<F: NorFlash>(flash: &F, page: usize, block: usize) -> u8
+pub fn good_in_block<F: NorFlash>(flash: &F, page: usize, block: u32) -> u8
     requires in_pages { page < page_count (F.image flash.now) }
     requires in_page { block < 64 }
     ensures { (i : ℕ) → i < 8 → bit_at result i ≡ (if is_good (slot_of (slot_at (F.image flash.now) page (8 * block + i))) then 1 else 0) }
@@ -38,7 +38,7 @@ pub fn good_in_block<F: NorFlash>(flash: &F, page: usize, block: usize) -> u8
 
 /// The bytes of a block's slots, one slot after the other.
 #[inline]
-fn read_block<F: NorFlash>(flash: &F, page: usize, block: usize) -> [u8; 64]
+fn read_block<F: NorFlash>(flash: &F, page: usize, block: u32) -> [u8; 64]
     requires in_pages { page < page_count (F.image flash.now) }
     requires in_page { block < 64 }
     ensures long { length result ≡ 64 }
@@ -47,14 +47,14 @@ fn read_block<F: NorFlash>(flash: &F, page: usize, block: usize) -> [u8; 64]
     let _pages = flash.pages();
     let at = BLOCK_SLOTS * block;
     let slots = [
-        flash.read_slot(page, at),
-        flash.read_slot(page, at + 1),
-        flash.read_slot(page, at + 2),
-        flash.read_slot(page, at + 3),
-        flash.read_slot(page, at + 4),
-        flash.read_slot(page, at + 5),
-        flash.read_slot(page, at + 6),
-        flash.read_slot(page, at + 7),
+        flash.read_slot(page, at as usize),
+        flash.read_slot(page, (at + 1) as usize),
+        flash.read_slot(page, (at + 2) as usize),
+        flash.read_slot(page, (at + 3) as usize),
+        flash.read_slot(page, (at + 4) as usize),
+        flash.read_slot(page, (at + 5) as usize),
+        flash.read_slot(page, (at + 6) as usize),
+        flash.read_slot(page, (at + 7) as usize),
     ];
     match <&[u8; 64]>::try_from(slots.as_flattened()) {
         Ok(bytes) => *bytes,

@@ -1,6 +1,7 @@
 //! A log over the pages of a flash.
 
 ghost use Rattle.std.specs.Prelude.{◌≡◌, ◌≤◌, ◌↔◌, ℕ, List, Option, Some, None, IsTrue, MatchResult, MatchOption, IsSomeAnd, IsOk, false};
+ghost use Rattle.flash_model.specs.Image.{IsImage};
 ghost use Rattle.page_turnover.specs.Active.{active, format};
 ghost use Rattle.page_turnover.specs.Words.{words, HasRoom, IsTail};
 ghost use Rattle.page_turnover.specs.Usable.{IsUsable, IsFirstUnsound};
@@ -29,12 +30,12 @@ pub struct Unsound {
 /// The page that holds the words of the log.
 #[derive(Clone, Copy, Debug)]
 pub struct ActivePage {
-    pub page: usize,
+    pub page: u8,
     pub seq: u32,
     /// 1 or 2.
     pub format: u8,
     /// One more than its greatest slot that is not Free.
-    pub tail: usize,
+    pub tail: u16,
 }
 
 /// What is known of the page that a turn writes.
@@ -43,7 +44,7 @@ pub enum Target {
     /// Nothing yet: where it is not blank it has to be erased.
     Unread,
     /// It holds this many copies in its slots from 1 on, and is Free elsewhere.
-    Holds(usize),
+    Holds(u16),
 }
 
 /// What a log has under way.
@@ -115,7 +116,7 @@ impl Log {
         ensures { (image : List ℕ) → Describes image self.now → result ≡ active image }
     {
         match self.active {
-            Some(active) => Some((active.page, active.seq)),
+            Some(active) => Some((active.page as usize, active.seq)),
             None => None,
         }
     }
@@ -159,7 +160,7 @@ impl Log {
         ensures { (image : List ℕ) → Describes image self.now → MatchOption result (active image ≡ None) (λ tail. IsSomeAnd (active image) (λ place. IsTail image place.0 tail)) }
     {
         match self.active {
-            Some(active) => Some(active.tail),
+            Some(active) => Some(active.tail as usize),
             None => None,
         }
     }
@@ -181,7 +182,7 @@ impl Log {
         ensures { result ≡ words (F.image flash.now) }
     {
         match self.active {
-            Some(active) => Words::of_page(flash, active.page),
+            Some(active) => Words::of_page(flash, active.page as usize),
             None => Words::none(flash),
         }
     }
@@ -191,16 +192,17 @@ impl Log {
 fn has_room(active: ActivePage) -> bool
     ensures { IsTrue result ↔ ((active.format ≡ 2) × (active.tail ≤ 511)) }
 {
-    active.format == FORMAT && active.tail < PAGE_SLOTS
+    active.format == FORMAT && active.tail < PAGE_SLOTS as u16
 }
 
 /// What a log holds of the active page.
 fn active_page<F: NorFlash>(flash: &F, page: usize, seq: u32) -> ActivePage
-    requires { active (F.image flash.now) ≡ Some (page, seq) }
+    requires whole { IsImage (F.image flash.now) }
+    requires is_active { active (F.image flash.now) ≡ Some (page, seq) }
     ensures { IsHeld (F.image flash.now) result }
 {
     ActivePage {
-        page,
+        page: page as u8,
         seq,
         format: header_format(classify(flash.read_slot(page, 0))),
         tail: tail(flash, page),

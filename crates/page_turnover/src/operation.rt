@@ -15,9 +15,9 @@ use records::{Slot, classify, encode};
 #[derive(Clone, Copy)]
 pub enum Operation {
     /// Into a page's slot a word is programmed.
-    Program(usize, usize, u32),
+    Program(u8, u16, u32),
     /// A page is erased.
-    Erase(usize),
+    Erase(u8),
 }
 
 /// Makes an operation. After a fault its slot or page is read back; the answer is whether it reads
@@ -35,14 +35,14 @@ pub fn make<F: NorFlash>(flash: &mut F, operation: Operation) -> bool
     let _pages = flash.pages();
     match operation {
         Operation::Program(page, slot, word) => {
-            match flash.program_slot(page, slot, encode(word)) {
+            match flash.program_slot(page as usize, slot as usize, encode(word)) {
                 Ok(()) => true,
-                Err(_) => holds(flash, page, slot, word),
+                Err(_) => holds(flash, page as usize, slot as usize, word),
             }
         }
-        Operation::Erase(page) => match flash.erase_page(page) {
+        Operation::Erase(page) => match flash.erase_page(page as usize) {
             Ok(()) => true,
-            Err(_) => is_blank(flash, page),
+            Err(_) => is_blank(flash, page as usize),
         },
     }
 }

@@ -54,7 +54,7 @@ fn newer(best: Option<(usize, u32)>, page: usize, seq: Option<u32>) -> Option<(u
 }
 
 /// One more than the greatest slot of a page that is not Free, and 1 where slots 1 to 511 are Free.
-pub fn tail<F: NorFlash>(flash: &F, page: usize) -> usize
+pub fn tail<F: NorFlash>(flash: &F, page: usize) -> u16
     requires { page < page_count (F.image flash.now) }
     ensures { IsTail (F.image flash.now) page result }
 {
@@ -66,16 +66,16 @@ pub fn tail<F: NorFlash>(flash: &F, page: usize) -> usize
     while tail > 1 && is_free(flash, page, tail - 1) {
         tail -= 1;
     }
-    tail
+    tail as u16
 }
 
 /// Whether a slot is Free.
-pub fn is_free<F: NorFlash>(flash: &F, page: usize, slot: usize) -> bool
+pub fn is_free<F: NorFlash>(flash: &F, page: usize, slot: u32) -> bool
     requires in_pages { page < page_count (F.image flash.now) }
     requires in_page { slot < PAGE_SLOTS }
     ensures { IsTrue result ↔ (slot_of (slot_at (F.image flash.now) page slot) ≡ Slot.Free) }
 {
-    match classify(flash.read_slot(page, slot)) {
+    match classify(flash.read_slot(page, slot as usize)) {
         Slot::Free => true,
         Slot::Good(_) | Slot::Spoiled => false,
     }

@@ -19,7 +19,7 @@ pub struct Words<'a, F: NorFlash> {
     flash: &'a F,
     page: usize,
     /// The next slot, 512 at the end.
-    next: usize,
+    next: u32,
     /// Which slots of the next one's block are Good, from it on; at a block's first slot still to be
     /// read.
     good: u8,
@@ -62,7 +62,7 @@ impl<'a, F: NorFlash> Words<'a, F> {
         Words {
             flash,
             page: 0,
-            next: PAGE_SLOTS,
+            next: PAGE_SLOTS as u32,
             good: 0,
         }
     }
@@ -78,7 +78,7 @@ impl<'a, F: NorFlash> Iterator for Words<'a, F> {
     #[inline(always)]
     #[tactic(auto, using(crate::proofs::WordLists::words_after_less, crate::proofs::WordLists::words_after_end, crate::proofs::WordLists::word_of_none))]
     fn next(&mut self) -> Option<u32> {
-        for slot in self.next..PAGE_SLOTS {
+        for slot in self.next..PAGE_SLOTS as u32 {
             let good = good_from(self.flash, self.page, slot, self.good);
             self.next = slot + 1;
             self.good = good / 2;
@@ -91,7 +91,7 @@ impl<'a, F: NorFlash> Iterator for Words<'a, F> {
 }
 
 /// Which slots are Good from this one to the end of its block, which is read at its first slot.
-fn good_from<F: NorFlash>(flash: &F, page: usize, slot: usize, good: u8) -> u8
+fn good_from<F: NorFlash>(flash: &F, page: usize, slot: u32, good: u8) -> u8
     requires in_pages { page < page_count (F.image flash.now) }
     requires in_page { slot < PAGE_SLOTS }
     requires within { AreGoodWithin (F.image flash.now) page slot good }
@@ -105,13 +105,13 @@ fn good_from<F: NorFlash>(flash: &F, page: usize, slot: usize, good: u8) -> u8
 }
 
 /// The word of a Good slot.
-fn word_at<F: NorFlash>(flash: &F, page: usize, slot: usize) -> u32
+fn word_at<F: NorFlash>(flash: &F, page: usize, slot: u32) -> u32
     requires in_pages { page < page_count (F.image flash.now) }
     requires in_page { slot < PAGE_SLOTS }
     requires good { IsGood (slot_of (slot_at (F.image flash.now) page slot)) }
     ensures { slot_of (slot_at (F.image flash.now) page slot) ≡ Slot.Good result }
 {
-    first_half(flash.read_slot(page, slot))
+    first_half(flash.read_slot(page, slot as usize))
 }
 
 /// The number in the first four bytes of a slot: its word where it is Good.

@@ -1,12 +1,12 @@
 //! The steps of a log: one flash operation each.
 
-ghost use Rattle.std.specs.Prelude.{◌≡◌, ◌≢◌, ◌↔◌, ◌+◌, ◌<◌, ◌^◌, ℕ, List, None, Some, Option, MatchOption, IsSomeAnd, ⊤};
+ghost use Rattle.std.specs.Prelude.{◌≡◌, ◌≢◌, ◌↔◌, ◌+◌, ◌%◌, ◌<◌, ◌≤◌, ◌^◌, ℕ, List, None, Some, Option, MatchOption, IsSomeAnd, ⊤};
 ghost use Rattle.flash_model.specs.Image.{page_count};
-ghost use Rattle.page_turnover.specs.Words.{IsBlank};
 ghost use Rattle.page_turnover.specs.Usable.{IsUsable};
-ghost use Rattle.page_turnover.specs.Value.{Rest, Append, Copy, Seal, Unread};
+ghost use Rattle.page_turnover.specs.Value.{Rest, Append, Copy, Seal};
 ghost use Rattle.page_turnover.specs.ties.Value.{target_value};
 ghost use Rattle.page_turnover.specs.Turn.{target_page, copied, HasShortWord};
+ghost use Rattle.page_turnover.specs.Next.{is_ready};
 ghost use Rattle.page_turnover.specs.ties.Made.{IsPassedOver};
 
 use super::{ActivePage, Log, Target, Task};
@@ -30,21 +30,12 @@ pub enum Step {
     Failed,
 }
 
-/// What the next step does: its operation, and what then is new of the log.
-#[derive(Clone, Copy)]
-pub struct Plan {
-    pub operation: Operation,
-    pub active: Option<ActivePage>,
-    pub task: Task,
-    pub step: Step,
-}
-
 impl Log {
     ghost use Rattle.page_turnover.specs.Log.{HasTailRoom};
     ghost use Rattle.page_turnover.specs.ties.Log.{Describes};
-    ghost use Rattle.page_turnover.specs.Next.{next_operation, on_flash};
+    ghost use Rattle.page_turnover.specs.Next.{next_operation, append_operation, turn_operation, on_flash};
     ghost use Rattle.page_turnover.specs.Operates.{Operates, MayOperate, FillsAtMostOne};
-    ghost use Rattle.page_turnover.specs.ties.Made.{Plans};
+    ghost use Rattle.page_turnover.specs.ties.Made.{Advances, CanAdvance};
     ghost use Rattle.page_turnover.specs.Steps.{EndsAs, AttemptsNext, CountsAs, Moves, Commits};
 
     /// Makes the one operation that is pending, or none where nothing is.
@@ -80,104 +71,131 @@ impl Log {
         // what this flash says of that operation
         ensures operated { (operation : Operation) → next_operation (F.image flash.old) self.old ≡ Some operation → F.operates flash.old (on_flash operation) flash.new }
     {
-        let Some(plan) = self.plan(flash) else {
+        let Some(operation) = self.next(flash) else {
             return Step::Idle;
         };
-        if make(flash, plan.operation) {
-            self.active = plan.active;
-            self.task = plan.task;
-            plan.step
+        if make(flash, operation) {
+            self.advance(operation)
         } else {
             self.fail(flash)
         }
     }
 
-    /// What the next step does, if anything is pending.
-    fn plan<F: NorFlash>(&self, flash: &F) -> Option<Plan>
+    /// The operation that the next step makes, if anything is pending.
+    #[inline(always)]
+    fn next<F: NorFlash>(&self, flash: &F) -> Option<Operation>
         requires { Describes (F.image flash.now) self.now }
-        ensures { MatchOption result (next_operation (F.image flash.now) self.now ≡ None) (λ plan. Plans (F.image flash.now) self.now plan) }
+        ensures { result ≡ next_operation (F.image flash.now) self.now }
     {
         match self.task {
             Task::Rest | Task::Wait(_) => None,
-            Task::Append(word) => Some(self.plan_append(word)),
-            Task::Copy(target, word) => Some(self.plan_copy(flash, target, word)),
-            Task::Seal(target) => Some(self.plan_seal(flash, target)),
+            Task::Append(word) => self.next_append(word),
+            Task::Copy(target, word) => {
+                let slot = copies_of(target) + 1;
+                Some(self.on_target(flash, target, slot, word))
+            }
+            Task::Seal(target) => {
+                let word = header(self.next_seq());
+                Some(self.on_target(flash, target, 0, word))
+            }
         }
     }
 
     /// A word goes to the tail slot.
-    fn plan_append(&self, word: u32) -> Plan
-        requires pending { self.now.task ≡ Append word }
-        requires room { HasTailRoom self.now }
-        ensures { (image : List ℕ) → Describes image self.now → Plans image self.now result }
+    fn next_append(&self, word: u32) -> Option<Operation>
+        ensures { result ≡ append_operation self.now.active word }
+    {
+        match self.active {
+            Some(active) => Some(Operation::Program(active.page, active.tail, word)),
+            None => None,
+        }
+    }
+
+    /// A word goes to a slot of a turn's target, or the target is erased first.
+    fn on_target<F: NorFlash>(&self, flash: &F, target: Target, slot: u16, word: u32) -> Operation
+        requires { Describes (F.image flash.now) self.now }
+        ensures { result ≡ turn_operation (is_ready (F.image flash.now) (target_value target)) (F.image flash.now) slot word }
+    {
+        let page = self.target(flash);
+        if is_ready(flash, page, target) {
+            Operation::Program(page, slot, word)
+        } else {
+            Operation::Erase(page)
+        }
+    }
+
+    /// Takes what an operation did that was made whole, where the log lies.
+    #[inline(always)]
+    fn advance(&mut self, operation: Operation) -> Step
+        requires { CanAdvance self.old.task self.old }
+        ensures { (image : List ℕ) → Describes image self.old → next_operation image self.old ≡ Some operation → Advances image self.old operation result self.new }
+    {
+        match self.task {
+            Task::Rest | Task::Wait(_) => Step::Idle,
+            Task::Append(_) => self.advance_append(),
+            Task::Copy(target, word) => self.advance_copy(target, word, operation),
+            Task::Seal(target) => self.advance_seal(target, operation),
+        }
+    }
+
+    /// The tail slot is used.
+    fn advance_append(&mut self) -> Step
+        requires room { HasTailRoom self.old }
+        ensures { (image : List ℕ) (operation : Operation) (word : ℕ) → Describes image self.old → self.old.task ≡ Append word → next_operation image self.old ≡ Some operation → Advances image self.old operation result self.new }
     {
         let Some(active) = self.active else {
             unreachable!()
         };
-        Plan {
-            operation: Operation::Program(active.page, active.tail, word),
-            active: Some(ActivePage {
-                page: active.page,
-                seq: active.seq,
-                format: active.format,
-                tail: active.tail + 1,
-            }),
-            task: Task::Rest,
-            step: Step::Committed,
+        self.active = Some(ActivePage {
+            page: active.page,
+            seq: active.seq,
+            format: active.format,
+            tail: active.tail + 1,
+        });
+        self.task = Task::Rest;
+        Step::Committed
+    }
+
+    /// The target holds one copy more, or was erased for the first one.
+    fn advance_copy(&mut self, target: Target, word: u32, operation: Operation) -> Step
+        requires pending { self.old.task ≡ Copy (target_value target) word }
+        requires few { copied (target_value target) < 511 }
+        ensures { (image : List ℕ) → Describes image self.old → next_operation image self.old ≡ Some operation → Advances image self.old operation result self.new }
+    {
+        match operation {
+            Operation::Program(..) => {
+                self.task = Task::Wait(Target::Holds(copies_of(target) + 1));
+                Step::Moved
+            }
+            Operation::Erase(_) => {
+                self.task = Task::Copy(Target::Holds(0), word);
+                Step::Moved
+            }
         }
     }
 
-    /// A word goes to the slot after the copies of a turn, or its target is erased first.
-    fn plan_copy<F: NorFlash>(&self, flash: &F, target: Target, word: u32) -> Plan
-        requires describes { Describes (F.image flash.now) self.now }
-        requires pending { self.now.task ≡ Copy (target_value target) word }
-        ensures { Plans (F.image flash.now) self.now result }
+    /// The target is the active page, or was erased for its header.
+    fn advance_seal(&mut self, target: Target, operation: Operation) -> Step
+        requires pending { self.old.task ≡ Seal (target_value target) }
+        requires few { copied (target_value target) ≤ 511 }
+        requires numbered { MatchOption self.old.active ⊤ (λ a. a.seq < 2 ^ 28) }
+        ensures { (image : List ℕ) → Describes image self.old → next_operation image self.old ≡ Some operation → Advances image self.old operation result self.new }
     {
-        let page = self.target(flash);
-        match copies_in(flash, page, target) {
-            Some(copied) => Plan {
-                operation: Operation::Program(page, copied + 1, word),
-                active: self.active,
-                task: Task::Wait(Target::Holds(copied + 1)),
-                step: Step::Moved,
-            },
-            None => self.plan_erase(page, Task::Copy(Target::Holds(0), word)),
-        }
-    }
-
-    /// The header goes to slot 0 of a turn's target, or the target is erased first.
-    fn plan_seal<F: NorFlash>(&self, flash: &F, target: Target) -> Plan
-        requires describes { Describes (F.image flash.now) self.now }
-        requires pending { self.now.task ≡ Seal (target_value target) }
-        ensures { Plans (F.image flash.now) self.now result }
-    {
-        let page = self.target(flash);
-        let seq = self.next_seq();
-        match copies_in(flash, page, target) {
-            Some(copied) => Plan {
-                operation: Operation::Program(page, 0, header(seq)),
-                active: Some(ActivePage {
+        match operation {
+            Operation::Program(page, _, _) => {
+                self.active = Some(ActivePage {
                     page,
-                    seq,
+                    seq: self.next_seq(),
                     format: FORMAT,
-                    tail: copied + 1,
-                }),
-                task: Task::Rest,
-                step: Step::Committed,
-            },
-            None => self.plan_erase(page, Task::Seal(Target::Holds(0))),
-        }
-    }
-
-    /// The target of a turn is erased, which then has this under way.
-    fn plan_erase(&self, page: usize, next: Task) -> Plan
-        ensures { result ≡ record { operation = Operation.Erase page; active = self.now.active; task = next; step = Step.Moved } }
-    {
-        Plan {
-            operation: Operation::Erase(page),
-            active: self.active,
-            task: next,
-            step: Step::Moved,
+                    tail: copies_of(target) + 1,
+                });
+                self.task = Task::Rest;
+                Step::Committed
+            }
+            Operation::Erase(_) => {
+                self.task = Task::Seal(Target::Holds(0));
+                Step::Moved
+            }
         }
     }
 
@@ -198,14 +216,14 @@ impl Log {
     }
 
     /// The page that a turn writes.
-    fn target<F: NorFlash>(&self, flash: &F) -> usize
+    fn target<F: NorFlash>(&self, flash: &F) -> u8
         requires { Describes (F.image flash.now) self.now }
         ensures page { result ≡ target_page (F.image flash.now) }
         ensures in_pages { result < page_count (F.image flash.now) }
     {
         let pages = flash.pages();
         match self.active {
-            Some(active) => (active.page + 1) % pages,
+            Some(active) => page_after(active.page, pages),
             None => 0,
         }
     }
@@ -222,12 +240,22 @@ impl Log {
     }
 }
 
+/// The page after this one, from the last on to page 0 again.
+fn page_after(page: u8, pages: usize) -> u8
+    requires inside { page < pages }
+    requires few { pages ≤ 8 }
+    ensures { result ≡ (page + 1) % pages }
+{
+    let next = page + 1;
+    if (next as usize) < pages { next } else { 0 }
+}
+
 /// The active page after a fault: a tail slot that is no longer Free is used up.
 fn passed_over<F: NorFlash>(flash: &F, active: ActivePage) -> ActivePage
     requires { active.page < page_count (F.image flash.now) }
     ensures { IsPassedOver (F.image flash.now) active result }
 {
-    if active.tail >= PAGE_SLOTS || is_free(flash, active.page, active.tail) {
+    if active.tail >= PAGE_SLOTS as u16 || is_free(flash, active.page as usize, active.tail as u32) {
         return active;
     }
     ActivePage {
@@ -238,13 +266,24 @@ fn passed_over<F: NorFlash>(flash: &F, active: ActivePage) -> ActivePage
     }
 }
 
-/// How many copies a turn's target holds, if it need not be erased first.
-fn copies_in<F: NorFlash>(flash: &F, page: usize, target: Target) -> Option<usize>
-    requires { page < page_count (F.image flash.now) }
-    ensures { MatchOption result ((target_value target ≡ Unread) × (IsBlank (F.image flash.now) page → ⊥)) (λ n. (n ≡ copied (target_value target)) × (target_value target ≡ Unread → IsBlank (F.image flash.now) page)) }
+/// How many copies a turn's target holds.
+fn copies_of(target: Target) -> u16
+    ensures { result ≡ copied (target_value target) }
 {
     match target {
-        Target::Holds(copied) => Some(copied),
-        Target::Unread => { if is_blank(flash, page) { Some(0) } else { None } }
+        Target::Holds(copied) => copied,
+        Target::Unread => 0,
+    }
+}
+
+/// Whether a turn's target holds its copies, or is blank before the first: else it is erased.
+fn is_ready<F: NorFlash>(flash: &F, page: u8, target: Target) -> bool
+    requires in_pages { page < page_count (F.image flash.now) }
+    requires is_target { page ≡ target_page (F.image flash.now) }
+    ensures { result ≡ is_ready (F.image flash.now) (target_value target) }
+{
+    match target {
+        Target::Holds(_) => true,
+        Target::Unread => is_blank(flash, page as usize),
     }
 }

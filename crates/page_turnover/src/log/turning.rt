@@ -76,7 +76,7 @@ impl Log {
         ensures { IsTrue result ↔ CanOffer self.now.task }
     {
         match self.task {
-            Task::Wait(Target::Holds(copied)) => copied < PAGE_SLOTS - 1,
+            Task::Wait(Target::Holds(copied)) => copied < PAGE_SLOTS as u16 - 1,
             Task::Wait(Target::Unread) => true,
             Task::Rest | Task::Append(_) | Task::Copy(..) | Task::Seal(_) => false,
         }

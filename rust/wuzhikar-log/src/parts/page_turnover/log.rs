@@ -22,12 +22,12 @@ pub struct Unsound {
 /// The page that holds the words of the log.
 #[derive(Clone, Copy, Debug)]
 pub struct ActivePage {
-    pub page: usize,
+    pub page: u8,
     pub seq: u32,
     /// 1 or 2.
     pub format: u8,
     /// One more than its greatest slot that is not Free.
-    pub tail: usize,
+    pub tail: u16,
 }
 
 /// What is known of the page that a turn writes.
@@ -36,7 +36,7 @@ pub enum Target {
     /// Nothing yet: where it is not blank it has to be erased.
     Unread,
     /// It holds this many copies in its slots from 1 on, and is Free elsewhere.
-    Holds(usize),
+    Holds(u16),
 }
 
 /// What a log has under way.
@@ -101,7 +101,7 @@ impl Log {
     /// The active page and its sequence number of 28 bits, if a page has a header.
     pub fn active(&self) -> Option<(usize, u32)> {
         match self.active {
-            Some(active) => Some((active.page, active.seq)),
+            Some(active) => Some((active.page as usize, active.seq)),
             None => None,
         }
     }
@@ -135,7 +135,7 @@ impl Log {
     /// The tail of the active page: one more than its greatest slot that is not Free, 1 to 512.
     pub fn tail(&self) -> Option<usize> {
         match self.active {
-            Some(active) => Some(active.tail),
+            Some(active) => Some(active.tail as usize),
             None => None,
         }
     }
@@ -154,7 +154,7 @@ impl Log {
     /// without an active page.
     pub fn words<'a, F: NorFlash>(&self, flash: &'a F) -> Words<'a, F> {
         match self.active {
-            Some(active) => Words::of_page(flash, active.page),
+            Some(active) => Words::of_page(flash, active.page as usize),
             None => Words::none(flash),
         }
     }
@@ -162,13 +162,13 @@ impl Log {
 
 /// Whether a record can be appended to this page.
 fn has_room(active: ActivePage) -> bool {
-    active.format == FORMAT && active.tail < PAGE_SLOTS
+    active.format == FORMAT && active.tail < PAGE_SLOTS as u16
 }
 
 /// What a log holds of the active page.
 fn active_page<F: NorFlash>(flash: &F, page: usize, seq: u32) -> ActivePage {
     ActivePage {
-        page,
+        page: page as u8,
         seq,
         format: header_format(classify(flash.read_slot(page, 0))),
         tail: tail(flash, page),

@@ -41,7 +41,7 @@ fn newer(best: Option<(usize, u32)>, page: usize, seq: Option<u32>) -> Option<(u
 }
 
 /// One more than the greatest slot of a page that is not Free, and 1 where slots 1 to 511 are Free.
-pub fn tail<F: NorFlash>(flash: &F, page: usize) -> usize {
+pub fn tail<F: NorFlash>(flash: &F, page: usize) -> u16 {
     let mut block = PAGE_BLOCKS;
     while block > 1 && is_free_block(flash, page, block - 1) {
         block -= 1;
@@ -50,12 +50,12 @@ pub fn tail<F: NorFlash>(flash: &F, page: usize) -> usize {
     while tail > 1 && is_free(flash, page, tail - 1) {
         tail -= 1;
     }
-    tail
+    tail as u16
 }
 
 /// Whether a slot is Free.
-pub fn is_free<F: NorFlash>(flash: &F, page: usize, slot: usize) -> bool {
-    match classify(flash.read_slot(page, slot)) {
+pub fn is_free<F: NorFlash>(flash: &F, page: usize, slot: u32) -> bool {
+    match classify(flash.read_slot(page, slot as usize)) {
         Slot::Free => true,
         Slot::Good(_) | Slot::Spoiled => false,
     }

@@ -22,15 +22,6 @@ pub enum Step {
     Failed,
 }
 
-/// What the next step does: its operation, and what then is new of the log.
-#[derive(Clone, Copy)]
-pub struct Plan {
-    pub operation: Operation,
-    pub active: Option<ActivePage>,
-    pub task: Task,
-    pub step: Step,
-}
-
 impl Log {
     /// **Needs** the flash that the log was mounted on, as the log left it. Nothing checks it: [`FlashLog`](crate::FlashLog) holds both.
     ///
@@ -45,87 +36,108 @@ impl Log {
     /// counts as done; where it does not, and only there, the answer is `Failed`. The words are then
     /// as before; an append or a turn has to be begun anew, and a turn then erases what it wrote.
     pub fn step<F: NorFlash>(&mut self, flash: &mut F) -> Step {
-        let Some(plan) = self.plan(flash) else {
+        let Some(operation) = self.next(flash) else {
             return Step::Idle;
         };
-        if make(flash, plan.operation) {
-            self.active = plan.active;
-            self.task = plan.task;
-            plan.step
+        if make(flash, operation) {
+            self.advance(operation)
         } else {
             self.fail(flash)
         }
     }
 
-    /// What the next step does, if anything is pending.
-    fn plan<F: NorFlash>(&self, flash: &F) -> Option<Plan> {
+    /// The operation that the next step makes, if anything is pending.
+    #[inline(always)]
+    fn next<F: NorFlash>(&self, flash: &F) -> Option<Operation> {
         match self.task {
             Task::Rest | Task::Wait(_) => None,
-            Task::Append(word) => Some(self.plan_append(word)),
-            Task::Copy(target, word) => Some(self.plan_copy(flash, target, word)),
-            Task::Seal(target) => Some(self.plan_seal(flash, target)),
+            Task::Append(word) => self.next_append(word),
+            Task::Copy(target, word) => {
+                let slot = copies_of(target) + 1;
+                Some(self.on_target(flash, target, slot, word))
+            }
+            Task::Seal(target) => {
+                let word = header(self.next_seq());
+                Some(self.on_target(flash, target, 0, word))
+            }
         }
     }
 
     /// A word goes to the tail slot.
-    fn plan_append(&self, word: u32) -> Plan {
+    fn next_append(&self, word: u32) -> Option<Operation> {
+        match self.active {
+            Some(active) => Some(Operation::Program(active.page, active.tail, word)),
+            None => None,
+        }
+    }
+
+    /// A word goes to a slot of a turn's target, or the target is erased first.
+    fn on_target<F: NorFlash>(&self, flash: &F, target: Target, slot: u16, word: u32) -> Operation {
+        let page = self.target(flash);
+        if is_ready(flash, page, target) {
+            Operation::Program(page, slot, word)
+        } else {
+            Operation::Erase(page)
+        }
+    }
+
+    /// Takes what an operation did that was made whole, where the log lies.
+    #[inline(always)]
+    fn advance(&mut self, operation: Operation) -> Step {
+        match self.task {
+            Task::Rest | Task::Wait(_) => Step::Idle,
+            Task::Append(_) => self.advance_append(),
+            Task::Copy(target, word) => self.advance_copy(target, word, operation),
+            Task::Seal(target) => self.advance_seal(target, operation),
+        }
+    }
+
+    /// The tail slot is used.
+    fn advance_append(&mut self) -> Step {
         let Some(active) = self.active else {
             unreachable!()
         };
-        Plan {
-            operation: Operation::Program(active.page, active.tail, word),
-            active: Some(ActivePage {
-                page: active.page,
-                seq: active.seq,
-                format: active.format,
-                tail: active.tail + 1,
-            }),
-            task: Task::Rest,
-            step: Step::Committed,
+        self.active = Some(ActivePage {
+            page: active.page,
+            seq: active.seq,
+            format: active.format,
+            tail: active.tail + 1,
+        });
+        self.task = Task::Rest;
+        Step::Committed
+    }
+
+    /// The target holds one copy more, or was erased for the first one.
+    fn advance_copy(&mut self, target: Target, word: u32, operation: Operation) -> Step {
+        match operation {
+            Operation::Program(..) => {
+                self.task = Task::Wait(Target::Holds(copies_of(target) + 1));
+                Step::Moved
+            }
+            Operation::Erase(_) => {
+                self.task = Task::Copy(Target::Holds(0), word);
+                Step::Moved
+            }
         }
     }
 
-    /// A word goes to the slot after the copies of a turn, or its target is erased first.
-    fn plan_copy<F: NorFlash>(&self, flash: &F, target: Target, word: u32) -> Plan {
-        let page = self.target(flash);
-        match copies_in(flash, page, target) {
-            Some(copied) => Plan {
-                operation: Operation::Program(page, copied + 1, word),
-                active: self.active,
-                task: Task::Wait(Target::Holds(copied + 1)),
-                step: Step::Moved,
-            },
-            None => self.plan_erase(page, Task::Copy(Target::Holds(0), word)),
-        }
-    }
-
-    /// The header goes to slot 0 of a turn's target, or the target is erased first.
-    fn plan_seal<F: NorFlash>(&self, flash: &F, target: Target) -> Plan {
-        let page = self.target(flash);
-        let seq = self.next_seq();
-        match copies_in(flash, page, target) {
-            Some(copied) => Plan {
-                operation: Operation::Program(page, 0, header(seq)),
-                active: Some(ActivePage {
+    /// The target is the active page, or was erased for its header.
+    fn advance_seal(&mut self, target: Target, operation: Operation) -> Step {
+        match operation {
+            Operation::Program(page, _, _) => {
+                self.active = Some(ActivePage {
                     page,
-                    seq,
+                    seq: self.next_seq(),
                     format: FORMAT,
-                    tail: copied + 1,
-                }),
-                task: Task::Rest,
-                step: Step::Committed,
-            },
-            None => self.plan_erase(page, Task::Seal(Target::Holds(0))),
-        }
-    }
-
-    /// The target of a turn is erased, which then has this under way.
-    fn plan_erase(&self, page: usize, next: Task) -> Plan {
-        Plan {
-            operation: Operation::Erase(page),
-            active: self.active,
-            task: next,
-            step: Step::Moved,
+                    tail: copies_of(target) + 1,
+                });
+                self.task = Task::Rest;
+                Step::Committed
+            }
+            Operation::Erase(_) => {
+                self.task = Task::Seal(Target::Holds(0));
+                Step::Moved
+            }
         }
     }
 
@@ -140,10 +152,10 @@ impl Log {
     }
 
     /// The page that a turn writes.
-    fn target<F: NorFlash>(&self, flash: &F) -> usize {
+    fn target<F: NorFlash>(&self, flash: &F) -> u8 {
         let pages = flash.pages();
         match self.active {
-            Some(active) => (active.page + 1) % pages,
+            Some(active) => page_after(active.page, pages),
             None => 0,
         }
     }
@@ -157,9 +169,15 @@ impl Log {
     }
 }
 
+/// The page after this one, from the last on to page 0 again.
+fn page_after(page: u8, pages: usize) -> u8 {
+    let next = page + 1;
+    if (next as usize) < pages { next } else { 0 }
+}
+
 /// The active page after a fault: a tail slot that is no longer Free is used up.
 fn passed_over<F: NorFlash>(flash: &F, active: ActivePage) -> ActivePage {
-    if active.tail >= PAGE_SLOTS || is_free(flash, active.page, active.tail) {
+    if active.tail >= PAGE_SLOTS as u16 || is_free(flash, active.page as usize, active.tail as u32) {
         return active;
     }
     ActivePage {
@@ -170,10 +188,18 @@ fn passed_over<F: NorFlash>(flash: &F, active: ActivePage) -> ActivePage {
     }
 }
 
-/// How many copies a turn's target holds, if it need not be erased first.
-fn copies_in<F: NorFlash>(flash: &F, page: usize, target: Target) -> Option<usize> {
+/// How many copies a turn's target holds.
+fn copies_of(target: Target) -> u16 {
     match target {
-        Target::Holds(copied) => Some(copied),
-        Target::Unread => { if is_blank(flash, page) { Some(0) } else { None } }
+        Target::Holds(copied) => copied,
+        Target::Unread => 0,
+    }
+}
+
+/// Whether a turn's target holds its copies, or is blank before the first: else it is erased.
+fn is_ready<F: NorFlash>(flash: &F, page: u8, target: Target) -> bool {
+    match target {
+        Target::Holds(_) => true,
+        Target::Unread => is_blank(flash, page as usize),
     }
 }

@@ -51,7 +51,7 @@ impl Log {
     /// so that it can take one more.
     pub fn wants_copy(&self) -> bool {
         match self.task {
-            Task::Wait(Target::Holds(copied)) => copied < PAGE_SLOTS - 1,
+            Task::Wait(Target::Holds(copied)) => copied < PAGE_SLOTS as u16 - 1,
             Task::Wait(Target::Unread) => true,
             Task::Rest | Task::Append(_) | Task::Copy(..) | Task::Seal(_) => false,
         }
