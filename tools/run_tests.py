@@ -68,6 +68,7 @@ STEPS = [
     Step("the pictures", [*PYTHON, "tools/make/pictures", "--check"]),
     Step("the exporter's own tests", [*PYTHON, "tools/export_rust/test_export.py", "--quiet"]),
     Step("plain Rust is that of the source", [*PYTHON, "tools/export_rust/check.py"]),
+    Step("plain Rust has the tokens of the source", [*PYTHON, "tools/export_rust/same_tokens.py"]),
     Step("how names in docs are found", [*PYTHON, "tools/export_rust/test_names.py", "--quiet"]),
     Step("what the docs of plain Rust name", [*PYTHON, "tools/export_rust/check_names.py"]),
     Step("the page is that of its sources", ["bin/build-page", "--check"]),

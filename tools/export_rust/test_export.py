@@ -15,17 +15,16 @@ import scripts
 from acceptance import TestTranslator
 from check import differing
 from command_lines import command_line
-from export_rust import HERE, ROOT, UNPROVED, Export, exports
+from export_rust import HERE, UNPROVED, Export
 from items import Translator
 from lexing import Refused
+from same_tokens import all_files, differences
 from texts import text
 
 
-def rust(text, crate="layers", of=rules.KEYBOARD, hosted=False, contracts=False, left=True):
+def rust(text, crate="layers", of=rules.KEYBOARD, contracts=False):
     """The Rust for a file of a crate that stands on `records`."""
-    translator = Translator(crate, "", "f.rt", {"records"}, of, hosted, contracts)
-    translator.open_module = lambda name, hosted: left
-    return translator.translate(text)
+    return Translator(crate, "", "f.rt", {"records"}, of, False, contracts).translate(text)
 
 
 def run(*words):
@@ -33,60 +32,12 @@ def run(*words):
     return subprocess.run([sys.executable, "-B", os.path.join(HERE, "export_rust.py"), *words], capture_output=True, text=True)
 
 
-# A name, a source, its export.
-LEFT_OUT = [
-    ("a ghost use", "ghost use A.{◌≡◌, x};\n\nuse records::Slot;\n", "use wuzhikar_log::parts::records::Slot;\n"),
-    ("clauses and comments on them",
-     "/// Doc.\n#[tactic(auto, using(a::b))]\npub fn f(a: u8) -> u8\n    // why\n    ensures small { result < 2 }\n"
-     "    // and\n    ensures { result ≡ a -- }\n }\n{\n    a\n}\n", "/// Doc.\npub fn f(a: u8) -> u8 {\n    a\n}\n"),
-    ("a ghost field and Drop", "#[derive(Drop)]\npub struct S {\n    a: u8,\n    /// Why.\n    ghost inside: { a < 3 },\n}\n",
-     "pub struct S {\n    a: u8,\n}\n"),
-    ("a ghost field at the end", "struct S { a: u8, ghost inside: { a < 3 } }\n", "struct S { a: u8,}\n"),
-    ("Drop among derives", "#[derive(Debug, Drop, PartialEq)]\nenum E { A }\n", "#[derive(Debug, PartialEq)]\nenum E { A }\n"),
-    ("Drop among bounds", "impl<F: Flash + Drop> P<F> { fn f<G: A + Drop>(g: G) -> u8 { 1 } }\nstruct S<F: Flash + Drop>(F);\nfn h<T: Drop>(t: T) {}\n",
-     "impl<F: Flash> P<F> { fn f<G: A>(g: G) -> u8 { 1 } }\nstruct S<F: Flash>(F);\nfn h<T>(t: T) {}\n"),
-    ("the prover's impl", "impl<'a, T> Model for S<'a, T> {\n    ghost Value = { ℕ };\n}\nfn g() -> u8 { 1 }\n", "fn g() -> u8 { 1 }\n"),
-    ("the prover's trait", "use std::marker::Model;\nconst A: u8 = 1;\n", "const A: u8 = 1;\n"),
-    ("ghosts of a trait",
-     "trait T {\n    /// Ghost.\n    ghost image: { Self → ℕ };\n\n    /// Runs.\n    fn a(&self) -> u8\n        ensures { result ≡ image self.now };\n}\n",
-     "trait T {\n    /// Runs.\n    fn a(&self) -> u8;\n}\n"),
-    ("a law", "/// Law.\npub fn law()\n    ensures { a }\n{}\nuse crate::x;\n", "use crate::parts::layers::x;\n"),
-    ("laws of a crate below", "use records::laws::{a, b};\nuse records::c;\n\nfn f() -> u8 {\n    a();\n    b();\n    c();\n    g(a)\n}\n",
-     "use wuzhikar_log::parts::records::c;\n\nfn f() -> u8 {\n    c();\n    g(a)\n}\n"),
-    ("a law's attribute, and no method of its name", "#[cfg(test)]\nuse records::laws::a;\nfn f(x: S) -> u8 {\n    x.a();\n    a();\n    1\n}\n",
-     "fn f(x: S) -> u8 {\n    x.a();\n\n    1\n}\n"),
-    ("the root's tactic", "//! Root.\n#![tactic(auto)]\n\nconst A: u8 = 1;\n", "//! Root.\n\nconst A: u8 = 1;\n"),
-]
-
-KEPT = [
-    ("words in strings and characters", "fn f() { let s = \"ghost use requires { {\"; let c = '{'; }\n"),
-    ("blank lines in a string", "const S: &str = \"{\n\n\n}\";\n"),
-    ("a function without a contract that does nothing", "fn f() {}\n"),
-    ("own methods", "impl S { fn f(&self) { self.push(1) } }\n"),
-    ("what is only for the crate", "pub(crate) fn b() -> u8 { 2 }\n"),
-    ("unreachable", "fn f() -> u8 { unreachable!() }\n"),
-    ("matches", "fn f(a: u8) -> bool { matches!(a, 1 | 2) }\n"),
-    ("a writer that is no formatter's", "fn f<W: fmt::Write>(f: &mut W) -> fmt::Result { f.write_str(\"-\") }\n"),
-    ("a slice's open end", "fn f(a: &[u8]) -> &[u8] { &a[1..] }\n"),
-]
-
-CHANGED = [
+# What the comparison of tokens passes over: who may call something, and docs. A name, a source, its export.
+SHOWN = [
     ("a caller's condition", "impl S { pub fn f(a: u8) -> u8\n    requires { a < 2 }\n{\n    a\n} }\n", "impl S { pub(crate) fn f(a: u8) -> u8 {\n    a\n} }\n"),
     ("a function's condition, which `parts` alone shows", "pub fn f(a: u8) -> u8\n    requires { a < 2 }\n{\n    a\n}\n", "pub fn f(a: u8) -> u8 {\n    a\n}\n"),
     ("code in docs, which is Rattle's", "/// ```\n/// f(alloc)\n/// ```\nfn f() {}\n", "/// ```text\n/// f(alloc)\n/// ```\nfn f() {}\n"),
-    ("a formatter's writer, of `fmt` and of what it calls", "fn f<W: fmt::Write>(a: u8, f: &mut fmt::Formatter<W>) -> fmt::Result { f.write_str(\"-\") }\n",
-     "fn f(a: u8, f: &mut fmt::Formatter<'_>) -> fmt::Result { f.write_str(\"-\") }\n"),
-    ("core", "use std::fmt::Debug;\n", "use core::fmt::Debug;\n"),
-    ("memory", "use std::alloc::{AllocError, Global};\n", "use crate::rattle::alloc::{AllocError, Global};\n"),
-    ("a vector of lanes", "use std::simd::prelude::*;\n", "use crate::rattle::simd::prelude::*;\n"),
-    ("a stand-in", "use circular_buffer::HeapCircularBuffer;\n", "use crate::rattle::circular_buffer::HeapCircularBuffer;\n"),
-]
-
-HOSTED = [
-    ("a vector", "fn a(alloc: u8) -> Vec<u8> { vec![in alloc; 0u8; 4] }\n",
-     "fn a(alloc: u8) -> crate::rattle::Vec<u8> { crate::rattle::vec::of(alloc, 0u8, 4) }\n"),
-    ("a vector's calls", "fn a(alloc: u8) { let mut v = Vec::new(alloc); v.push(1)?; }\n",
-     "fn a(alloc: u8) { let mut v = crate::rattle::vec::new(alloc); v.push_in(1)?; }\n\n#[allow(unused_imports)]\nuse crate::rattle::memory::*;\n"),
+    ("blank lines in a string", "const S: &str = \"{\n\n\n}\";\n", "const S: &str = \"{\n\n\n}\";\n"),
 ]
 
 # Forms of the tests of crates/acceptance.
@@ -139,25 +90,10 @@ REFUSED = [
 
 
 class Forms(unittest.TestCase):
-    def test_what_proofs_alone_read_is_left_out(self):
-        for name, source, export in LEFT_OUT:
+    def test_what_tokens_do_not_show(self):
+        for name, source, export in SHOWN:
             with self.subTest(name):
                 self.assertEqual(rust(source), export)
-
-    def test_the_rest_is_kept(self):
-        for name, source in KEPT:
-            with self.subTest(name):
-                self.assertEqual(rust(source), source)
-
-    def test_paths_and_conditions_are_changed(self):
-        for name, source, export in CHANGED:
-            with self.subTest(name):
-                self.assertEqual(rust(source), export)
-
-    def test_memory_is_taken_by_calls_of_its_own(self):
-        for name, source, export in HOSTED:
-            with self.subTest(name):
-                self.assertEqual(rust(source, hosted=True), export)
 
     def test_tests_have_a_runtime(self):
         for name, source, export in TESTS:
@@ -176,15 +112,6 @@ class Forms(unittest.TestCase):
         source = "impl Keyboard {\n    /// Works.\n    pub fn work(&mut self) -> u8\n        requires { a }\n    { 1 }\n}\n"
         made = [line.strip() for line in rust(source, crate="keyboard").split("\n")]
         self.assertEqual(made[1:4], [f"/// {rules.KEYBOARD.owed['keyboard', 'Keyboard::work']}", "///", "/// Works."])
-
-    def test_a_method_may_have_another_name(self):
-        source = "impl Details { pub fn around(&self, place: u8) -> u8 { place } }\n"
-        self.assertEqual(rust(source, crate="field_details", of=rules.DETAILS),
-                         "impl Details { pub(crate) fn numbers_around(&self, place: u8) -> u8 { place } }\n")
-
-    def test_a_module_for_tests_is_left_out(self):
-        for source in ("pub mod plain;\n", "use plain::x;\n"):
-            self.assertEqual(rust(source, crate="reports").strip(), "")
 
     def test_a_call_with_a_type_that_has_no_name_is_for_the_crate(self):
         source = "impl Keyboard { pub fn start_in(room: Room) -> u8\n    ensures { a }\n{ 1 } }\n"
@@ -214,40 +141,30 @@ class Forms(unittest.TestCase):
         with self.assertRaises(Refused):
             Translator("keymap_store", "", "f.rt", {"page_turnover"}, of).translate("struct S { a: U }\n")
 
-    def test_an_error_gets_its_text(self):
-        source = "use thiserror::Error;\n#[derive(Error)]\npub enum E {\n    #[error(\"at {0}\")]\n    A(u8),\n}\n"
-        made = rust(source, crate="script", of=rules.SIMULATOR)
-        self.assertIn("Self::A(_0) => write!(f, \"at {_0}\"),", made)
-        self.assertIn("impl core::error::Error for E {}", made)
-        self.assertNotIn("thiserror", made)
-
-    def test_a_call_of_another_crate_that_is_no_promise_goes_by_its_trait(self):
-        translator = Translator("keymap_store", "", "f.rt", {"page_turnover"}, rules.KEYBOARD)
-        made = translator.translate("fn f(log: &mut u8) { log.seal(); }\n")
-        self.assertIn("use wuzhikar_log::calls::LogCalls as _;", made)
-
     def test_contracts_are_docs_on_request(self):
         source = "/// Doc.\nfn f() -> u8\n    ensures one {\n        result ≡ 1 }\n{ 1 }\n"
         self.assertIn("/// ensures one { result ≡ 1 }\n", rust(source, contracts=True))
         self.assertNotIn("ensures", rust(source))
 
-    def test_a_module_of_which_nothing_is_left_is_left_out(self):
-        self.assertEqual(rust("pub mod laws;\nmod a;\n", left=False), "\n")
-        self.assertEqual(rust("pub mod laws;\n"), "pub mod laws;\n")
+
+
+class Tokens(unittest.TestCase):
+    def test_each_operator_and_number_that_is_changed_is_told(self):
+        files, laws = all_files()
+        changed = {"<": "<=", "==": "!=", "+": "-", "0": "1", "1": "2", "true": "false", "return": "break"}
+        tried = 0
+        for name, crate, module, words, plain in files:
+            zeros = {at + n for at, word in enumerate(plain) if word == "UNSTARTED" for n in range(-30, 60)}
+            for at, word in enumerate(plain):
+                if crate == "page_turnover" and word in changed and at not in zeros:
+                    made = plain[:at] + [changed[word]] + plain[at + 1:]
+                    told = list(differences(name, crate, module, words, made, laws))
+                    self.assertEqual(len(told), 1, " ".join(plain[at - 5:at + 5]))
+                    tried += 1
+        self.assertGreater(tried, 60)
 
 
 class Whole(unittest.TestCase):
-    def test_the_sources_are_exported_the_same_each_time(self):
-        first, second = exports(ROOT), exports(ROOT)
-        for export, again in zip(first, second):
-            self.assertEqual(export.faults, [])
-            self.assertEqual(export.files, again.files)
-            for name, text in export.files.items():
-                code = "\n".join(line for line in text.split("\n") if not line.strip().startswith("//"))
-                self.assertNotRegex(code, r"\b(ghost|requires|ensures|Model)\b", name)
-                self.assertNotRegex(code, r"\bunsafe\b(?!_)", name)
-        self.assertIn("    pub(crate) fn start_in<", first[1].files["src/parts/keyboard/keyboard.rs"])
-
     def test_a_fault_anywhere_writes_nothing(self):
         with tempfile.TemporaryDirectory() as folder:
             root = os.path.join(folder, "root")

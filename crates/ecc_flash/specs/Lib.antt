@@ -4,3 +4,5 @@ pub mod Model
 pub mod Paired
 pub mod Cells
 pub mod Witness
+pub mod UnitOperation
+pub mod Cut

@@ -4,12 +4,15 @@
 //! torn, and from then on nothing is written. `PairedFlash` is proved on every `EccFlash`, and so on
 //! this one: what an operation of it leaves there is what the units held when the power failed.
 
-ghost use Rattle.std.specs.Prelude.{◌≡◌, ◌<◌, ◌≤◌, ℕ, None, Some, IsErr};
+ghost use Rattle.std.specs.Prelude.{◌≡◌, ◌<◌, ◌≤◌, ℕ, suc, None, Some, IsErr};
 ghost use Rattle.flash_model.specs.Image.{page_count, slot_at, IsImage};
 ghost use Rattle.flash_model.specs.Operations.{MayProgram, MayErase};
 ghost use Rattle.ecc_flash.specs.Reading.{blank};
 ghost use Rattle.ecc_flash.specs.Model.{MayHold, MayBeErased, OneUnit, OnePageOfUnits};
 ghost use Rattle.ecc_flash.specs.Paired.{AllKept, image_of};
+ghost use Rattle.ecc_flash.specs.UnitOperation.{programs_unit, erases_units};
+ghost use Rattle.ecc_flash.specs.Cut.{CutOperates, CutInside};
+ghost use Rattle.flash_model.specs.FlashOperation.{programs, erases};
 
 use crate::{EccFlash, PAGE_UNITS, PairedFlash, UNIT_BYTES};
 use flash_model::{FlashFault, NorFlash, PAGE_SLOTS, SLOT_BYTES};
@@ -56,6 +59,8 @@ impl<F: EccFlash + Drop> EccFlash for CutFlash<F> {
 
     ghost takes = { λ _ _ _. ⊥ };
 
+    ghost operates = { λ old operation new. CutOperates F.operates old operation new };
+
     fn pages(&self) -> usize {
         self.flash.pages()
     }
@@ -78,8 +83,10 @@ impl<F: EccFlash + Drop> EccFlash for CutFlash<F> {
         ensures others { OneUnit (F.units self.old.0) page unit (F.units self.new.0) }
         ensures taken { ⊥ → (F.units self.new.0 page unit).reads ≡ Some blank → bytes ≡ blank }
         ensures still_takes { (p u : ℕ) → ⊥ → ⊥ }
-        ensures fails { self.old.1 ≡ Some 0 → self.new.1 ≡ None }
+        ensures counts { (left : ℕ) → self.old.1 ≡ Some (suc left) → self.new.1 ≡ Some left }
+        ensures fails { self.old.1 ≡ Some 0 → (self.new.1 ≡ None) × IsErr result }
         ensures off { self.old.1 ≡ None → (self.new ≡ self.old) × IsErr result }
+        ensures operated { CutOperates F.operates self.old (programs_unit page unit bytes) self.new }
     {
         match self.left {
             None => Err(FlashFault),
@@ -100,8 +107,10 @@ impl<F: EccFlash + Drop> EccFlash for CutFlash<F> {
         ensures same_pages { F.page_total self.new.0 ≡ F.page_total self.old.0 }
         ensures outcome { (u : ℕ) → u < PAGE_UNITS → MayBeErased (F.units self.old.0 page u) (F.units self.new.0 page u) }
         ensures others { OnePageOfUnits (F.units self.old.0) page (F.units self.new.0) }
-        ensures fails { self.old.1 ≡ Some 0 → self.new.1 ≡ None }
+        ensures counts { (left : ℕ) → self.old.1 ≡ Some (suc left) → self.new.1 ≡ Some left }
+        ensures fails { self.old.1 ≡ Some 0 → (self.new.1 ≡ None) × IsErr result }
         ensures off { self.old.1 ≡ None → (self.new ≡ self.old) × IsErr result }
+        ensures operated { CutOperates F.operates self.old (erases_units page) self.new }
     {
         match self.left {
             None => Err(FlashFault),
@@ -120,7 +129,8 @@ impl<F: EccFlash + Drop> EccFlash for CutFlash<F> {
 
 /// A program of a slot in which the power fails, inside the unit program that comes after `whole`
 /// others: what it leaves is an outcome of a torn program. With `whole` 0 that is inside the first
-/// unit or before it, with 1 inside the second or between the two.
+/// unit or before it, with 1 inside the second or between the two. The units before are programmed
+/// as the flash does it, that one may be torn, and none is behind it.
 pub fn program_cut<F: EccFlash + Drop>(
     flash: PairedFlash<F>,
     page: usize,
@@ -131,6 +141,7 @@ pub fn program_cut<F: EccFlash + Drop>(
     requires in_pages { page < page_count (image_of (F.units flash.0) (F.page_total flash.0)) }
     requires in_page { slot < PAGE_SLOTS }
     ensures torn { MayProgram (image_of (F.units flash.0) (F.page_total flash.0)) page slot bytes (image_of (F.units result.0) (F.page_total result.0)) }
+    ensures cut { CutInside F.units F.operates flash.0 (programs page slot bytes) whole result.0 }
 {
     let mut cut = PairedFlash::mount(CutFlash::new(flash.into_flash(), whole));
     let _done = cut.program_slot(page, slot, bytes);
@@ -141,6 +152,7 @@ pub fn program_cut<F: EccFlash + Drop>(
 pub fn erase_cut<F: EccFlash + Drop>(flash: PairedFlash<F>, page: usize) -> PairedFlash<F>
     requires { page < page_count (image_of (F.units flash.0) (F.page_total flash.0)) }
     ensures torn { MayErase (image_of (F.units flash.0) (F.page_total flash.0)) page (image_of (F.units result.0) (F.page_total result.0)) }
+    ensures cut { CutInside F.units F.operates flash.0 (erases page) 0 result.0 }
 {
     let mut cut = PairedFlash::mount(CutFlash::new(flash.into_flash(), 0));
     let _pages = cut.pages();

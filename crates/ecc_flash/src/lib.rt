@@ -14,6 +14,7 @@
 ghost use Rattle.std.specs.Prelude.{◌≡◌, ◌<◌, ◌≤◌, ℕ, Some};
 ghost use Rattle.ecc_flash.specs.Reading.{blank};
 ghost use Rattle.ecc_flash.specs.Model.{WriteUnit, MayHold, MayBeErased, OneUnit, OnePageOfUnits};
+ghost use Rattle.ecc_flash.specs.UnitOperation.{UnitOperation, programs_unit, erases_units};
 
 pub mod cut;
 pub mod laws;
@@ -55,6 +56,10 @@ pub trait EccFlash {
     /// else than FFh, it no longer reads as blank. Of hardware nothing makes this hold.
     ghost takes: { Self → ℕ → ℕ → Type 0 };
 
+    /// This unit program or erase makes the second flash of the first. What it says beside `units` is
+    /// each flash's own: of one whose power fails, that nothing is made behind that.
+    ghost operates: { Self → UnitOperation → Self → Type 0 };
+
     /// How many pages there are, 2 to 8.
     fn pages(&self) -> usize
         ensures count { result ≡ page_total self.now }
@@ -83,7 +88,8 @@ pub trait EccFlash {
         ensures outcome { MayHold (units self.old page unit) bytes (units self.new page unit) }
         ensures others { OneUnit (units self.old) page unit (units self.new) }
         ensures taken { takes self.old page unit → (units self.new page unit).reads ≡ Some blank → bytes ≡ blank }
-        ensures still_takes { (p u : ℕ) → takes self.old p u → takes self.new p u };
+        ensures still_takes { (p u : ℕ) → takes self.old p u → takes self.new p u }
+        ensures operated { operates self.old (programs_unit page unit bytes) self.new };
 
     /// Erases page `page`.
     ///
@@ -93,5 +99,6 @@ pub trait EccFlash {
         requires { page < page_total self.old }
         ensures same_pages { page_total self.new ≡ page_total self.old }
         ensures outcome { (u : ℕ) → u < PAGE_UNITS → MayBeErased (units self.old page u) (units self.new page u) }
-        ensures others { OnePageOfUnits (units self.old) page (units self.new) };
+        ensures others { OnePageOfUnits (units self.old) page (units self.new) }
+        ensures operated { operates self.old (erases_units page) self.new };
 }

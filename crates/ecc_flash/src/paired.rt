@@ -6,6 +6,9 @@ ghost use Rattle.flash_model.specs.Operations.{Programs, MayProgram, Erases, May
 ghost use Rattle.ecc_flash.specs.Reading.{blank, is_word};
 ghost use Rattle.ecc_flash.specs.Model.{MayHold, MayBeErased, OneUnit, OnePageOfUnits};
 ghost use Rattle.ecc_flash.specs.Paired.{AllKept, slot_in, image_of};
+ghost use Rattle.ecc_flash.specs.UnitOperation.{programs_unit, erases_units};
+ghost use Rattle.ecc_flash.specs.Cut.{ProgramsPair, PairOperates};
+ghost use Rattle.flash_model.specs.FlashOperation.{programs, erases};
 
 use crate::reading::{UNIT_BYTES, check_of_word, is_blank, is_log_word, read};
 use crate::{EccFlash, PAGE_UNITS};
@@ -89,7 +92,7 @@ impl<F: EccFlash + Drop> NorFlash for PairedFlash<F> {
 
     ghost is_faultless = { λ _. ⊥ };
 
-    ghost operates = { λ _ _ _. Unit {0} };
+    ghost operates = { λ old operation new. PairOperates F.units F.operates old.0 operation new.0 };
 
     fn pages(&self) -> usize {
         self.page_total()
@@ -117,7 +120,7 @@ impl<F: EccFlash + Drop> NorFlash for PairedFlash<F> {
         ensures counted { self.new.1 ≡ (self.old.1 + 1) % 2 ^ 64 }
         ensures faulted { self.new.2 ≡ (if is_ok result then self.old.2 else (self.old.2 + 1) % 2 ^ 64) }
         ensures faultless { ⊥ → IsOk result × ⊥ }
-        ensures operated { Unit {0} }
+        ensures operated { PairOperates F.units F.operates self.old.0 (programs page slot bytes) self.new.0 }
         ensures marked { is_word bytes ≡ true → F.takes self.old.0 page (2 * slot + 1) → slot_in (F.units self.new.0) page slot ≡ blank → ⊥ }
     {
         self.operations = self.operations.wrapping_add(1);
@@ -156,6 +159,7 @@ fn program<F: EccFlash>(
         (λ _. Programs (image_of (F.units flash.old) (F.page_total flash.old)) page slot bytes (image_of (F.units flash.new) (F.page_total flash.old)))
         (λ _. MayProgram (image_of (F.units flash.old) (F.page_total flash.old)) page slot bytes (image_of (F.units flash.new) (F.page_total flash.old))) }
     ensures marked { is_word bytes ≡ true → F.takes flash.old page (2 * slot + 1) → slot_in (F.units flash.new) page slot ≡ blank → ⊥ }
+    ensures operated { ProgramsPair F.units F.operates flash.old page slot bytes flash.new }
 {
     let first = 2 * slot;
     let second = first + 1;
@@ -191,6 +195,7 @@ fn write_unit<F: EccFlash>(
     ensures read_back { IfOk result (λ _. (F.units flash.new page unit).reads ≡ Some bytes) }
     ensures others { OneUnit (F.units flash.old) page unit (F.units flash.new) }
     ensures still_takes { (p u : ℕ) → F.takes flash.old p u → F.takes flash.new p u }
+    ensures operated { F.operates flash.old (programs_unit page unit bytes) flash.new }
 {
     let done = flash.program_unit(page, unit, bytes);
     let now = flash.read_unit(page, unit);
@@ -210,6 +215,7 @@ fn erase<F: EccFlash>(flash: &mut F, page: usize) -> Result<(), FlashFault>
     ensures outcome { MatchResult result
         (λ _. Erases (image_of (F.units flash.old) (F.page_total flash.old)) page (image_of (F.units flash.new) (F.page_total flash.old)))
         (λ _. MayErase (image_of (F.units flash.old) (F.page_total flash.old)) page (image_of (F.units flash.new) (F.page_total flash.old))) }
+    ensures operated { F.operates flash.old (erases_units page) flash.new }
 {
     match erase_units(flash, page) {
         Ok(()) => Ok(()),
@@ -224,6 +230,7 @@ fn erase_units<F: EccFlash>(flash: &mut F, page: usize) -> Result<(), FlashFault
     ensures outcome { (u : ℕ) → u < PAGE_UNITS → MayBeErased (F.units flash.old page u) (F.units flash.new page u) }
     ensures read_back { IfOk result (λ _. (u : ℕ) → u < PAGE_UNITS → (F.units flash.new page u).reads ≡ Some blank) }
     ensures others { OnePageOfUnits (F.units flash.old) page (F.units flash.new) }
+    ensures operated { F.operates flash.old (erases_units page) flash.new }
 {
     let done = flash.erase_units(page);
     if is_erased(flash, page) {

@@ -53,6 +53,8 @@ impl EccFlash for WholeFlash {
 
     ghost takes = { λ _ _ _. Unit {0} };
 
+    ghost operates = { λ _ _ _. Unit {0} };
+
     fn pages(&self) -> usize {
         PAGES
     }

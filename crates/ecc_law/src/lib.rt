@@ -6,20 +6,22 @@
 //! work makes up to two unit programs, or an erase, and the power may fail inside each of them and
 //! between the two, by any part of the cells.
 //!
-//! Nothing is kept here. The promise is that of `work_cut` and `work_then_cut`: what the host was told is
-//! stored is there after such a cut, and a restart on it is legal. A maker whose flash has error
-//! correction reads it.
+//! Nothing is kept here. The promise is that of `work_cut`: what the host was told is stored is there
+//! after such a cut, and a restart on it is legal. A maker whose flash has error correction reads it.
 #![tactic(auto)]
 
 ghost use Rattle.std.specs.Prelude.{◌≡◌, ◌≢◌, ◌∷◌, [], ℕ, List};
+ghost use Rattle.ecc_flash.specs.Cut.{PairOperates};
 ghost use Rattle.ecc_flash.specs.Paired.{AllKept, image_of};
 ghost use Rattle.keyboard.specs.Acknowledged.{IsAcknowledgedInSession};
 ghost use Rattle.keyboard.specs.Calls.{Call, Worked, image_after, keymap};
-ghost use Rattle.keyboard.specs.Lawful.{IsAnswered};
+ghost use Rattle.keyboard.specs.Lawful.{IsAnswered, MakesSuch};
 ghost use Rattle.keyboard.specs.Restart.{RestartsLegally, CutsLegally};
 ghost use Rattle.keyboard.specs.ties.Stands.{StandsFor};
 ghost use Rattle.keyboard.specs.ties.Value.{RunsOn};
 ghost use Rattle.keymap_store.specs.declared.store.Work.{Work};
+ghost use Rattle.page_turnover.specs.Next.{on_flash};
+ghost use Rattle.ecc_law.specs.WorkCut.{WorkIsCut};
 
 use ecc_flash::{CutFlash, EccFlash, PairedFlash};
 use keyboard::laws::{acknowledged_is_stored, restarts_are_legal};
@@ -45,6 +47,8 @@ pub fn work<F: EccFlash + Drop>(keyboard: &mut Keyboard, flash: &mut PairedFlash
         → IsAnswered start past (Worked result (image_of (F.units flash.new.0) (F.page_total flash.new.0))) }
     ensures cut { (start : List ℕ) (past : List Call) → StandsFor start past keyboard.old → image_after start past ≡ image_of (F.units flash.old.0) (F.page_total flash.old.0)
         → result ≢ Work.Idle → CutsLegally start past result (image_of (F.units flash.new.0) (F.page_total flash.new.0)) }
+    ensures operated { (start : List ℕ) (past : List Call) → StandsFor start past keyboard.old → image_after start past ≡ image_of (F.units flash.old.0) (F.page_total flash.old.0)
+        → result ≢ Work.Idle → MakesSuch start past result (image_of (F.units flash.new.0) (F.page_total flash.new.0)) (λ operation. PairOperates F.units F.operates flash.old.0 (on_flash operation) flash.new.0) }
     ensures untouched { result ≡ Work.Idle → flash.new ≡ flash.old }
     ensures legal { (start : List ℕ) (past : List Call) → StandsFor start past keyboard.old → image_after start past ≡ image_of (F.units flash.old.0) (F.page_total flash.old.0)
         → RestartsLegally start past (image_of (F.units flash.new.0) (F.page_total flash.new.0)) }
@@ -60,9 +64,10 @@ pub fn work<F: EccFlash + Drop>(keyboard: &mut Keyboard, flash: &mut PairedFlash
 /// after `whole` others: with 0 inside the first or before it, with 1 inside the second or between the
 /// two. It gives the flash that the next start finds.
 ///
-/// A restart on it is legal: it finds the keymap of the session's start, changed by a prefix of the
-/// accepted commands that did not fail, with each settled one among them. And an entry whose code the
-/// host was told is stored, and that no later command writes, has this code.
+/// The unit operations before it are made as the flash makes them, that one may be torn, and none is
+/// behind it. A restart on it is legal: it finds the keymap of the session's start, changed by a
+/// prefix of the accepted commands that did not fail, with each settled one among them. And an entry
+/// whose code the host was told is stored, and that no later command writes, has this code.
 pub fn work_cut<F: EccFlash + Drop>(
     keyboard: &mut Keyboard,
     flash: PairedFlash<F>,
@@ -74,6 +79,8 @@ pub fn work_cut<F: EccFlash + Drop>(
     ensures acknowledged { (start : List ℕ) (past : List Call) (layer key code : ℕ) → StandsFor start past keyboard.old → image_after start past ≡ image_of (F.units flash.0) (F.page_total flash.0)
         → IsAcknowledgedInSession past layer key code → keymap (image_of (F.units result.0) (F.page_total result.0)) layer key ≡ code }
     ensures kept { AllKept (F.units result.0) (F.page_total result.0) }
+    ensures cut { (start : List ℕ) (past : List Call) → StandsFor start past keyboard.old → image_after start past ≡ image_of (F.units flash.0) (F.page_total flash.0)
+        → WorkIsCut F.units F.operates start past flash.0 whole result.0 }
 {
     let mut cut = PairedFlash::mount(CutFlash::new(flash.into_flash(), whole));
     let _work = work(keyboard, &mut cut);

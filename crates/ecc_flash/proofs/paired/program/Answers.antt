@@ -1,6 +1,7 @@
 use Rattle.std.proofs.Common.{rules, inl, inr, arith, sym, ◌∙◌}
 use Rattle.flash_model.proofs.ByMask.{no_program}
 use Rattle.ecc_flash.specs.Model.{IsProgrammed}
+use Rattle.ecc_flash.specs.Cut.{checked, marked}
 use Rattle.ecc_flash.proofs.Operating.{IsAsked, took, both_written, nothing_first, torn_first, kept_then, meant_first, reads_first, meant_or_free, may_program, programs}
 use Rattle.ecc_flash.proofs.Readings.{free_units, not_blank, not_zeros, some_is}
 use Rattle.ecc_flash.proofs.paired.program.Goals as goal
@@ -65,3 +66,15 @@ returns-then-is_free-clause-marked g c word takes free = not_zeros (c.program_un
 
 pub returns-else-is_free-clause-marked : goal.returns-else-is_free-clause-marked
 returns-else-is_free-clause-marked g c word takes free = cc (c.if-is_free.false, c.is_free-in-Err.ensures.1 (free_units _ _ free).0)
+
+pub returns-in-Ok-write_unit-clause-operated : goal.returns-in-Ok-write_unit-clause-operated
+returns-in-Ok-write_unit-clause-operated g c =
+    checked _ c.write_unit.ensures.operated c.in-Ok.ensures.read_back (rw (← c.check_of_word.ensures) c.write_unit-in-Ok.ensures.operated)
+
+pub returns-in-Err-write_unit-clause-operated : goal.returns-in-Err-write_unit-clause-operated
+returns-in-Err-write_unit-clause-operated g c =
+    checked _ c.write_unit.ensures.operated c.in-Ok.ensures.read_back (rw (← c.check_of_word.ensures) c.write_unit-in-Ok.ensures.operated)
+
+pub returns-then-is_free-clause-operated : goal.returns-then-is_free-clause-operated
+returns-then-is_free-clause-operated g c =
+    marked _ c.write_unit.ensures.operated (c.is_free-in-Err.ensures.0 c.if-is_free.true) c.program_unit-marked.ensures.operated

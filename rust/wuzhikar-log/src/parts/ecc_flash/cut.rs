@@ -77,7 +77,8 @@ impl<F: EccFlash> EccFlash for CutFlash<F> {
 
 /// A program of a slot in which the power fails, inside the unit program that comes after `whole`
 /// others: what it leaves is an outcome of a torn program. With `whole` 0 that is inside the first
-/// unit or before it, with 1 inside the second or between the two.
+/// unit or before it, with 1 inside the second or between the two. The units before are programmed
+/// as the flash does it, that one may be torn, and none is behind it.
 pub fn program_cut<F: EccFlash>(
     flash: PairedFlash<F>,
     page: usize,
