@@ -28,7 +28,7 @@ ROOT = os.path.dirname(os.path.dirname(HERE))
 sys.path[:0] = [f"{ROOT}/tools", f"{ROOT}/tools/export_rust"]
 
 from debian_crates import environment, lacking  # noqa: E402
-from faults import FAULTS, is_found, plant  # noqa: E402
+from faults import FAULTS, HARMLESS, is_found, plant  # noqa: E402
 from hosts import MISSING, Hosts  # noqa: E402
 from room import Failed, Room  # noqa: E402
 from target_steps import SOURCES, variables  # noqa: E402
@@ -165,15 +165,23 @@ def typed(bench, _):
             raise Failed("\n    ".join([f"{name}: a host finds otherwise than it should:", *differing]))
 
 
+def planted(bench, fault):
+    """Plants a fault, and runs its test: whether it passed, and what it told."""
+    mend = plant(bench.room.folder, fault)
+    try:
+        firmware = bench.firmware(fault.features, "fault")
+    finally:
+        mend()
+    return bench.session(firmware) if fault.test == ["session"] else bench.run(firmware, *fault.test)
+
+
 def find(bench, _):
-    """Plants each fault, and sees that it is found."""
+    """Sees that each planted fault is found, and that what is none passes."""
+    passed, told = planted(bench, HARMLESS)
+    if not passed:
+        raise Failed(f"planted, no fault, and found: {HARMLESS.name}: {told}")
     for fault in FAULTS:
-        mend = plant(bench.room.folder, fault)
-        try:
-            firmware = bench.firmware(fault.features, "fault")
-        finally:
-            mend()
-        passed, told = bench.session(firmware) if fault.test == ["session"] else bench.run(firmware, *fault.test)
+        passed, told = planted(bench, fault)
         if not is_found(fault, passed, told):
             raise Failed(f"planted, and not found: {fault.name}: {' '.join(fault.test)} tells {told}")
         say(f"planted and found: {fault.name}")

@@ -13,7 +13,7 @@ class Edit(NamedTuple):
 
 
 class Fault(NamedTuple):
-    """A fault: what is wrong, its edits, the test that finds it, and how it is told."""
+    """A fault: what is wrong, its edits, the test that finds it, how it is told, and the features of its firmware."""
 
     name: str
     edits: list[Edit]
@@ -52,6 +52,12 @@ FAULTS = [
            Edit("rust/wuzhikar/src/parts/keyboard/keyboard.rs", "self.keys.restart();", "")],
           ["random", "100", "1"], "WRONG|a frame"),
 ]
+
+# A slot is a word beside its complement, so it makes no difference which half is programmed first.
+HARMLESS = Fault("the second word of a slot is programmed first",
+                 [Edit(f"{FIRMWARE}/nvmc.rs", "(offset as usize..).step_by(4).zip(bytes.chunks_exact(4)) {\n            let word",
+                       "[4, 0].map(|at| (offset as usize + at, &bytes[at..at + 4])) {\n            let word")],
+                 ["random", "100", "1"], "")
 
 
 def plant(root, fault):

@@ -21,6 +21,7 @@ class Hosts:
 
     def __init__(self, work):
         parts.need_programs()
+        os.makedirs(work, exist_ok=True)
         self.work, self.programs = work, parts.build(work)
         self.booted = machines.boot(work, self.programs, b"")
 
