@@ -101,14 +101,7 @@ erases_left-most image Unread = elim (cases_Bool (is_blank image (target_page im
 ]
 erases_left-most image (Holds n) = omega arith
 
--- a new command needs its record, or a turn before it
-pub needs_record : (image : List ℕ) → HasRoom image → Needs image 1
-needs_record image r = record {
-  room = λ h. refl;
-  blank = λ f b. absurd (f r);
-  used = λ f u. absurd (f r);
-}
-
+-- without room a new command needs a turn before its record
 pub needs_turn : (image : List ℕ) → (HasRoom image → ⊥) → Needs image (turn_left image Unread)
 needs_turn image f = record {
   room = λ r. absurd (f r);

@@ -1,8 +1,6 @@
 -- The last writer over lists that are joined.
 use Rattle.std.specs.Option.{option_or}
-use Rattle.std.proofs.Common.{◌≡◌, ℕ, ◌<◌, Option, Some, None, suc, ◌+◌, ◌-◌, ◌≤◌, arith, length, get_or, take, drop, drop-cons, unwrap_or, List, [], ◌∷◌, ◌++◌, refl, ap, sym, ◌∙◌}
-use Rattle.std.proofs.Math.Seq.{drop-length}
-use Rattle.std.proofs.lemmas.List.{take-append-drop}
+use Rattle.std.proofs.Common.{◌≡◌, ℕ, ◌<◌, Option, Some, None, suc, arith, unwrap_or, List, [], ◌∷◌, ◌++◌, refl, ap, sym, ◌∙◌}
 use Rattle.layers.specs.Codes.{layers, keys, default_code}
 use Rattle.layers.specs.Formats.{command_in}
 use Rattle.layers.specs.Entries.{written, last_written, changed, commands_in, entry_in, written_by_word, NoneWrites, ChangesNothing}
@@ -95,9 +93,6 @@ entry-append_other format words word layer key e =
     ∙ ap (λ (cs : List Command). changed (entry_in format words) cs layer key) (commands_in-other format word [] e ∙ commands_in-nil format)
     ∙ changed-nil (entry_in format words) layer key
 
-pub changed-cons : (entries : ℕ → ℕ → ℕ) (command : Command) (later : List Command) (layer key : ℕ) → changed entries (command ∷ later) layer key ≡ changed (changed entries (command ∷ [])) later layer key
-changed-cons entries command later layer key = changed-append entries (command ∷ []) later layer key
-
 -- a command that changes nothing leaves an entry
 pub changed-nothing : (entries : ℕ → ℕ → ℕ) (command : Command) (layer key : ℕ) → ChangesNothing entries command → layer < layers → key < keys → changed entries (command ∷ []) layer key ≡ entries layer key
 changed-nothing entries command layer key n l k = n.each layer key l k
@@ -129,42 +124,3 @@ pub entry-last : (format : ℕ) (before : List ℕ) (word : ℕ) (after : List �
 unfolding entry_in changed
 entry-last format before word after layer key code w n =
     rw (commands_in-append format before (word ∷ after), last_written-append (commands_in format before) (commands_in format (word ∷ after)) layer key, last_written-word format word after layer key, last_written-none format after layer key n, w) refl
-
--- the last n words and one before them
-drop_one_more : (words : List ℕ) (n : ℕ) → n < length words → drop (length words - (n + 1)) words ≡ get_or words (length words - 1 - n) 0 ∷ drop (length words - n) words
-drop_one_more words n l =
-    let e : length words - (n + 1) ≡ length words - 1 - n = omega arith in
-    let f : suc (length words - 1 - n) ≡ length words - n = omega arith in
-    rw e (drop-cons words (length words - 1 - n) 0 (omega arith) ∙ rw f refl)
-
--- where none of the last n words writes, the word before them decides if it does
-pub back-none : (format : ℕ) (words : List ℕ) (n layer key : ℕ) → n < length words → last_written (commands_in format (drop (length words - n) words)) layer key ≡ None
-    → written_by_word format (get_or words (length words - 1 - n) 0) layer key ≡ None
-    → last_written (commands_in format (drop (length words - (n + 1)) words)) layer key ≡ None
-back-none format words n layer key l later w =
-    rw (drop_one_more words n l, last_written-word format (get_or words (length words - 1 - n) 0) (drop (length words - n) words) layer key, later, w) refl
-
-pub back-some : (format : ℕ) (words : List ℕ) (n layer key code : ℕ) → n < length words → last_written (commands_in format (drop (length words - n) words)) layer key ≡ None
-    → written_by_word format (get_or words (length words - 1 - n) 0) layer key ≡ Some code
-    → entry_in format words layer key ≡ code
-unfolding entry_in changed
-back-some format words n layer key code l later w =
-    let at = length words - (n + 1) in
-    let d : last_written (commands_in format (drop at words)) layer key ≡ Some code =
-    rw (drop_one_more words n l, last_written-word format (get_or words (length words - 1 - n) 0) (drop (length words - n) words) layer key, later, w) refl in
-    let whole : take at words ++ drop at words ≡ words = take-append-drop at words in
-    let a : last_written (commands_in format (take at words ++ drop at words)) layer key ≡ Some code =
-    rw (commands_in-append format (take at words) (drop at words), last_written-append (commands_in format (take at words)) (commands_in format (drop at words)) layer key, d) refl in
-    rw (rw whole at a) refl
-
-pub back-all : (format : ℕ) (words : List ℕ) (n layer key : ℕ) → length words ≤ n → last_written (commands_in format (drop (length words - n) words)) layer key ≡ None → entry_in format words layer key ≡ default_code layer key
-unfolding entry_in changed
-back-all format words n layer key l later =
-    let e : length words - n ≡ 0 = omega arith in
-    rw (rw e at later) refl
-
-pub back-start : (format : ℕ) (words : List ℕ) (layer key : ℕ) → last_written (commands_in format (drop (length words - 0) words)) layer key ≡ None
-unfolding last_written
-back-start format words layer key =
-    let e : length words - 0 ≡ length words = omega arith in
-    rw (e, drop-length words, commands_in-nil format) refl

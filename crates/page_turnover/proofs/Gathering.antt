@@ -1,8 +1,8 @@
 -- Eight slots in one list of bytes.
-use Rattle.std.proofs.Common.{◌≡◌, ◌∙◌, ℕ, zero, suc, [], ◌+◌, ◌-◌, ◌*◌, ◌/◌, ◌%◌, ◌<◌, List, ◌++◌, length, take, drop, get_or, replicate, sym, ap, subst, arith, inl, inr}
+use Rattle.std.proofs.Common.{◌≡◌, ◌∙◌, ℕ, zero, suc, [], ◌+◌, ◌-◌, ◌*◌, ◌/◌, ◌%◌, ◌<◌, List, ◌++◌, length, take, drop, get_or, replicate, refl, sym, ap, subst, arith, inl, inr}
 use Rattle.std.proofs.Math.Seq.{take-append_seam}
 use Rattle.std.proofs.lemmas.Bool.{cases_lt}
-use Rattle.std.proofs.lemmas.List.{drop-drop, drop_at, get_or-take, get_or-drop, get_or-replicate}
+use Rattle.std.proofs.lemmas.List.{length-append, drop-drop, drop_at, get_or-take, get_or-drop, get_or-replicate}
 use Rattle.std.proofs.lemmas.Grind.{same_number_lists}
 use Rattle.records.specs.declared.Slot.TheVariants.{Free}
 use Rattle.records.specs.Slots.{IsSlot, slot_of}
@@ -29,6 +29,13 @@ gathered at zero h i l = absurd (omega arith)
 gathered at (suc n) h zero l = first_slot (at 0) (in_line (λ k. at (suc k)) n) (h 0 (omega arith))
 gathered at (suc n) h (suc i) l =
     later_slot (at 0) (in_line (λ k. at (suc k)) n) i (h 0 (omega arith)) ∙ gathered (λ k. at (suc k)) n (λ k m. h (suc k) (omega arith)) i (omega arith)
+
+pub in_line-length : (at : ℕ → List ℕ) (n : ℕ) → ((k : ℕ) → k < n → length (at k) ≡ 8) → length (in_line at n) ≡ 8 * n
+in_line-length at zero h = refl
+in_line-length at (suc n) h =
+    let here : length (at 0) ≡ 8 = h 0 (omega arith) in
+    let rest : length (in_line (λ k. at (suc k)) n) ≡ 8 * n = in_line-length (λ k. at (suc k)) n (λ k m. h (suc k) (omega arith)) in
+    simp (length-append) (omega (arith, here, rest))
 
 -- a byte of a slot among them
 pub byte_in : (bytes : List ℕ) (i j : ℕ) → j < 8 → get_or (slot_in bytes i) j 0 ≡ get_or bytes (8 * i + j) 0

@@ -1,10 +1,11 @@
 //! Reading a page in blocks of eight slots.
 
-ghost use Rattle.std.specs.Prelude.{◌≡◌, ◌+◌, ◌*◌, ◌<◌, ◌↔◌, ℕ, IsTrue, if◌then◌else◌, length};
+ghost use Rattle.std.specs.Prelude.{◌≡◌, ◌+◌, ◌*◌, ◌<◌, ◌↔◌, ℕ, IsTrue, if◌then◌else◌};
 ghost use Rattle.std.specs.Int.{bit_at};
 ghost use Rattle.flash_model.specs.Image.{page_count, slot_at};
 ghost use Rattle.records.specs.Slots.{slot_of};
-ghost use Rattle.records.specs.Blocks.{slot_in, is_good};
+ghost use Rattle.records.specs.Blocks.{is_good};
+ghost use Rattle.page_turnover.specs.ties.Blocks.{slots_of};
 
 use flash_model::{NorFlash, PAGE_SLOTS};
 use records::{Slot, all_ones, kinds8};
@@ -23,7 +24,8 @@ pub fn is_free_block<F: NorFlash>(flash: &F, page: usize, block: u32) -> bool
     ensures { IsTrue result ↔ ((i : ℕ) → i < 8 → slot_of (slot_at (F.image flash.now) page (8 * block + i)) ≡ Slot.Free) }
 {
     let _pages = flash.pages();
-    all_ones(&read_block(flash, page, block))
+    let slots = read_block(flash, page, block);
+    all_ones(slots.as_flattened())
 }
 
 /// Which slots of a block are Good: bit `i` is that of slot `i` of the block.
@@ -33,20 +35,24 @@ pub fn good_in_block<F: NorFlash>(flash: &F, page: usize, block: u32) -> u8
     requires in_page { block < 64 }
     ensures { (i : ℕ) → i < 8 → bit_at result i ≡ (if is_good (slot_of (slot_at (F.image flash.now) page (8 * block + i))) then 1 else 0) }
 {
-    kinds8(&read_block(flash, page, block)).good
+    let _pages = flash.pages();
+    let slots = read_block(flash, page, block);
+    match <&[u8; 64]>::try_from(slots.as_flattened()) {
+        Ok(bytes) => kinds8(bytes).good,
+        Err(_) => unreachable!(),
+    }
 }
 
-/// The bytes of a block's slots, one slot after the other.
-#[inline]
-fn read_block<F: NorFlash>(flash: &F, page: usize, block: u32) -> [u8; 64]
+/// The slots of a block, where they are read to: their bytes lie one slot after the other, and are
+/// not copied into one array.
+#[inline(always)]
+fn read_block<F: NorFlash>(flash: &F, page: usize, block: u32) -> [[u8; 8]; 8]
     requires in_pages { page < page_count (F.image flash.now) }
     requires in_page { block < 64 }
-    ensures long { length result ≡ 64 }
-    ensures slots { (i : ℕ) → i < 8 → slot_in result i ≡ slot_at (F.image flash.now) page (8 * block + i) }
+    ensures { result ≡ slots_of (F.image flash.now) page block }
 {
-    let _pages = flash.pages();
     let at = BLOCK_SLOTS * block;
-    let slots = [
+    [
         flash.read_slot(page, at as usize),
         flash.read_slot(page, (at + 1) as usize),
         flash.read_slot(page, (at + 2) as usize),
@@ -55,9 +61,5 @@ fn read_block<F: NorFlash>(flash: &F, page: usize, block: u32) -> [u8; 64]
         flash.read_slot(page, (at + 5) as usize),
         flash.read_slot(page, (at + 6) as usize),
         flash.read_slot(page, (at + 7) as usize),
-    ];
-    match <&[u8; 64]>::try_from(slots.as_flattened()) {
-        Ok(bytes) => *bytes,
-        Err(_) => unreachable!(),
-    }
+    ]
 }

@@ -255,7 +255,9 @@ fn passed_over<F: NorFlash>(flash: &F, active: ActivePage) -> ActivePage
     requires { active.page < page_count (F.image flash.now) }
     ensures { IsPassedOver (F.image flash.now) active result }
 {
-    if active.tail >= PAGE_SLOTS as u16 || is_free(flash, active.page as usize, active.tail as u32) {
+    if active.tail >= PAGE_SLOTS as u16
+        || is_free(flash, active.page as usize, active.tail as u32)
+    {
         return active;
     }
     ActivePage {

@@ -14,21 +14,27 @@ pub const PAGE_BLOCKS: u32 = PAGE_SLOTS as u32 / BLOCK_SLOTS;
 #[inline]
 pub fn is_free_block<F: NorFlash>(flash: &F, page: usize, block: u32) -> bool {
     let _pages = flash.pages();
-    all_ones(&read_block(flash, page, block))
+    let slots = read_block(flash, page, block);
+    all_ones(slots.as_flattened())
 }
 
 /// Which slots of a block are Good: bit `i` is that of slot `i` of the block.
 #[inline]
 pub fn good_in_block<F: NorFlash>(flash: &F, page: usize, block: u32) -> u8 {
-    kinds8(&read_block(flash, page, block)).good
+    let _pages = flash.pages();
+    let slots = read_block(flash, page, block);
+    match <&[u8; 64]>::try_from(slots.as_flattened()) {
+        Ok(bytes) => kinds8(bytes).good,
+        Err(_) => unreachable!(),
+    }
 }
 
-/// The bytes of a block's slots, one slot after the other.
-#[inline]
-fn read_block<F: NorFlash>(flash: &F, page: usize, block: u32) -> [u8; 64] {
-    let _pages = flash.pages();
+/// The slots of a block, where they are read to: their bytes lie one slot after the other, and are
+/// not copied into one array.
+#[inline(always)]
+fn read_block<F: NorFlash>(flash: &F, page: usize, block: u32) -> [[u8; 8]; 8] {
     let at = BLOCK_SLOTS * block;
-    let slots = [
+    [
         flash.read_slot(page, at as usize),
         flash.read_slot(page, (at + 1) as usize),
         flash.read_slot(page, (at + 2) as usize),
@@ -37,9 +43,5 @@ fn read_block<F: NorFlash>(flash: &F, page: usize, block: u32) -> [u8; 64] {
         flash.read_slot(page, (at + 5) as usize),
         flash.read_slot(page, (at + 6) as usize),
         flash.read_slot(page, (at + 7) as usize),
-    ];
-    match <&[u8; 64]>::try_from(slots.as_flattened()) {
-        Ok(bytes) => *bytes,
-        Err(_) => unreachable!(),
-    }
+    ]
 }

@@ -177,7 +177,9 @@ fn page_after(page: u8, pages: usize) -> u8 {
 
 /// The active page after a fault: a tail slot that is no longer Free is used up.
 fn passed_over<F: NorFlash>(flash: &F, active: ActivePage) -> ActivePage {
-    if active.tail >= PAGE_SLOTS as u16 || is_free(flash, active.page as usize, active.tail as u32) {
+    if active.tail >= PAGE_SLOTS as u16
+        || is_free(flash, active.page as usize, active.tail as u32)
+    {
         return active;
     }
     ActivePage {
