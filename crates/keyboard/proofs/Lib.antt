@@ -23,3 +23,4 @@ pub mod Finding
 pub mod Starting
 pub mod Heading
 pub mod Apart
+pub mod Progressing

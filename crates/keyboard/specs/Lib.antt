@@ -16,3 +16,4 @@ pub mod Single
 pub mod Finds
 pub mod Turnovers
 pub mod ties
+pub mod Progress

@@ -1,6 +1,6 @@
 //! What follows for every session in which each call is answered as it has to be.
 
-ghost use Rattle.std.specs.Prelude.{◌≡◌, ◌≢◌, ◌<◌, ◌≤◌, ◌+◌, ◌∷◌, ◌++◌, ℕ, suc, List, Some, length, map, slice_index};
+ghost use Rattle.std.specs.Prelude.{◌≡◌, ◌≢◌, ◌<◌, ◌≤◌, ◌+◌, ◌∷◌, ◌++◌, ℕ, suc, List, [], Ok, Some, length, map, slice_index};
 ghost use Rattle.flash_model.specs.Image.{IsImage};
 ghost use Rattle.flash_model.specs.Operations.{OnePage};
 ghost use Rattle.layers.specs.Entries.{changed};
@@ -17,12 +17,15 @@ ghost use Rattle.keymap_store.specs.Works.{IsPlacedAt, IsTornAt};
 ghost use Rattle.keymap_store.specs.declared.store.Work.{Work};
 ghost use Rattle.keyboard.specs.Acknowledged.{KeepsAcknowledged, IsConfirmed, IsSettled, SettledAfter};
 ghost use Rattle.keyboard.specs.Bounded.{IsInTime, steps_since};
-ghost use Rattle.keyboard.specs.Calls.{Call, Worked, image_after, keymap};
+ghost use Rattle.keyboard.specs.Calls.{Call, SetUp, Out, In, Worked, image_after, keymap};
 ghost use Rattle.keyboard.specs.Commands.{Accepted, accepted, accepted_before, settled_of, standing_of, working};
+ghost use Rattle.keyboard.specs.Feature.{command_in};
 ghost use Rattle.keyboard.specs.Finds.{FindsAllButLast};
 ghost use Rattle.keyboard.specs.Headers.{OwnHeaders};
 ghost use Rattle.keyboard.specs.Lawful.{IsAnswered, IsLawful};
+ghost use Rattle.control_ep.specs.declared.answer.EpAnswer.{EpAnswer};
 ghost use Rattle.keyboard.specs.Operated.{Works, HoldsFirst};
+ghost use Rattle.keyboard.specs.Progress.{set_feature, IsReady, AreWhole, steps_for, IsServed};
 ghost use Rattle.keyboard.specs.Restart.{LegalRestart, RestartsLegally};
 ghost use Rattle.keyboard.specs.Single.{unanswered, without_image, NoneFails, MayBeTorn};
 ghost use Rattle.keyboard.specs.Sound.{KeepsSound};
@@ -153,4 +156,17 @@ pub fn one_image()
         → (torn : MayBeTorn start past new) × (ReadsBack torn.operation new → ⊥) }
     ensures session { (start : List ℕ) (a b : List Call) → IsLawful start a → IsLawful start b → NoneFails a
         → map without_image a ≡ map without_image b → a ≡ b }
+{}
+
+/// Progress: a host that behaves is served. Where each slot 0 is sound, the flash is not worn and no
+/// command works, a SETUP packet of SET_REPORT and a packet with a command are acknowledged. Then come
+/// the steps of the flash work that `operations_of` names, and nothing between them, of which none
+/// fails: all but the last are answered Working, the last Settled. A command that changes nothing takes
+/// no step. The status stage is then answered by the empty packet.
+///
+/// No step fails on a flash that answers no fault (`Keyboard::work`: `faultless`).
+pub fn a_command_is_served()
+    ensures { (start : List ℕ) (past steps : List Call) (a b c d e : ℕ) (given status : EpAnswer) (command : Command) → IsReady start past
+        → command_in (a ∷ b ∷ c ∷ d ∷ e ∷ []) ≡ Ok command → AreWhole steps → length steps ≡ steps_for (image_after start past) command
+        → IsLawful start (In status ∷ steps ++ Out (3 ∷ a ∷ b ∷ c ∷ d ∷ e ∷ []) given ∷ SetUp set_feature ∷ past) → IsServed given steps status }
 {}

@@ -16,3 +16,4 @@ pub mod Single
 pub mod Tearing
 pub mod Promising
 pub mod Wanting
+pub mod Progressing

@@ -7,6 +7,7 @@ pub mod Lawful
 pub mod Memory
 pub mod Moments
 pub mod Order
+pub mod Progress
 pub mod Promise
 pub mod Readings
 pub mod Restart

@@ -1,11 +1,14 @@
 //! What follows for every history in which each event is answered as it has to be.
 
-ghost use Rattle.std.specs.Prelude.{◌≡◌, List, map};
+ghost use Rattle.std.specs.Prelude.{◌≡◌, ◌∷◌, ◌++◌, ℕ, List, [], Ok, map};
 ghost use Rattle.flash_model.specs.Sim.{SimValue};
+ghost use Rattle.keyboard.specs.Feature.{command_in};
+ghost use Rattle.layers.specs.declared.command.Command.{Command};
 ghost use Rattle.world.specs.History.{EachStep};
 ghost use Rattle.world.specs.Kinds.{Step};
 ghost use Rattle.world.specs.Lawful.{IsLawful};
 ghost use Rattle.world.specs.Memory.{IsRefusedWhereWanted};
+ghost use Rattle.world.specs.Progress.{IsReady, BringsCommand, IsServed};
 ghost use Rattle.world.specs.Promise.{Promise};
 ghost use Rattle.world.specs.Torn.{LeavesTorn};
 
@@ -36,4 +39,15 @@ pub fn torn_leaves_next()
 pub fn memory_is_refused_where_wanted()
     ensures { (start : SimValue) (history : List Step) → IsLawful start history
         → EachStep IsRefusedWhereWanted start history }
+{}
+
+/// Progress: a host that behaves, on a flash that does, is served. Where each slot 0 is sound, the flash
+/// is not worn, no command works and nothing is armed, SETUP, the packet of a command, the steps of the
+/// flash work that its operations need and nothing between them, and the status stage are answered ACK,
+/// ACK, Working .., Settled and the empty packet; a command that changes nothing needs no step. What
+/// each look then shows, `answered_is_promised` says.
+pub fn a_command_is_served()
+    ensures { (start : SimValue) (before works : List Step) (setup packet status : Step) (a b c d e : ℕ) (command : Command) → IsReady start before
+        → command_in (a ∷ b ∷ c ∷ d ∷ e ∷ []) ≡ Ok command → BringsCommand start before setup packet works status a b c d e command
+        → IsLawful start (status ∷ works ++ packet ∷ setup ∷ before) → IsServed setup packet works status }
 {}

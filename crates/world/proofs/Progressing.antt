@@ -1,0 +1,157 @@
+-- A command that has nothing in its way is served.
+use Rattle.std.proofs.Common.{◌≡◌, ◌≢◌, ℕ, Bool, IsSome, Option, None, Ok, List, [], ◌∷◌, ◌++◌, map, refl, ap, sym, ◌∙◌, subst}
+use Rattle.std.proofs.lemmas.List.{length-map}
+use Rattle.flash_model.specs.Sim.{SimValue}
+use Rattle.layers.specs.declared.command.Command.{Command}
+use Rattle.control_ep.specs.declared.answer.EpAnswer.{EpAnswer}
+use Rattle.control_ep.specs.declared.answer.EpAnswer.TheVariants as ep
+use Rattle.keymap_store.specs.declared.store.Work.{Work as WorkAnswer}
+use Rattle.keymap_store.specs.declared.store.Work.TheVariants.{Idle, Working, Settled, Failed}
+use Rattle.host.specs.Calls.{HostCall}
+use Rattle.keyboard.specs.Calls.{Call, SetUp, Out, In, Worked as KeyboardWorked, EachCall}
+use Rattle.keyboard.specs.Feature.{command_in}
+use Rattle.keyboard.specs.Lawful as keyboard
+use Rattle.keyboard.specs.Progress as session_specs
+use Rattle.keyboard.proofs.Progressing.{served as served_in_session}
+use Rattle.world.specs.declared.event.Event.{Event}
+use Rattle.world.specs.declared.event.Event.TheVariants.{Setup, OutPacket, InPacket, Work}
+use Rattle.world.specs.declared.event.Answer.{Answer}
+use Rattle.world.specs.declared.event.Answer.TheVariants.{Ack, Packet, Worked}
+use Rattle.world.specs.Kinds.{Step, kind_of, as_answer, ep_told, work_told}
+use Rattle.world.specs.History.{Session, session_with, session, host_calls, flash_after, EachStep}
+use Rattle.world.specs.Lawful.{Answered, IsAnswered, OperatedAs}
+use Rattle.world.specs.Progress.{IsReady, AreWorks, BringsCommand, AllWork, EndSettled, IsServed}
+use Rattle.world.proofs.Here.{by_endpoint, by_work, here}
+
+-- ---- what single steps are answered
+
+answered_setup : (now : Session) (heard : List HostCall) (old : SimValue) (event : Event) (bytes : List ℕ) (answer : Answer) (refused : Bool) (new : SimValue) → event ≡ Setup bytes
+    → Answered now heard old event answer refused new → (answer ≡ Ack) × (new ≡ old)
+answered_setup now heard old event bytes answer refused new e a =
+    let there : Answered now heard old (Setup bytes) answer refused new = subst (λ (x : Event). Answered now heard old x answer refused new) e a in
+    (there.0, there.1.0)
+
+-- an answer to an OUT packet is the endpoint's, and leaves the flash
+told_out : (now : Session) (heard : List HostCall) (old : SimValue) (items : List ℕ) (answer : Answer) (refused : Bool) (new : SimValue) → Answered now heard old (OutPacket (record { items = items })) answer refused new
+    → (ep_told answer ≡ ep.Ack → answer ≡ Ack) × (new ≡ old)
+told_out now heard old items answer refused new (by_ep, is, l, u) = (λ told. is ∙ ap as_answer (sym (by_endpoint answer by_ep is) ∙ told), u.0)
+
+answered_out : (now : Session) (heard : List HostCall) (old : SimValue) (event : Event) (items : List ℕ) (answer : Answer) (refused : Bool) (new : SimValue) → event ≡ OutPacket (record { items = items })
+    → Answered now heard old event answer refused new → (ep_told answer ≡ ep.Ack → answer ≡ Ack) × (new ≡ old)
+answered_out now heard old event items answer refused new e a =
+    told_out now heard old items answer refused new (subst (λ (x : Event). Answered now heard old x answer refused new) e a)
+
+-- the empty packet
+abbrev empty : EpAnswer
+empty = ep.Packet (record { items = [] })
+
+told_in : (now : Session) (heard : List HostCall) (old : SimValue) (answer : Answer) (refused : Bool) (new : SimValue) → Answered now heard old InPacket answer refused new → ep_told answer ≡ empty → answer ≡ Packet (record { items = [] })
+told_in now heard old answer refused new (by_ep, is, l, f, m) told = is ∙ ap as_answer (sym (by_endpoint answer by_ep is) ∙ told)
+
+answered_in : (now : Session) (heard : List HostCall) (old : SimValue) (event : Event) (answer : Answer) (refused : Bool) (new : SimValue) → event ≡ InPacket → Answered now heard old event answer refused new
+    → ep_told answer ≡ empty → answer ≡ Packet (record { items = [] })
+answered_in now heard old event answer refused new e a told = told_in now heard old answer refused new (subst (λ (x : Event). Answered now heard old x answer refused new) e a) told
+
+-- ---- a step of the flash work on a flash of which nothing is armed
+
+-- it does not fail, leaves nothing armed, and is answered what it came to
+record Quiet (answer : Answer) (new : SimValue) : Type 0 where
+  whole : work_told answer ≢ Failed
+  unarmed : new.armed ≡ None
+  told : (work : WorkAnswer) → work_told answer ≡ work → answer ≡ Worked work
+
+nothing_armed : (o : Option (List ℕ)) → o ≡ None → IsSome o → ⊥
+nothing_armed o n s = cc
+
+by_operated : (now : Session) (old : SimValue) (work : WorkAnswer) (new : SimValue) → old.armed ≡ None → OperatedAs now old old work new → (work ≢ Failed) × (new.armed ≡ None)
+by_operated now old Idle new u o = (λ e. cc, ap (λ (f : SimValue). f.armed) o ∙ u)
+by_operated now old Working new u o = (λ e. cc, o.is_such.armed)
+by_operated now old Settled new u o = (λ e. cc, o.is_such.armed)
+by_operated now old Failed new u o = absurd (nothing_armed old.armed u o.1)
+
+worked_quiet : (now : Session) (heard : List HostCall) (old : SimValue) (answer : Answer) (refused : Bool) (new : SimValue) → old.armed ≡ None → Answered now heard old Work answer refused new → Quiet answer new
+worked_quiet now heard old answer refused new u (work, is, w, r) =
+    let told = by_work answer work is in
+    let o = by_operated now old work new u w.operated in
+    record { whole = λ f. o.0 (sym told ∙ f); unarmed = o.1; told = λ other same. is ∙ ap Worked (sym told ∙ same) }
+
+step_quiet : (now : Session) (heard : List HostCall) (old : SimValue) (event : Event) (answer : Answer) (refused : Bool) (new : SimValue) → event ≡ Work → old.armed ≡ None → Answered now heard old event answer refused new → Quiet answer new
+step_quiet now heard old event answer refused new e u a = worked_quiet now heard old answer refused new u (subst (λ (x : Event). Answered now heard old x answer refused new) e a)
+
+-- ---- all steps of the flash work
+
+abbrev call_of : Step → Call
+call_of step = KeyboardWorked (work_told step.answer) step.flash.image
+
+record AllQuiet (start : SimValue) (works base : List Step) : Type 0 where
+  whole : session_specs.AreWhole (map call_of works)
+  unarmed : (flash_after start (works ++ base)).armed ≡ None
+
+quiet_at : (start : SimValue) (step : Step) (before : List Step) → step.event ≡ Work → (flash_after start before).armed ≡ None → IsAnswered start before step → Quiet step.answer step.flash
+quiet_at start step before e u a = step_quiet (session start before) (host_calls before) (flash_after start before) step.event step.answer step.refused step.flash e u a
+
+all_quiet : (start : SimValue) (works base : List Step) → AreWorks works → (flash_after start base).armed ≡ None → EachStep IsAnswered start (works ++ base) → AllQuiet start works base
+all_quiet start [] base w u h = record { whole = tt; unarmed = u }
+all_quiet start (step ∷ works) base w u h =
+    let there = all_quiet start works base w.1 u h.1 in
+    let here = quiet_at start step (works ++ base) w.0 there.unarmed h.0 in
+    record { whole = (here.whole, there.whole); unarmed = here.unarmed }
+
+all_work : (start : SimValue) (works base : List Step) → AreWorks works → (flash_after start base).armed ≡ None → EachStep IsAnswered start (works ++ base) → session_specs.AllWork (map call_of works) → AllWork works
+all_work start [] base w u h a = tt
+all_work start (step ∷ works) base w u h a =
+    let here = quiet_at start step (works ++ base) w.0 (all_quiet start works base w.1 u h.1).unarmed h.0 in
+    (here.told Working a.0, all_work start works base w.1 u h.1 a.1)
+
+end_settled : (start : SimValue) (works base : List Step) → AreWorks works → (flash_after start base).armed ≡ None → EachStep IsAnswered start (works ++ base) → session_specs.EndSettled (map call_of works) → EndSettled works
+end_settled start [] base w u h a = tt
+end_settled start (step ∷ works) base w u h a =
+    let here = quiet_at start step (works ++ base) w.0 (all_quiet start works base w.1 u h.1).unarmed h.0 in
+    (here.told Settled a.0, all_work start works base w.1 u h.1 a.1)
+
+-- ---- the session
+
+over_step : (now : Session) (event : Event) (answer : Answer) (image : List ℕ) (call : Call) (other : Event) → event ≡ other → session_with (kind_of other answer image) image now ≡ record { first = now.first; past = call ∷ now.past }
+    → session_with (kind_of event answer image) image now ≡ record { first = now.first; past = call ∷ now.past }
+over_step now event answer image call other e s = ap (λ (x : Event). session_with (kind_of x answer image) image now) e ∙ s
+
+over_works : (start : SimValue) (works base : List Step) → AreWorks works
+    → session start (works ++ base) ≡ record { first = (session start base).first; past = map call_of works ++ (session start base).past }
+over_works start [] base w = refl
+over_works start (step ∷ works) base w =
+    over_step (session start (works ++ base)) step.event step.answer step.flash.image (call_of step) Work w.0 refl
+    ∙ ap (λ (s : Session). let more : Session = record { first = s.first; past = call_of step ∷ s.past } in more) (over_works start works base w.1)
+
+later : (start : SimValue) (xs ys : List Step) → EachStep IsAnswered start (xs ++ ys) → EachStep IsAnswered start ys
+later start [] ys h = h
+later start (step ∷ xs) ys h = later start xs ys h.1
+
+pub served : (start : SimValue) (before works : List Step) (setup brought status : Step) (a b c d e : ℕ) (command : Command) → IsReady start before → command_in (a ∷ b ∷ c ∷ d ∷ e ∷ []) ≡ Ok command
+    → BringsCommand start before setup brought works status a b c d e command → EachStep IsAnswered start (status ∷ works ++ brought ∷ setup ∷ before) → IsServed setup brought works status
+served start before works setup brought status a b c d e command ready r t h =
+    let base : List Step = brought ∷ setup ∷ before in
+    let now : Session = session start before in
+    let packet : List ℕ = 3 ∷ a ∷ b ∷ c ∷ d ∷ e ∷ [] in
+    let lawful = later start works base h.1 in
+    let at_setup = answered_setup now (host_calls before) (flash_after start before) setup.event session_specs.set_feature setup.answer setup.refused setup.flash t.begins lawful.1.0 in
+    let at_data = answered_out (session start (setup ∷ before)) (host_calls (setup ∷ before)) setup.flash brought.event packet brought.answer brought.refused brought.flash t.brings lawful.0 in
+    let unarmed : brought.flash.armed ≡ None = ap (λ (f : SimValue). f.armed) (at_data.1 ∙ at_setup.1) ∙ ready.unarmed in
+    let base_is : session start base ≡ record { first = now.first; past = Out packet (ep_told brought.answer) ∷ SetUp session_specs.set_feature ∷ now.past } =
+    over_step (session start (setup ∷ before)) brought.event brought.answer brought.flash.image (Out packet (ep_told brought.answer)) (OutPacket (record { items = packet })) t.brings refl
+    ∙ ap (λ (s : Session). let more : Session = record { first = s.first; past = Out packet (ep_told brought.answer) ∷ s.past } in more)
+    (over_step now setup.event setup.answer setup.flash.image (SetUp session_specs.set_feature) (Setup session_specs.set_feature) t.begins refl) in
+    let all_is : session start (status ∷ works ++ base)
+    ≡ record { first = now.first; past = In (ep_told status.answer) ∷ map call_of works ++ Out packet (ep_told brought.answer) ∷ SetUp session_specs.set_feature ∷ now.past } =
+    over_step (session start (works ++ base)) status.event status.answer status.flash.image (In (ep_told status.answer)) InPacket t.asks refl
+    ∙ ap (λ (s : Session). let more : Session = record { first = s.first; past = In (ep_told status.answer) ∷ s.past } in more)
+    (over_works start works base t.flash_work ∙ ap (λ (s : Session). let more : Session = record { first = s.first; past = map call_of works ++ s.past } in more) base_is) in
+    let calls = subst (λ (s : Session). EachCall keyboard.IsAnswered s.first s.past) all_is (here start (status ∷ works ++ base) h).lawful in
+    let as_many = length-map works call_of ∙ t.as_many ∙ ap (λ (i : List ℕ). session_specs.steps_for i command) (sym (here start before lawful.1.1).image) in
+    let s = served_in_session now.first now.past (map call_of works) a b c d e (ep_told brought.answer) (ep_told status.answer) command ready.session r
+    (all_quiet start works base t.flash_work unarmed h.1).whole as_many calls in
+    record {
+      began = at_setup.0;
+      acknowledged = at_data.0 s.acknowledged;
+      stored = end_settled start works base t.flash_work unarmed h.1 s.stored;
+      confirmed = answered_in (session start (works ++ base)) (host_calls (works ++ base)) (flash_after start (works ++ base)) status.event status.answer status.refused status.flash t.asks h.0 s.confirmed;
+    }
