@@ -85,7 +85,7 @@ class Test:
         begun, words = time.monotonic(), f"attach={','.join(map(str, self.sizes))} values=1"
         attached = [(name, str(size), size) for size in self.sizes for name in every]
         found, differing = machines.follow(self.work, self.keyboard(WIRE, "wire"), (kernel, disk), every, words, attached)
-        if self.values:
+        if self.values and found:
             differing += self.values.differences(found.get(("values", "uhid"), []))
         self.tell(f"Linux {release}, packets of {', '.join(map(str, self.sizes))} bytes", begun, differing)
 

@@ -90,12 +90,11 @@ def follow(work, keyboard, booted, names, words="", attached=()):
     """Follows lists on a keyboard, and on those that the words attach: what was said of each, and where it is otherwise."""
     words = f"{words} lists={','.join(names)} alone={','.join(lists.ALONE)}"
     try:
-        said, differing = linux(work, keyboard, booted, words), []
+        found, _ = lists.sections(linux(work, keyboard, booted, words))
     except Silent as error:
-        said, differing = error.said, [str(error)]
-    found, _ = lists.sections(said)
+        return {}, [str(error), *error.said.splitlines()[-8:]]
     wanted = [*attached, *((name, keyboard.serial, keyboard.size) for name in names + lists.ALONE)]
-    return found, differing + [line for one in wanted for line in lists.compared(*one, found)]
+    return found, [line for one in wanted for line in lists.compared(*one, found)]
 
 
 def bios(work, keyboard, controller):
