@@ -4,6 +4,7 @@ ghost use Rattle.std.specs.Prelude.{◌≡◌, ◌≢◌, ◌+◌, ◌%◌, ◌^
 ghost use Rattle.flash_model.specs.Image.{page_count};
 ghost use Rattle.layers.specs.declared.code.TheConstants.{ENTRIES};
 ghost use Rattle.layers.specs.Commands.{IsCommand};
+ghost use Rattle.layers.specs.declared.command.Command.{Command};
 ghost use Rattle.layers.specs.Formats.{command_in};
 ghost use Rattle.layers.specs.Keymaps.{HasEntries, StandsFor};
 ghost use Rattle.page_turnover.specs.Turn.{IsPending};
@@ -266,10 +267,7 @@ impl Store {
         let from = offer_next(&mut self.log, &self.keymap, from);
         match self.log.step(flash) {
             Step::Moved => {
-                self.job = Job::Turning {
-                    command: *command,
-                    from,
-                };
+                go_on(&mut self.job, from);
                 Work::Working
             }
             Step::Committed => {
@@ -283,6 +281,16 @@ impl Store {
             }
             Step::Idle => unreachable!(),
         }
+    }
+}
+
+/// Has a turn look for its next entry from this place on, where the job lies.
+#[inline(always)]
+fn go_on(job: &mut Job, from: u16)
+    ensures { (command : Command) (before : ℕ) → job.old ≡ Job.Turning command before → job.new ≡ Job.Turning command from }
+{
+    if let Job::Turning { from: place, .. } = job {
+        *place = from;
     }
 }
 

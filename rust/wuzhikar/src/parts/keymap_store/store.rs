@@ -178,10 +178,7 @@ impl Store {
         let from = offer_next(&mut self.log, &self.keymap, from);
         match self.log.step(flash) {
             Step::Moved => {
-                self.job = Job::Turning {
-                    command: *command,
-                    from,
-                };
+                go_on(&mut self.job, from);
                 Work::Working
             }
             Step::Committed => {
@@ -195,6 +192,14 @@ impl Store {
             }
             Step::Idle => unreachable!(),
         }
+    }
+}
+
+/// Has a turn look for its next entry from this place on, where the job lies.
+#[inline(always)]
+fn go_on(job: &mut Job, from: u16) {
+    if let Job::Turning { from: place, .. } = job {
+        *place = from;
     }
 }
 

@@ -48,13 +48,14 @@ returns-in-Moved-clause-leaves g c =
     let new = g.F.NorFlash.image c.step.new.flash in
     let m = rw (← c.self.view_is) at c.requires.mirrors in
     let e = rw (← c.self.view_is) at c.requires.job in
+    let onward = c.go_on.ensures c.args.command c.args.from (rw (← c.self.view_is) at c.requires.job) in
     let j = turning old _ c.args.command c.args.from m e in
     let s = c.offer_next-from.ensures.stands old (entries_of old) m.keymap_is m.log_is j.offers in
     let log = c.offer_next-from.new.log in
     let from = c.offer_next-from.result in
     let made = c.in-Moved.is in
     let moves = c.step.ensures.moved made in
-    rw (← c.self.view_is) (record {
+    rw (← c.self.view_is, onward) (record {
       mirrors = turn_moves old _ c.args.command from log c.step.result new c.step.new.self m j.no_room c.offer_next-from.ensures.within s.describes s.offers made c.step.ensures.ends moves
           (in_target old _ log from c.step.result new s c.step.ensures.attempts);
       works = record { some = rw e refl; same_command = rw e refl; same_keymap = refl };
@@ -115,10 +116,11 @@ returns-in-Moved-clause-fewer g c working =
     let new = g.F.NorFlash.image c.step.new.flash in
     let m = rw (← c.self.view_is) at c.requires.mirrors in
     let e = rw (← c.self.view_is) at c.requires.job in
+    let onward = c.go_on.ensures c.args.command c.args.from (rw (← c.self.view_is) at c.requires.job) in
     let j = turning old _ c.args.command c.args.from m e in
     let s = c.offer_next-from.ensures.stands old (entries_of old) m.keymap_is m.log_is j.offers in
     let moves = c.step.ensures.moved c.in-Moved.is in
-    rw (← c.self.view_is) (moved_left c.offer_next-from.result old c.offer_next-from.new.log c.step.result new c.step.new.self c.offer_next-from.ensures.within s.describes.task_is s.offers c.in-Moved.is c.step.ensures.ends moves.keeps
+    rw (← c.self.view_is, onward) (moved_left c.offer_next-from.result old c.offer_next-from.new.log c.step.result new c.step.new.self c.offer_next-from.ensures.within s.describes.task_is s.offers c.in-Moved.is c.step.ensures.ends moves.keeps
     ∙ ap (turn_left old) c.offer_next-from.ensures.target ∙ sym (turning_left old _ c.args.command c.args.from m e))
 
 pub returns-in-Committed-clause-fewer : goal.returns-in-Committed-clause-fewer
@@ -162,12 +164,13 @@ returns-in-Moved-clause-order g c =
     let new = g.F.NorFlash.image c.step.new.flash in
     let m = rw (← c.self.view_is) at c.requires.mirrors in
     let e = rw (← c.self.view_is) at c.requires.job in
+    let onward = c.go_on.ensures c.args.command c.args.from (rw (← c.self.view_is) at c.requires.job) in
     let j = turning old _ c.args.command c.args.from m e in
     let s = c.offer_next-from.ensures.stands old (entries_of old) m.keymap_is m.log_is j.offers in
     let moves = c.step.ensures.moved c.in-Moved.is in
     let log = c.offer_next-from.new.log in
     let from = c.offer_next-from.result in
-    rw (← c.self.view_is) (moved_order from c.args.from old _ c.args.command log c.step.result new c.step.new.self m e c.offer_next-from.ensures.target c.offer_next-from.ensures.within s.describes.task_is s.offers c.in-Moved.is
+    rw (← c.self.view_is, onward) (moved_order from c.args.from old _ c.args.command log c.step.result new c.step.new.self m e c.offer_next-from.ensures.target c.offer_next-from.ensures.within s.describes.task_is s.offers c.in-Moved.is
     c.step.ensures.ends moves.keeps (in_target old _ log from c.step.result new s c.step.ensures.attempts))
 
 pub returns-in-Committed-clause-order : goal.returns-in-Committed-clause-order
