@@ -33,6 +33,16 @@ use Rattle.world.specs.declared.event.Event.TheVariants.{Entry}
 use Rattle.world.specs.declared.event.Answer.TheVariants.{EntryIs}
 use Rattle.world.specs.Acknowledged.{accepts_by, accepts_here, GoesOn, SameTransfer, NoneAcceptedWrites, IsAcknowledged}
 use Rattle.world.proofs.Telling.{acknowledged}
+use Rattle.std.proofs.Common.{replicate, ◌^◌, ◌-◌}
+use Rattle.flash_model.specs.Image.{page_count, slot_at}
+use Rattle.records.specs.declared.Slot.{Slot}
+use Rattle.records.specs.declared.Slot.TheVariants.{Free, Good}
+use Rattle.records.specs.Slots.{slot_of, IsSound}
+use Rattle.records.proofs.SlotLemmas.{slot_of-blank, blank_slot, free_sound}
+use Rattle.page_turnover.specs.Active.{active}
+use Rattle.page_turnover.specs.Header.{header_word}
+use Rattle.page_turnover.proofs.Headers.{active_none}
+use Rattle.keyboard.specs.Commands.{working, accepted}
 
 -- ---- what single steps are answered
 
@@ -249,3 +259,29 @@ shown start before works after setup brought status look a b c d e layer key cod
     } in
     shown_entry (session start whole) (host_calls whole) (flash_after start whole) look.event look.answer look.refused look.flash layer key code looks
     (acknowledged start whole h.1 layer key code told) h.0
+
+-- ---- a flash as it comes from the factory
+
+free_or_good : (kind : Slot) (word : ℕ) → kind ≡ Free → kind ≡ Good word → ⊥
+free_or_good kind word f g = cc
+
+none_or_some : (active : Option (ℕ × ℕ)) (place : ℕ × ℕ) → active ≡ None → active ≡ Some place → ⊥
+none_or_some active place n s = cc
+
+rests_at_first : (image : List ℕ) → working image [] ≡ None
+unfolding working accepted
+rests_at_first image = refl
+
+pub erased_ready : (start : SimValue) → start.armed ≡ None → ((p : ℕ) → p < page_count start.image → slot_at start.image p 0 ≡ replicate 8 255) → IsReady start []
+erased_ready start armed erased =
+    let free : (p : ℕ) → p < page_count start.image → slot_of (slot_at start.image p 0) ≡ Free = λ p l. ap slot_of (erased p l) ∙ slot_of-blank in
+    let none : active start.image ≡ None =
+    active_none start.image (λ p s l h. free_or_good (slot_of (slot_at start.image p 0)) (header_word h.format s) (free p l) h.good) in
+    record {
+      session = record {
+        sound = record { sound = λ p l. subst IsSound (sym (erased p l)) (free_sound (replicate 8 255) blank_slot slot_of-blank) };
+        not_worn = λ w. none_or_some (active start.image) (w.page, 2 ^ 28 - 1) none w.last;
+        rests = rests_at_first start.image;
+      };
+      unarmed = armed;
+    }

@@ -1,6 +1,7 @@
 //! What follows for every history in which each event is answered as it has to be.
 
-ghost use Rattle.std.specs.Prelude.{◌≡◌, ◌<◌, ◌∷◌, ◌++◌, ℕ, List, [], Ok, Some, map};
+ghost use Rattle.std.specs.Prelude.{◌≡◌, ◌<◌, ◌∷◌, ◌++◌, ℕ, List, [], Ok, None, Some, map, replicate};
+ghost use Rattle.flash_model.specs.Image.{page_count, slot_at};
 ghost use Rattle.flash_model.specs.Sim.{SimValue};
 ghost use Rattle.keyboard.specs.Feature.{command_in};
 ghost use Rattle.layers.specs.Codes.{layers, keys};
@@ -59,4 +60,11 @@ pub fn a_command_is_served()
         → command_in (a ∷ b ∷ c ∷ d ∷ e ∷ []) ≡ Ok command → BringsCommand start before setup packet works status a b c d e command
         → layer < layers → key < keys → written command layer key ≡ Some code → NoneAcceptedWrites start after (status ∷ works ++ packet ∷ setup ∷ before) layer key
         → look.event ≡ Entry layer key → IsLawful start (look ∷ after ++ status ∷ works ++ packet ∷ setup ∷ before) → look.answer ≡ EntryIs code }
+{}
+
+/// The premises of `a_command_is_served` can be met: nothing is in the way of a first command on a flash
+/// whose slots 0 are erased, and of which nothing is armed.
+pub fn an_erased_flash_is_ready()
+    ensures { (start : SimValue) → start.armed ≡ None → ((p : ℕ) → p < page_count start.image → slot_at start.image p 0 ≡ replicate 8 255)
+        → IsReady start [] }
 {}
