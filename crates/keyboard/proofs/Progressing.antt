@@ -105,7 +105,7 @@ to_feature image bytes busy command given f z r u w (no b (yes zero answer)) = a
 to_feature image bytes busy command given f z r u w (no b (no some answer)) = to_read image (command_in bytes) command given r u w answer
 
 -- the packet of a feature report
-abbrev packet : ℕ → ℕ → ℕ → ℕ → ℕ → List ℕ
+abbrev pub packet : ℕ → ℕ → ℕ → ℕ → ℕ → List ℕ
 packet a b c d e = 3 ∷ a ∷ b ∷ c ∷ d ∷ e ∷ []
 
 data_taken : (start : List ℕ) (past : List Call) (a b c d e : ℕ) (command : Command) (given : EpAnswer) → IsReady start past → command_in (a ∷ b ∷ c ∷ d ∷ e ∷ []) ≡ Ok command
@@ -122,7 +122,7 @@ data_taken start past a b c d e command given ready r answered =
 abbrev begun : List Call → ℕ → ℕ → ℕ → ℕ → ℕ → List Call
 begun past a b c d e = Out (packet a b c d e) Ack ∷ SetUp set_feature ∷ past
 
-accepts_data : (past : List Call) (a b c d e : ℕ) (command : Command) → command_in (a ∷ b ∷ c ∷ d ∷ e ∷ []) ≡ Ok command → accepts (SetUp set_feature ∷ past) (Out (packet a b c d e) Ack) ≡ Some command
+pub accepts_data : (past : List Call) (a b c d e : ℕ) (command : Command) → command_in (a ∷ b ∷ c ∷ d ∷ e ∷ []) ≡ Ok command → accepts (SetUp set_feature ∷ past) (Out (packet a b c d e) Ack) ≡ Some command
 unfolding accepts report_named
 accepts_data past a b c d e command r = ap result_ok r
 

@@ -22,6 +22,27 @@ use Rattle.world.specs.History.{Session, session_with, session, host_calls, flas
 use Rattle.world.specs.Lawful.{Answered, IsAnswered, OperatedAs}
 use Rattle.world.specs.Progress.{IsReady, AreWorks, BringsCommand, AllWork, EndSettled, IsServed}
 use Rattle.world.proofs.Here.{by_endpoint, by_work, here}
+use Rattle.std.proofs.Common.{append_assoc, ◌<◌, Some}
+use Rattle.layers.specs.Codes.{layers, keys}
+use Rattle.layers.specs.Entries.{written}
+use Rattle.keyboard.specs.Acknowledged.{DoesNotWrite}
+use Rattle.keyboard.specs.Calls.{keymap}
+use Rattle.keyboard.specs.Commands.{accepts}
+use Rattle.keyboard.proofs.Progressing.{accepts_data}
+use Rattle.world.specs.declared.event.Event.TheVariants.{Entry}
+use Rattle.world.specs.declared.event.Answer.TheVariants.{EntryIs}
+use Rattle.world.specs.Acknowledged.{accepts_by, accepts_here, GoesOn, SameTransfer, NoneAcceptedWrites, IsAcknowledged}
+use Rattle.world.proofs.Telling.{acknowledged}
+use Rattle.std.proofs.Common.{replicate, ◌^◌, ◌-◌}
+use Rattle.flash_model.specs.Image.{page_count, slot_at}
+use Rattle.records.specs.declared.Slot.{Slot}
+use Rattle.records.specs.declared.Slot.TheVariants.{Free, Good}
+use Rattle.records.specs.Slots.{slot_of, IsSound}
+use Rattle.records.proofs.SlotLemmas.{slot_of-blank, blank_slot, free_sound}
+use Rattle.page_turnover.specs.Active.{active}
+use Rattle.page_turnover.specs.Header.{header_word}
+use Rattle.page_turnover.proofs.Headers.{active_none}
+use Rattle.keyboard.specs.Commands.{working, accepted}
 
 -- ---- what single steps are answered
 
@@ -154,4 +175,113 @@ served start before works setup brought status a b c d e command ready r t h =
       acknowledged = at_data.0 s.acknowledged;
       stored = end_settled start works base t.flash_work unarmed h.1 s.stored;
       confirmed = answered_in (session start (works ++ base)) (host_calls (works ++ base)) (flash_after start (works ++ base)) status.event status.answer status.refused status.flash t.asks h.0 s.confirmed;
+    }
+
+-- ---- what a look shows afterwards
+
+goes_on : (event : Event) (answer : Answer) (image : List ℕ) → event ≡ Work → GoesOn (kind_of event answer image)
+goes_on event answer image e = rw e tt
+
+same_transfer : (works : List Step) → AreWorks works → SameTransfer works
+same_transfer [] w = tt
+same_transfer (step ∷ works) w = (goes_on step.event step.answer step.flash.image w.0, same_transfer works w.1)
+
+work_accepts : (past : List Call) (work : WorkAnswer) (image : List ℕ) → accepts past (KeyboardWorked work image) ≡ None
+unfolding accepts
+work_accepts past work image = refl
+
+in_accepts : (past : List Call) → accepts past (In empty) ≡ None
+unfolding accepts
+in_accepts past = refl
+
+none_written : (layer key : ℕ) (o : Option Command) → o ≡ None → DoesNotWrite layer key o
+none_written layer key o e = rw e tt
+
+work_writes_none : (now : Session) (event : Event) (answer : Answer) (image : List ℕ) (layer key : ℕ) → event ≡ Work → DoesNotWrite layer key (accepts_by (kind_of event answer image) now.past)
+work_writes_none now event answer image layer key e =
+    rw e (none_written layer key (accepts now.past (KeyboardWorked (work_told answer) image)) (work_accepts now.past (work_told answer) image))
+
+in_writes_none : (now : Session) (event : Event) (answer : Answer) (image : List ℕ) (layer key : ℕ) → event ≡ InPacket → ep_told answer ≡ empty → DoesNotWrite layer key (accepts_by (kind_of event answer image) now.past)
+in_writes_none now event answer image layer key e told =
+    rw e (none_written layer key (accepts now.past (In (ep_told answer))) (ap (λ (x : EpAnswer). accepts now.past (In x)) told ∙ in_accepts now.past))
+
+works_write_none : (start : SimValue) (works base : List Step) (layer key : ℕ) → AreWorks works → NoneAcceptedWrites start works base layer key
+works_write_none start [] base layer key w = tt
+works_write_none start (step ∷ works) base layer key w =
+    (work_writes_none (session start (works ++ base)) step.event step.answer step.flash.image layer key w.0, works_write_none start works base layer key w.1)
+
+none_in_both : (start : SimValue) (after between base : List Step) (layer key : ℕ) → NoneAcceptedWrites start after (between ++ base) layer key → NoneAcceptedWrites start between base layer key
+    → NoneAcceptedWrites start (after ++ between) base layer key
+none_in_both start [] between base layer key a b = b
+none_in_both start (step ∷ after) between base layer key a b =
+    (subst (λ (xs : List Step). DoesNotWrite layer key (accepts_here start xs step)) (sym (append_assoc after between base)) a.0, none_in_both start after between base layer key a.1 b)
+
+accepted_data : (now : Session) (event : Event) (answer : Answer) (image : List ℕ) (a b c d e : ℕ) (command : Command) → event ≡ OutPacket (record { items = 3 ∷ a ∷ b ∷ c ∷ d ∷ e ∷ [] }) → ep_told answer ≡ ep.Ack
+    → command_in (a ∷ b ∷ c ∷ d ∷ e ∷ []) ≡ Ok command → (past : List Call) → now.past ≡ SetUp session_specs.set_feature ∷ past → accepts_by (kind_of event answer image) now.past ≡ Some command
+accepted_data now event answer image a b c d e command is told r past p =
+    rw (is, told, p) (accepts_data past a b c d e command r)
+
+shown_entry : (now : Session) (heard : List HostCall) (old : SimValue) (event : Event) (answer : Answer) (refused : Bool) (new : SimValue) (layer key code : ℕ) → event ≡ Entry layer key → keymap old.image layer key ≡ code
+    → Answered now heard old event answer refused new → answer ≡ EntryIs code
+shown_entry now heard old event answer refused new layer key code e k a =
+    let there : Answered now heard old (Entry layer key) answer refused new = subst (λ (x : Event). Answered now heard old x answer refused new) e a in
+    there.0 ∙ ap EntryIs k
+
+pub shown : (start : SimValue) (before works after : List Step) (setup brought status look : Step) (a b c d e layer key code : ℕ) (command : Command) → IsReady start before → command_in (a ∷ b ∷ c ∷ d ∷ e ∷ []) ≡ Ok command
+    → BringsCommand start before setup brought works status a b c d e command → layer < layers → key < keys → written command layer key ≡ Some code
+    → NoneAcceptedWrites start after (status ∷ works ++ brought ∷ setup ∷ before) layer key → look.event ≡ Entry layer key
+    → EachStep IsAnswered start (look ∷ after ++ status ∷ works ++ brought ∷ setup ∷ before) → look.answer ≡ EntryIs code
+shown start before works after setup brought status look a b c d e layer key code command ready r t l k w none looks h =
+    let base : List Step = brought ∷ setup ∷ before in
+    let all : List Step = status ∷ works ++ base in
+    let whole : List Step = after ++ status ∷ works ++ base in
+    let lawful = later start after all (subst (λ (xs : List Step). EachStep IsAnswered start xs) (append_assoc after (status ∷ works) base) h.1) in
+    let s = served start before works setup brought status a b c d e command ready r t lawful in
+    let past_is : (session start (setup ∷ before)).past ≡ SetUp session_specs.set_feature ∷ (session start before).past =
+    ap (λ (x : Session). x.past) (over_step (session start before) setup.event setup.answer setup.flash.image (SetUp session_specs.set_feature) (Setup session_specs.set_feature) t.begins refl) in
+    let status_none = in_writes_none (session start (works ++ base)) status.event status.answer status.flash.image layer key t.asks (ap ep_told s.confirmed) in
+    let between_none : NoneAcceptedWrites start (status ∷ works) base layer key = (status_none, works_write_none start works base layer key t.flash_work) in
+    let told : IsAcknowledged start whole layer key code = record {
+      in_layers = l;
+      in_keys = k;
+      before = setup ∷ before;
+      packet = brought;
+      between = works;
+      status = status;
+      after = after;
+      history_is = refl;
+      command = command;
+      accepted = accepted_data (session start (setup ∷ before)) brought.event brought.answer brought.flash.image a b c d e command t.brings (ap ep_told s.acknowledged) r (session start before).past past_is;
+      writes = w;
+      same_transfer = same_transfer works t.flash_work;
+      told = (t.asks, s.confirmed);
+      not_since = none_in_both start after (status ∷ works) base layer key none between_none;
+    } in
+    shown_entry (session start whole) (host_calls whole) (flash_after start whole) look.event look.answer look.refused look.flash layer key code looks
+    (acknowledged start whole h.1 layer key code told) h.0
+
+-- ---- a flash as it comes from the factory
+
+free_or_good : (kind : Slot) (word : ℕ) → kind ≡ Free → kind ≡ Good word → ⊥
+free_or_good kind word f g = cc
+
+none_or_some : (active : Option (ℕ × ℕ)) (place : ℕ × ℕ) → active ≡ None → active ≡ Some place → ⊥
+none_or_some active place n s = cc
+
+rests_at_first : (image : List ℕ) → working image [] ≡ None
+unfolding working accepted
+rests_at_first image = refl
+
+pub erased_ready : (start : SimValue) → start.armed ≡ None → ((p : ℕ) → p < page_count start.image → slot_at start.image p 0 ≡ replicate 8 255) → IsReady start []
+erased_ready start armed erased =
+    let free : (p : ℕ) → p < page_count start.image → slot_of (slot_at start.image p 0) ≡ Free = λ p l. ap slot_of (erased p l) ∙ slot_of-blank in
+    let none : active start.image ≡ None =
+    active_none start.image (λ p s l h. free_or_good (slot_of (slot_at start.image p 0)) (header_word h.format s) (free p l) h.good) in
+    record {
+      session = record {
+        sound = record { sound = λ p l. subst IsSound (sym (erased p l)) (free_sound (replicate 8 255) blank_slot slot_of-blank) };
+        not_worn = λ w. none_or_some (active start.image) (w.page, 2 ^ 28 - 1) none w.last;
+        rests = rests_at_first start.image;
+      };
+      unarmed = armed;
     }

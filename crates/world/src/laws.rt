@@ -1,9 +1,15 @@
 //! What follows for every history in which each event is answered as it has to be.
 
-ghost use Rattle.std.specs.Prelude.{◌≡◌, ◌∷◌, ◌++◌, ℕ, List, [], Ok, map};
+ghost use Rattle.std.specs.Prelude.{◌≡◌, ◌<◌, ◌∷◌, ◌++◌, ℕ, List, [], Ok, None, Some, map, replicate};
+ghost use Rattle.flash_model.specs.Image.{page_count, slot_at};
 ghost use Rattle.flash_model.specs.Sim.{SimValue};
 ghost use Rattle.keyboard.specs.Feature.{command_in};
+ghost use Rattle.layers.specs.Codes.{layers, keys};
+ghost use Rattle.layers.specs.Entries.{written};
 ghost use Rattle.layers.specs.declared.command.Command.{Command};
+ghost use Rattle.world.specs.Acknowledged.{NoneAcceptedWrites};
+ghost use Rattle.world.specs.declared.event.Answer.TheVariants.{EntryIs};
+ghost use Rattle.world.specs.declared.event.Event.TheVariants.{Entry};
 ghost use Rattle.world.specs.History.{EachStep};
 ghost use Rattle.world.specs.Kinds.{Step};
 ghost use Rattle.world.specs.Lawful.{IsLawful};
@@ -44,10 +50,21 @@ pub fn memory_is_refused_where_wanted()
 /// Progress: a host that behaves, on a flash that does, is served. Where each slot 0 is sound, the flash
 /// is not worn, no command works and nothing is armed, SETUP, the packet of a command, the steps of the
 /// flash work that its operations need and nothing between them, and the status stage are answered ACK,
-/// ACK, Working .., Settled and the empty packet; a command that changes nothing needs no step. What
-/// each look then shows, `answered_is_promised` says.
+/// ACK, Working .., Settled and the empty packet; a command that changes nothing needs no step. Until a
+/// later command writes the entry, each look then shows its code.
 pub fn a_command_is_served()
-    ensures { (start : SimValue) (before works : List Step) (setup packet status : Step) (a b c d e : ℕ) (command : Command) → IsReady start before
+    ensures served { (start : SimValue) (before works : List Step) (setup packet status : Step) (a b c d e : ℕ) (command : Command) → IsReady start before
         → command_in (a ∷ b ∷ c ∷ d ∷ e ∷ []) ≡ Ok command → BringsCommand start before setup packet works status a b c d e command
         → IsLawful start (status ∷ works ++ packet ∷ setup ∷ before) → IsServed setup packet works status }
+    ensures shown { (start : SimValue) (before works after : List Step) (setup packet status look : Step) (a b c d e layer key code : ℕ) (command : Command) → IsReady start before
+        → command_in (a ∷ b ∷ c ∷ d ∷ e ∷ []) ≡ Ok command → BringsCommand start before setup packet works status a b c d e command
+        → layer < layers → key < keys → written command layer key ≡ Some code → NoneAcceptedWrites start after (status ∷ works ++ packet ∷ setup ∷ before) layer key
+        → look.event ≡ Entry layer key → IsLawful start (look ∷ after ++ status ∷ works ++ packet ∷ setup ∷ before) → look.answer ≡ EntryIs code }
+{}
+
+/// The premises of `a_command_is_served` can be met: nothing is in the way of a first command on a flash
+/// whose slots 0 are erased, and of which nothing is armed.
+pub fn an_erased_flash_is_ready()
+    ensures { (start : SimValue) → start.armed ≡ None → ((p : ℕ) → p < page_count start.image → slot_at start.image p 0 ≡ replicate 8 255)
+        → IsReady start [] }
 {}
