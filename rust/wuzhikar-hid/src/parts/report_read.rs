@@ -6,6 +6,13 @@
 //! its bits and where that is by the logical extents. The promise is that each value is exactly what the descriptor says, that
 //! none is left out, which refusal is told, and which bytes are past the end.
 //!
+//! ```text
+//! let reader = ReportReader::new(alloc, descriptor, null_states)?;
+//! for value in reader.read(Kind::Input, report)? {
+//!     sum += value.raw;
+//! }
+//! ```
+//!
 //! A reading takes no memory.
 
 mod error;

@@ -98,7 +98,8 @@ impl Reader {
         let id = self.read(kind, report)?.id();
         let report = report.get(usize::from(self.descriptor().uses_ids())..).unwrap_or(&[]);
         let is_buffered = self.detail(field).is_some_and(|detail| detail.is_buffered());
-        let of_report = self.descriptor().fields().get(field).filter(|field| field.kind == kind && field.id == id && is_buffered);
+        let of_report =
+            self.descriptor().fields().get(field).filter(|field| field.kind == kind && field.id == id && is_buffered);
         let field = of_report.ok_or(ReadingError::NoSuchField)?;
         let bits = u64::from(field.size) * u64::from(field.count);
         let byte_at = |done: u64| number_at(report, field.bit + done, (bits - done).min(8) as u8) as u8;

@@ -1,8 +1,8 @@
 //! Tests of the laws of reading and writing, over the descriptors of examples/hid_driver.
 
 use super::{Asked, Reader, Setting, Target, Within};
-use crate::{FieldUsages, Kind};
 use crate::parts::field_values::read_place;
+use crate::{FieldUsages, Kind};
 use alloc::vec::Vec;
 
 fn reader_of(hex: &str) -> Reader {
