@@ -113,7 +113,7 @@ READER = Rules(
 
 DETAILS = Rules(
     name="wuzhikar-hid",
-    crates=("field_details", "field_values", "report_write"),
+    crates=("field_details", "field_values", "report_write", "report_read"),
     below=(READER,),
     allocs=True,
     hidden=frozenset({("field_details", "Details::around")}),
@@ -122,7 +122,8 @@ DETAILS = Rules(
                       ("PlacedFields::next", "PlacedFields::take", "Applications::next", "Applications::take", "first_from", "passes",
                        "belongs", "is_of_report", "same_kind", "application_of", "inside", "outer", "less", "is_application",
                        "PlacedFields::new", "Detail::is_constant", "Collection::is_application")),
-    derives={("field_details", "Details"): ("Clone", "Default", "PartialEq", "Eq")},
+    derives={("field_details", "Details"): ("Clone", "Default", "PartialEq", "Eq"), ("report_read", "Plan"): ("Clone",),
+             ("report_read", "Plans"): ("Clone",), ("report_read", "ReportReader"): ("Clone", "Debug"), ("report_read", "Reading"): ("Clone",)},
     docs={("field_details", "text"): [("`descriptor_parse::parse`", "`wuzhikar_reader::parse`")],
           ("field_details", "told"): [("`descriptor_parse::Descriptor`", "`wuzhikar_reader::Descriptor`"),
                                       ("`descriptor_parse::Descriptor::fields`", "`wuzhikar_reader::Descriptor::fields`")]},

@@ -72,6 +72,7 @@ field_fits d kind id number field w l f e =
         max = to_abs field.max (2 ^ 32) (omega (arith, ints, f.max_from)) (omega (arith, ints, f.max_to));
       };
       size_some = f.size_some;
+      count_some = f.count_some;
       few = f.count;
       end = end;
       in_order = ranges_in_order d number w l;
@@ -120,6 +121,7 @@ more_room d room more kept l f = record {
     reading = f.fits.reading;
     limits = f.fits.limits;
     size_some = f.fits.size_some;
+    count_some = f.fits.count_some;
     few = f.fits.few;
     end = omega (arith, f.fits.end);
     in_order = f.fits.in_order;

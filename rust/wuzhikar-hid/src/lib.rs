@@ -159,11 +159,11 @@
 //! [`ReadingError`] says why. A driver drops the report, keeps its last state and reads the next one. Without Report IDs a
 //! report of another kind can't be told by its first byte.
 //!
-//! **Exported from a proved source: what a descriptor declares, and reports that are written.** The fields of [`Details`], its
-//! collections, its calls, the bits, extents and units of a [`Detail`], what [`namings`] gives, the value in its unit, and all
-//! that [`Reader::write`] does are in the hidden module `parts`, the text of crates that are proved in Rattle (Rust with
+//! **Exported from a proved source: what a descriptor declares, and reports that are read and written.** The fields of
+//! [`Details`], its collections, its calls, the bits, extents and units of a [`Detail`], what [`namings`] gives, the value in its
+//! unit, and all that [`Reader::read`] and [`Reader::write`] do are in the hidden module `parts`, the text of crates that are proved in Rattle (Rust with
 //! contracts), as are the fields and their usages of `wuzhikar-reader`. **All else is written by hand: tested, not proved**,
-//! the values of a report ([`Reader::read`]) and names among it; it is compared with a program in another language over some
+//! names among it; it is compared with a program in another language over some
 //! ten thousand descriptors. Any bytes may come: nothing panics on them. Where a call says nothing of memory, it takes memory
 //! as std does.
 #![cfg_attr(not(test), no_std)]

@@ -5,4 +5,5 @@
 
 pub mod field_details;
 pub mod field_values;
+pub mod report_read;
 pub mod report_write;

@@ -1,15 +1,14 @@
-//! The values of a report, by a kept reader. Written by hand: tested, not proved.
+//! Values of reports, by a kept reader. Written by hand; what reads and writes is exported.
 
 mod physical;
 mod reader;
-mod report;
-mod spots;
 mod write;
 
 #[cfg(test)]
 mod tests;
 
+pub use crate::parts::field_values::Within;
+pub use crate::parts::report_read::{Reading, ReadingError, Value};
 pub use physical::{NoPhysical, Physical};
 pub use reader::{Reader, ReaderError};
-pub use report::{Reading, ReadingError, Value, Within};
 pub use write::{Asked, Setting, Target, WriteError};

@@ -18,6 +18,7 @@ pub record FitsRoom (room : ℕ) (field : Field) (ranges : List (ℕ × ℕ)) : 
   pub reading : FitsReading field
   pub limits : FitsLimits field
   pub size_some : 0 < field.size
+  pub count_some : 0 < field.count
   pub few : field.count ≤ 1024
   pub end : field.bit + field.size * field.count ≤ room
   pub in_order : All IsRange ranges

@@ -1,4 +1,4 @@
-//! Reports as large as the limits let them be: 256 fields, 65,535 places, 8,192 bytes.
+//! Reports as large as the limits let them be: 256 fields of 1,024 places of 32 bits, a mebibyte.
 
 use wuzhikar_hid::{Asked, Kind, Reader, Setting, Target, WriteError};
 
@@ -76,4 +76,23 @@ fn arrays_of_1024_places() {
 fn nulls_in_8192_places() {
     let report = written(&many_nulls(), &[at_place(7, 1_023, 5)]).expect("a report");
     assert_eq!((count(&report, 0xFF), report[8_191]), (8_191, 5));
+}
+
+/// 256 fields of 1,024 places of 32 bits behind Report ID 255: new and onto, and read.
+#[test]
+fn each_of_262144_places() {
+    let start = [0x05, 0x01, 0x85, 0xFF, 0x15, 0x00, 0x27, 0xFF, 0xFF, 0xFF, 0x7F, 0x75, 0x20, 0x96, 0x00, 0x04];
+    let reader = reader(&start, &[0x09, 0x30, 0x81, 0x02], 256, &[]);
+    let ends = [at_place(255, 1_023, 0x7FFF_FFFF), at_place(0, 0, 5)];
+    let new = reader.write(Kind::Input, 255, &ends, None).expect("a report");
+    assert_eq!((new.len(), &new[..5], count(&new, 0)), (1 << 20 | 1, &[255, 5, 0, 0, 0][..], (1 << 20) - 5));
+    assert_eq!(new[1 << 20], 0x7F);
+    let mut onto = reader.write(Kind::Input, 255, &[at_place(128, 512, 7)], Some(&new)).expect("a report");
+    onto.push(9);
+    let reading = reader.read(Kind::Input, &onto).expect("a report");
+    assert_eq!((reading.id(), reading.rest()), (255, &[9][..]));
+    let values: Vec<_> = reading.filter(|value| value.raw != 0).map(|value| (value.field, value.place, value.raw)).collect();
+    assert_eq!(values, [(0, 0, 5), (128, 512, 7), (255, 1_023, 0x7FFF_FFFF)]);
+    let all = reader.read(Kind::Input, &onto).expect("a report");
+    assert_eq!(all.filter(|value| value.usage == Some(0x1_0030)).count(), 1 << 18);
 }

@@ -21,5 +21,5 @@ pub use fill::fill_places;
 pub use list::{is_no_control, is_unused, number_of_usage};
 pub use null::{Asked, is_null, null_of, set_place};
 pub use physical::{Extents, NoPhysical, Physical, physical_value};
-pub use place::{PlaceError, is_held, put_value, write_place};
-pub use value::{PlaceValue, Within, raw_at, read_place, where_is};
+pub use place::{PlaceError, is_held, is_within, put_value, write_place};
+pub use value::{PlaceValue, Within, raw_at, read_place, usage_of, where_is};

@@ -19,5 +19,6 @@ mod setting;
 mod unused;
 mod writing;
 
+pub use kept::{Kept, kept_fields, usages_of};
 pub use setting::{Setting, Target, WriteError};
 pub use writing::write;

@@ -1,65 +1,19 @@
-//! A kept reader. Written by hand: tested, not proved.
+//! A kept reader, and what is kept beside the proved one. Written by hand: tested, not proved.
 
-use super::spots::{Spot, push_spots};
-use crate::{Details, Placed, details};
+use crate::parts::report_read::ReportReader;
+use crate::{Details, Placed, Reading, ReadingError, details};
 use alloc::vec::Vec;
 use core::fmt;
-use core::ops::Range;
-use wuzhikar_reader::{Descriptor, Field, FieldUsages, Kind, ParseError, parse};
-
-/// A field of a report.
-#[derive(Clone, Debug)]
-pub(super) struct Kept {
-    pub(super) field: Field,
-    /// The place in `Descriptor::fields`.
-    pub(super) number: usize,
-    /// The place in `Details::fields`.
-    pub(super) detail: usize,
-    pub(super) has_null: bool,
-}
-
-#[derive(Clone, Debug)]
-struct KeptReport {
-    kind: Kind,
-    id: u8,
-    fields: Range<usize>,
-    spots: Range<usize>,
-    len: usize,
-}
-
-/// Where the list by kind and ID has a report.
-fn place_of(kind: Kind, id: u8) -> usize {
-    3 * usize::from(id) + kind as usize
-}
-
-/// The places of these reports by kind and ID.
-fn by_id(reports: &[KeptReport]) -> Result<Vec<u16>, ReaderError> {
-    let last = reports.iter().map(|report| report.id).max().unwrap_or(0);
-    let mut all = Vec::new();
-    all.try_reserve_exact(place_of(Kind::Feature, last) + 1).map_err(|_| ReaderError::Memory)?;
-    all.resize(place_of(Kind::Feature, last) + 1, u16::MAX);
-    for (place, report) in (0..).zip(reports) {
-        all[place_of(report.kind, report.id)] = place;
-    }
-    Ok(all)
-}
+use wuzhikar_reader::parts::host_extract::number_at;
+use wuzhikar_reader::{Descriptor, Kind, ParseError, parse};
 
 /// A reader of reports that is made once of a report descriptor.
 #[derive(Clone, Debug)]
 pub struct Reader {
-    descriptor: Descriptor,
+    reports: ReportReader,
     details: Details,
-    kept: Vec<Kept>,
     /// The place of each field in `Details::fields`.
     places: Vec<usize>,
-    /// Whether each field has Null State, by its place in `Descriptor::fields`.
-    null_states: Vec<bool>,
-    reports: Vec<KeptReport>,
-    /// The places of the reports in `reports` by kind and ID, one that is not there where there is no such report.
-    by_id: Vec<u16>,
-    /// What the reports hold, place by place.
-    spots: Vec<Spot>,
-    uses_ids: bool,
 }
 
 /// Why there is no reader of a text.
@@ -93,42 +47,20 @@ impl Reader {
     pub fn new(text: &[u8]) -> Result<Reader, ReaderError> {
         let descriptor = parse(text)?;
         let details = details(text).map_err(|_| ReaderError::Memory)?;
-        let (mut kept, mut places, mut null_states) = (Vec::new(), Vec::new(), Vec::new());
-        kept.try_reserve_exact(descriptor.fields().len()).map_err(|_| ReaderError::Memory)?;
+        let (mut places, mut null_states) = (Vec::new(), Vec::new());
         places.try_reserve_exact(descriptor.fields().len()).map_err(|_| ReaderError::Memory)?;
         null_states.try_reserve_exact(descriptor.fields().len()).map_err(|_| ReaderError::Memory)?;
-        for ((number, field), placed) in descriptor.fields().iter().enumerate().zip(details.data_fields()) {
-            let has_null = !field.array && placed.detail.has_null_state();
+        for (field, placed) in descriptor.fields().iter().zip(details.data_fields()) {
             places.push(placed.place);
-            null_states.push(has_null);
-            kept.push(Kept { field: *field, number, detail: placed.place, has_null });
+            null_states.push(!field.array && placed.detail.has_null_state());
         }
-        kept.sort_unstable_by_key(|kept| (kept.field.kind as u8, kept.field.id, kept.number));
-        let mut spots = Vec::new();
-        let mut reports: Vec<KeptReport> = Vec::new();
-        reports.try_reserve(details.fields.len()).map_err(|_| ReaderError::Memory)?;
-        for (place, field) in kept.iter().enumerate() {
-            let before = spots.len();
-            push_spots(&descriptor, field, &mut spots).map_err(|_| ReaderError::Memory)?;
-            let Field { kind, id, .. } = field.field;
-            match reports.last_mut() {
-                Some(report) if report.kind == kind && report.id == id => {
-                    (report.fields.end, report.spots.end) = (place + 1, spots.len());
-                }
-                _ => {
-                    let len = descriptor.report_len(kind, id).unwrap_or(0);
-                    reports.push(KeptReport { kind, id, fields: place..place + 1, spots: before..spots.len(), len });
-                }
-            }
-        }
-        let by_id = by_id(&reports)?;
-        let uses_ids = descriptor.uses_ids();
-        Ok(Reader { descriptor, details, kept, places, null_states, reports, by_id, spots, uses_ids })
+        let reports = ReportReader::new((), descriptor, null_states).map_err(|_| ReaderError::Memory)?;
+        Ok(Reader { reports, details, places })
     }
 
     /// The descriptor.
     pub fn descriptor(&self) -> &Descriptor {
-        &self.descriptor
+        self.reports.descriptor()
     }
 
     /// What it declares beside.
@@ -149,45 +81,31 @@ impl Reader {
         Some(Placed { place, detail: self.details.fields.get(place)? })
     }
 
-    #[inline(always)]
-    fn report(&self, kind: Kind, id: u8) -> Option<&KeptReport> {
-        self.reports.get(usize::from(*self.by_id.get(place_of(kind, id))?))
-    }
-
-    /// The fields of a report, in order, and its bytes with the ID; `None` if there is no such report.
-    pub(super) fn fields(&self, kind: Kind, id: u8) -> Option<(&[Kept], usize)> {
-        match self.report(kind, id) {
-            Some(report) => Some((&self.kept[report.fields.clone()], report.len)),
-            // A report of padding alone has no fields.
-            None => self.descriptor.report_len(kind, id).map(|len| (&[] as &[Kept], len)),
-        }
-    }
-
-    /// The same with what the report holds, place by place.
-    #[inline(always)]
-    pub(super) fn spots(&self, kind: Kind, id: u8) -> Option<(&[Spot], usize)> {
-        match self.report(kind, id) {
-            Some(report) => Some((&self.spots[report.spots.clone()], report.len)),
-            None => self.descriptor.report_len(kind, id).map(|len| (&[] as &[Spot], len)),
-        }
-    }
-
     /// Whether each field has Null State, by its place in `Descriptor::fields`.
     pub(super) fn null_states(&self) -> &[bool] {
-        &self.null_states
+        self.reports.null_states()
     }
 
-    #[inline(always)]
-    pub(super) fn uses_ids(&self) -> bool {
-        self.uses_ids
+    /// Reads a report of a kind: its values one by one. Bytes past its end are left, as [`Reading::rest`].
+    #[inline]
+    pub fn read<'a>(&'a self, kind: Kind, report: &'a [u8]) -> Result<Reading<'a>, ReadingError> {
+        self.reports.read(kind, report)
     }
 
-    /// The field with this place in `Descriptor::fields`, with its usages.
-    pub(super) fn field_usages(&self, number: usize) -> FieldUsages<'_> {
-        FieldUsages {
-            field: self.descriptor.fields()[number],
-            ranges: self.descriptor.ranges(number),
-            counts: self.descriptor.counts(number),
-        }
+    /// The bytes of a field of Buffered Bytes in a report, the bits of its places one after the other, the last byte filled
+    /// with 0.
+    pub fn buffered(&self, kind: Kind, report: &[u8], field: usize) -> Result<Vec<u8>, ReadingError> {
+        let id = self.read(kind, report)?.id();
+        let report = report.get(usize::from(self.descriptor().uses_ids())..).unwrap_or(&[]);
+        let is_buffered = self.detail(field).is_some_and(|detail| detail.is_buffered());
+        let of_report =
+            self.descriptor().fields().get(field).filter(|field| field.kind == kind && field.id == id && is_buffered);
+        let field = of_report.ok_or(ReadingError::NoSuchField)?;
+        let bits = u64::from(field.size) * u64::from(field.count);
+        let byte_at = |done: u64| number_at(report, field.bit + done, (bits - done).min(8) as u8) as u8;
+        let mut bytes = Vec::new();
+        bytes.try_reserve_exact(bits.div_ceil(8) as usize).map_err(|_| ReadingError::Memory)?;
+        bytes.extend((0..bits.div_ceil(8)).map(|byte| byte_at(8 * byte)));
+        Ok(bytes)
     }
 }

@@ -1,8 +1,8 @@
 //! Tests of the laws of reading and writing, over the descriptors of examples/hid_driver.
 
 use super::{Asked, Reader, Setting, Target, Within};
-use crate::Kind;
 use crate::parts::field_values::read_place;
+use crate::{FieldUsages, Kind};
 use alloc::vec::Vec;
 
 fn reader_of(hex: &str) -> Reader {
@@ -27,6 +27,12 @@ fn bytes_like_random(seed: &mut u32, count: usize) -> Vec<u8> {
             (*seed >> 24) as u8
         })
         .collect()
+}
+
+/// A field with its usages.
+fn field_usages(reader: &Reader, number: usize) -> FieldUsages<'_> {
+    let descriptor = reader.descriptor();
+    FieldUsages { field: descriptor.fields()[number], ranges: descriptor.ranges(number), counts: descriptor.counts(number) }
 }
 
 fn set(target: Target, asked: Asked) -> Setting {
@@ -57,7 +63,7 @@ fn values_are_those_of_the_proved_source() {
             let report = bytes_like_random(&mut seed, len);
             for value in reader.read(Kind::Input, &report).expect("a report") {
                 let null_state = reader.detail(value.field).is_some_and(|detail| detail.has_null_state());
-                let told = read_place(&reader.field_usages(value.field), null_state, &report, value.place);
+                let told = read_place(&field_usages(&reader, value.field), null_state, &report, value.place);
                 assert_eq!((value.raw, value.within, value.usage), (told.raw, told.within, told.usage));
             }
         }

@@ -57,7 +57,7 @@ fn refuse(field: &Field, bytes: &[u8], place: u16, value: i64) -> Option<PlaceEr
 }
 
 /// Whether a value is within the logical extents of a field.
-pub(crate) fn is_within(field: &Field, value: i64) -> bool {
+pub fn is_within(field: &Field, value: i64) -> bool {
     value >= field.min && value <= field.max
 }
 

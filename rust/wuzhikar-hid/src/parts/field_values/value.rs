@@ -57,8 +57,8 @@ pub fn where_is(field: &Field, null_state: bool, value: i64) -> Within {
     }
 }
 
-/// The usage of a place with this value.
-fn usage_of(declared: &FieldUsages<'_>, place: u16, value: i64) -> Option<u32> {
+/// The usage of a place with this value: of a Variable field that of the place, of an Array the one that the value names.
+pub fn usage_of(declared: &FieldUsages<'_>, place: u16, value: i64) -> Option<u32> {
     if !declared.field.array {
         declared.usage(place as usize)
     } else {

@@ -16,7 +16,7 @@ pub struct Kept {
 }
 
 /// The fields of a report, in order. `null_states` is whether each field of the descriptor has Null State.
-pub(crate) fn kept_fields(
+pub fn kept_fields(
     alloc: Global,
     descriptor: &Descriptor,
     null_states: &[bool],
@@ -50,7 +50,7 @@ fn is_of_report(field: &Field, kind: Kind, id: u8) -> bool {
 }
 
 /// A field with its usages.
-pub(crate) fn usages_of<'a>(descriptor: &'a Descriptor, kept: &Kept) -> FieldUsages<'a> {
+pub fn usages_of<'a>(descriptor: &'a Descriptor, kept: &Kept) -> FieldUsages<'a> {
     FieldUsages {
         field: kept.field,
         ranges: descriptor.ranges(kept.number),

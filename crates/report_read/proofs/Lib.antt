@@ -1,0 +1,4 @@
+pub mod Usages
+pub mod Lists
+pub mod Refused
+pub mod Rows

@@ -1,0 +1,28 @@
+//! The values of reports, by a kept reader (HID 1.11, sections 5.6, 5.8, 5.10, 6.2.2.5 and 8.1).
+//!
+//! A [`ReportReader`] is made once of a descriptor. [`ReportReader::read`] gives the values of a report of any kind one by one,
+//! in the order of its fields and their places: each with its field and place, the usage that it has or names, the number in
+//! its bits and where that is by the logical extents. The promise is that each value is exactly what the descriptor says, that
+//! none is left out, which refusal is told, and which bytes are past the end.
+//!
+//! ```
+//! let reader = ReportReader::new(alloc, descriptor, null_states)?;
+//! for value in reader.read(Kind::Input, report)? {
+//!     sum += value.raw;
+//! }
+//! ```
+//!
+//! A reading takes no memory.
+#![tactic(auto)]
+
+mod error;
+mod lane;
+mod reader;
+mod reading;
+mod value;
+
+pub use error::ReadingError;
+pub use lane::Lane;
+pub use reader::ReportReader;
+pub use reading::Reading;
+pub use value::Value;

@@ -1,0 +1,232 @@
+//! A kept reader.
+
+ghost use Rattle.std.specs.Prelude.{◌≡◌, ◌<◌, ◌≤◌, ℕ, [], All, IfOk, IfErr, map, length, Some, None, unwrap_or, MatchOption};
+ghost use Rattle.descriptor_parse.specs.declared.field.Kind.{Kind};
+ghost use Rattle.descriptor_parse.specs.Descriptor.{report_len};
+ghost use Rattle.host_extract.specs.Found.{id_of, bytes_of};
+ghost use Rattle.report_write.specs.Fields.{kept_fields};
+ghost use Rattle.report_read.specs.Values.{reading};
+ghost use Rattle.report_read.specs.Refusals.{refusal};
+ghost use Rattle.report_read.specs.ties.Lanes.{IsLane};
+ghost use Rattle.report_read.specs.ties.Plans.{IsPlan, ArePlans, plan_on};
+
+use crate::error::ReadingError;
+use crate::lane::Lane;
+use crate::reading::Reading;
+use descriptor_parse::{Descriptor, Kind};
+use report_write::kept_fields;
+use std::alloc::{AllocError, Global};
+use std::marker::Model;
+
+/// A report: its bytes, 0 where there is none, and its fields.
+#[derive(Debug, Drop)]
+pub(crate) struct Plan {
+    pub(crate) len: usize,
+    pub(crate) lanes: Vec<Lane>,
+}
+
+/// The reports of an ID.
+#[derive(Debug, Drop)]
+pub(crate) struct Plans {
+    pub(crate) input: Plan,
+    pub(crate) output: Plan,
+    pub(crate) feature: Plan,
+}
+
+/// A reader of reports that is made once of a descriptor.
+#[derive(Drop)]
+pub struct ReportReader {
+    descriptor: Descriptor,
+    /// Whether each field has Null State.
+    null_states: Vec<bool>,
+    /// The reports by their IDs, up to the last ID that a field has.
+    by_id: Vec<Plans>,
+}
+
+impl Model for ReportReader {
+    ghost use Rattle.report_read.specs.Values.{ReaderValue};
+    ghost use Rattle.report_read.specs.ties.Plans.{ArePlans};
+
+    ghost Value = { ReaderValue };
+
+    ghost view = { λ r. record { descriptor = r.descriptor; null_states = r.null_states.items } };
+
+    ghost invariant = { λ r. ArePlans r.descriptor r.null_states.items r.by_id.items };
+}
+
+impl ReportReader {
+    /// The reader of a descriptor; `null_states` is whether each of its fields has Null State, and one that it has no word of has
+    /// none.
+    pub fn new(
+        alloc: Global,
+        descriptor: Descriptor,
+        null_states: Vec<bool>,
+    ) -> Result<ReportReader, AllocError>
+        ensures { IfOk result (λ r. r ≡ record { descriptor = descriptor; null_states = null_states.items }) }
+    {
+        let by_id = all_plans(alloc, &descriptor, &null_states)?;
+        Ok(ReportReader {
+            descriptor,
+            null_states,
+            by_id,
+        })
+    }
+
+    /// The descriptor.
+    #[inline(always)]
+    pub fn descriptor(&self) -> &Descriptor
+        ensures { result.now ≡ self.now.descriptor }
+    {
+        &self.descriptor
+    }
+
+    /// Whether each field has Null State, by its place among the descriptor's.
+    pub fn null_states(&self) -> &[bool]
+        ensures { result.now ≡ self.now.null_states }
+    {
+        &self.null_states
+    }
+
+    /// Reads a report of a kind: its values one by one, in the order of its fields and their places. Bytes past its end are
+    /// left, as [`Reading::rest`].
+    ///
+    /// The errors, in this order: `Empty` where there is no byte; `UnknownReport` where there is no report of this kind with the
+    /// ID that it begins with; `Short` where it is shorter than its descriptor says.
+    #[inline]
+    pub fn read<'a>(&'a self, kind: Kind, report: &'a [u8]) -> Result<Reading<'a>, ReadingError>
+        ensures read { IfOk result (λ r. r ≡ reading self.now kind report.now) }
+        ensures taken { IfOk result (λ _. refusal self.now.descriptor kind report.now ≡ None) }
+        ensures refused { IfErr result (λ e. refusal self.now.descriptor kind report.now ≡ Some e) }
+    {
+        if report.is_empty() {
+            return Err(ReadingError::Empty);
+        }
+        let (id, bytes) = split(&self.descriptor, report);
+        let (len, lanes) = self.plan(kind, id);
+        if len == 0 {
+            return Err(ReadingError::UnknownReport);
+        }
+        if report.len() < len {
+            return Err(ReadingError::Short);
+        }
+        let (_, rest) = report.split_at(len);
+        Ok(Reading::new(id, rest, &self.descriptor, bytes, lanes))
+    }
+
+    /// The bytes of a report, 0 where there is none, and its fields.
+    #[inline(always)]
+    fn plan(&self, kind: Kind, id: u8) -> (usize, &[Lane])
+        ensures len { result.0 ≡ unwrap_or (report_len self.now.descriptor kind id) 0 }
+        ensures fields { 0 < result.0 → map (λ lane. lane.kept) result.1.now ≡ kept_fields self.now.descriptor self.now.null_states kind id }
+        ensures lanes { All (IsLane self.now.descriptor) result.1.now }
+    {
+        match self.by_id.get(id as usize) {
+            Some(plans) => {
+                let plan = plan_on(plans, kind);
+                (plan.len, &plan.lanes)
+            }
+            // Past the last ID that a field has there are reports of padding alone.
+            None => (self.descriptor.report_len(kind, id).unwrap_or(0), &[]),
+        }
+    }
+}
+
+/// The ID of a report, 0 where none is used, and the bytes after it.
+#[inline(always)]
+fn split<'a>(descriptor: &Descriptor, report: &'a [u8]) -> (u8, &'a [u8])
+    ensures id { result.0 ≡ id_of descriptor.now report.now }
+    ensures bytes { result.1.now ≡ bytes_of descriptor.now report.now }
+{
+    if !descriptor.uses_ids() {
+        return (0, report);
+    }
+    match report {
+        [id, bytes @ ..] => (*id, bytes),
+        [] => (0, report),
+    }
+}
+
+/// The report of a kind.
+#[inline(always)]
+fn plan_on(plans: &Plans, kind: Kind) -> &Plan
+    ensures { result.now ≡ plan_on kind plans.now }
+{
+    match kind {
+        Kind::Input => &plans.input,
+        Kind::Output => &plans.output,
+        Kind::Feature => &plans.feature,
+    }
+}
+
+/// The reports by their IDs, up to the last ID that a field has.
+fn all_plans(
+    alloc: Global,
+    descriptor: &Descriptor,
+    null_states: &[bool],
+) -> Result<Vec<Plans>, AllocError>
+    ensures { IfOk result (λ v. ArePlans descriptor.now null_states.now v.items) }
+{
+    let rows = rows_of(descriptor);
+    let mut by_id = Vec::with_capacity(alloc, rows as usize)?;
+    for id in 0..rows {
+        by_id.push(Plans {
+            input: plan_of(alloc, descriptor, null_states, Kind::Input, id as u8)?,
+            output: plan_of(alloc, descriptor, null_states, Kind::Output, id as u8)?,
+            feature: plan_of(alloc, descriptor, null_states, Kind::Feature, id as u8)?,
+        })?;
+    }
+    Ok(by_id)
+}
+
+/// How many IDs there are up to the last that a field has.
+fn rows_of(descriptor: &Descriptor) -> u16
+    ensures few { result ≤ 256 }
+    ensures all { All (λ field. field.id < result) descriptor.now.fields }
+{
+    let mut rows = 0;
+    for field in descriptor.fields() {
+        rows = rows.max(field.id as u16 + 1);
+    }
+    rows
+}
+
+/// The report of a kind and ID.
+fn plan_of(
+    alloc: Global,
+    descriptor: &Descriptor,
+    null_states: &[bool],
+    kind: Kind,
+    id: u8,
+) -> Result<Plan, AllocError>
+    ensures { IfOk result (λ plan. IsPlan descriptor.now null_states.now kind id plan) }
+{
+    match descriptor.report_len(kind, id) {
+        None => Ok(Plan {
+            len: 0,
+            lanes: Vec::new(alloc),
+        }),
+        Some(len) => Ok(Plan {
+            len,
+            lanes: lanes_of(alloc, descriptor, null_states, kind, id)?,
+        }),
+    }
+}
+
+/// The fields of a report.
+fn lanes_of(
+    alloc: Global,
+    descriptor: &Descriptor,
+    null_states: &[bool],
+    kind: Kind,
+    id: u8,
+) -> Result<Vec<Lane>, AllocError>
+    ensures fields { IfOk result (λ v. map (λ lane. lane.kept) v.items ≡ kept_fields descriptor.now null_states.now kind id) }
+    ensures lanes { IfOk result (λ v. All (IsLane descriptor.now) v.items) }
+{
+    let kept = kept_fields(alloc, descriptor, null_states, kind, id)?;
+    let mut lanes = Vec::with_capacity(alloc, kept.len())?;
+    for one in &kept {
+        lanes.push(Lane::new(descriptor, one))?;
+    }
+    Ok(lanes)
+}

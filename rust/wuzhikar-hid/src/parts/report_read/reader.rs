@@ -1,0 +1,187 @@
+// Exported from crates/report_read/src/reader.rt by bin/export-rust. Edit that file instead.
+//! A kept reader.
+
+use crate::parts::report_read::error::ReadingError;
+use crate::parts::report_read::lane::Lane;
+use crate::parts::report_read::reading::Reading;
+use wuzhikar_reader::parts::descriptor_parse::{Descriptor, Kind};
+use crate::parts::report_write::kept_fields;
+use crate::rattle::alloc::{AllocError, Global};
+
+/// A report: its bytes, 0 where there is none, and its fields.
+#[derive(Debug)]
+#[derive(Clone)]
+pub(crate) struct Plan {
+    pub(crate) len: usize,
+    pub(crate) lanes: crate::rattle::Vec<Lane>,
+}
+
+/// The reports of an ID.
+#[derive(Debug)]
+#[derive(Clone)]
+pub(crate) struct Plans {
+    pub(crate) input: Plan,
+    pub(crate) output: Plan,
+    pub(crate) feature: Plan,
+}
+
+/// A reader of reports that is made once of a descriptor.
+#[derive(Clone, Debug)]
+pub struct ReportReader {
+    descriptor: Descriptor,
+    /// Whether each field has Null State.
+    null_states: crate::rattle::Vec<bool>,
+    /// The reports by their IDs, up to the last ID that a field has.
+    by_id: crate::rattle::Vec<Plans>,
+}
+
+impl ReportReader {
+    /// The reader of a descriptor; `null_states` is whether each of its fields has Null State, and one that it has no word of has
+    /// none.
+    pub fn new(
+        alloc: Global,
+        descriptor: Descriptor,
+        null_states: crate::rattle::Vec<bool>,
+    ) -> Result<ReportReader, AllocError> {
+        let by_id = all_plans(alloc, &descriptor, &null_states)?;
+        Ok(ReportReader {
+            descriptor,
+            null_states,
+            by_id,
+        })
+    }
+
+    /// The descriptor.
+    #[inline(always)]
+    pub fn descriptor(&self) -> &Descriptor {
+        &self.descriptor
+    }
+
+    /// Whether each field has Null State, by its place among the descriptor's.
+    pub fn null_states(&self) -> &[bool] {
+        &self.null_states
+    }
+
+    /// Reads a report of a kind: its values one by one, in the order of its fields and their places. Bytes past its end are
+    /// left, as [`Reading::rest`].
+    ///
+    /// The errors, in this order: `Empty` where there is no byte; `UnknownReport` where there is no report of this kind with the
+    /// ID that it begins with; `Short` where it is shorter than its descriptor says.
+    #[inline]
+    pub fn read<'a>(&'a self, kind: Kind, report: &'a [u8]) -> Result<Reading<'a>, ReadingError> {
+        if report.is_empty() {
+            return Err(ReadingError::Empty);
+        }
+        let (id, bytes) = split(&self.descriptor, report);
+        let (len, lanes) = self.plan(kind, id);
+        if len == 0 {
+            return Err(ReadingError::UnknownReport);
+        }
+        if report.len() < len {
+            return Err(ReadingError::Short);
+        }
+        let (_, rest) = report.split_at(len);
+        Ok(Reading::new(id, rest, &self.descriptor, bytes, lanes))
+    }
+
+    /// The bytes of a report, 0 where there is none, and its fields.
+    #[inline(always)]
+    fn plan(&self, kind: Kind, id: u8) -> (usize, &[Lane]) {
+        match self.by_id.get(id as usize) {
+            Some(plans) => {
+                let plan = plan_on(plans, kind);
+                (plan.len, &plan.lanes)
+            }
+            // Past the last ID that a field has there are reports of padding alone.
+            None => (self.descriptor.report_len(kind, id).unwrap_or(0), &[]),
+        }
+    }
+}
+
+/// The ID of a report, 0 where none is used, and the bytes after it.
+#[inline(always)]
+fn split<'a>(descriptor: &Descriptor, report: &'a [u8]) -> (u8, &'a [u8]) {
+    if !descriptor.uses_ids() {
+        return (0, report);
+    }
+    match report {
+        [id, bytes @ ..] => (*id, bytes),
+        [] => (0, report),
+    }
+}
+
+/// The report of a kind.
+#[inline(always)]
+fn plan_on(plans: &Plans, kind: Kind) -> &Plan {
+    match kind {
+        Kind::Input => &plans.input,
+        Kind::Output => &plans.output,
+        Kind::Feature => &plans.feature,
+    }
+}
+
+/// The reports by their IDs, up to the last ID that a field has.
+fn all_plans(
+    alloc: Global,
+    descriptor: &Descriptor,
+    null_states: &[bool],
+) -> Result<crate::rattle::Vec<Plans>, AllocError> {
+    let rows = rows_of(descriptor);
+    let mut by_id = crate::rattle::vec::with_capacity(alloc, rows as usize)?;
+    for id in 0..rows {
+        by_id.push_in(Plans {
+            input: plan_of(alloc, descriptor, null_states, Kind::Input, id as u8)?,
+            output: plan_of(alloc, descriptor, null_states, Kind::Output, id as u8)?,
+            feature: plan_of(alloc, descriptor, null_states, Kind::Feature, id as u8)?,
+        })?;
+    }
+    Ok(by_id)
+}
+
+/// How many IDs there are up to the last that a field has.
+fn rows_of(descriptor: &Descriptor) -> u16 {
+    let mut rows = 0;
+    for field in descriptor.fields() {
+        rows = rows.max(field.id as u16 + 1);
+    }
+    rows
+}
+
+/// The report of a kind and ID.
+fn plan_of(
+    alloc: Global,
+    descriptor: &Descriptor,
+    null_states: &[bool],
+    kind: Kind,
+    id: u8,
+) -> Result<Plan, AllocError> {
+    match descriptor.report_len(kind, id) {
+        None => Ok(Plan {
+            len: 0,
+            lanes: crate::rattle::vec::new(alloc),
+        }),
+        Some(len) => Ok(Plan {
+            len,
+            lanes: lanes_of(alloc, descriptor, null_states, kind, id)?,
+        }),
+    }
+}
+
+/// The fields of a report.
+fn lanes_of(
+    alloc: Global,
+    descriptor: &Descriptor,
+    null_states: &[bool],
+    kind: Kind,
+    id: u8,
+) -> Result<crate::rattle::Vec<Lane>, AllocError> {
+    let kept = kept_fields(alloc, descriptor, null_states, kind, id)?;
+    let mut lanes = crate::rattle::vec::with_capacity(alloc, kept.len())?;
+    for one in &kept {
+        lanes.push_in(Lane::new(descriptor, one))?;
+    }
+    Ok(lanes)
+}
+
+#[allow(unused_imports)]
+use crate::rattle::memory::*;
