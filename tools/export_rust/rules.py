@@ -55,7 +55,7 @@ KEPT_UNITS = "**Needs** a flash that [`PairedFlash::format`] made, and that noth
 
 LOG = Rules(
     name="wuzhikar-log",
-    crates=("flash_model", "records", "page_turnover", "ecc_flash"),
+    crates=("flash_model", "records", "page_turnover", "settings", "ecc_flash"),
     conditions={("flash_model", "sim"): HOSTED, ("flash_model", "masks"): HOSTED, ("ecc_flash", "witness"): LEFT_OUT},
     hosted=frozenset({("flash_model", "sim")}),
     owed={("page_turnover", "Log::words"): SAME_FLASH, ("page_turnover", "Log::step"): SAME_FLASH,
@@ -69,6 +69,7 @@ LOG = Rules(
     docs={("flash_model", ""): [("`world` runs on", "the crate `kbsim` runs on")],
           ("records", ""): [(" (`laws`).", ".")],
           ("ecc_flash", ""): [("meant (`laws`).", "meant."), ("/// - `outcome` of", "/// - the outcome of"), ("///   (`laws`). A", "///   from this. A")],
+          ("settings", ""): [("not before\n//! (`laws::whole_or_absent`). Of", "not before.\n//! Of"), (" (`laws::compacted`).", ".")],
           ("page_turnover", ""): [(" (`laws::an_operation_leaves`).", "."), ("`keymap_store` calls it", "The crate `wuzhikar` calls it")]},
 )
 

@@ -36,6 +36,8 @@ pub mod parts;
 mod ram;
 #[doc(hidden)]
 pub mod rattle;
+#[cfg(feature = "settings")]
+mod settings;
 mod slot_flash;
 mod unit_flash;
 mod units;
@@ -50,6 +52,10 @@ pub use crate::parts::ecc_flash::{EccFlash, PAGE_UNITS, PairedFlash, UNIT_BYTES}
 pub use crate::parts::flash_model::{FlashError, Mask, SimFlash};
 pub use crate::parts::flash_model::{FlashFault, NorFlash, PAGE_BYTES, PAGE_SLOTS, SLOT_BYTES};
 pub use crate::parts::page_turnover::{Log, Step, TurnRefusal, Unsound, Words};
+#[cfg(feature = "settings")]
+pub use crate::parts::settings::{Change, MAX_BYTES, Value};
+#[cfg(feature = "settings")]
+pub use crate::settings::{FlashSettings, SettingsError, UnderWay, Work};
 pub use crate::slot_flash::SlotFlash;
 pub use crate::unit_flash::UnitFlash;
 pub use crate::units::GeometryError;

@@ -7,3 +7,4 @@ pub mod ecc_flash;
 pub mod flash_model;
 pub mod page_turnover;
 pub mod records;
+pub mod settings;

@@ -1,0 +1,241 @@
+//! Settings and their flash in one, with calls that come back when all is stored. Written by hand: tested, not proved.
+
+use crate::page_count::PageCount;
+use crate::parts::flash_model::{FlashFault, NorFlash};
+use crate::parts::settings::{Change, IDS, PAGE_WORDS, Value};
+use crate::whole::Dropped;
+use crate::{FlashLog, LogRefusal};
+use machine::{BeginRefusal, Settings};
+
+pub use machine::Work;
+
+mod machine;
+
+/// Why a change was not stored. All settings are as before.
+#[derive(Clone, Copy, Debug, PartialEq, Eq)]
+pub enum SettingsError {
+    /// The value has more than 64 bytes.
+    TooLong,
+    /// The values that there would be then do not fit on a page.
+    Full,
+    /// Slot 0 of a page is not sound: something else wrote there.
+    Unsound,
+    /// The flash holds words of something else, which a compaction would lose.
+    Foreign,
+    /// A compaction is needed, and each page was erased some 268 million times.
+    Worn,
+    /// The flash answered a fault, and what was written does not read back. A second try writes elsewhere.
+    Fault,
+}
+
+/// Settings and their flash: a map from ids to values of 0 to 64 bytes, of which some 1,500 bytes fit on a page.
+///
+/// A value of n bytes takes 1 + (n + 2) / 3 of the 511 words of a page. What was answered `Ok` is there after every loss of
+/// power; a power cut inside a call leaves the value before or the new one, and of a [`transaction`](Self::transaction) all
+/// changes or none.
+///
+/// ```
+/// # fn main() -> Result<(), Box<dyn core::error::Error>> {
+/// # #[cfg(feature = "sim")]
+/// # {
+/// use wuzhikar_log::{FlashSettings, SimFlash};
+///
+/// let mut settings = FlashSettings::mount(SimFlash::blank(2)?)?;
+/// settings.set(7, b"my network")?;
+/// let settings = FlashSettings::mount(settings.into_flash())?;
+/// assert_eq!(settings.get(7).as_ref().and_then(|name| name.as_str()), Some("my network"));
+/// # }
+/// # Ok(())
+/// # }
+/// ```
+#[derive(Debug)]
+pub struct FlashSettings<F> {
+    settings: Settings,
+    flash: F,
+}
+
+/// Changes that are under way, one flash operation a step. Where it is dropped before its end the settings are as before.
+#[derive(Debug)]
+pub struct UnderWay<'a, F> {
+    of: &'a mut FlashSettings<F>,
+    changes: &'a [Change],
+}
+
+impl<F: NorFlash> FlashSettings<F> {
+    /// Reads what is in a flash, and changes nothing. A blank flash has no values.
+    ///
+    /// `PageCount` where the flash has not 2 to 8 pages: then it is not read either, and is dropped.
+    pub fn mount(flash: F) -> Result<FlashSettings<F>, PageCount> {
+        PageCount::check(&flash)?;
+        Ok(FlashSettings { settings: Settings::mount(&flash), flash })
+    }
+
+    /// The value of an id, if it has one. It is looked up in the flash.
+    pub fn get(&self, id: u16) -> Option<Value> {
+        self.settings.get(&self.flash, id)
+    }
+
+    /// Whether an id has a value.
+    pub fn contains(&self, id: u16) -> bool {
+        self.get(id).is_some()
+    }
+
+    /// The ids that have a value, rising, each with its value.
+    pub fn iter(&self) -> impl Iterator<Item = (u16, Value)> + '_ {
+        let mut from = 0;
+        core::iter::from_fn(move || {
+            let Change { id, value } = self.settings.next_from(&self.flash, &[], from)?;
+            from = u32::from(id) + 1;
+            Some((id, value?))
+        })
+        .take(IDS as usize)
+    }
+
+    /// How many words of the 511 of a page no value takes: a new value of n bytes takes 1 + (n + 2) / 3 of them.
+    pub fn room_left(&self) -> usize {
+        PAGE_WORDS.saturating_sub(self.settings.words_alive(&self.flash, &[]))
+    }
+
+    /// Stores a value of at most 64 bytes. Nothing is written where the id has this value already.
+    pub fn set(&mut self, id: u16, bytes: &[u8]) -> Result<(), SettingsError> {
+        let value = Value::new(bytes).ok_or(SettingsError::TooLong)?;
+        if self.get(id).is_some_and(|before| before == value) {
+            return Ok(());
+        }
+        self.transaction(&[Change { id, value: Some(value) }])
+    }
+
+    /// Takes an id its value. Nothing is written where it has none.
+    pub fn remove(&mut self, id: u16) -> Result<(), SettingsError> {
+        if self.contains(id) { self.transaction(&[Change { id, value: None }]) } else { Ok(()) }
+    }
+
+    /// Moves the values to the next page, which then has room for changes. Changes do so by themselves where they must.
+    pub fn compact(&mut self) -> Result<(), SettingsError> {
+        self.transaction(&[])
+    }
+
+    /// Stores several changes, which are in force together: a loss of power leaves all of them or none. Of one id the last
+    /// change counts. More than one, or none, take a compaction.
+    pub fn transaction(&mut self, changes: &[Change]) -> Result<(), SettingsError> {
+        let mut under_way = self.begin(changes)?;
+        loop {
+            match under_way.step() {
+                Work::Working => {}
+                Work::Idle | Work::Stored => return Ok(()),
+                Work::Failed => return Err(SettingsError::Fault),
+            }
+        }
+    }
+
+    /// Begins changes that are stored one flash operation at a time, for a loop that must not wait: 1 to 23 for one change
+    /// that there is room for, else at most 513.
+    pub fn begin<'a>(&'a mut self, changes: &'a [Change]) -> Result<UnderWay<'a, F>, SettingsError> {
+        if self.settings.busy() {
+            // Changes that were dropped before their end: as by a loss of power, they are forgotten.
+            self.settings = Settings::mount(&self.flash);
+        }
+        self.settings.begin(&self.flash, changes)?;
+        Ok(UnderWay { of: self, changes })
+    }
+
+    /// Erases all pages, whatever they hold, and so **all values**: [`FlashLog::format`]. The flash is lost where a page
+    /// can't be erased.
+    pub fn format(flash: F) -> Result<(FlashSettings<F>, Dropped), FlashFault> {
+        let mut log = FlashLog::mount(flash).map_err(|_| FlashFault)?;
+        let dropped = log.format()?;
+        let flash = log.into_flash();
+        Ok((FlashSettings { settings: Settings::mount(&flash), flash }, dropped))
+    }
+
+    /// The flash.
+    pub fn flash(&self) -> &F {
+        &self.flash
+    }
+
+    /// Gives up the settings, and the flash as it is.
+    pub fn into_flash(self) -> F {
+        self.flash
+    }
+}
+
+impl<F: NorFlash> UnderWay<'_, F> {
+    /// Makes the next flash operation. After `Stored` and `Failed` there is none.
+    pub fn step(&mut self) -> Work {
+        self.of.settings.step(&mut self.of.flash, self.changes)
+    }
+}
+
+impl Value {
+    /// The bytes as text, where they are UTF-8.
+    pub fn as_str(&self) -> Option<&str> {
+        core::str::from_utf8(self.as_bytes()).ok()
+    }
+
+    /// The truth value of one byte, 0 or 1.
+    pub fn as_bool(&self) -> Option<bool> {
+        match self.as_bytes() {
+            [0] => Some(false),
+            [1] => Some(true),
+            _ => None,
+        }
+    }
+}
+
+macro_rules! numbers {
+    ($($type:ty, $name:ident);*) => {
+        impl Value {
+            $(/// The number of so many bytes, the lowest one first.
+            pub fn $name(&self) -> Option<$type> {
+                Some(<$type>::from_le_bytes(self.as_bytes().try_into().ok()?))
+            })*
+        }
+    };
+}
+
+numbers!(u8, as_u8; u16, as_u16; u32, as_u32; u64, as_u64);
+
+impl Clone for Value {
+    fn clone(&self) -> Value {
+        self.copied()
+    }
+}
+
+impl PartialEq for Value {
+    fn eq(&self, other: &Value) -> bool {
+        self.as_bytes() == other.as_bytes()
+    }
+}
+
+impl Eq for Value {}
+
+impl From<BeginRefusal> for SettingsError {
+    fn from(refusal: BeginRefusal) -> SettingsError {
+        match refusal {
+            // Nothing is under way where changes are begun.
+            BeginRefusal::Busy => SettingsError::Fault,
+            BeginRefusal::Unsound => SettingsError::Unsound,
+            BeginRefusal::Foreign => SettingsError::Foreign,
+            BeginRefusal::Full => SettingsError::Full,
+            BeginRefusal::Worn => SettingsError::Worn,
+        }
+    }
+}
+
+impl core::fmt::Display for SettingsError {
+    fn fmt(&self, f: &mut core::fmt::Formatter<'_>) -> core::fmt::Result {
+        match self {
+            SettingsError::TooLong => f.write_str("a value has at most 64 bytes"),
+            SettingsError::Full => f.write_str("the values do not fit on a page"),
+            SettingsError::Unsound => LogRefusal::Unsound.fmt(f),
+            SettingsError::Foreign => f.write_str("the flash holds a log of something else"),
+            SettingsError::Worn => LogRefusal::Worn.fmt(f),
+            SettingsError::Fault => FlashFault.fmt(f),
+        }
+    }
+}
+
+impl core::error::Error for SettingsError {}
+
+#[cfg(all(test, feature = "sim"))]
+mod tests;
