@@ -1,10 +1,9 @@
 // Exported from crates/reports/src/poller.rt by bin/export-rust. Edit that file instead.
 //! Which report a poll of the interrupt endpoint sends.
 
-use crate::parts::reports::bytes::{bitmap, boot, consumer};
-use crate::parts::reports::queue::{Queue, report_of};
+use crate::parts::reports::queue::Queue;
 use crate::parts::reports::sent::Sent;
-use crate::parts::reports::{IdleId, Input, Protocol, Report};
+use crate::parts::reports::{IdleId, Input, InputReport, Protocol, Report};
 use crate::parts::layers::Usages;
 use crate::rattle::alloc::{AllocError, Global};
 
@@ -13,21 +12,12 @@ const IDLE_ONE: u8 = 125;
 
 const IDLE_TWO: u8 = 0;
 
-/// The bytes of each report for no usages.
-const BOOT_UNUSED: [u8; 8] = [0; 8];
-
-const ONE_UNUSED: [u8; 23] = [
-    1, 0, 0, 0, 0, 0, 0, 0, 0, 0, 0, 0, 0, 0, 0, 0, 0, 0, 0, 0, 0, 0, 0,
-];
-
-const TWO_UNUSED: [u8; 9] = [2, 0, 0, 0, 0, 0, 0, 0, 0];
-
 /// What was made and what was sent last of each report, the reports that wait, and the idle values.
 #[derive(Debug)]
 pub struct Poller {
-    boot: Sent<8>,
-    one: Sent<23>,
-    two: Sent<9>,
+    boot: Sent,
+    one: Sent,
+    two: Sent,
     /// Which of the reports 1 and 2 was sent last.
     sent_last: Option<Input>,
     queue: Queue,
@@ -48,9 +38,9 @@ impl Poller {
     pub fn new(alloc: Global) -> Result<Poller, AllocError> {
         let queue = Queue::new(alloc)?;
         Ok(Poller {
-            boot: Sent::now(BOOT_UNUSED),
-            one: Sent::now(ONE_UNUSED),
-            two: Sent::now(TWO_UNUSED),
+            boot: Sent::unused(Input::Boot),
+            one: Sent::unused(Input::One),
+            two: Sent::unused(Input::Two),
             sent_last: None,
             queue,
             idle_one: IDLE_ONE,
@@ -90,18 +80,10 @@ impl Poller {
     /// they were made before.
     fn push_changes(&mut self, now: &Usages, protocol: Protocol) {
         match protocol {
-            Protocol::Boot => {
-                let bytes = boot(now);
-                self.queue.push_change(self.boot.made(), &bytes);
-                self.boot.make(bytes);
-            },
+            Protocol::Boot => self.boot.turn(InputReport::boot(now), &mut self.queue),
             Protocol::Report => {
-                let one = bitmap(now);
-                let two = consumer(now);
-                self.queue.push_change(self.one.made(), &one);
-                self.queue.push_change(self.two.made(), &two);
-                self.one.make(one);
-                self.two.make(two);
+                self.one.turn(InputReport::bitmap(now), &mut self.queue);
+                self.two.turn(InputReport::consumer(now), &mut self.queue);
             },
         }
     }
@@ -112,27 +94,27 @@ impl Poller {
     }
 
     /// The bytes of the boot report, as they were made last.
-    pub fn made_boot(&self) -> [u8; 8] {
-        *self.boot.made()
+    pub fn made_boot(&self) -> &InputReport {
+        self.boot.made()
     }
 
     /// The bytes of the report of ID 1, as they were made last.
-    pub fn made_bitmap(&self) -> [u8; 23] {
-        *self.one.made()
+    pub fn made_bitmap(&self) -> &InputReport {
+        self.one.made()
     }
 
     /// The bytes of the report of ID 2, as they were made last.
-    pub fn made_consumer(&self) -> [u8; 9] {
-        *self.two.made()
+    pub fn made_consumer(&self) -> &InputReport {
+        self.two.made()
     }
 
     /// Makes the bytes of the protocol's reports for these usages.
     pub fn make(&mut self, usages: &Usages, protocol: Protocol) {
         match protocol {
-            Protocol::Boot => self.boot.make(boot(usages)),
+            Protocol::Boot => self.boot.make(InputReport::boot(usages)),
             Protocol::Report => {
-                self.one.make(bitmap(usages));
-                self.two.make(consumer(usages));
+                self.one.make(InputReport::bitmap(usages));
+                self.two.make(InputReport::consumer(usages));
             },
         }
         self.made_for = protocol;
@@ -160,8 +142,8 @@ impl Poller {
     fn send_front(&mut self) -> Option<Report> {
         match self.queue.pop() {
             Some(front) => {
-                let report = report_of(front.as_slice());
-                self.count_as_sent(&report);
+                let report = front.report();
+                self.count_as_sent(front);
                 Some(report)
             },
             None => None,
@@ -171,8 +153,9 @@ impl Poller {
     /// Sends what the poll rule sends where no report waits.
     fn send_due(&mut self, protocol: Protocol) -> Option<Report> {
         match self.due(protocol) {
-            Some(report) => {
-                self.count_as_sent(&report);
+            Some(due) => {
+                let report = due.report();
+                self.count_as_sent(due);
                 Some(report)
             },
             None => None,
@@ -180,16 +163,16 @@ impl Poller {
     }
 
     /// What the poll rule sends where no report waits.
-    fn due(&self, protocol: Protocol) -> Option<Report> {
+    fn due(&self, protocol: Protocol) -> Option<InputReport> {
         match protocol {
             Protocol::Boot => self.due_boot(),
             Protocol::Report => self.due_report(),
         }
     }
 
-    fn due_boot(&self) -> Option<Report> {
+    fn due_boot(&self) -> Option<InputReport> {
         if self.boot_is_due() {
-            Some(report_of(self.boot.made()))
+            Some(self.boot.made().copy())
         } else {
             None
         }
@@ -199,10 +182,10 @@ impl Poller {
         self.boot.is_changed() || self.boot.is_elapsed(self.idle_one)
     }
 
-    fn due_report(&self) -> Option<Report> {
+    fn due_report(&self) -> Option<InputReport> {
         match self.chosen(self.one.is_changed(), self.two.is_changed()) {
-            Some(Input::One) => Some(report_of(self.one.made())),
-            Some(Input::Two) => Some(report_of(self.two.made())),
+            Some(Input::One) => Some(self.one.made().copy()),
+            Some(Input::Two) => Some(self.two.made().copy()),
             Some(Input::Boot) => None,
             None => None,
         }
@@ -221,17 +204,18 @@ impl Poller {
         }
     }
 
-    /// Counts a report as sent, by its number of bytes.
-    fn count_as_sent(&mut self, report: &Report) {
-        let bytes = report.as_slice();
-        if bytes.len() == BOOT_UNUSED.len() {
-            self.boot.send(bytes);
-        } else if bytes.len() == ONE_UNUSED.len() {
-            self.one.send(bytes);
-            self.sent_last = Some(Input::One);
-        } else if bytes.len() == TWO_UNUSED.len() {
-            self.two.send(bytes);
-            self.sent_last = Some(Input::Two);
+    /// Counts a report as sent.
+    fn count_as_sent(&mut self, report: InputReport) {
+        match report.input() {
+            Input::Boot => self.boot.send(report),
+            Input::One => {
+                self.one.send(report);
+                self.sent_last = Some(Input::One);
+            },
+            Input::Two => {
+                self.two.send(report);
+                self.sent_last = Some(Input::Two);
+            },
         }
     }
 
@@ -271,9 +255,9 @@ impl Poller {
     }
 
     fn clear(&mut self) {
-        self.boot.send(&BOOT_UNUSED);
-        self.one.send(&ONE_UNUSED);
-        self.two.send(&TWO_UNUSED);
+        self.boot.send(InputReport::unused(Input::Boot));
+        self.one.send(InputReport::unused(Input::One));
+        self.two.send(InputReport::unused(Input::Two));
         self.sent_last = None;
         self.queue.clear();
     }
