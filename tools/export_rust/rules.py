@@ -88,7 +88,7 @@ KEYBOARD = Rules(
                ("layers", "Command"): "Command::SetKey { layer: LayerNo::UNSTARTED, key: KeyNo::UNSTARTED, code: Code::UNSTARTED }",
                ("layers", "Held"): None, ("layers", "Usages"): None, ("debounce", "Scan"): None, ("debounce", "Matrix"): None,
                ("reports", "Protocol"): "Protocol::Boot", ("reports", "Input"): "Input::Boot", ("reports", "Sent"): None,
-               ("reports", "Queue"): None, ("reports", "InputReport"): None, ("reports", "Poller"): None, ("key_reports", "KeyReports"): None,
+               ("reports", "Queue"): None, ("reports", "InputReport"): None, ("reports", "Idle"): None, ("reports", "Poller"): None, ("key_reports", "KeyReports"): None,
                ("control_ep", "Source"): "Source::Copied(ArrayVec::new_const())", ("control_ep", "ReadData"): None,
                ("control_ep", "Sending"): None, ("control_ep", "Stage"): "Stage::Sending(Sending::UNSTARTED)",
                ("control_ep", "ControlEp"): None, ("keymap_store", "Job"): "Job::Turning { command: Command::UNSTARTED, from: 0 }",

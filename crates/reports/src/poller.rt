@@ -11,6 +11,7 @@ ghost use Rattle.reports.specs.Queue.{queue};
 ghost use Rattle.reports.specs.Wanted.{wanted};
 ghost use Rattle.layers.specs.Usages.{has_key, has_consumer};
 
+use crate::idle::Idle;
 use crate::queue::Queue;
 use crate::sent::Sent;
 use crate::{IdleId, Input, InputReport, Protocol, Report};
@@ -32,8 +33,8 @@ pub struct Poller {
     /// Which of the reports 1 and 2 was sent last.
     sent_last: Option<Input>,
     queue: Queue,
-    idle_one: u8,
-    idle_two: u8,
+    idle_one: Idle,
+    idle_two: Idle,
     /// The protocol whose reports were made last.
     made_for: Protocol,
 }
@@ -72,8 +73,8 @@ impl Poller {
             two: Sent::unused(Input::Two),
             sent_last: None,
             queue,
-            idle_one: IDLE_ONE,
-            idle_two: IDLE_TWO,
+            idle_one: Idle::of(IDLE_ONE),
+            idle_two: Idle::of(IDLE_TWO),
             made_for: Protocol::Report,
         })
     }
@@ -280,7 +281,7 @@ impl Poller {
             → RuleStandsFor past self.now
             → result ≡ (poll.is_changed bytes past Input.Boot || poll.is_elapsed past Input.Boot) }
     {
-        self.boot.is_changed() || self.boot.is_elapsed(self.idle_one)
+        self.boot.is_changed() || self.boot.is_elapsed(&self.idle_one)
     }
 
     fn due_report(&self) -> Option<InputReport>
@@ -307,8 +308,8 @@ impl Poller {
             one_of_two(one_changed, two_changed, self.sent_last)
         } else {
             one_of_two(
-                self.one.is_elapsed(self.idle_one),
-                self.two.is_elapsed(self.idle_two),
+                self.one.is_elapsed(&self.idle_one),
+                self.two.is_elapsed(&self.idle_two),
                 self.sent_last,
             )
         }
@@ -343,11 +344,11 @@ impl Poller {
     {
         match id {
             IdleId::All => {
-                self.idle_one = duration;
-                self.idle_two = duration;
+                self.idle_one = Idle::of(duration);
+                self.idle_two = Idle::of(duration);
             },
-            IdleId::One => self.idle_one = duration,
-            IdleId::Two => self.idle_two = duration,
+            IdleId::One => self.idle_one = Idle::of(duration),
+            IdleId::Two => self.idle_two = Idle::of(duration),
         }
     }
 
@@ -358,8 +359,8 @@ impl Poller {
             → result ≡ idle_value (idle_input id) past }
     {
         match id {
-            IdleId::All | IdleId::One => self.idle_one,
-            IdleId::Two => self.idle_two,
+            IdleId::All | IdleId::One => self.idle_one.value(),
+            IdleId::Two => self.idle_two.value(),
         }
     }
 
@@ -381,8 +382,8 @@ impl Poller {
         ensures made { SameMade self.old self.new }
     {
         self.clear();
-        self.idle_one = IDLE_ONE;
-        self.idle_two = IDLE_TWO;
+        self.idle_one = Idle::of(IDLE_ONE);
+        self.idle_two = Idle::of(IDLE_TWO);
     }
 
     fn clear(&mut self)

@@ -5,6 +5,7 @@ ghost use Rattle.std.specs.Str.{bytes_eq};
 ghost use Rattle.circular_buffer.specs.Buffer.{keep_last};
 ghost use Rattle.reports.specs.Wanted.{wanted};
 
+use crate::idle::Idle;
 use crate::queue::Queue;
 use crate::{Input, InputReport};
 use std::marker::Model;
@@ -95,14 +96,12 @@ impl Sent {
         self.changed
     }
 
-    /// Whether the report is to be sent again at this idle value, in units of 4 ms: it is not 0, and as
-    /// long has passed.
-    pub(crate) fn is_elapsed(&self, idle: u8) -> bool
+    /// Whether the report is to be sent again at this idle value: it is not 0, and as long has passed.
+    pub(crate) fn is_elapsed(&self, idle: &Idle) -> bool
         ensures { (scans : ℕ) → self.now.age ≡ min 65535 scans
-            → result ≡ (not (idle == 0) && nat_le (4 * idle) scans) }
+            → result ≡ (not (idle.now == 0) && nat_le (4 * idle.now) scans) }
     {
-        // 0 - 1 wraps to 65,535, which no age is above
-        self.age > (4 * u16::from(idle)).wrapping_sub(1)
+        idle.has_passed(self.age)
     }
 
     /// Counts these bytes as sent now.

@@ -10,6 +10,7 @@
 use arrayvec::ArrayVec;
 
 pub mod bytes;
+mod idle;
 pub mod input_report;
 pub mod poller;
 mod queue;

@@ -22,8 +22,8 @@ impl Unused for InputReport {
 pub struct HeapCircularBuffer<T> {
     slots: [T; ROOM],
     /// Where the oldest value is.
-    front: usize,
-    len: usize,
+    front: u8,
+    len: u8,
 }
 
 impl<T: Unused> HeapCircularBuffer<T> {
@@ -38,9 +38,9 @@ impl<T: Unused> HeapCircularBuffer<T> {
 
     /// Appends a value, in place of the oldest one where all slots are taken.
     pub fn push_back(&mut self, value: T) {
-        self.slots[(self.front + self.len) % ROOM] = value;
-        if self.len == ROOM {
-            self.front = (self.front + 1) % ROOM;
+        self.slots[usize::from(self.front + self.len) % ROOM] = value;
+        if usize::from(self.len) == ROOM {
+            self.front = (self.front + 1) % ROOM as u8;
         } else {
             self.len += 1;
         }
@@ -56,8 +56,8 @@ impl<T: Unused> HeapCircularBuffer<T> {
         if self.len == 0 {
             return None;
         }
-        let value = self.slots[self.front % ROOM];
-        self.front = (self.front + 1) % ROOM;
+        let value = self.slots[usize::from(self.front) % ROOM];
+        self.front = (self.front + 1) % ROOM as u8;
         self.len -= 1;
         Some(value)
     }

@@ -1,6 +1,7 @@
 // Exported from crates/reports/src/poller.rt by bin/export-rust. Edit that file instead.
 //! Which report a poll of the interrupt endpoint sends.
 
+use crate::parts::reports::idle::Idle;
 use crate::parts::reports::queue::Queue;
 use crate::parts::reports::sent::Sent;
 use crate::parts::reports::{IdleId, Input, InputReport, Protocol, Report};
@@ -21,15 +22,15 @@ pub struct Poller {
     /// Which of the reports 1 and 2 was sent last.
     sent_last: Option<Input>,
     queue: Queue,
-    idle_one: u8,
-    idle_two: u8,
+    idle_one: Idle,
+    idle_two: Idle,
     /// The protocol whose reports were made last.
     made_for: Protocol,
 }
 
 impl Poller {
     /// Zeros, where memory waits for a keyboard to start there.
-    pub(crate) const UNSTARTED: Self = Poller { boot: Sent::UNSTARTED, one: Sent::UNSTARTED, two: Sent::UNSTARTED, sent_last: Some(Input::UNSTARTED), queue: Queue::UNSTARTED, idle_one: 0, idle_two: 0, made_for: Protocol::UNSTARTED };
+    pub(crate) const UNSTARTED: Self = Poller { boot: Sent::UNSTARTED, one: Sent::UNSTARTED, two: Sent::UNSTARTED, sent_last: Some(Input::UNSTARTED), queue: Queue::UNSTARTED, idle_one: Idle::UNSTARTED, idle_two: Idle::UNSTARTED, made_for: Protocol::UNSTARTED };
 }
 
 impl Poller {
@@ -43,8 +44,8 @@ impl Poller {
             two: Sent::unused(Input::Two),
             sent_last: None,
             queue,
-            idle_one: IDLE_ONE,
-            idle_two: IDLE_TWO,
+            idle_one: Idle::of(IDLE_ONE),
+            idle_two: Idle::of(IDLE_TWO),
             made_for: Protocol::Report,
         })
     }
@@ -179,7 +180,7 @@ impl Poller {
     }
 
     fn boot_is_due(&self) -> bool {
-        self.boot.is_changed() || self.boot.is_elapsed(self.idle_one)
+        self.boot.is_changed() || self.boot.is_elapsed(&self.idle_one)
     }
 
     fn due_report(&self) -> Option<InputReport> {
@@ -197,8 +198,8 @@ impl Poller {
             one_of_two(one_changed, two_changed, self.sent_last)
         } else {
             one_of_two(
-                self.one.is_elapsed(self.idle_one),
-                self.two.is_elapsed(self.idle_two),
+                self.one.is_elapsed(&self.idle_one),
+                self.two.is_elapsed(&self.idle_two),
                 self.sent_last,
             )
         }
@@ -224,11 +225,11 @@ impl Poller {
     pub fn set_idle(&mut self, id: IdleId, duration: u8) {
         match id {
             IdleId::All => {
-                self.idle_one = duration;
-                self.idle_two = duration;
+                self.idle_one = Idle::of(duration);
+                self.idle_two = Idle::of(duration);
             },
-            IdleId::One => self.idle_one = duration,
-            IdleId::Two => self.idle_two = duration,
+            IdleId::One => self.idle_one = Idle::of(duration),
+            IdleId::Two => self.idle_two = Idle::of(duration),
         }
     }
 
@@ -236,8 +237,8 @@ impl Poller {
     /// 7.2.3).
     pub fn idle(&self, id: IdleId) -> u8 {
         match id {
-            IdleId::All | IdleId::One => self.idle_one,
-            IdleId::Two => self.idle_two,
+            IdleId::All | IdleId::One => self.idle_one.value(),
+            IdleId::Two => self.idle_two.value(),
         }
     }
 
@@ -250,8 +251,8 @@ impl Poller {
     /// the start. Takes no memory.
     pub fn reset(&mut self) {
         self.clear();
-        self.idle_one = IDLE_ONE;
-        self.idle_two = IDLE_TWO;
+        self.idle_one = Idle::of(IDLE_ONE);
+        self.idle_two = Idle::of(IDLE_TWO);
     }
 
     fn clear(&mut self) {

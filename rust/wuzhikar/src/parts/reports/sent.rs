@@ -1,6 +1,7 @@
 // Exported from crates/reports/src/sent.rt by bin/export-rust. Edit that file instead.
 //! The bytes that one report has, those that were sent last of it, and when.
 
+use crate::parts::reports::idle::Idle;
 use crate::parts::reports::queue::Queue;
 use crate::parts::reports::{Input, InputReport};
 
@@ -61,11 +62,9 @@ impl Sent {
         self.changed
     }
 
-    /// Whether the report is to be sent again at this idle value, in units of 4 ms: it is not 0, and as
-    /// long has passed.
-    pub(crate) fn is_elapsed(&self, idle: u8) -> bool {
-        // 0 - 1 wraps to 65,535, which no age is above
-        self.age > (4 * u16::from(idle)).wrapping_sub(1)
+    /// Whether the report is to be sent again at this idle value: it is not 0, and as long has passed.
+    pub(crate) fn is_elapsed(&self, idle: &Idle) -> bool {
+        idle.has_passed(self.age)
     }
 
     /// Counts these bytes as sent now.

@@ -10,7 +10,7 @@ returns-clause-stands c = fresh-stands _ record {
   two = sent-nothing Two _ c.unused-3.ensures.bytes c.unused-3.ensures.age;
   sent_last = refl;
   queue = c.in_ok-queue.ensures;
-} refl refl
+} c.of.ensures c.of-2.ensures
 
 pub returns-clause-made : goal.returns-clause-made
 returns-clause-made c = record { are = (c.unused-2.ensures.made, c.unused-3.ensures.made) }
