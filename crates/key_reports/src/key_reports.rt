@@ -125,7 +125,7 @@ impl KeyReports {
         ensures { (past : List KeyCall) → StandsFor past self.now → result ≡ wanted_after past Input.Boot }
     {
         if self.poller.is_made_for(Protocol::Boot) {
-            self.poller.made_boot()
+            self.poller.made_boot().eight()
         } else {
             self.boot_anew()
         }
@@ -136,7 +136,7 @@ impl KeyReports {
         ensures { (past : List KeyCall) → StandsFor past self.now → result ≡ wanted_after past Input.One }
     {
         if self.poller.is_made_for(Protocol::Report) {
-            self.poller.made_bitmap()
+            self.poller.made_bitmap().twenty_three()
         } else {
             self.bitmap_anew()
         }
@@ -147,7 +147,7 @@ impl KeyReports {
         ensures { (past : List KeyCall) → StandsFor past self.now → result ≡ wanted_after past Input.Two }
     {
         if self.poller.is_made_for(Protocol::Report) {
-            self.poller.made_consumer()
+            self.poller.made_consumer().nine()
         } else {
             self.consumer_anew()
         }

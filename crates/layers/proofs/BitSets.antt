@@ -1,10 +1,10 @@
 -- Sets of numbers as bits, `size` to a cell.
-use Rattle.std.proofs.Common.{◌≡◌, ◌≢◌, ℕ, ◌+◌, ◌-◌, ◌*◌, ◌/◌, ◌%◌, ◌^◌, ◌<◌, ◌≤◌, ◌==◌, ◌||◌, ◌&&◌, not, true, false, Bool, Option, Some, None, MatchOption, List, length, get_or, replicate, refl, arith, bit_or, bit_and, inl, inr, w8, w32, sym, ◌∙◌}
+use Rattle.std.proofs.Common.{◌≡◌, ◌≢◌, ℕ, ◌+◌, ◌-◌, ◌*◌, ◌/◌, ◌%◌, ◌^◌, ◌<◌, ◌≤◌, ◌==◌, ◌||◌, ◌&&◌, not, true, false, Bool, Option, Some, None, MatchOption, List, length, get_or, replicate, refl, arith, bit_or, bit_and, inl, inr, w32, sym, ap, ◌∙◌}
 use Rattle.std.specs.Int.{bit_at, bit_not, trailing_zeros}
 use Rattle.std.proofs.Math.ListN.{set}
 use Rattle.std.proofs.lemmas.Bool.{cases_Bool, cases_eq, cases_lt, eq-eqb, ne_eqb}
 use Rattle.std.proofs.lemmas.List.{get_or-set_same, get_or-set_other, get_or-replicate, get_or_past, length-replicate}
-use Rattle.std.proofs.lemmas.Nat.Bits.{bit_at_set_same, bit_at_set_other, bit_at_clear_same, bit_at_clear_other, bit_at-zero, bit_at_above, bit_at-trailing_zeros}
+use Rattle.std.proofs.lemmas.Nat.Bits.{bit_at_set_same, bit_at_set_other, bit_at_clear_same, bit_at_clear_other, bit_at-zero, bit_at_above, bit_at-trailing_zeros, bit_at_cat_low}
 use Rattle.std.proofs.lemmas.Nat.{pow-add}
 use Rattle.std.proofs.Math.Nat.{div-div-eq-div-mul, div-le_self, div-one}
 use Rattle.layers.specs.Usages.{has_bit, AreMarked, IsNext, PassesNoneFrom}
@@ -28,10 +28,6 @@ has_bit-set size cells number other cell p l s o =
         | inr m ↦ rw (ne_eqb number other n, get_or-set_other cells (number / size) (other / size) cell 0 m) refl
       ]
     ]
-
-pub has_bit-set_byte : (bytes : List ℕ) (number other : ℕ) → number / 8 < length bytes → has_bit 8 (set bytes (number / 8) (bit_or (get_or bytes (number / 8) 0) (1 * 2 ^ (number % 8) % 256))) other ≡ (number == other || has_bit 8 bytes other)
-has_bit-set_byte bytes number other l =
-    has_bit-set 8 bytes number other _ (omega arith) l (bit_at_set_same w8 (get_or bytes (number / 8) 0) (number % 8) (omega arith)) (λ i d. bit_at_set_other w8 (get_or bytes (number / 8) 0) (number % 8) (omega arith) i d)
 
 pub has_bit-set_word : (words : List ℕ) (number other : ℕ) → number / 32 < length words → has_bit 32 (set words (number / 32) (bit_or (get_or words (number / 32) 0) (1 * 2 ^ (number % 32) % 2 ^ 32))) other ≡ (number == other || has_bit 32 words other)
 has_bit-set_word words number other l =
@@ -65,11 +61,29 @@ has_bit-zeros size n number =
       | inr m ↦ has_bit-past size (replicate n 0) number (rw (length-replicate {A = ℕ} n 0) m)
     ]
 
-pub has_bit-byte : (bytes : List ℕ) (place i : ℕ) → i < 8 → (bit_at (get_or bytes place 0) i == 1) ≡ has_bit 8 bytes (8 * place + i)
-has_bit-byte bytes place i l =
-    let q : (8 * place + i) / 8 ≡ place = omega arith in
-    let r : (8 * place + i) % 8 ≡ i = omega arith in
-    rw (q, r) refl
+-- the low byte of a word
+pub has_bit-low_byte : (words : List ℕ) (place i : ℕ) → i < 8 → (bit_at (get_or words place 0 % 256) i == 1) ≡ has_bit 32 words (32 * place + i)
+has_bit-low_byte words place i l =
+    let word = get_or words place 0 in
+    let whole : word / 256 * 2 ^ 8 + word % 256 ≡ word = omega arith in
+    let low : bit_at (word % 256) i ≡ bit_at word i = sym (bit_at_cat_low (word / 256) 8 (word % 256) i l) ∙ ap (λ (w : ℕ). bit_at w i) whole in
+    let q : (32 * place + i) / 32 ≡ place = omega arith in
+    let r : (32 * place + i) % 32 ≡ i = omega arith in
+    rw (q, r, low) refl
+
+-- no mark
+pub zero_marks : (occupied : List ℕ) → length occupied ≡ 1 → get_or occupied 0 0 ≡ 0 → (number : ℕ) → has_bit 32 occupied number ≡ false
+zero_marks occupied one z number = elim (cases_lt (number / 32) 1) [
+  | inl l ↦ (let first : number / 32 ≡ 0 = omega arith in rw (first, z, bit_at-zero (number % 32)) refl)
+  | inr m ↦ has_bit-past 32 occupied number (omega arith)
+]
+
+-- a set of which no word is marked
+pub none_unmarked : (words occupied : List ℕ) (number : ℕ) → AreMarked words occupied → ((other : ℕ) → has_bit 32 occupied other ≡ false) → has_bit 32 words number ≡ false
+none_unmarked words occupied number m n = elim (cases_Bool (has_bit 32 words number)) [
+  | inl on ↦ (let c : true ≡ false = sym (m.each number on) ∙ n (number / 32) in cc)
+  | inr off ↦ off
+]
 
 bit_at_shr : (n k i : ℕ) → bit_at (n / 2 ^ k) i ≡ bit_at n (k + i)
 bit_at_shr n k i = rw (div-div-eq-div-mul n (2 ^ k) (2 ^ i), ← pow-add 2 k i) refl

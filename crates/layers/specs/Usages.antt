@@ -1,5 +1,4 @@
 -- Believed: the usages of the keys that are held, as sets.
-use Rattle.shapes.specs.Shapes.{Bytes}
 use Rattle.std.specs.Prelude.{◌≡◌, ℕ, ◌/◌, ◌%◌, ◌<◌, ◌≤◌, ◌==◌, Bool, true, false, List, slice_index}
 use Rattle.std.specs.Int.{bit_at}
 use Rattle.layers.specs.Codes.{names_key_usage, names_consumer}
@@ -13,20 +12,20 @@ key_usages past usage = any_has (code past) (names_key_usage usage)
 abbrev pub consumer_usages : List HeldCall → ℕ → Bool
 consumer_usages past usage = any_has (code past) (names_consumer usage)
 
--- two sets of usages, of page 07h and of page 0Ch: a bit for each number, eight to a byte and 32 to a word; and a bit
--- for each word of the second that may have one
+-- two sets of usages, of page 07h and of page 0Ch: a bit for each number, 32 to a word; and a bit for each word of the
+-- second that may have one
 pub record UsageSets : Type 0 where
-  pub key_bits : Bytes
+  pub key_words : List ℕ
   pub consumer_words : List ℕ
   pub occupied : List ℕ
 
 -- the bit of a number is set in cells of so many bits each
-abbrev pub has_bit : ℕ → Bytes → ℕ → Bool
+abbrev pub has_bit : ℕ → List ℕ → ℕ → Bool
 has_bit size cells number = bit_at (slice_index cells (number / size)) (number % size) == 1
 
 -- a usage of page 07h is in the set
 unfoldable pub has_key : UsageSets → ℕ → Bool
-has_key usages usage = has_bit 8 usages.key_bits usage
+has_key usages usage = has_bit 32 usages.key_words usage
 
 -- a usage of page 0Ch is in the set
 unfoldable pub has_consumer : UsageSets → ℕ → Bool

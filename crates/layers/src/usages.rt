@@ -3,7 +3,7 @@
 ghost use Rattle.std.specs.Prelude.{◌≡◌, ◌+◌, ◌*◌, ◌/◌, ◌<◌, ◌==◌, ◌||◌, ◌≤◌, ℕ, List, true, false, length, slice_index, MatchOption, IfSome};
 ghost use Rattle.std.specs.Int.{bit_at};
 ghost use Rattle.layers.specs.Codes.{names_key_usage, names_consumer};
-ghost use Rattle.layers.specs.Usages.{has_bit, has_key, has_consumer, AreMarked, IsNextConsumer, HasNoConsumerFrom};
+ghost use Rattle.layers.specs.Usages.{has_bit, has_key, has_consumer, AreMarked, IsNext, PassesNoneFrom, IsNextConsumer, HasNoConsumerFrom};
 
 use crate::Code;
 use crate::bits::{contains, insert, next_member};
@@ -12,11 +12,14 @@ use std::marker::Model;
 /// How many words of 32 bits hold the usages 000h to 3FFh.
 const CONSUMER_WORDS: usize = 32;
 
+/// How many words of 32 bits hold the usages 00h to FFh.
+const KEY_WORDS: usize = 8;
+
 /// A set of usages of the keyboard page 07h (HUT section 10), and one of usages 001h to 3FFh of the
 /// consumer page 0Ch (HUT section 15).
 #[derive(Clone, Copy, Debug, PartialEq, Eq)]
 pub struct Usages {
-    keys: [u8; 32],
+    keys: [u32; KEY_WORDS],
     consumer: [u32; CONSUMER_WORDS],
     /// The words of `consumer` that have a usage, as bits.
     occupied: [u32; 1],
@@ -28,11 +31,11 @@ impl Model for Usages {
 
     ghost Value = { UsageSets };
 
-    ghost view = { λ u. record { key_bits = u.keys; consumer_words = u.consumer; occupied = u.occupied } };
+    ghost view = { λ u. record { key_words = u.keys; consumer_words = u.consumer; occupied = u.occupied } };
 
-    ghost invariant = { λ u. (length u.keys ≡ 32) × (length u.consumer ≡ 32) × (length u.occupied ≡ 1) × AreMarked u.consumer u.occupied };
+    ghost invariant = { λ u. (length u.keys ≡ 8) × (length u.consumer ≡ 32) × (length u.occupied ≡ 1) × AreMarked u.consumer u.occupied };
 
-    ghost inverse = { λ s. record { keys = s.key_bits; consumer = s.consumer_words; occupied = s.occupied } };
+    ghost inverse = { λ s. record { keys = s.key_words; consumer = s.consumer_words; occupied = s.occupied } };
 }
 
 impl Usages {
@@ -42,7 +45,7 @@ impl Usages {
         ensures no_consumer { (usage : ℕ) → has_consumer result usage ≡ false }
     {
         Usages {
-            keys: [0; 32],
+            keys: [0; KEY_WORDS],
             consumer: [0; CONSUMER_WORDS],
             occupied: [0],
         }
@@ -53,9 +56,8 @@ impl Usages {
         ensures no_keys { (usage : ℕ) → has_key self.new usage ≡ false }
         ensures no_consumer { (usage : ℕ) → has_consumer self.new usage ≡ false }
     {
-        self.keys = [0; 32];
-        self.consumer = [0; CONSUMER_WORDS];
-        self.occupied = [0];
+        self.keys = [0; KEY_WORDS];
+        clear_consumer(&mut self.consumer, &mut self.occupied);
     }
 
     /// Adds the usage that a code names, if it names one.
@@ -71,22 +73,30 @@ impl Usages {
     pub fn has_key(&self, usage: u8) -> bool
         ensures { result ≡ has_key self.now usage }
     {
-        (self.keys[usage as usize / 8] >> (usage % 8)) & 1 == 1
+        contains(&self.keys, usage as u16)
     }
 
     /// The modifiers in the set: bit i is usage E0h + i of page 07h.
     pub fn modifiers(&self) -> u8
         ensures { (i : ℕ) → i < 8 → (bit_at result i == 1) ≡ has_key self.now (0xE0 + i) }
     {
-        self.keys[0xE0 / 8]
+        (self.keys[0xE0 / 32] % 0x100) as u8
     }
 
-    /// The set of page 07h as bits: bit i of byte b is usage 8 * b + i.
-    pub fn key_bits(&self) -> &[u8; 32]
-        ensures size { length result.now ≡ 32 }
-        ensures bits { (byte i : ℕ) → i < 8 → (bit_at (slice_index result.now byte) i == 1) ≡ has_key self.now (8 * byte + i) }
+    /// The set of page 07h as bits: bit i of word w is usage 32 * w + i.
+    pub fn key_words(&self) -> &[u32; 8]
+        ensures size { length result.now ≡ 8 }
+        ensures bits { (usage : ℕ) → has_bit 32 result.now usage ≡ has_key self.now usage }
     {
         &self.keys
+    }
+
+    /// The least usage of page 07h in the set that is at or after `from`, if there is one.
+    pub fn next_key(&self, from: u8) -> Option<u16>
+        ensures next { MatchOption result (PassesNoneFrom (has_key self.now) from) (λ usage. IsNext (has_key self.now) from usage) }
+        ensures within { IfSome result (λ usage. usage < 0x100) }
+    {
+        next_member(&self.keys, from as u16)
     }
 
     /// Whether a usage of page 0Ch is in the set.
@@ -109,12 +119,12 @@ impl Usages {
 }
 
 /// Adds the usage of page 07h that a code names, if it names one.
-fn insert_key_usage(set: &mut [u8], code: Code)
-    requires { length set.old ≡ 32 }
-    ensures { (usage : ℕ) → has_bit 8 set.new usage ≡ (names_key_usage usage code || has_bit 8 set.old usage) }
+fn insert_key_usage(set: &mut [u32], code: Code)
+    requires { length set.old ≡ 8 }
+    ensures { (usage : ℕ) → has_bit 32 set.new usage ≡ (names_key_usage usage code || has_bit 32 set.old usage) }
 {
     if let Some(usage) = code.key_usage() {
-        insert_byte_bit(set, usage);
+        insert(set, u16::from(usage));
     }
 }
 
@@ -140,10 +150,16 @@ fn insert_consumer(set: &mut [u32], occupied: &mut [u32], code: Code)
     }
 }
 
-/// Adds a number to a set of bits, eight to a byte.
-fn insert_byte_bit(set: &mut [u8], number: u8)
-    requires { number / 8 < length set.old }
-    ensures { (other : ℕ) → has_bit 8 set.new other ≡ ((number == other) || has_bit 8 set.old other) }
+/// Leaves no usage of page 0Ch. Most often there was none, and then nothing is written.
+fn clear_consumer(set: &mut [u32; CONSUMER_WORDS], occupied: &mut [u32; 1])
+    requires { AreMarked set.old occupied.old }
+    ensures words { length set.new ≡ 32 }
+    ensures marks { length occupied.new ≡ 1 }
+    ensures none { (usage : ℕ) → has_bit 32 set.new usage ≡ false }
+    ensures marked { AreMarked set.new occupied.new }
 {
-    set[number as usize / 8] |= 1 << (number % 8);
+    if occupied[0] != 0 {
+        *set = [0; CONSUMER_WORDS];
+        *occupied = [0];
+    }
 }

@@ -7,12 +7,9 @@ pub mod Waiting
 pub mod Rule
 pub mod Sizes
 pub mod Due
-pub mod ByteBits
 pub mod Following
-pub mod Mapped
 pub mod FromLast
 pub mod LatestPoll
-pub mod Ring
 pub mod Changes
-pub mod SameBytes
 pub mod Made
+pub mod InWords

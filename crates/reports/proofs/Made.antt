@@ -1,14 +1,13 @@
 -- The bytes that were made last, where they stay and where they are made anew.
-use Rattle.std.proofs.Common.{◌≡◌, ℕ, Bool, true, false, List, [], ◌∷◌, Option, Some, None, is_none, length, map, slice_get, drop, refl, sym, ◌∙◌, ap, subst}
+use Rattle.std.proofs.Common.{◌≡◌, ℕ, Bool, true, false, List, [], ◌∷◌, Option, Some, None, is_none, slice_get, drop, refl, sym, ◌∙◌, subst}
 use Rattle.std.proofs.Math.Path.{fun_ext}
 use Rattle.reports.specs.declared.Protocol.{Protocol}
 use Rattle.reports.specs.declared.Protocol.TheVariants as protocol
 use Rattle.reports.specs.declared.Input.{Input}
-use Rattle.reports.specs.declared.Input.TheVariants.{Boot, One, Two}
 use Rattle.reports.specs.Calls.{PollerCall, polled}
-use Rattle.reports.specs.ties.Kept.{Kept, SentValue}
+use Rattle.reports.specs.ties.Kept.{Kept}
 use Rattle.reports.specs.Queue.{queue}
-use Rattle.reports.specs.ties.Stands.{SentStandsFor, RuleStandsFor, AreMade, IsMade, IsMadeFor, SameMade}
+use Rattle.reports.specs.ties.Stands.{RuleStandsFor, AreMade, IsMade, IsMadeFor, SameMade}
 use Rattle.reports.specs.Wanted.{wanted}
 use Rattle.reports.proofs.Waiting.{queue-poll}
 

@@ -3,3 +3,4 @@ pub mod Kept
 pub mod Next
 pub mod Plain
 pub mod Stands
+pub mod Words

@@ -6,6 +6,7 @@ ghost use Rattle.reports.specs.ties.Next.{FindsNext};
 ghost use Rattle.reports.specs.Wanted.{boot_bytes, bitmap_bytes, consumer_bytes, places_of, listed};
 ghost use Rattle.layers.specs.Usages.{has_key, has_consumer};
 
+use crate::InputReport;
 use layers::Usages;
 
 /// The usages of page 07h that a report lists (HUT page 07h).
@@ -16,9 +17,7 @@ const LAST_USAGE: u8 = 0xA4;
 /// Stands in each place of a boot report that has more usages than places (HUT page 07h).
 const ERROR_ROLL_OVER: u8 = 0x01;
 
-/// The Report IDs of the reports of the report protocol.
-const BITMAP_ID: u8 = 1;
-
+/// The Report ID of the consumer usages.
 const CONSUMER_ID: u8 = 2;
 
 /// The boot keyboard's input report (HID 1.11 appendix B.1 and C): the modifiers, bit i for usage
@@ -64,30 +63,9 @@ fn places(usages: &Usages) -> [u8; 6]
 fn next_listed(usages: &Usages, from: u8) -> Option<u8>
     ensures { FindsNext (has_key usages.now) from 164 result }
 {
-    let bits = usages.key_bits();
-    for byte in from / 8..LAST_USAGE / 8 + 1 {
-        if let Some(bit) = next_bit(bits[byte as usize], from.saturating_sub(8 * byte)) {
-            let usage = 8 * byte + bit;
-            return if usage <= LAST_USAGE {
-                Some(usage)
-            } else {
-                None
-            };
-        }
-    }
-    None
-}
-
-/// The least bit from `first` on that is set, if there is one.
-fn next_bit(byte: u8, first: u8) -> Option<u8>
-    requires { first < 8 }
-    ensures { FindsNext (λ i. bit_at byte i == 1) first 7 result }
-{
-    let rest = byte >> first;
-    if rest == 0 {
-        None
-    } else {
-        Some(first + rest.trailing_zeros() as u8)
+    match usages.next_key(from) {
+        Some(usage) if usage <= LAST_USAGE as u16 => Some(usage as u8),
+        _ => None,
     }
 }
 
@@ -96,22 +74,7 @@ fn next_bit(byte: u8, first: u8) -> Option<u8>
 pub fn bitmap(usages: &Usages) -> [u8; 23]
     ensures { result ≡ bitmap_bytes (has_key usages.now) }
 {
-    let bits = usages.key_bits();
-    let mut bytes = [0; 23];
-    bytes[0] = BITMAP_ID;
-    bytes[1] = usages.modifiers();
-    for place in 0..20 {
-        bytes[place + 2] = across(bits[place], bits[place + 1]);
-    }
-    bytes[22] = u8::from(usages.has_key(LAST_USAGE));
-    bytes
-}
-
-/// The byte of the high half of one byte and the low half of the next.
-fn across(low: u8, high: u8) -> u8
-    ensures { (i : ℕ) → i < 8 → bit_at result i ≡ (if nat_lt i 4 then bit_at low (i + 4) else bit_at high (i - 4)) }
-{
-    (low >> 4) | (high << 4)
+    InputReport::bitmap(usages).twenty_three()
 }
 
 /// The input report of ID 2: the ID and four places of two bytes, the low one first. They hold the

@@ -10,6 +10,8 @@
 use arrayvec::ArrayVec;
 
 pub mod bytes;
+mod idle;
+pub mod input_report;
 pub mod laws;
 pub mod plain;
 pub mod poller;
@@ -17,6 +19,7 @@ mod queue;
 mod sent;
 
 pub use bytes::{bitmap, boot, consumer};
+pub use input_report::InputReport;
 pub use poller::Poller;
 
 /// The bytes of one report, with its Report ID first where the protocol has IDs.

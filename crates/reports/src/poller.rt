@@ -11,10 +11,10 @@ ghost use Rattle.reports.specs.Queue.{queue};
 ghost use Rattle.reports.specs.Wanted.{wanted};
 ghost use Rattle.layers.specs.Usages.{has_key, has_consumer};
 
-use crate::bytes::{bitmap, boot, consumer};
-use crate::queue::{Queue, report_of};
+use crate::idle::Idle;
+use crate::queue::Queue;
 use crate::sent::Sent;
-use crate::{IdleId, Input, Protocol, Report};
+use crate::{IdleId, Input, InputReport, Protocol, Report};
 use layers::Usages;
 use std::alloc::{AllocError, Global};
 use std::marker::Model;
@@ -24,26 +24,17 @@ const IDLE_ONE: u8 = 125;
 
 const IDLE_TWO: u8 = 0;
 
-/// The bytes of each report for no usages.
-const BOOT_UNUSED: [u8; 8] = [0; 8];
-
-const ONE_UNUSED: [u8; 23] = [
-    1, 0, 0, 0, 0, 0, 0, 0, 0, 0, 0, 0, 0, 0, 0, 0, 0, 0, 0, 0, 0, 0, 0,
-];
-
-const TWO_UNUSED: [u8; 9] = [2, 0, 0, 0, 0, 0, 0, 0, 0];
-
 /// What was made and what was sent last of each report, the reports that wait, and the idle values.
 #[derive(Debug, Drop)]
 pub struct Poller {
-    boot: Sent<8>,
-    one: Sent<23>,
-    two: Sent<9>,
+    boot: Sent,
+    one: Sent,
+    two: Sent,
     /// Which of the reports 1 and 2 was sent last.
     sent_last: Option<Input>,
     queue: Queue,
-    idle_one: u8,
-    idle_two: u8,
+    idle_one: Idle,
+    idle_two: Idle,
     /// The protocol whose reports were made last.
     made_for: Protocol,
 }
@@ -77,13 +68,13 @@ impl Poller {
     {
         let queue = Queue::new(alloc)?;
         Ok(Poller {
-            boot: Sent::now(BOOT_UNUSED),
-            one: Sent::now(ONE_UNUSED),
-            two: Sent::now(TWO_UNUSED),
+            boot: Sent::unused(Input::Boot),
+            one: Sent::unused(Input::One),
+            two: Sent::unused(Input::Two),
             sent_last: None,
             queue,
-            idle_one: IDLE_ONE,
-            idle_two: IDLE_TWO,
+            idle_one: Idle::of(IDLE_ONE),
+            idle_two: Idle::of(IDLE_TWO),
             made_for: Protocol::Report,
         })
     }
@@ -144,18 +135,10 @@ impl Poller {
         ensures made { self.old.made_for ≡ protocol → IsMade (wanted (has_key now.now) (has_consumer now.now)) self.new }
     {
         match protocol {
-            Protocol::Boot => {
-                let bytes = boot(now);
-                self.queue.push_change(self.boot.made(), &bytes);
-                self.boot.make(bytes);
-            },
+            Protocol::Boot => self.boot.turn(InputReport::boot(now), &mut self.queue),
             Protocol::Report => {
-                let one = bitmap(now);
-                let two = consumer(now);
-                self.queue.push_change(self.one.made(), &one);
-                self.queue.push_change(self.two.made(), &two);
-                self.one.make(one);
-                self.two.make(two);
+                self.one.turn(InputReport::bitmap(now), &mut self.queue);
+                self.two.turn(InputReport::consumer(now), &mut self.queue);
             },
         }
     }
@@ -168,24 +151,24 @@ impl Poller {
     }
 
     /// The bytes of the boot report, as they were made last.
-    pub fn made_boot(&self) -> [u8; 8]
-        ensures { (bytes : Input → List ℕ) → IsMadeFor Protocol.Boot bytes self.now → result ≡ bytes Input.Boot }
+    pub fn made_boot(&self) -> &InputReport
+        ensures { (bytes : Input → List ℕ) → IsMadeFor Protocol.Boot bytes self.now → result.now ≡ bytes Input.Boot }
     {
-        *self.boot.made()
+        self.boot.made()
     }
 
     /// The bytes of the report of ID 1, as they were made last.
-    pub fn made_bitmap(&self) -> [u8; 23]
-        ensures { (bytes : Input → List ℕ) → IsMadeFor Protocol.Report bytes self.now → result ≡ bytes Input.One }
+    pub fn made_bitmap(&self) -> &InputReport
+        ensures { (bytes : Input → List ℕ) → IsMadeFor Protocol.Report bytes self.now → result.now ≡ bytes Input.One }
     {
-        *self.one.made()
+        self.one.made()
     }
 
     /// The bytes of the report of ID 2, as they were made last.
-    pub fn made_consumer(&self) -> [u8; 9]
-        ensures { (bytes : Input → List ℕ) → IsMadeFor Protocol.Report bytes self.now → result ≡ bytes Input.Two }
+    pub fn made_consumer(&self) -> &InputReport
+        ensures { (bytes : Input → List ℕ) → IsMadeFor Protocol.Report bytes self.now → result.now ≡ bytes Input.Two }
     {
-        *self.two.made()
+        self.two.made()
     }
 
     /// Makes the bytes of the protocol's reports for these usages.
@@ -194,10 +177,10 @@ impl Poller {
         ensures made { IsMadeFor protocol (wanted (has_key usages.now) (has_consumer usages.now)) self.new }
     {
         match protocol {
-            Protocol::Boot => self.boot.make(boot(usages)),
+            Protocol::Boot => self.boot.make(InputReport::boot(usages)),
             Protocol::Report => {
-                self.one.make(bitmap(usages));
-                self.two.make(consumer(usages));
+                self.one.make(InputReport::bitmap(usages));
+                self.two.make(InputReport::consumer(usages));
             },
         }
         self.made_for = protocol;
@@ -243,8 +226,8 @@ impl Poller {
     {
         match self.queue.pop() {
             Some(front) => {
-                let report = report_of(front.as_slice());
-                self.count_as_sent(&report);
+                let report = front.report();
+                self.count_as_sent(front);
                 Some(report)
             },
             None => None,
@@ -261,8 +244,9 @@ impl Poller {
         ensures made { SameMade self.old self.new }
     {
         match self.due(protocol) {
-            Some(report) => {
-                self.count_as_sent(&report);
+            Some(due) => {
+                let report = due.report();
+                self.count_as_sent(due);
                 Some(report)
             },
             None => None,
@@ -270,9 +254,9 @@ impl Poller {
     }
 
     /// What the poll rule sends where no report waits.
-    fn due(&self, protocol: Protocol) -> Option<Report>
+    fn due(&self, protocol: Protocol) -> Option<InputReport>
         ensures { (past : List PollerCall) (bytes : Input → List ℕ) → IsMadeFor protocol bytes self.now
-            → RuleStandsFor past self.now → option_map (λ r. r.items) result ≡ rule_answer protocol bytes past }
+            → RuleStandsFor past self.now → result ≡ rule_answer protocol bytes past }
     {
         match protocol {
             Protocol::Boot => self.due_boot(),
@@ -280,13 +264,13 @@ impl Poller {
         }
     }
 
-    fn due_boot(&self) -> Option<Report>
+    fn due_boot(&self) -> Option<InputReport>
         ensures { (past : List PollerCall) (bytes : Input → List ℕ) → bytes Input.Boot ≡ self.now.boot.made
             → RuleStandsFor past self.now
-            → option_map (λ r. r.items) result ≡ rule_answer Protocol.Boot bytes past }
+            → result ≡ rule_answer Protocol.Boot bytes past }
     {
         if self.boot_is_due() {
-            Some(report_of(self.boot.made()))
+            Some(self.boot.made().copy())
         } else {
             None
         }
@@ -297,17 +281,17 @@ impl Poller {
             → RuleStandsFor past self.now
             → result ≡ (poll.is_changed bytes past Input.Boot || poll.is_elapsed past Input.Boot) }
     {
-        self.boot.is_changed() || self.boot.is_elapsed(self.idle_one)
+        self.boot.is_changed() || self.boot.is_elapsed(&self.idle_one)
     }
 
-    fn due_report(&self) -> Option<Report>
+    fn due_report(&self) -> Option<InputReport>
         ensures { (past : List PollerCall) (bytes : Input → List ℕ) → bytes Input.One ≡ self.now.one.made
             → bytes Input.Two ≡ self.now.two.made → RuleStandsFor past self.now
-            → option_map (λ r. r.items) result ≡ rule_answer Protocol.Report bytes past }
+            → result ≡ rule_answer Protocol.Report bytes past }
     {
         match self.chosen(self.one.is_changed(), self.two.is_changed()) {
-            Some(Input::One) => Some(report_of(self.one.made())),
-            Some(Input::Two) => Some(report_of(self.two.made())),
+            Some(Input::One) => Some(self.one.made().copy()),
+            Some(Input::Two) => Some(self.two.made().copy()),
             Some(Input::Boot) => None,
             None => None,
         }
@@ -324,29 +308,30 @@ impl Poller {
             one_of_two(one_changed, two_changed, self.sent_last)
         } else {
             one_of_two(
-                self.one.is_elapsed(self.idle_one),
-                self.two.is_elapsed(self.idle_two),
+                self.one.is_elapsed(&self.idle_one),
+                self.two.is_elapsed(&self.idle_two),
                 self.sent_last,
             )
         }
     }
 
-    /// Counts a report as sent, by its number of bytes.
-    fn count_as_sent(&mut self, report: &Report)
+    /// Counts a report as sent.
+    fn count_as_sent(&mut self, report: InputReport)
         ensures rule { (past : List PollerCall) (protocol : Protocol) → RuleStandsFor past self.old
-            → RuleStandsFor (polled protocol (Some report.now.items) ∷ past) self.new }
+            → RuleStandsFor (polled protocol (Some report) ∷ past) self.new }
         ensures queue { self.new.queue ≡ self.old.queue }
         ensures made { SameMade self.old self.new }
     {
-        let bytes = report.as_slice();
-        if bytes.len() == BOOT_UNUSED.len() {
-            self.boot.send(bytes);
-        } else if bytes.len() == ONE_UNUSED.len() {
-            self.one.send(bytes);
-            self.sent_last = Some(Input::One);
-        } else if bytes.len() == TWO_UNUSED.len() {
-            self.two.send(bytes);
-            self.sent_last = Some(Input::Two);
+        match report.input() {
+            Input::Boot => self.boot.send(report),
+            Input::One => {
+                self.one.send(report);
+                self.sent_last = Some(Input::One);
+            },
+            Input::Two => {
+                self.two.send(report);
+                self.sent_last = Some(Input::Two);
+            },
         }
     }
 
@@ -359,11 +344,11 @@ impl Poller {
     {
         match id {
             IdleId::All => {
-                self.idle_one = duration;
-                self.idle_two = duration;
+                self.idle_one = Idle::of(duration);
+                self.idle_two = Idle::of(duration);
             },
-            IdleId::One => self.idle_one = duration,
-            IdleId::Two => self.idle_two = duration,
+            IdleId::One => self.idle_one = Idle::of(duration),
+            IdleId::Two => self.idle_two = Idle::of(duration),
         }
     }
 
@@ -374,8 +359,8 @@ impl Poller {
             → result ≡ idle_value (idle_input id) past }
     {
         match id {
-            IdleId::All | IdleId::One => self.idle_one,
-            IdleId::Two => self.idle_two,
+            IdleId::All | IdleId::One => self.idle_one.value(),
+            IdleId::Two => self.idle_two.value(),
         }
     }
 
@@ -397,8 +382,8 @@ impl Poller {
         ensures made { SameMade self.old self.new }
     {
         self.clear();
-        self.idle_one = IDLE_ONE;
-        self.idle_two = IDLE_TWO;
+        self.idle_one = Idle::of(IDLE_ONE);
+        self.idle_two = Idle::of(IDLE_TWO);
     }
 
     fn clear(&mut self)
@@ -407,9 +392,9 @@ impl Poller {
         ensures idle_two { self.new.idle_two ≡ self.old.idle_two }
         ensures made { SameMade self.old self.new }
     {
-        self.boot.send(&BOOT_UNUSED);
-        self.one.send(&ONE_UNUSED);
-        self.two.send(&TWO_UNUSED);
+        self.boot.send(InputReport::unused(Input::Boot));
+        self.one.send(InputReport::unused(Input::One));
+        self.two.send(InputReport::unused(Input::Two));
         self.sent_last = None;
         self.queue.clear();
     }

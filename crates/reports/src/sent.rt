@@ -1,24 +1,29 @@
 //! The bytes that one report has, those that were sent last of it, and when.
 
-ghost use Rattle.std.specs.Prelude.{◌≡◌, ◌+◌, ◌*◌, ◌==◌, ◌&&◌, min, not, nat_le, length, ℕ};
+ghost use Rattle.std.specs.Prelude.{◌≡◌, ◌+◌, ◌*◌, ◌==◌, ◌&&◌, ◌++◌, ◌∷◌, [], min, not, nat_le, ℕ, false, if◌then◌else◌};
 ghost use Rattle.std.specs.Str.{bytes_eq};
+ghost use Rattle.circular_buffer.specs.Buffer.{keep_last};
+ghost use Rattle.reports.specs.Wanted.{wanted};
 
+use crate::idle::Idle;
+use crate::queue::Queue;
+use crate::{Input, InputReport};
 use std::marker::Model;
 
-/// The bytes that a report of N bytes has, those that were sent last of it, and how long ago.
+/// The bytes that a report has, those that were sent last of it, and how long ago.
 #[derive(Debug, Drop)]
-pub(crate) struct Sent<const N: usize> {
-    bytes: [u8; N],
+pub(crate) struct Sent {
+    bytes: InputReport,
     /// The bytes that the report has, as they were made last.
-    made: [u8; N],
+    made: InputReport,
     /// Whether they are not those sent last.
     changed: bool,
     /// The scans since then, counted to 65,535, which is more than any idle value needs.
     age: u16,
 }
 
-impl<const N: usize> Model for Sent<N> {
-    ghost use Rattle.std.specs.Prelude.{◌≡◌, not, length};
+impl Model for Sent {
+    ghost use Rattle.std.specs.Prelude.{◌≡◌, not};
     ghost use Rattle.std.specs.Str.{bytes_eq};
     ghost use Rattle.reports.specs.ties.Kept.{SentValue};
 
@@ -26,20 +31,20 @@ impl<const N: usize> Model for Sent<N> {
 
     ghost view = { λ s. record { bytes = s.bytes; made = s.made; age = s.age } };
 
-    ghost invariant = { λ s. (length s.bytes ≡ N) × (length s.made ≡ N) × (s.changed ≡ not (bytes_eq s.made s.bytes)) };
+    ghost invariant = { λ s. s.changed ≡ not (bytes_eq s.made s.bytes) };
 }
 
-impl<const N: usize> Sent<N> {
-    /// These bytes, made and sent now.
+impl Sent {
+    /// The bytes for no usages, made and sent now.
     #[tactic(auto, using(crate::proofs::Changes::unchanged))]
-    pub(crate) fn now(bytes: [u8; N]) -> Sent<N>
-        ensures bytes { result.bytes ≡ bytes.entry }
-        ensures made { result.made ≡ bytes.entry }
+    pub(crate) fn unused(input: Input) -> Sent
+        ensures bytes { result.bytes ≡ wanted (λ _. false) (λ _. false) input }
+        ensures made { result.made ≡ wanted (λ _. false) (λ _. false) input }
         ensures age { result.age ≡ 0 }
     {
         Sent {
-            bytes,
-            made: bytes,
+            bytes: InputReport::unused(input),
+            made: InputReport::unused(input),
             changed: false,
             age: 0,
         }
@@ -55,17 +60,30 @@ impl<const N: usize> Sent<N> {
     }
 
     /// Takes the bytes that the report has from now on.
-    pub(crate) fn make(&mut self, made: [u8; N])
+    pub(crate) fn make(&mut self, made: InputReport)
         ensures bytes { self.new.bytes ≡ self.old.bytes }
-        ensures made { self.new.made ≡ made.entry }
+        ensures made { self.new.made ≡ made }
         ensures age { self.new.age ≡ self.old.age }
     {
-        self.changed = !are_same(&made, &self.bytes);
+        self.changed = !made.is_same(&self.bytes);
         self.made = made;
     }
 
+    /// Takes the bytes that the report has from now on, which wait where they are not those that it had.
+    pub(crate) fn turn(&mut self, now: InputReport, queue: &mut Queue)
+        ensures bytes { self.new.bytes ≡ self.old.bytes }
+        ensures made { self.new.made ≡ now }
+        ensures age { self.new.age ≡ self.old.age }
+        ensures queue { queue.new ≡ (if bytes_eq self.old.made now then queue.old else keep_last 8 (queue.old ++ now ∷ [])) }
+    {
+        if !self.made.is_same(&now) {
+            queue.add(now.copy());
+            self.make(now);
+        }
+    }
+
     /// The bytes that the report has.
-    pub(crate) fn made(&self) -> &[u8; N]
+    pub(crate) fn made(&self) -> &InputReport
         ensures { result.now ≡ self.now.made }
     {
         &self.made
@@ -78,39 +96,22 @@ impl<const N: usize> Sent<N> {
         self.changed
     }
 
-    /// Whether the report is to be sent again at this idle value, in units of 4 ms: it is not 0, and as
-    /// long has passed.
-    pub(crate) fn is_elapsed(&self, idle: u8) -> bool
+    /// Whether the report is to be sent again at this idle value: it is not 0, and as long has passed.
+    pub(crate) fn is_elapsed(&self, idle: &Idle) -> bool
         ensures { (scans : ℕ) → self.now.age ≡ min 65535 scans
-            → result ≡ (not (idle == 0) && nat_le (4 * idle) scans) }
+            → result ≡ (not (idle.now == 0) && nat_le (4 * idle.now) scans) }
     {
-        // 0 - 1 wraps to 65,535, which no age is above
-        self.age > (4 * u16::from(idle)).wrapping_sub(1)
+        idle.has_passed(self.age)
     }
 
     /// Counts these bytes as sent now.
-    pub(crate) fn send(&mut self, bytes: &[u8])
-        requires { length bytes.now ≡ N }
-        ensures bytes { self.new.bytes ≡ bytes.now }
+    pub(crate) fn send(&mut self, bytes: InputReport)
+        ensures bytes { self.new.bytes ≡ bytes }
         ensures made { self.new.made ≡ self.old.made }
         ensures age { self.new.age ≡ 0 }
     {
-        self.bytes.copy_from_slice(bytes);
-        self.changed = !are_same(&self.made, &self.bytes);
+        self.changed = !self.made.is_same(&bytes);
+        self.bytes = bytes;
         self.age = 0;
     }
-}
-
-/// Whether the bytes of two reports are the same. Four at a time, which a chip compares as one word.
-pub(crate) fn are_same<const N: usize>(a: &[u8; N], b: &[u8; N]) -> bool
-    ensures { result ≡ bytes_eq a.now b.now }
-{
-    let (first, second) = (&a[..], &b[..]);
-    for place in 0..N / 4 {
-        if first[4 * place..4 * place + 4] != second[4 * place..4 * place + 4] {
-            return false;
-        }
-    }
-    let last = N.saturating_sub(4);
-    first[last..] == second[last..]
 }

@@ -1,6 +1,6 @@
 -- Only ties code to its definitions: what is kept stands for a past. It holds of a new poller, and each call keeps it.
 use Rattle.shapes.specs.Shapes.{Bytes}
-use Rattle.std.specs.Prelude.{◌≡◌, ℕ, min, None, List, []}
+use Rattle.std.specs.Prelude.{◌≡◌, min, None, List, []}
 use Rattle.reports.specs.declared.Protocol.{Protocol}
 use Rattle.reports.specs.declared.Protocol.TheVariants as protocol
 use Rattle.reports.specs.declared.Input.{Input}

@@ -3,22 +3,32 @@
 //! short enough to be read.
 
 use super::alloc::{AllocError, Global};
+use crate::parts::reports::InputReport;
 
 /// How many values have room.
 const ROOM: usize = 8;
 
+/// What stands in the ring where no value does: zeros.
+pub trait Unused: Copy {
+    const UNUSED: Self;
+}
+
+impl Unused for InputReport {
+    const UNUSED: InputReport = InputReport::UNSTARTED;
+}
+
 /// At most eight values; where one more comes, the oldest is dropped.
 #[derive(Debug)]
 pub struct HeapCircularBuffer<T> {
-    slots: [Option<T>; ROOM],
+    slots: [T; ROOM],
     /// Where the oldest value is.
-    front: usize,
-    len: usize,
+    front: u8,
+    len: u8,
 }
 
-impl<T> HeapCircularBuffer<T> {
+impl<T: Unused> HeapCircularBuffer<T> {
     /// No value: zeros.
-    pub(crate) const UNSTARTED: Self = HeapCircularBuffer { slots: [const { None }; ROOM], front: 0, len: 0 };
+    pub(crate) const UNSTARTED: Self = HeapCircularBuffer { slots: [T::UNUSED; ROOM], front: 0, len: 0 };
 
     /// No value. Panics for any other room than eight.
     pub fn with_capacity(_alloc: Global, capacity: usize) -> Result<HeapCircularBuffer<T>, AllocError> {
@@ -28,11 +38,12 @@ impl<T> HeapCircularBuffer<T> {
 
     /// Appends a value, in place of the oldest one where all slots are taken.
     pub fn push_back(&mut self, value: T) {
-        if self.len == ROOM {
-            let _oldest = self.pop_front();
+        self.slots[usize::from(self.front + self.len) % ROOM] = value;
+        if usize::from(self.len) == ROOM {
+            self.front = (self.front + 1) % ROOM as u8;
+        } else {
+            self.len += 1;
         }
-        self.slots[(self.front + self.len) % ROOM] = Some(value);
-        self.len += 1;
     }
 
     /// Whether there is no value.
@@ -42,15 +53,18 @@ impl<T> HeapCircularBuffer<T> {
 
     /// Takes the oldest value.
     pub fn pop_front(&mut self) -> Option<T> {
-        let value = self.slots[self.front].take()?;
-        self.front = (self.front + 1) % ROOM;
+        if self.len == 0 {
+            return None;
+        }
+        let value = self.slots[usize::from(self.front) % ROOM];
+        self.front = (self.front + 1) % ROOM as u8;
         self.len -= 1;
         Some(value)
     }
 
     /// Drops all values.
     pub fn clear(&mut self) {
-        while self.pop_front().is_some() {}
+        self.len = 0;
     }
 }
 
@@ -58,6 +72,10 @@ impl<T> HeapCircularBuffer<T> {
 mod tests {
     use super::*;
     use std::collections::VecDeque;
+
+    impl Unused for u8 {
+        const UNUSED: u8 = 0;
+    }
 
     /// The ring beside a queue of std, over all lists of ten calls of these three.
     #[test]

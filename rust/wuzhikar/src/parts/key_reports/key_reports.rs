@@ -79,7 +79,7 @@ impl KeyReports {
     /// The bytes that the boot report has now. To ask for them sends nothing.
     pub fn boot(&self) -> [u8; 8] {
         if self.poller.is_made_for(Protocol::Boot) {
-            self.poller.made_boot()
+            self.poller.made_boot().eight()
         } else {
             self.boot_anew()
         }
@@ -88,7 +88,7 @@ impl KeyReports {
     /// The bytes that the report of ID 1 has now. To ask for them sends nothing.
     pub fn bitmap(&self) -> [u8; 23] {
         if self.poller.is_made_for(Protocol::Report) {
-            self.poller.made_bitmap()
+            self.poller.made_bitmap().twenty_three()
         } else {
             self.bitmap_anew()
         }
@@ -97,7 +97,7 @@ impl KeyReports {
     /// The bytes that the report of ID 2 has now. To ask for them sends nothing.
     pub fn consumer(&self) -> [u8; 9] {
         if self.poller.is_made_for(Protocol::Report) {
-            self.poller.made_consumer()
+            self.poller.made_consumer().nine()
         } else {
             self.consumer_anew()
         }

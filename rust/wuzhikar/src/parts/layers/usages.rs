@@ -7,11 +7,14 @@ use crate::parts::layers::bits::{contains, insert, next_member};
 /// How many words of 32 bits hold the usages 000h to 3FFh.
 const CONSUMER_WORDS: usize = 32;
 
+/// How many words of 32 bits hold the usages 00h to FFh.
+const KEY_WORDS: usize = 8;
+
 /// A set of usages of the keyboard page 07h (HUT section 10), and one of usages 001h to 3FFh of the
 /// consumer page 0Ch (HUT section 15).
 #[derive(Clone, Copy, Debug, PartialEq, Eq)]
 pub struct Usages {
-    keys: [u8; 32],
+    keys: [u32; KEY_WORDS],
     consumer: [u32; CONSUMER_WORDS],
     /// The words of `consumer` that have a usage, as bits.
     occupied: [u32; 1],
@@ -19,14 +22,14 @@ pub struct Usages {
 
 impl Usages {
     /// Zeros, where memory waits for a keyboard to start there.
-    pub(crate) const UNSTARTED: Self = Usages { keys: [0; 32], consumer: [0; CONSUMER_WORDS], occupied: [0; 1] };
+    pub(crate) const UNSTARTED: Self = Usages { keys: [0; KEY_WORDS], consumer: [0; CONSUMER_WORDS], occupied: [0; 1] };
 }
 
 impl Usages {
     /// No usage.
     pub fn none() -> Usages {
         Usages {
-            keys: [0; 32],
+            keys: [0; KEY_WORDS],
             consumer: [0; CONSUMER_WORDS],
             occupied: [0],
         }
@@ -34,9 +37,8 @@ impl Usages {
 
     /// Leaves no usage.
     pub(crate) fn clear(&mut self) {
-        self.keys = [0; 32];
-        self.consumer = [0; CONSUMER_WORDS];
-        self.occupied = [0];
+        self.keys = [0; KEY_WORDS];
+        clear_consumer(&mut self.consumer, &mut self.occupied);
     }
 
     /// Adds the usage that a code names, if it names one.
@@ -47,17 +49,22 @@ impl Usages {
 
     /// Whether a usage of page 07h is in the set.
     pub fn has_key(&self, usage: u8) -> bool {
-        (self.keys[usage as usize / 8] >> (usage % 8)) & 1 == 1
+        contains(&self.keys, usage as u16)
     }
 
     /// The modifiers in the set: bit i is usage E0h + i of page 07h.
     pub fn modifiers(&self) -> u8 {
-        self.keys[0xE0 / 8]
+        (self.keys[0xE0 / 32] % 0x100) as u8
     }
 
-    /// The set of page 07h as bits: bit i of byte b is usage 8 * b + i.
-    pub fn key_bits(&self) -> &[u8; 32] {
+    /// The set of page 07h as bits: bit i of word w is usage 32 * w + i.
+    pub fn key_words(&self) -> &[u32; 8] {
         &self.keys
+    }
+
+    /// The least usage of page 07h in the set that is at or after `from`, if there is one.
+    pub fn next_key(&self, from: u8) -> Option<u16> {
+        next_member(&self.keys, from as u16)
     }
 
     /// Whether a usage of page 0Ch is in the set.
@@ -75,9 +82,9 @@ impl Usages {
 }
 
 /// Adds the usage of page 07h that a code names, if it names one.
-fn insert_key_usage(set: &mut [u8], code: Code) {
+fn insert_key_usage(set: &mut [u32], code: Code) {
     if let Some(usage) = code.key_usage() {
-        insert_byte_bit(set, usage);
+        insert(set, u16::from(usage));
     }
 }
 
@@ -94,7 +101,10 @@ fn insert_consumer(set: &mut [u32], occupied: &mut [u32], code: Code) {
     }
 }
 
-/// Adds a number to a set of bits, eight to a byte.
-fn insert_byte_bit(set: &mut [u8], number: u8) {
-    set[number as usize / 8] |= 1 << (number % 8);
+/// Leaves no usage of page 0Ch. Most often there was none, and then nothing is written.
+fn clear_consumer(set: &mut [u32; CONSUMER_WORDS], occupied: &mut [u32; 1]) {
+    if occupied[0] != 0 {
+        *set = [0; CONSUMER_WORDS];
+        *occupied = [0];
+    }
 }

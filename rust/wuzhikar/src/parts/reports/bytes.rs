@@ -1,6 +1,7 @@
 // Exported from crates/reports/src/bytes.rt by bin/export-rust. Edit that file instead.
 //! The bytes of the reports.
 
+use crate::parts::reports::InputReport;
 use crate::parts::layers::Usages;
 
 /// The usages of page 07h that a report lists (HUT page 07h).
@@ -11,9 +12,7 @@ const LAST_USAGE: u8 = 0xA4;
 /// Stands in each place of a boot report that has more usages than places (HUT page 07h).
 const ERROR_ROLL_OVER: u8 = 0x01;
 
-/// The Report IDs of the reports of the report protocol.
-const BITMAP_ID: u8 = 1;
-
+/// The Report ID of the consumer usages.
 const CONSUMER_ID: u8 = 2;
 
 /// The boot keyboard's input report (HID 1.11 appendix B.1 and C): the modifiers, bit i for usage
@@ -53,47 +52,16 @@ fn places(usages: &Usages) -> [u8; 6] {
 
 /// The least usage from `from` to A4h in the set, if there is one.
 fn next_listed(usages: &Usages, from: u8) -> Option<u8> {
-    let bits = usages.key_bits();
-    for byte in from / 8..LAST_USAGE / 8 + 1 {
-        if let Some(bit) = next_bit(bits[byte as usize], from.saturating_sub(8 * byte)) {
-            let usage = 8 * byte + bit;
-            return if usage <= LAST_USAGE {
-                Some(usage)
-            } else {
-                None
-            };
-        }
-    }
-    None
-}
-
-/// The least bit from `first` on that is set, if there is one.
-fn next_bit(byte: u8, first: u8) -> Option<u8> {
-    let rest = byte >> first;
-    if rest == 0 {
-        None
-    } else {
-        Some(first + rest.trailing_zeros() as u8)
+    match usages.next_key(from) {
+        Some(usage) if usage <= LAST_USAGE as u16 => Some(usage as u8),
+        _ => None,
     }
 }
 
 /// The input report of ID 1: the ID, the modifiers, bit i for usage E0h + i, then a bit for each
 /// usage 04h to A4h, counted from the least significant bit of the first byte on, and seven bits 0.
 pub fn bitmap(usages: &Usages) -> [u8; 23] {
-    let bits = usages.key_bits();
-    let mut bytes = [0; 23];
-    bytes[0] = BITMAP_ID;
-    bytes[1] = usages.modifiers();
-    for place in 0..20 {
-        bytes[place + 2] = across(bits[place], bits[place + 1]);
-    }
-    bytes[22] = u8::from(usages.has_key(LAST_USAGE));
-    bytes
-}
-
-/// The byte of the high half of one byte and the low half of the next.
-fn across(low: u8, high: u8) -> u8 {
-    (low >> 4) | (high << 4)
+    InputReport::bitmap(usages).twenty_three()
 }
 
 /// The input report of ID 2: the ID and four places of two bytes, the low one first. They hold the

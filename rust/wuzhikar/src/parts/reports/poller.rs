@@ -1,10 +1,10 @@
 // Exported from crates/reports/src/poller.rt by bin/export-rust. Edit that file instead.
 //! Which report a poll of the interrupt endpoint sends.
 
-use crate::parts::reports::bytes::{bitmap, boot, consumer};
-use crate::parts::reports::queue::{Queue, report_of};
+use crate::parts::reports::idle::Idle;
+use crate::parts::reports::queue::Queue;
 use crate::parts::reports::sent::Sent;
-use crate::parts::reports::{IdleId, Input, Protocol, Report};
+use crate::parts::reports::{IdleId, Input, InputReport, Protocol, Report};
 use crate::parts::layers::Usages;
 use crate::rattle::alloc::{AllocError, Global};
 
@@ -13,33 +13,24 @@ const IDLE_ONE: u8 = 125;
 
 const IDLE_TWO: u8 = 0;
 
-/// The bytes of each report for no usages.
-const BOOT_UNUSED: [u8; 8] = [0; 8];
-
-const ONE_UNUSED: [u8; 23] = [
-    1, 0, 0, 0, 0, 0, 0, 0, 0, 0, 0, 0, 0, 0, 0, 0, 0, 0, 0, 0, 0, 0, 0,
-];
-
-const TWO_UNUSED: [u8; 9] = [2, 0, 0, 0, 0, 0, 0, 0, 0];
-
 /// What was made and what was sent last of each report, the reports that wait, and the idle values.
 #[derive(Debug)]
 pub struct Poller {
-    boot: Sent<8>,
-    one: Sent<23>,
-    two: Sent<9>,
+    boot: Sent,
+    one: Sent,
+    two: Sent,
     /// Which of the reports 1 and 2 was sent last.
     sent_last: Option<Input>,
     queue: Queue,
-    idle_one: u8,
-    idle_two: u8,
+    idle_one: Idle,
+    idle_two: Idle,
     /// The protocol whose reports were made last.
     made_for: Protocol,
 }
 
 impl Poller {
     /// Zeros, where memory waits for a keyboard to start there.
-    pub(crate) const UNSTARTED: Self = Poller { boot: Sent::UNSTARTED, one: Sent::UNSTARTED, two: Sent::UNSTARTED, sent_last: Some(Input::UNSTARTED), queue: Queue::UNSTARTED, idle_one: 0, idle_two: 0, made_for: Protocol::UNSTARTED };
+    pub(crate) const UNSTARTED: Self = Poller { boot: Sent::UNSTARTED, one: Sent::UNSTARTED, two: Sent::UNSTARTED, sent_last: Some(Input::UNSTARTED), queue: Queue::UNSTARTED, idle_one: Idle::UNSTARTED, idle_two: Idle::UNSTARTED, made_for: Protocol::UNSTARTED };
 }
 
 impl Poller {
@@ -48,13 +39,13 @@ impl Poller {
     pub fn new(alloc: Global) -> Result<Poller, AllocError> {
         let queue = Queue::new(alloc)?;
         Ok(Poller {
-            boot: Sent::now(BOOT_UNUSED),
-            one: Sent::now(ONE_UNUSED),
-            two: Sent::now(TWO_UNUSED),
+            boot: Sent::unused(Input::Boot),
+            one: Sent::unused(Input::One),
+            two: Sent::unused(Input::Two),
             sent_last: None,
             queue,
-            idle_one: IDLE_ONE,
-            idle_two: IDLE_TWO,
+            idle_one: Idle::of(IDLE_ONE),
+            idle_two: Idle::of(IDLE_TWO),
             made_for: Protocol::Report,
         })
     }
@@ -90,18 +81,10 @@ impl Poller {
     /// they were made before.
     fn push_changes(&mut self, now: &Usages, protocol: Protocol) {
         match protocol {
-            Protocol::Boot => {
-                let bytes = boot(now);
-                self.queue.push_change(self.boot.made(), &bytes);
-                self.boot.make(bytes);
-            },
+            Protocol::Boot => self.boot.turn(InputReport::boot(now), &mut self.queue),
             Protocol::Report => {
-                let one = bitmap(now);
-                let two = consumer(now);
-                self.queue.push_change(self.one.made(), &one);
-                self.queue.push_change(self.two.made(), &two);
-                self.one.make(one);
-                self.two.make(two);
+                self.one.turn(InputReport::bitmap(now), &mut self.queue);
+                self.two.turn(InputReport::consumer(now), &mut self.queue);
             },
         }
     }
@@ -112,27 +95,27 @@ impl Poller {
     }
 
     /// The bytes of the boot report, as they were made last.
-    pub fn made_boot(&self) -> [u8; 8] {
-        *self.boot.made()
+    pub fn made_boot(&self) -> &InputReport {
+        self.boot.made()
     }
 
     /// The bytes of the report of ID 1, as they were made last.
-    pub fn made_bitmap(&self) -> [u8; 23] {
-        *self.one.made()
+    pub fn made_bitmap(&self) -> &InputReport {
+        self.one.made()
     }
 
     /// The bytes of the report of ID 2, as they were made last.
-    pub fn made_consumer(&self) -> [u8; 9] {
-        *self.two.made()
+    pub fn made_consumer(&self) -> &InputReport {
+        self.two.made()
     }
 
     /// Makes the bytes of the protocol's reports for these usages.
     pub fn make(&mut self, usages: &Usages, protocol: Protocol) {
         match protocol {
-            Protocol::Boot => self.boot.make(boot(usages)),
+            Protocol::Boot => self.boot.make(InputReport::boot(usages)),
             Protocol::Report => {
-                self.one.make(bitmap(usages));
-                self.two.make(consumer(usages));
+                self.one.make(InputReport::bitmap(usages));
+                self.two.make(InputReport::consumer(usages));
             },
         }
         self.made_for = protocol;
@@ -160,8 +143,8 @@ impl Poller {
     fn send_front(&mut self) -> Option<Report> {
         match self.queue.pop() {
             Some(front) => {
-                let report = report_of(front.as_slice());
-                self.count_as_sent(&report);
+                let report = front.report();
+                self.count_as_sent(front);
                 Some(report)
             },
             None => None,
@@ -171,8 +154,9 @@ impl Poller {
     /// Sends what the poll rule sends where no report waits.
     fn send_due(&mut self, protocol: Protocol) -> Option<Report> {
         match self.due(protocol) {
-            Some(report) => {
-                self.count_as_sent(&report);
+            Some(due) => {
+                let report = due.report();
+                self.count_as_sent(due);
                 Some(report)
             },
             None => None,
@@ -180,29 +164,29 @@ impl Poller {
     }
 
     /// What the poll rule sends where no report waits.
-    fn due(&self, protocol: Protocol) -> Option<Report> {
+    fn due(&self, protocol: Protocol) -> Option<InputReport> {
         match protocol {
             Protocol::Boot => self.due_boot(),
             Protocol::Report => self.due_report(),
         }
     }
 
-    fn due_boot(&self) -> Option<Report> {
+    fn due_boot(&self) -> Option<InputReport> {
         if self.boot_is_due() {
-            Some(report_of(self.boot.made()))
+            Some(self.boot.made().copy())
         } else {
             None
         }
     }
 
     fn boot_is_due(&self) -> bool {
-        self.boot.is_changed() || self.boot.is_elapsed(self.idle_one)
+        self.boot.is_changed() || self.boot.is_elapsed(&self.idle_one)
     }
 
-    fn due_report(&self) -> Option<Report> {
+    fn due_report(&self) -> Option<InputReport> {
         match self.chosen(self.one.is_changed(), self.two.is_changed()) {
-            Some(Input::One) => Some(report_of(self.one.made())),
-            Some(Input::Two) => Some(report_of(self.two.made())),
+            Some(Input::One) => Some(self.one.made().copy()),
+            Some(Input::Two) => Some(self.two.made().copy()),
             Some(Input::Boot) => None,
             None => None,
         }
@@ -214,24 +198,25 @@ impl Poller {
             one_of_two(one_changed, two_changed, self.sent_last)
         } else {
             one_of_two(
-                self.one.is_elapsed(self.idle_one),
-                self.two.is_elapsed(self.idle_two),
+                self.one.is_elapsed(&self.idle_one),
+                self.two.is_elapsed(&self.idle_two),
                 self.sent_last,
             )
         }
     }
 
-    /// Counts a report as sent, by its number of bytes.
-    fn count_as_sent(&mut self, report: &Report) {
-        let bytes = report.as_slice();
-        if bytes.len() == BOOT_UNUSED.len() {
-            self.boot.send(bytes);
-        } else if bytes.len() == ONE_UNUSED.len() {
-            self.one.send(bytes);
-            self.sent_last = Some(Input::One);
-        } else if bytes.len() == TWO_UNUSED.len() {
-            self.two.send(bytes);
-            self.sent_last = Some(Input::Two);
+    /// Counts a report as sent.
+    fn count_as_sent(&mut self, report: InputReport) {
+        match report.input() {
+            Input::Boot => self.boot.send(report),
+            Input::One => {
+                self.one.send(report);
+                self.sent_last = Some(Input::One);
+            },
+            Input::Two => {
+                self.two.send(report);
+                self.sent_last = Some(Input::Two);
+            },
         }
     }
 
@@ -240,11 +225,11 @@ impl Poller {
     pub fn set_idle(&mut self, id: IdleId, duration: u8) {
         match id {
             IdleId::All => {
-                self.idle_one = duration;
-                self.idle_two = duration;
+                self.idle_one = Idle::of(duration);
+                self.idle_two = Idle::of(duration);
             },
-            IdleId::One => self.idle_one = duration,
-            IdleId::Two => self.idle_two = duration,
+            IdleId::One => self.idle_one = Idle::of(duration),
+            IdleId::Two => self.idle_two = Idle::of(duration),
         }
     }
 
@@ -252,8 +237,8 @@ impl Poller {
     /// 7.2.3).
     pub fn idle(&self, id: IdleId) -> u8 {
         match id {
-            IdleId::All | IdleId::One => self.idle_one,
-            IdleId::Two => self.idle_two,
+            IdleId::All | IdleId::One => self.idle_one.value(),
+            IdleId::Two => self.idle_two.value(),
         }
     }
 
@@ -266,14 +251,14 @@ impl Poller {
     /// the start. Takes no memory.
     pub fn reset(&mut self) {
         self.clear();
-        self.idle_one = IDLE_ONE;
-        self.idle_two = IDLE_TWO;
+        self.idle_one = Idle::of(IDLE_ONE);
+        self.idle_two = Idle::of(IDLE_TWO);
     }
 
     fn clear(&mut self) {
-        self.boot.send(&BOOT_UNUSED);
-        self.one.send(&ONE_UNUSED);
-        self.two.send(&TWO_UNUSED);
+        self.boot.send(InputReport::unused(Input::Boot));
+        self.one.send(InputReport::unused(Input::One));
+        self.two.send(InputReport::unused(Input::Two));
         self.sent_last = None;
         self.queue.clear();
     }

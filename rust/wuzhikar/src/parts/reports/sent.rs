@@ -1,29 +1,33 @@
 // Exported from crates/reports/src/sent.rt by bin/export-rust. Edit that file instead.
 //! The bytes that one report has, those that were sent last of it, and when.
 
-/// The bytes that a report of N bytes has, those that were sent last of it, and how long ago.
+use crate::parts::reports::idle::Idle;
+use crate::parts::reports::queue::Queue;
+use crate::parts::reports::{Input, InputReport};
+
+/// The bytes that a report has, those that were sent last of it, and how long ago.
 #[derive(Debug)]
-pub(crate) struct Sent<const N: usize> {
-    bytes: [u8; N],
+pub(crate) struct Sent {
+    bytes: InputReport,
     /// The bytes that the report has, as they were made last.
-    made: [u8; N],
+    made: InputReport,
     /// Whether they are not those sent last.
     changed: bool,
     /// The scans since then, counted to 65,535, which is more than any idle value needs.
     age: u16,
 }
 
-impl<const N: usize> Sent<N> {
+impl Sent {
     /// Zeros, where memory waits for a keyboard to start there.
-    pub(crate) const UNSTARTED: Self = Sent { bytes: [0; N], made: [0; N], changed: false, age: 0 };
+    pub(crate) const UNSTARTED: Self = Sent { bytes: InputReport::UNSTARTED, made: InputReport::UNSTARTED, changed: false, age: 0 };
 }
 
-impl<const N: usize> Sent<N> {
-    /// These bytes, made and sent now.
-    pub(crate) fn now(bytes: [u8; N]) -> Sent<N> {
+impl Sent {
+    /// The bytes for no usages, made and sent now.
+    pub(crate) fn unused(input: Input) -> Sent {
         Sent {
-            bytes,
-            made: bytes,
+            bytes: InputReport::unused(input),
+            made: InputReport::unused(input),
             changed: false,
             age: 0,
         }
@@ -35,13 +39,21 @@ impl<const N: usize> Sent<N> {
     }
 
     /// Takes the bytes that the report has from now on.
-    pub(crate) fn make(&mut self, made: [u8; N]) {
-        self.changed = !are_same(&made, &self.bytes);
+    pub(crate) fn make(&mut self, made: InputReport) {
+        self.changed = !made.is_same(&self.bytes);
         self.made = made;
     }
 
+    /// Takes the bytes that the report has from now on, which wait where they are not those that it had.
+    pub(crate) fn turn(&mut self, now: InputReport, queue: &mut Queue) {
+        if !self.made.is_same(&now) {
+            queue.add(now.copy());
+            self.make(now);
+        }
+    }
+
     /// The bytes that the report has.
-    pub(crate) fn made(&self) -> &[u8; N] {
+    pub(crate) fn made(&self) -> &InputReport {
         &self.made
     }
 
@@ -50,29 +62,15 @@ impl<const N: usize> Sent<N> {
         self.changed
     }
 
-    /// Whether the report is to be sent again at this idle value, in units of 4 ms: it is not 0, and as
-    /// long has passed.
-    pub(crate) fn is_elapsed(&self, idle: u8) -> bool {
-        // 0 - 1 wraps to 65,535, which no age is above
-        self.age > (4 * u16::from(idle)).wrapping_sub(1)
+    /// Whether the report is to be sent again at this idle value: it is not 0, and as long has passed.
+    pub(crate) fn is_elapsed(&self, idle: &Idle) -> bool {
+        idle.has_passed(self.age)
     }
 
     /// Counts these bytes as sent now.
-    pub(crate) fn send(&mut self, bytes: &[u8]) {
-        self.bytes.copy_from_slice(bytes);
-        self.changed = !are_same(&self.made, &self.bytes);
+    pub(crate) fn send(&mut self, bytes: InputReport) {
+        self.changed = !self.made.is_same(&bytes);
+        self.bytes = bytes;
         self.age = 0;
     }
-}
-
-/// Whether the bytes of two reports are the same. Four at a time, which a chip compares as one word.
-pub(crate) fn are_same<const N: usize>(a: &[u8; N], b: &[u8; N]) -> bool {
-    let (first, second) = (&a[..], &b[..]);
-    for place in 0..N / 4 {
-        if first[4 * place..4 * place + 4] != second[4 * place..4 * place + 4] {
-            return false;
-        }
-    }
-    let last = N.saturating_sub(4);
-    first[last..] == second[last..]
 }

@@ -1,7 +1,10 @@
-use Rattle.key_reports.specs.Past.{wanted_after}
+use Rattle.std.proofs.Common.{◌∙◌}
+use Rattle.reports.proofs.LayoutLaws.{consumer-layout}
+use Rattle.key_reports.specs.Past.{wanted_after, consumer_after}
 use Rattle.key_reports.proofs.key_reports.KeyReports.consumer.Goals as goal
 
 pub returns-then-is_made_for : goal.returns-then-is_made_for
 returns-then-is_made_for c past s =
     let h = rw (← c.self.view_is) at s in
-    c.made_consumer.ensures (wanted_after past) (c.is_made_for.ensures.made (wanted_after past) c.if-is_made_for.true h.made)
+    let is = c.made_consumer.ensures (wanted_after past) (c.is_made_for.ensures.made (wanted_after past) c.if-is_made_for.true h.made) in
+    c.nine.ensures (rw is (consumer-layout (consumer_after past)).size) ∙ is

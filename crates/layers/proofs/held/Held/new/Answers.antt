@@ -1,4 +1,4 @@
-use Rattle.std.proofs.Common.{refl, false}
+use Rattle.std.proofs.Common.{refl}
 use Rattle.layers.proofs.BitSets.{has_bit-zeros}
 use Rattle.layers.proofs.HeldKeys.{kept-clear, stands_new}
 use Rattle.layers.proofs.NamedUsages.{named_none, no_layer}

@@ -1,4 +1,3 @@
-use Rattle.std.proofs.Common.{◌∙◌}
 use Rattle.layers.proofs.HeldKeys.{stands_released}
 use Rattle.layers.proofs.held.Held.release.Goals as goal
 

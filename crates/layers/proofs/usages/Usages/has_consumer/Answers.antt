@@ -1,4 +1,4 @@
-use Rattle.std.proofs.Common.{◌≤◌, ◌/◌, length, arith, sym, refl, ◌∙◌}
+use Rattle.std.proofs.Common.{◌≤◌, ◌/◌, length, arith, sym, ◌∙◌}
 use Rattle.std.proofs.lemmas.Bool.{le-ltb}
 use Rattle.layers.specs.Usages.{has_consumer}
 use Rattle.layers.proofs.BitSets.{has_bit-past}

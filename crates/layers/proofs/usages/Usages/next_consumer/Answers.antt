@@ -1,4 +1,3 @@
-use Rattle.std.proofs.Common.{◌/◌}
 use Rattle.layers.specs.Usages.{has_consumer}
 use Rattle.layers.proofs.BitSets.{LooksOn, next_marked, none_marked, none_in_marked, map_match}
 use Rattle.layers.proofs.usages.Usages.next_consumer.Goals as goal

@@ -5,7 +5,7 @@ use Rattle.layers.proofs.usages.Usages.none.Goals as goal
 
 pub returns-clause-no_keys : goal.returns-clause-no_keys
 unfolding has_key
-returns-clause-no_keys c usage = has_bit-zeros 8 32 usage
+returns-clause-no_keys c usage = has_bit-zeros 32 8 usage
 
 pub returns-clause-no_consumer : goal.returns-clause-no_consumer
 unfolding has_consumer

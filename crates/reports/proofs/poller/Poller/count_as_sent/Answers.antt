@@ -1,22 +1,19 @@
-use Rattle.reports.proofs.Rule.{rule-boot, rule-one, rule-two, rule-other}
+use Rattle.std.proofs.Common.{◌≡◌, length}
+use Rattle.std.proofs.lemmas.Bool.{eqb-true}
+use Rattle.reports.proofs.Rule.{rule-boot, rule-one, rule-two}
 use Rattle.reports.proofs.poller.Poller.count_as_sent.Goals as goal
 
-pub returns-then-bytes-eq8-clause-rule : goal.returns-then-bytes-eq8-clause-rule
-returns-then-bytes-eq8-clause-rule c past protocol r =
-    rw (← c.as_slice-bytes.ensures.value)
-    (rule-boot past protocol c.as_slice-bytes.result.now _ _ c.if-bytes-eq8.true c.send.ensures.bytes c.send.ensures.age (rw (← c.self.view_is) at r))
+pub returns-in-Boot-clause-rule : goal.returns-in-Boot-clause-rule
+returns-in-Boot-clause-rule c past protocol r =
+    let size : length c.args.report ≡ 8 = eqb-true (length c.args.report) 8 (rw c.in-Boot.is at c.input.ensures) in
+    rule-boot past protocol c.args.report _ _ size c.send.ensures.bytes c.send.ensures.age (rw (← c.self.view_is) at r)
 
-pub returns-then-bytes-eq23-clause-rule : goal.returns-then-bytes-eq23-clause-rule
-returns-then-bytes-eq23-clause-rule c past protocol r =
-    rw (← c.as_slice-bytes.ensures.value)
-    (rule-one past protocol c.as_slice-bytes.result.now _ _ c.if-bytes-eq23.true c.send-then-bytes-eq23.ensures.bytes c.send-then-bytes-eq23.ensures.age (rw (← c.self.view_is) at r))
+pub returns-in-One-clause-rule : goal.returns-in-One-clause-rule
+returns-in-One-clause-rule c past protocol r =
+    let size : length c.args.report ≡ 23 = eqb-true (length c.args.report) 23 (rw c.in-One.is at c.input.ensures) in
+    rule-one past protocol c.args.report _ _ size c.send-in-One.ensures.bytes c.send-in-One.ensures.age (rw (← c.self.view_is) at r)
 
-pub returns-then-bytes-eq9-clause-rule : goal.returns-then-bytes-eq9-clause-rule
-returns-then-bytes-eq9-clause-rule c past protocol r =
-    rw (← c.as_slice-bytes.ensures.value)
-    (rule-two past protocol c.as_slice-bytes.result.now _ _ c.if-bytes-eq9.true c.send-then-bytes-eq9.ensures.bytes c.send-then-bytes-eq9.ensures.age (rw (← c.self.view_is) at r))
-
-pub returns-else-bytes-eq9-clause-rule : goal.returns-else-bytes-eq9-clause-rule
-returns-else-bytes-eq9-clause-rule c past protocol r =
-    rw (← c.as_slice-bytes.ensures.value)
-    (rule-other past protocol c.as_slice-bytes.result.now _ c.if-bytes-eq8.false c.if-bytes-eq23.false c.if-bytes-eq9.false r)
+pub returns-in-Two-clause-rule : goal.returns-in-Two-clause-rule
+returns-in-Two-clause-rule c past protocol r =
+    let size : length c.args.report ≡ 9 = eqb-true (length c.args.report) 9 (rw c.in-Two.is at c.input.ensures) in
+    rule-two past protocol c.args.report _ _ size c.send-in-Two.ensures.bytes c.send-in-Two.ensures.age (rw (← c.self.view_is) at r)

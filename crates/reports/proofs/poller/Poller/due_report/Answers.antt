@@ -19,7 +19,7 @@ returns-in-Some-One c past bytes e1 e2 r =
     let f1 = rw (← c.self.view_is) at e1 in
     let f2 = rw (← c.self.view_is) at e2 in
     let found = c.chosen.ensures past bytes (changed One past bytes _ _ f1 h.one ∙ sym c.is_changed.ensures) (changed Two past bytes _ _ f2 h.two ∙ sym c.is_changed-2.ensures) r in
-    sym (rule_answer-report bytes past c.chosen.result found ∙ rw (c.in-Some-One.is, c.in-Some-One.field-0-is, f1) (ap (λ (b : List ℕ). Some b) (sym (c.report_of.ensures ∙ c.made.ensures))))
+    sym (rule_answer-report bytes past c.chosen.result found ∙ rw (c.in-Some-One.is, c.in-Some-One.field-0-is, f1) (ap (λ (b : List ℕ). Some b) (sym (c.copy.ensures ∙ c.made.ensures))))
 
 pub returns-in-Some-Two : goal.returns-in-Some-Two
 returns-in-Some-Two c past bytes e1 e2 r =
@@ -27,7 +27,7 @@ returns-in-Some-Two c past bytes e1 e2 r =
     let f1 = rw (← c.self.view_is) at e1 in
     let f2 = rw (← c.self.view_is) at e2 in
     let found = c.chosen.ensures past bytes (changed One past bytes _ _ f1 h.one ∙ sym c.is_changed.ensures) (changed Two past bytes _ _ f2 h.two ∙ sym c.is_changed-2.ensures) r in
-    sym (rule_answer-report bytes past c.chosen.result found ∙ rw (c.in-Some-Two.is, c.in-Some-Two.field-0-is, f2) (ap (λ (b : List ℕ). Some b) (sym (c.report_of-in-Some-Two.ensures ∙ c.made-in-Some-Two.ensures))))
+    sym (rule_answer-report bytes past c.chosen.result found ∙ rw (c.in-Some-Two.is, c.in-Some-Two.field-0-is, f2) (ap (λ (b : List ℕ). Some b) (sym (c.copy-in-Some-Two.ensures ∙ c.made-in-Some-Two.ensures))))
 
 pub returns-in-Some-Boot : goal.returns-in-Some-Boot
 returns-in-Some-Boot c past bytes e1 e2 r =

@@ -1,0 +1,342 @@
+//! The bytes of an input report, four to a word.
+
+ghost use Rattle.std.specs.Prelude.{◌≡◌, ◌+◌, ◌*◌, ◌/◌, ◌%◌, ◌^◌, ◌≤◌, true, false, [], ◌∷◌, length, take};
+ghost use Rattle.std.specs.Str.{bytes_eq};
+ghost use Rattle.layers.specs.Usages.{has_key, has_consumer};
+ghost use Rattle.reports.specs.Poll.{is_report};
+ghost use Rattle.reports.specs.ties.Words.{Packs};
+ghost use Rattle.reports.specs.Wanted.{wanted, boot_bytes, bitmap_bytes, consumer_bytes};
+
+use crate::bytes::{boot, consumer};
+use crate::{Input, Report};
+use layers::Usages;
+use std::marker::Model;
+
+/// The bytes of an input report. They lie in words, the first byte in the low bits, since a chip
+/// compares and copies those.
+#[derive(Debug, Drop)]
+pub struct InputReport {
+    input: Input,
+    words: [u32; 6],
+}
+
+impl Model for InputReport {
+    ghost use Rattle.std.specs.Prelude.{ℕ, List};
+    ghost use Rattle.reports.specs.Poll.{size_of};
+    ghost use Rattle.reports.specs.ties.Words.{first_bytes, EndsAt};
+
+    ghost Value = { List ℕ };
+
+    ghost view = { λ r. first_bytes r.words (size_of r.input) };
+
+    ghost invariant = { λ r. EndsAt r.words (size_of r.input) };
+}
+
+impl InputReport {
+    /// The bytes of a report for no usages.
+    pub(crate) fn unused(input: Input) -> InputReport
+        ensures { result ≡ wanted (λ _. false) (λ _. false) input }
+    {
+        match input {
+            Input::Boot => InputReport {
+                input,
+                words: [0; 6],
+            },
+            Input::One => InputReport {
+                input,
+                words: [1, 0, 0, 0, 0, 0],
+            },
+            Input::Two => InputReport {
+                input,
+                words: [2, 0, 0, 0, 0, 0],
+            },
+        }
+    }
+
+    /// The boot report of these usages.
+    pub(crate) fn boot(usages: &Usages) -> InputReport
+        ensures { result ≡ boot_bytes (has_key usages.now) }
+    {
+        let [a, b, c, d, e, f, g, h] = boot(usages);
+        InputReport {
+            input: Input::Boot,
+            words: [word(a, b, c, d), word(e, f, g, h), 0, 0, 0, 0],
+        }
+    }
+
+    /// The report of ID 1 of these usages.
+    pub(crate) fn bitmap(usages: &Usages) -> InputReport
+        ensures { result ≡ bitmap_bytes (has_key usages.now) }
+    {
+        let [a, b, c, d, e, f, _, _] = usages.key_words();
+        InputReport {
+            input: Input::One,
+            words: [
+                first_word(usages.modifiers(), *a),
+                across(*a, *b),
+                across(*b, *c),
+                across(*c, *d),
+                across(*d, *e),
+                across(*e, *f % 0x20),
+            ],
+        }
+    }
+
+    /// The report of ID 2 of these usages.
+    pub(crate) fn consumer(usages: &Usages) -> InputReport
+        ensures { result ≡ consumer_bytes (has_consumer usages.now) }
+    {
+        let [a, b, c, d, e, f, g, h, i] = consumer(usages);
+        InputReport {
+            input: Input::Two,
+            words: [
+                word(a, b, c, d),
+                word(e, f, g, h),
+                word(i, 0, 0, 0),
+                0,
+                0,
+                0,
+            ],
+        }
+    }
+
+    /// The same report once more.
+    pub(crate) fn copy(&self) -> InputReport
+        ensures { result ≡ self.now }
+    {
+        InputReport {
+            input: self.input,
+            words: self.words,
+        }
+    }
+
+    /// Which report it is.
+    pub(crate) fn input(&self) -> Input
+        ensures { is_report result self.now ≡ true }
+    {
+        self.input
+    }
+
+    /// Whether the bytes of two reports are the same.
+    pub(crate) fn is_same(&self, other: &InputReport) -> bool
+        ensures { result ≡ bytes_eq self.now other.now }
+    {
+        let [a, b, c, d, e, f] = &self.words;
+        let [g, h, i, j, k, l] = &other.words;
+        if *a != *g {
+            return false;
+        }
+        if *b != *h {
+            return false;
+        }
+        if *c != *i {
+            return false;
+        }
+        if *d != *j {
+            return false;
+        }
+        if *e != *k {
+            return false;
+        }
+        if *f != *l {
+            return false;
+        }
+        are_one(self.input, other.input)
+    }
+
+    /// Its bytes, and zeros behind them.
+    pub(crate) fn bytes(&self) -> [u8; 24]
+        ensures { take (length self.now) result ≡ self.now }
+    {
+        let [a, b, c, d, e, f] = &self.words;
+        let [a0, a1, a2, a3] = four(*a);
+        let [b0, b1, b2, b3] = four(*b);
+        let [c0, c1, c2, c3] = four(*c);
+        let [d0, d1, d2, d3] = four(*d);
+        let [e0, e1, e2, e3] = four(*e);
+        let [f0, f1, f2, f3] = four(*f);
+        [
+            a0, a1, a2, a3, b0, b1, b2, b3, c0, c1, c2, c3, d0, d1, d2, d3, e0, e1, e2, e3, f0, f1,
+            f2, f3,
+        ]
+    }
+
+    /// How many bytes it has.
+    pub(crate) fn length(&self) -> usize
+        ensures value { result ≡ length self.now }
+        ensures most { result ≤ 23 }
+    {
+        match self.input {
+            Input::Boot => 8,
+            Input::One => 23,
+            Input::Two => 9,
+        }
+    }
+
+    /// The same bytes as a report.
+    #[inline(never)]
+    pub(crate) fn report(&self) -> Report
+        ensures { result.items ≡ self.now }
+    {
+        let bytes = self.bytes();
+        report_of(&bytes[..self.length()])
+    }
+
+    /// Its bytes, where they are eight.
+    pub fn eight(&self) -> [u8; 8]
+        ensures { length self.now ≡ 8 → result ≡ self.now }
+    {
+        let [
+            a,
+            b,
+            c,
+            d,
+            e,
+            f,
+            g,
+            h,
+            _,
+            _,
+            _,
+            _,
+            _,
+            _,
+            _,
+            _,
+            _,
+            _,
+            _,
+            _,
+            _,
+            _,
+            _,
+            _,
+        ] = self.bytes();
+        [a, b, c, d, e, f, g, h]
+    }
+
+    /// Its bytes, where they are nine.
+    pub fn nine(&self) -> [u8; 9]
+        ensures { length self.now ≡ 9 → result ≡ self.now }
+    {
+        let [
+            a,
+            b,
+            c,
+            d,
+            e,
+            f,
+            g,
+            h,
+            i,
+            _,
+            _,
+            _,
+            _,
+            _,
+            _,
+            _,
+            _,
+            _,
+            _,
+            _,
+            _,
+            _,
+            _,
+            _,
+        ] = self.bytes();
+        [a, b, c, d, e, f, g, h, i]
+    }
+
+    /// Its bytes, where they are 23.
+    pub fn twenty_three(&self) -> [u8; 23]
+        ensures { length self.now ≡ 23 → result ≡ self.now }
+    {
+        let [
+            a,
+            b,
+            c,
+            d,
+            e,
+            f,
+            g,
+            h,
+            i,
+            j,
+            k,
+            l,
+            m,
+            n,
+            o,
+            p,
+            q,
+            r,
+            s,
+            t,
+            u,
+            v,
+            w,
+            _,
+        ] = self.bytes();
+        [
+            a, b, c, d, e, f, g, h, i, j, k, l, m, n, o, p, q, r, s, t, u, v, w,
+        ]
+    }
+}
+
+/// Whether two reports are one.
+fn are_one(a: Input, b: Input) -> bool
+    ensures same { result ≡ true → a ≡ b }
+    ensures is { a ≡ b → result ≡ true }
+{
+    match a {
+        Input::Boot => matches!(b, Input::Boot),
+        Input::One => matches!(b, Input::One),
+        Input::Two => matches!(b, Input::Two),
+    }
+}
+
+/// Four bytes as a word, the first in the low bits.
+fn word(a: u8, b: u8, c: u8, d: u8) -> u32
+    ensures { Packs result a b c d }
+{
+    a as u32 + 0x100 * b as u32 + 0x1_0000 * c as u32 + 0x100_0000 * d as u32
+}
+
+/// The four bytes of a word.
+fn four(word: u32) -> [u8; 4]
+    ensures { result ≡ word / 2 ^ 0 % 256 ∷ word / 2 ^ 8 % 256 ∷ word / 2 ^ 16 % 256 ∷ word / 2 ^ 24 % 256 ∷ [] }
+{
+    [
+        (word % 0x100) as u8,
+        (word / 0x100 % 0x100) as u8,
+        (word / 0x1_0000 % 0x100) as u8,
+        (word / 0x100_0000) as u8,
+    ]
+}
+
+/// The first word of the report of ID 1, from the modifiers and the usages 00h to 1Fh.
+fn first_word(modifiers: u8, low: u32) -> u32
+    ensures { result ≡ 1 + 256 * modifiers + 65536 * (low / 16 % 65536) }
+{
+    0x01 + 0x100 * modifiers as u32 + 0x1_0000 * (low / 0x10 % 0x1_0000)
+}
+
+/// A further word of it: the 12 high bits of one word of usages and the 20 low ones of the next.
+fn across(low: u32, high: u32) -> u32
+    ensures { result ≡ low / 1048576 + 4096 * (high % 1048576) }
+{
+    low / 0x10_0000 + 0x1000 * (high % 0x10_0000)
+}
+
+/// A report of these bytes.
+fn report_of(bytes: &[u8]) -> Report
+    requires { length bytes.now ≤ 32 }
+    ensures { result.items ≡ bytes.now }
+{
+    let mut report = Report::new();
+    match report.try_extend_from_slice(bytes) {
+        Ok(()) => report,
+        Err(_) => unreachable!(),
+    }
+}
