@@ -23,7 +23,7 @@ RENAMED = {"field_details/told": {"numbers_around": "around", "around": "each_ar
 # Modules of the source that are no part of the product: they are tests' and a witness.
 LEFT_OUT = {"ecc_flash": {"witness"}, "reports": {"plain"}}
 # Derives that the source has and Rust does by itself or has written out, and those that may be added: no code of the source calls them.
-DONE, ADDED = {"Drop", "Error"}, {"Clone", "Debug", "Default", "PartialEq", "Eq"}
+DONE, ADDED = {"Drop", "Error"}, {"Clone", "Copy", "Debug", "Default", "PartialEq", "Eq"}
 
 
 def tokens(text):
