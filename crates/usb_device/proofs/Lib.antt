@@ -10,3 +10,4 @@ pub mod Handing
 pub mod Confirming
 pub mod Characters
 pub mod Scans
+pub mod Layering
