@@ -11,3 +11,4 @@ pub mod Confirming
 pub mod Characters
 pub mod Scans
 pub mod Layering
+pub mod Wholes

@@ -3,7 +3,8 @@
 //! `UsbDevice` is what a loop calls. `DeviceLayer` serves the standard requests of USB 2.0 chapter 9 in each state of the
 //! device, with descriptors and names that a maker lends (`Descriptors`), and hands everything else on to the device behind
 //! it (`Endpoints`). `ControlBuffers` and `ReportBuffers` hand the packets of endpoints 0 and 1 to a controller beforehand
-//! (`Controller`, `Buffers`). It takes no memory and needs no `unsafe`. Sections are those of USB 2.0.
+//! (`Controller`, `Buffers`). `write` makes a whole control write, for a stack that keeps endpoint 0 to itself. It takes no
+//! memory and needs no `unsafe`. Sections are those of USB 2.0.
 //!
 //! The guarantee: a control write that the host saw the end of was acknowledged, and then confirmed by the empty packet, in
 //! the session of the device behind, whatever acknowledgements were lost (`laws::confirmed_on_the_bus`,
@@ -32,6 +33,7 @@ mod report_buffers;
 mod request;
 mod strings;
 mod usb_device;
+mod whole_transfers;
 
 pub use answer::{Change, Endpoint1, EpAnswer, PollAnswer, Report};
 pub use control_buffers::ControlBuffers;
@@ -45,3 +47,4 @@ pub use quiet_controller::QuietController;
 pub use report_buffers::{Buffers, PacketSize, ReportBuffers};
 pub use strings::string_descriptor;
 pub use usb_device::UsbDevice;
+pub use whole_transfers::{TransferError, Works, write};
