@@ -1,5 +1,6 @@
 -- What packets a host took as new, and what reports they are.
 use Rattle.std.proofs.Common.{◌≡◌, ℕ, ◌+◌, Bool, true, false, not, List, [], ◌∷◌, ◌++◌, length, refl, sym, ap, subst, ◌∙◌, ◌⊎◌, inl, inr, arith}
+use Rattle.usb_device.specs.declared.answer.Endpoint1.{Endpoint1}
 use Rattle.usb_device.specs.Bus1.{Got, New, Anew, same, received}
 use Rattle.usb_device.specs.Reports.{packets_of, with_new, IsPacket, ArePieces, HasAnew, Carries, Begun}
 use Rattle.usb_device.specs.ties.Link1.{copies, new_of, ArePackets}
@@ -56,9 +57,9 @@ pub snoc-length : {A : Type 0} (xs : List A) (x : A) → length (xs ++ x ∷ [])
 snoc-length [] x = omega arith
 snoc-length (z ∷ xs) x = let e = snoc-length xs x in omega (arith, e)
 
-pub marked_carries : (size : ℕ) (got : List Got) (sent : List (List ℕ)) → Carries size got sent → Carries size (Anew ∷ got) sent
-marked_carries size got [] c = c
-marked_carries size got (r ∷ earlier) c = (Anew ∷ c.0, c.1, c.2, ap (λ x. Anew ∷ x) c.3, c.4, c.5, c.6, c.7)
+pub marked_carries : (state : Endpoint1) (size : ℕ) (got : List Got) (sent : List (List ℕ)) → Carries size got sent → Carries size (Anew state ∷ got) sent
+marked_carries state size got [] c = c
+marked_carries state size got (r ∷ earlier) c = (Anew state ∷ c.0, c.1, c.2, ap (λ x. Anew state ∷ x) c.3, c.4, c.5, c.6, c.7)
 
 pub whole : (size : ℕ) (report : List ℕ) (got pieces before : List Got) (earlier : List (List ℕ)) → got ≡ pieces ++ before → ArePieces size report pieces
     → (pieces ≡ []) ⊎ HasAnew pieces → Carries size before earlier → Carries size (with_new (packets_of size report) got) (report ∷ earlier)

@@ -1,11 +1,9 @@
 -- What is handed over to the buffers of endpoint 1.
-use Rattle.std.proofs.Common.{◌≡◌, ℕ, ◌+◌, Bool, true, false, not, List, [], ◌∷◌, ◌++◌, length, ◌&&◌, ◌||◌, ◌<◌, ◌≤◌, None, refl, sym, ap, subst, ◌∙◌, ◌⊎◌, inl, inr, nat_lt, arith}
+use Rattle.std.proofs.Common.{◌==◌, ◌≡◌, ℕ, ◌+◌, Bool, true, false, List, [], ◌∷◌, ◌++◌, length, ◌&&◌, ◌||◌, ◌<◌, ◌≤◌, None, refl, sym, ap, subst, ◌∙◌, ◌⊎◌, inl, inr, nat_lt, arith}
 use Rattle.usb_device.specs.declared.report_buffers.Course.{Course}
 use Rattle.usb_device.specs.declared.report_buffers.Course.TheVariants.{Rests, Begins, Goes}
 use Rattle.usb_device.specs.Calls.{EpCall, Polled}
 use Rattle.usb_device.specs.Bus1.{Bus1, blank, agree, Goes1, unless_reset, filled, room_of}
-use Rattle.usb_device.specs.Waits.{Moment, is_waiting}
-use Rattle.usb_device.specs.ties.Waited.{Waited}
 use Rattle.usb_device.specs.Reports.{cut, count_of, packets_of, with_new, Carries}
 use Rattle.usb_device.specs.ties.Link1.{may_send, IsHeld, NothingWithheld, all_handed, all_full, was_reset, has_none, ReportState, is_more, to_hand, copies, new_of, ArePackets, Agrees, Beginning, Going, Now1, Link1}
 use Rattle.usb_device.proofs.Carrying.{true_false, all_own, own-append, own_copies, snoc-append, snoc_some, snoc-length, will}
@@ -177,15 +175,32 @@ rests_none may room s b before calls e h c = elim (bool_cases b.reset) [
   | inr r ↦ (let N : Course → Type 0 = λ x. Now1 x s b calls in has_none before (subst N e (h.current r)).free.empty c)
 ]
 
-pub not_waiting : (moments : List Moment) (left : ℕ) → Waited moments left → left ≡ 0 → is_waiting moments ≡ false
-not_waiting moments left w e = let P : ℕ → Type 0 = λ x. nat_lt 0 x ≡ is_waiting moments in sym (subst P e (w 0))
+pub may_by : (is_ready : Bool) (left : ℕ) → is_ready ≡ true → (left == 0) ≡ true → may_send is_ready left ≡ true
+may_by is_ready left r w = ap (λ x. x && (left == 0)) r ∙ ap (λ x. true && x) w
 
-pub still_waits : (moments : List Moment) (left : ℕ) → Waited moments left → nat_lt 0 left ≡ true → is_waiting moments ≡ true
-still_waits moments left w e = sym (w 0) ∙ e
+pub may_unready : (is_ready : Bool) (left : ℕ) → is_ready ≡ false → may_send is_ready left ≡ false
+may_unready is_ready left e = ap (λ x. x && (left == 0)) e
 
-pub may_by : (is_ready : Bool) (moments : List Moment) → is_ready ≡ true → is_waiting moments ≡ false → may_send is_ready moments ≡ true
-may_by is_ready moments r w = ap (λ x. x && not (is_waiting moments)) r ∙ ap (λ x. true && not x) w
+pub may_unknown : (is_ready : Bool) (left : ℕ) → (left == 0) ≡ false → may_send is_ready left ≡ false
+may_unknown true left w = ap (λ x. true && x) w
+may_unknown false left w = refl
 
-pub may_not_by : (is_ready : Bool) (moments : List Moment) → is_waiting moments ≡ true → may_send is_ready moments ≡ false
-may_not_by true moments w = ap (λ x. true && not x) w
-may_not_by false moments w = refl
+pub first_fits : (s : ReportState) (steps : List Bus1) (b mid : Bus1) (calls : List EpCall) (two : Bool) → s.course ≡ Begins → Goes1 steps b mid → Link1 s b calls
+    → length mid.slots < room_of two
+first_fits s steps b mid calls two c g h =
+    let m = goes1 steps s b mid calls g h in
+    let N : Course → Type 0 = λ x. Now1 x s mid calls in
+    let empty : mid.slots ≡ [] = elim (bool_cases mid.reset) [ inl x ↦ slots_of_blank mid (m.fresh x) | inr x ↦ (subst N c (m.current x)).free.empty ] in
+    let R : List (List ℕ) → Type 0 = λ x. length x < room_of two in
+    subst R (sym empty) (one_room two)
+
+pub more_fits : (s : ReportState) (steps : List Bus1) (b mid : Bus1) (calls : List EpCall) (two : Bool) → s.course ≡ Goes → s.buffered < room_of two → Goes1 steps b mid
+    → Link1 s b calls → length mid.slots < room_of two
+more_fits s steps b mid calls two c room g h =
+    let m = goes1 steps s b mid calls g h in
+    let N : Course → Type 0 = λ x. Now1 x s mid calls in
+    let E : List (List ℕ) → Type 0 = λ x. length x < room_of two in
+    elim (bool_cases mid.reset) [
+      | inl x ↦ subst E (sym (slots_of_blank mid (m.fresh x))) (one_room two)
+      | inr x ↦ (let k = (subst N c (m.current x)).counted in omega (arith, k, room))
+    ]

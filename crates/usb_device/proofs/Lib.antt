@@ -10,3 +10,5 @@ pub mod Handing
 pub mod Confirming
 pub mod Characters
 pub mod Scans
+pub mod Layering
+pub mod Wholes

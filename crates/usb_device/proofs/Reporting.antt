@@ -3,6 +3,7 @@ use Rattle.std.proofs.Common.{◌≡◌, ℕ, ◌+◌, Bool, true, false, not, L
 use Rattle.usb_device.specs.declared.report_buffers.Course.{Course}
 use Rattle.usb_device.specs.declared.report_buffers.Course.TheVariants.{Rests, Begins, Goes}
 use Rattle.usb_device.specs.Calls.{EpCall, Polled}
+use Rattle.usb_device.specs.declared.answer.Endpoint1.{Endpoint1}
 use Rattle.usb_device.specs.Bus1.{Got, Anew, Bus1, blank, same, agree, received, with_taken1, with_lost1, with_host_anew, Happens1, takes, loses, host_begins, resets1, Goes1, told, unless_reset, anew, reports_of}
 use Rattle.usb_device.specs.Reports.{cut, packets_of, with_new, Carries, Begun, GotInOrder, all, but_one}
 use Rattle.usb_device.specs.ties.Link1.{ReportState, is_more, is_over, to_hand, copies, new_of, ArePackets, Agrees, Free, Resting, Beginning, Going, Now1, Link1}
@@ -130,7 +131,7 @@ left_same s left b calls h = record { fresh = h.fresh; current = λ r. left_now 
 pub sent_now : (course : Course) (s : ReportState) (b : Bus1) (calls later : List EpCall) → reports_of later ≡ reports_of calls → Now1 course s b calls → Now1 course s b later
 sent_now Rests s b calls later e h =
     let C : List (List ℕ) → Type 0 = λ x. Carries s.size b.got x in
-    let M : List (List ℕ) → Type 0 = λ x. s.unsure ≡ true → (before : List Got) × (b.got ≡ Anew ∷ before) × Carries s.size before x in
+    let M : List (List ℕ) → Type 0 = λ x. s.unsure ≡ true → (state : Endpoint1) × (before : List Got) × (b.got ≡ Anew state ∷ before) × Carries s.size before x in
     record { free = h.free; carried = subst C (sym e) h.carried; marked = subst M (sym e) h.marked }
 sent_now Begins s b calls later e h = record { free = h.free; earlier = h.earlier; sent = e ∙ h.sent; begun = h.begun; once = h.once; marked = h.marked }
 sent_now Goes s b calls later e h = record {
@@ -155,74 +156,74 @@ anew_course Rests = Rests
 anew_course Begins = Begins
 anew_course Goes = Begins
 
-pub anew_begun : (size : ℕ) (report : List ℕ) (got : List Got) (earlier : List (List ℕ)) → Begun size report got earlier → Begun size report (Anew ∷ got) earlier
-anew_begun size report got earlier b = record {
-  pieces = Anew ∷ b.pieces;
+pub anew_begun : (state : Endpoint1) (size : ℕ) (report : List ℕ) (got : List Got) (earlier : List (List ℕ)) → Begun size report got earlier → Begun size report (Anew state ∷ got) earlier
+anew_begun state size report got earlier b = record {
+  pieces = Anew state ∷ b.pieces;
   before = b.before;
-  got_is = ap (λ x. Anew ∷ x) b.got_is;
+  got_is = ap (λ x. Anew state ∷ x) b.got_is;
   are = b.are;
   carried = b.carried;
 }
 
-pub set_anew : Bus1 → Bus1
-set_anew b = record { got = Anew ∷ b.got; host = b.host; device = false; slots = []; taken = 0; opened = true; reset = b.reset }
+pub set_anew : Bus1 → Endpoint1 → Bus1
+set_anew b state = record { got = Anew state ∷ b.got; host = b.host; device = false; slots = []; taken = 0; opened = true; reset = b.reset }
 
-pub anew_now : (course : Course) (s : ReportState) (left : ℕ) (b : Bus1) (calls : List EpCall) → Now1 course s b calls
-    → Now1 (anew_course course) (record s { course = anew_course course; unsure = true; left = left }) (set_anew b) calls
+pub anew_now : (course : Course) (s : ReportState) (left : ℕ) (state : Endpoint1) (b : Bus1) (calls : List EpCall) → Now1 course s b calls
+    → Now1 (anew_course course) (record s { course = anew_course course; unsure = true; left = left }) (set_anew b state) calls
 unfolding anew_course set_anew anew_begun
-anew_now Rests s left b calls h = record {
+anew_now Rests s left state b calls h = record {
   free = record { empty = refl; told = refl; agrees = (refl, refl) };
-  carried = marked_carries s.size b.got (reports_of calls) h.carried;
-  marked = λ _. (b.got, refl, h.carried);
+  carried = marked_carries state s.size b.got (reports_of calls) h.carried;
+  marked = λ _. (state, b.got, refl, h.carried);
 }
-anew_now Begins s left b calls h = record {
-  free = record { empty = refl; told = refl; agrees = (refl, refl) };
-  earlier = h.earlier;
-  sent = h.sent;
-  begun = anew_begun s.size s.report b.got h.earlier h.begun;
-  once = inr tt;
-  marked = λ _. tt;
-}
-anew_now Goes s left b calls h = record {
+anew_now Begins s left state b calls h = record {
   free = record { empty = refl; told = refl; agrees = (refl, refl) };
   earlier = h.earlier;
   sent = h.sent;
-  begun = anew_begun s.size s.report b.got h.earlier h.begun;
+  begun = anew_begun state s.size s.report b.got h.earlier h.begun;
+  once = inr tt;
+  marked = λ _. tt;
+}
+anew_now Goes s left state b calls h = record {
+  free = record { empty = refl; told = refl; agrees = (refl, refl) };
+  earlier = h.earlier;
+  sent = h.sent;
+  begun = anew_begun state s.size s.report b.got h.earlier h.begun;
   once = inr tt;
   marked = λ _. tt;
 }
 
-pub anew_by : (reset : Bool) (s : ReportState) (left : ℕ) (b : Bus1) (calls : List EpCall) → b.reset ≡ reset → Link1 s b calls
-    → Link1 (record s { course = anew_course s.course; unsure = true; left = left }) (unless_reset reset b (set_anew b)) calls
+pub anew_by : (reset : Bool) (s : ReportState) (left : ℕ) (state : Endpoint1) (b : Bus1) (calls : List EpCall) → b.reset ≡ reset → Link1 s b calls
+    → Link1 (record s { course = anew_course s.course; unsure = true; left = left }) (unless_reset reset b (set_anew b state)) calls
 unfolding set_anew
-anew_by true s left b calls e h = record { fresh = h.fresh; current = λ r. absurd (true_false (sym e ∙ r)) }
-anew_by false s left b calls e h = record { fresh = λ r. absurd (true_false (sym r ∙ e)); current = λ r. anew_now s.course s left b calls (h.current e) }
+anew_by true s left state b calls e h = record { fresh = h.fresh; current = λ r. absurd (true_false (sym e ∙ r)) }
+anew_by false s left state b calls e h = record { fresh = λ r. absurd (true_false (sym r ∙ e)); current = λ r. anew_now s.course s left state b calls (h.current e) }
 
-pub anew_link : (s : ReportState) (left : ℕ) (b : Bus1) (calls : List EpCall) → Link1 s b calls
-    → Link1 (record s { course = anew_course s.course; unsure = true; left = left }) (anew b) calls
+pub anew_link : (s : ReportState) (left : ℕ) (state : Endpoint1) (b : Bus1) (calls : List EpCall) → Link1 s b calls
+    → Link1 (record s { course = anew_course s.course; unsure = true; left = left }) (anew b state) calls
 unfolding set_anew
-anew_link s left b calls h = anew_by b.reset s left b calls refl h
+anew_link s left state b calls h = anew_by b.reset s left state b calls refl h
 
-pub anew_went : (s : ReportState) (left : ℕ) (b : Bus1) (calls : List EpCall) → s.course ≡ Goes → Link1 s b calls
-    → Link1 (record s { course = Begins; unsure = true; left = left }) (anew b) calls
+pub anew_went : (s : ReportState) (left : ℕ) (state : Endpoint1) (b : Bus1) (calls : List EpCall) → s.course ≡ Goes → Link1 s b calls
+    → Link1 (record s { course = Begins; unsure = true; left = left }) (anew b state) calls
 unfolding anew_course
-anew_went s left b calls e h =
-    let P : Course → Type 0 = λ x. Link1 (record s { course = x; unsure = true; left = left }) (anew b) calls in
-    subst P (ap (λ x. anew_course x) e) (anew_link s left b calls h)
+anew_went s left state b calls e h =
+    let P : Course → Type 0 = λ x. Link1 (record s { course = x; unsure = true; left = left }) (anew b state) calls in
+    subst P (ap (λ x. anew_course x) e) (anew_link s left state b calls h)
 
-pub anew_rested : (s : ReportState) (left : ℕ) (b : Bus1) (calls : List EpCall) → s.course ≡ Rests → Link1 s b calls
-    → Link1 (record s { unsure = true; left = left }) (anew b) calls
+pub anew_rested : (s : ReportState) (left : ℕ) (state : Endpoint1) (b : Bus1) (calls : List EpCall) → s.course ≡ Rests → Link1 s b calls
+    → Link1 (record s { unsure = true; left = left }) (anew b state) calls
 unfolding anew_course
-anew_rested s left b calls e h =
-    let P : Course → Type 0 = λ x. Link1 (record s { course = x; unsure = true; left = left }) (anew b) calls in
-    subst P (ap (λ x. anew_course x) e ∙ sym e) (anew_link s left b calls h)
+anew_rested s left state b calls e h =
+    let P : Course → Type 0 = λ x. Link1 (record s { course = x; unsure = true; left = left }) (anew b state) calls in
+    subst P (ap (λ x. anew_course x) e ∙ sym e) (anew_link s left state b calls h)
 
-pub anew_begins : (s : ReportState) (left : ℕ) (b : Bus1) (calls : List EpCall) → s.course ≡ Begins → Link1 s b calls
-    → Link1 (record s { unsure = true; left = left }) (anew b) calls
+pub anew_begins : (s : ReportState) (left : ℕ) (state : Endpoint1) (b : Bus1) (calls : List EpCall) → s.course ≡ Begins → Link1 s b calls
+    → Link1 (record s { unsure = true; left = left }) (anew b state) calls
 unfolding anew_course
-anew_begins s left b calls e h =
-    let P : Course → Type 0 = λ x. Link1 (record s { course = x; unsure = true; left = left }) (anew b) calls in
-    subst P (ap (λ x. anew_course x) e ∙ sym e) (anew_link s left b calls h)
+anew_begins s left state b calls e h =
+    let P : Course → Type 0 = λ x. Link1 (record s { course = x; unsure = true; left = left }) (anew b state) calls in
+    subst P (ap (λ x. anew_course x) e ∙ sym e) (anew_link s left state b calls h)
 
 -- the host is known to have begun anew
 pub sure_agrees : (unsure : Bool) (b : Bus1) → (b.opened ≡ true → b.host ≡ false) → Agrees unsure b → Agrees false b
@@ -276,7 +277,7 @@ begin_by true s b calls report e h = let m = h.marked e in record {
   free = h.free;
   earlier = reports_of calls;
   sent = refl;
-  begun = record { pieces = Anew ∷ []; before = m.0; got_is = m.1; are = tt; carried = m.2 };
+  begun = record { pieces = Anew m.0 ∷ []; before = m.1; got_is = m.2; are = tt; carried = m.3 };
   once = inr tt;
   marked = λ _. tt;
 }
@@ -329,19 +330,19 @@ told_begin s count b calls h = record {
   marked = h.marked;
 }
 
-pub taken_rests : (s : ReportState) (count : ℕ) (b : Bus1) (calls : List EpCall) → s.course ≡ Rests → b.reset ≡ false → Link1 s b calls
+pub taken_rests : (s : ReportState) (count : ℕ) (b : Bus1) (calls : List EpCall) → s.course ≡ Rests → Link1 s b calls
     → Link1 (record s { buffered = count }) (told b) calls
-taken_rests s count b calls e r h =
+taken_rests s count b calls e h =
     let N : Course → Type 0 = λ x. Now1 x s b calls in
     let M : Course → Type 0 = λ x. Now1 x (record s { buffered = count }) (told b) calls in
-    record { fresh = λ x. absurd (true_false (sym x)); current = λ _. subst M (sym e) (told_rest s count b calls (subst N e (h.current r))) }
+    record { fresh = λ x. ap (λ y. told y) (h.fresh x); current = λ r. subst M (sym e) (told_rest s count b calls (subst N e (h.current r))) }
 
-pub taken_begins : (s : ReportState) (count : ℕ) (b : Bus1) (calls : List EpCall) → s.course ≡ Begins → b.reset ≡ false → Link1 s b calls
+pub taken_begins : (s : ReportState) (count : ℕ) (b : Bus1) (calls : List EpCall) → s.course ≡ Begins → Link1 s b calls
     → Link1 (record s { buffered = count }) (told b) calls
-taken_begins s count b calls e r h =
+taken_begins s count b calls e h =
     let N : Course → Type 0 = λ x. Now1 x s b calls in
     let M : Course → Type 0 = λ x. Now1 x (record s { buffered = count }) (told b) calls in
-    record { fresh = λ x. absurd (true_false (sym x)); current = λ _. subst M (sym e) (told_begin s count b calls (subst N e (h.current r))) }
+    record { fresh = λ x. ap (λ y. told y) (h.fresh x); current = λ r. subst M (sym e) (told_begin s count b calls (subst N e (h.current r))) }
 
 pub lt_suc : (n : ℕ) → nat_lt 0 (suc n) ≡ true
 lt_suc n = grind arith
@@ -402,38 +403,40 @@ pub no_length : {A : Type 0} (xs : List A) → length xs ≡ 0 → xs ≡ []
 no_length [] e = refl
 no_length (x ∷ xs) e = cc
 
-pub taken_goes : (s : ReportState) (n count : ℕ) (b : Bus1) (calls : List EpCall) → n ≡ s.buffered - count → s.course ≡ Goes → b.reset ≡ false → b.taken ≡ count
-    → is_over (record s { buffered = n }) ≡ false → Link1 s b calls → Link1 (record s { buffered = n }) (told b) calls
-taken_goes s n count b calls m e r t o h =
-    let N : Course → Type 0 = λ x. Now1 x s b calls in
-    let M : Course → Type 0 = λ x. Now1 x (record s { buffered = n }) (told b) calls in
-    let g : Going s b calls = subst N e (h.current r) in
+pub told_goes : (s : ReportState) (n count : ℕ) (b : Bus1) (calls : List EpCall) → n ≡ s.buffered - count → b.taken ≡ count
+    → is_over (record s { buffered = n }) ≡ false → Going s b calls → Going (record s { buffered = n }) (told b) calls
+told_goes s n count b calls m t o g =
     let counted = g.counted in
     record {
-      fresh = λ x. absurd (true_false (sym x));
-      current = λ _. subst M (sym e) (record {
-        counted = omega (arith, counted, t, m);
-        closed = g.closed;
-        sure = g.sure;
-        earlier = g.earlier;
-        sent = g.sent;
-        begun = g.begun;
-        will = g.will;
-        ours = g.ours;
-        even = g.even;
-        busy = λ x. busy_of s n o x;
-      });
+      counted = omega (arith, counted, t, m);
+      closed = g.closed;
+      sure = g.sure;
+      earlier = g.earlier;
+      sent = g.sent;
+      begun = g.begun;
+      will = g.will;
+      ours = g.ours;
+      even = g.even;
+      busy = λ x. busy_of s n o x;
+    }
+
+pub taken_goes : (s : ReportState) (n count : ℕ) (b : Bus1) (calls : List EpCall) → n ≡ s.buffered - count → s.course ≡ Goes → b.taken ≡ count
+    → is_over (record s { buffered = n }) ≡ false → Link1 s b calls → Link1 (record s { buffered = n }) (told b) calls
+taken_goes s n count b calls m e t o h =
+    let N : Course → Type 0 = λ x. Now1 x s b calls in
+    let M : Course → Type 0 = λ x. Now1 x (record s { buffered = n }) (told b) calls in
+    record {
+      fresh = λ x. ap (λ y. told y) (h.fresh x);
+      current = λ r. subst M (sym e) (told_goes s n count b calls m t o (subst N e (h.current r)));
     }
 
 pub new_none : (a : Bool) → new_of a [] ≡ []
 new_none true = refl
 new_none false = refl
 
-pub taken_over : (s : ReportState) (k count : ℕ) (b : Bus1) (calls : List EpCall) → k ≡ s.buffered - count → s.course ≡ Goes → b.reset ≡ false → b.taken ≡ count
-    → is_over (record s { buffered = k }) ≡ true → Link1 s b calls → Link1 (record s { buffered = k; course = Rests }) (told b) calls
-taken_over s k count b calls m e r t o h =
-    let N : Course → Type 0 = λ x. Now1 x s b calls in
-    let g : Going s b calls = subst N e (h.current r) in
+pub told_over : (s : ReportState) (k count : ℕ) (b : Bus1) (calls : List EpCall) → k ≡ s.buffered - count → b.taken ≡ count
+    → is_over (record s { buffered = k }) ≡ true → Going s b calls → Resting (record s { buffered = k; course = Rests }) (told b) calls
+told_over s k count b calls m t o g =
     let n = over_none (is_more s) k o in
     let counted = g.counted in
     let left = n.1 in
@@ -445,10 +448,13 @@ taken_over s k count b calls m e r t o h =
     let C : List (List ℕ) → Type 0 = λ x. Carries s.size b.got x in
     let A : Bool → Type 0 = λ x. Agrees x b in
     record {
-      fresh = λ x. absurd (true_false (sym x));
-      current = λ _. record {
-        free = record { empty = empty; told = refl; agrees = told_agrees s.unsure b (subst A (sym g.sure) (g.even empty, λ x. absurd (true_false (sym x ∙ g.closed)))) };
-        carried = subst C (sym g.sent) (subst U (new_none (agree b)) (subst V (hand_none s n.0) (subst W empty g.will)));
-        marked = λ x. absurd (true_false (sym x ∙ g.sure));
-      };
+      free = record { empty = empty; told = refl; agrees = told_agrees s.unsure b (subst A (sym g.sure) (g.even empty, λ x. absurd (true_false (sym x ∙ g.closed)))) };
+      carried = subst C (sym g.sent) (subst U (new_none (agree b)) (subst V (hand_none s n.0) (subst W empty g.will)));
+      marked = λ x. absurd (true_false (sym x ∙ g.sure));
     }
+
+pub taken_over : (s : ReportState) (k count : ℕ) (b : Bus1) (calls : List EpCall) → k ≡ s.buffered - count → s.course ≡ Goes → b.taken ≡ count
+    → is_over (record s { buffered = k }) ≡ true → Link1 s b calls → Link1 (record s { buffered = k; course = Rests }) (told b) calls
+taken_over s k count b calls m e t o h =
+    let N : Course → Type 0 = λ x. Now1 x s b calls in
+    record { fresh = λ x. ap (λ y. told y) (h.fresh x); current = λ r. told_over s k count b calls m t o (subst N e (h.current r)) }

@@ -2,14 +2,15 @@
 -- sections 5.7.5 and 8.6). A host takes a packet as new where it has the toggle that it wants, and drops it as a repetition
 -- where it has the other one; it acknowledges both. The acknowledgement may be lost: then the packet is sent again.
 use Rattle.std.specs.Prelude.{◌≡◌, ◌⊎◌, ℕ, ◌+◌, Bool, true, false, not, List, [], ◌∷◌, ◌++◌, Some}
-use Rattle.usb_device.specs.Calls.{EpCall, Polled, BusReset}
+use Rattle.usb_device.specs.declared.answer.Endpoint1.{Endpoint1}
+use Rattle.usb_device.specs.Calls.{EpCall, SetUp, Out, In, Polled, BusReset}
 
 -- what endpoint 1 brought the host
 pub data Got : Type 0 where
   -- it took this packet as new
   New : List ℕ → Got
-  -- the device emptied its buffers, and began with DATA0
-  Anew : Got
+  -- the device emptied its buffers, and began with DATA0: the endpoint is this from now on
+  Anew : Endpoint1 → Got
 
 pub record Bus1 : Type 0 where
   -- since the last reset of the bus, newest first
@@ -82,9 +83,18 @@ abbrev pub Goes1 : List Bus1 → Bus1 → Bus1 → Type 0
 Goes1 [] b next = next ≡ b
 Goes1 (mid ∷ rest) b next = Happens1 b mid × Goes1 rest mid next
 
--- looked at
+-- what was taken is told
 abbrev pub told : Bus1 → Bus1
-told b = record { got = b.got; host = b.host; device = b.device; slots = b.slots; taken = 0; opened = b.opened; reset = false }
+told b = record { got = b.got; host = b.host; device = b.device; slots = b.slots; taken = 0; opened = b.opened; reset = b.reset }
+
+-- nothing was done but that
+abbrev pub OnlyTold : Bus1 → Bus1 → Type 0
+OnlyTold b new = (steps : List Bus1) × (mid : Bus1) × Goes1 steps b mid × (new ≡ told mid)
+
+-- the host is known to have the status packet: it has begun anew
+abbrev pub begun_if : Bool → Bus1 → Bus1
+begun_if true b = with_host_anew b
+begun_if false b = b
 
 -- a command has no effect where a reset has come that was not told
 abbrev pub unless_reset : Bool → Bus1 → Bus1 → Bus1
@@ -104,9 +114,9 @@ filled b packet = unless_reset b.reset b (record {
 })
 
 -- the device begins anew: the buffers are empty, and the next packet has DATA0
-abbrev pub anew : Bus1 → Bus1
-anew b = unless_reset b.reset b (record {
-  got = Anew ∷ b.got;
+abbrev pub anew : Bus1 → Endpoint1 → Bus1
+anew b state = unless_reset b.reset b (record {
+  got = Anew state ∷ b.got;
   host = b.host;
   device = false;
   slots = [];
@@ -126,6 +136,21 @@ reports_of [] = []
 reports_of (Polled (Some report) ∷ before) = report ∷ reports_of before
 reports_of (BusReset ∷ before) = []
 reports_of (_ ∷ before) = reports_of before
+
+-- what endpoint 1 was set to since the last reset, newest first
+abbrev pub states_told : List Got → List Endpoint1
+states_told [] = []
+states_told (New packet ∷ before) = states_told before
+states_told (Anew state ∷ before) = state ∷ states_told before
+
+-- the calls but for the polls
+abbrev pub no_polls : List EpCall → List EpCall
+no_polls [] = []
+no_polls (Polled answer ∷ before) = no_polls before
+no_polls (SetUp bytes ∷ before) = SetUp bytes ∷ no_polls before
+no_polls (Out packet answer ∷ before) = Out packet answer ∷ no_polls before
+no_polls (In answer ∷ before) = In answer ∷ no_polls before
+no_polls (BusReset ∷ before) = BusReset ∷ no_polls before
 
 -- these reports are kept, or the bus was reset
 abbrev pub KeptOrReset : List EpCall → List EpCall → Type 0

@@ -9,6 +9,7 @@ pub mod Steps
 pub mod States
 pub mod Bus
 pub mod Confirmed
+pub mod Whole
 pub mod Transfers
 pub mod Bus1
 pub mod Reports

@@ -27,19 +27,19 @@ IsPacket packet (one ∷ rest) = (packet ≡ one) ⊎ IsPacket packet rest
 abbrev pub ArePieces : ℕ → List ℕ → List Got → Type 0
 ArePieces size report [] = Unit {0}
 ArePieces size report (New packet ∷ rest) = IsPacket packet (packets_of size report) × ArePieces size report rest
-ArePieces size report (Anew ∷ rest) = ArePieces size report rest
+ArePieces size report (Anew state ∷ rest) = ArePieces size report rest
 
 -- the device began anew among these
 abbrev pub HasAnew : List Got → Type 0
 HasAnew [] = ⊥
 HasAnew (New packet ∷ rest) = HasAnew rest
-HasAnew (Anew ∷ rest) = Unit {0}
+HasAnew (Anew state ∷ rest) = Unit {0}
 
 -- nothing came, but that the device began anew
 abbrev pub NothingCame : List Got → Type 0
 NothingCame [] = Unit {0}
 NothingCame (New packet ∷ rest) = ⊥
-NothingCame (Anew ∷ rest) = NothingCame rest
+NothingCame (Anew state ∷ rest) = NothingCame rest
 
 -- the host has these reports, newest first, and each of them whole, in their order. Each came once, unless the device began anew
 -- behind the report before: then packets of it came before it.

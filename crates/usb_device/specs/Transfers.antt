@@ -30,6 +30,11 @@ pub data TransferState : Type 0 where
   Status : TransferState
   Done : TransferState
 
+-- the host has the status packet of the transfer
+abbrev pub is_done : TransferState → Bool
+is_done Done = true
+is_done _ = false
+
 -- the newest call of endpoint 0
 abbrev pub last_0 : List EpCall → Option EpCall
 last_0 [] = None

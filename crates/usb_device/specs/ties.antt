@@ -5,3 +5,4 @@ pub mod Link
 pub mod Keys
 pub mod Link1
 pub mod Waited
+pub mod Layered

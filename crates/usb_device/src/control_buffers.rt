@@ -6,7 +6,7 @@ ghost use Rattle.usb_device.specs.Requests.{word_at};
 ghost use Rattle.usb_device.specs.Calls.{EpCall, SetUp, BusReset};
 ghost use Rattle.usb_device.specs.Bus.{is_pending, Bus, Goes, Sends, Takes, with_input, with_output, is_write, looked, mode_of, out_mode_of};
 ghost use Rattle.usb_device.specs.Bus1.{reports_of, KeptOrReset};
-ghost use Rattle.usb_device.specs.Transfers.{TransferState, Idle, Refused, Over, ReadDue, Closing, Opening, Due, IsOpen, WasAsked, last_0, Rests, NothingWithheld0};
+ghost use Rattle.usb_device.specs.Transfers.{is_done, TransferState, Idle, Refused, Over, ReadDue, Closing, Opening, Due, IsOpen, WasAsked, last_0, Rests, NothingWithheld0};
 ghost use Rattle.usb_device.specs.ties.Link.{Link, Ready, IsBegun, ended, on_taken, met_view, transfer_view};
 
 use crate::controller::{Controller, Input, Output, Waiting};
@@ -143,6 +143,16 @@ impl ControlBuffers {
         let met = controller.waiting();
         self.take(met, device);
         self.go_on(device, controller);
+    }
+
+    /// Whether the host has the status packet of the transfer.
+    pub fn is_done(&self) -> bool
+        ensures { result ≡ is_done self.now }
+    {
+        match self.transfer {
+            Transfer::Done => true,
+            _ => false,
+        }
     }
 
     /// Takes what was met.

@@ -1,25 +1,162 @@
-//! A device behind its USB device layer, as one device.
+//! A device behind its USB device layer, with endpoint 1 behind buffers, as one device.
 
-ghost use Rattle.std.specs.Prelude.{◌≡◌, List};
+ghost use Rattle.std.specs.Prelude.{◌≡◌, ◌-◌, ◌∷◌, [], false, List, None, Option};
+ghost use Rattle.std.specs.Option.{option_map};
+ghost use Rattle.usb_device.specs.declared.report_buffers.Course.TheVariants.{Rests};
+ghost use Rattle.usb_device.specs.Steps.{polled_of};
+ghost use Rattle.usb_device.specs.ties.Stands.{StandsFor};
+ghost use Rattle.usb_device.specs.declared.answer.Endpoint1.{Endpoint1};
+ghost use Rattle.usb_device.specs.Calls.{EpCall, Polled};
+ghost use Rattle.usb_device.specs.Bus1.{no_polls, room_of, blank, OnlyTold};
 ghost use Rattle.usb_device.specs.Requests.{Lent};
 ghost use Rattle.usb_device.specs.Events.{Event};
-ghost use Rattle.usb_device.specs.Steps.{session};
 ghost use Rattle.usb_device.specs.Through.{calls_of};
-ghost use Rattle.usb_device.specs.ties.Stands.{StandsFor};
+ghost use Rattle.usb_device.specs.Waits.{Moment, Scanned, Released};
+ghost use Rattle.usb_device.specs.ties.Waited.{Waited};
+ghost use Rattle.usb_device.specs.ties.Link1.{Link1, InStep, NothingWithheld, may_send};
+ghost use Rattle.usb_device.specs.ties.Layered.{Layered, PolledOnce, endpoint_set, with_state, is_ready};
 
-use crate::{DeviceLayer, Endpoints, EpAnswer, PollAnswer, Report};
+use crate::report_buffers::{Buffers, ReportBuffers};
+use crate::{Change, DeviceLayer, Endpoint1, Endpoints, EpAnswer, PacketSize, PollAnswer, Report};
 
-/// A device behind its USB device layer.
-pub struct Device<'a, E> {
+/// A device behind its USB device layer, with endpoint 1 behind the buffers of a controller.
+pub struct Device<'a, E, B> {
     layer: DeviceLayer<'a>,
     behind: E,
+    buffers: B,
+    reports: ReportBuffers,
 }
 
-impl<'a, E: Endpoints> Endpoints for Device<'a, E> {
-    ghost stands = { λ calls d. (lent : Lent) × (past : List Event) × StandsFor lent past d.layer × E.stands (session lent past) d.behind × (calls_of past ≡ calls) };
+/// What a change sets endpoint 1 to.
+fn endpoint_set(change: Option<Change>) -> Option<Endpoint1>
+    ensures { result ≡ endpoint_set change }
+{
+    match change {
+        Some(Change::Endpoint(state)) => Some(state),
+        Some(Change::Address(_)) | None => None,
+    }
+}
+
+/// Tells the controller what a status packet sets endpoint 1 to, before the packet is handed over.
+fn follow<B: Buffers>(change: Option<Change>, buffers: &mut B, reports: &mut ReportBuffers)
+    ensures linked { (calls : List EpCall) → Link1 reports.old (B.bus buffers.old) calls → Link1 reports.new (B.bus buffers.new) calls }
+    ensures told { (states : List Endpoint1) → InStep states (B.bus buffers.old)
+        → InStep (with_state (endpoint_set change) states) (B.bus buffers.new) }
+{
+    match endpoint_set(change) {
+        Some(state) => {
+            buffers.begin_anew(state);
+            reports.begin_anew();
+        }
+        None => {}
+    }
+}
+
+/// The report of an answer.
+fn report_of(answer: PollAnswer) -> Option<Report>
+    ensures { option_map (λ r. r.items) result ≡ polled_of answer }
+{
+    match answer {
+        PollAnswer::Data(report) => Some(report),
+        PollAnswer::Nak | PollAnswer::Stall | PollAnswer::Nothing => None,
+    }
+}
+
+impl<'a, E: Endpoints, B: Buffers> Device<'a, E, B> {
+    /// The power comes: the device has no address and is not configured, and the buffers are empty.
+    pub fn new(layer: DeviceLayer<'a>, behind: E, buffers: B, size: PacketSize) -> Device<'a, E, B>
+        ensures stands { (lent : Lent) → StandsFor lent [] layer.entry → E.stands [] behind → B.bus buffers ≡ blank false
+            → Layered E.stands lent [] result.layer result.behind result.reports (B.bus result.buffers) }
+        ensures waits { Waited [] result.reports.left }
+    {
+        Device {
+            layer,
+            behind,
+            buffers,
+            reports: ReportBuffers::new(size),
+        }
+    }
+
+    /// A scan of the matrix, a millisecond after the one before.
+    pub fn scan(&mut self)
+        ensures stands { (lent : Lent) (past : List Event)
+            → Layered E.stands lent past self.old.layer self.old.behind self.old.reports (B.bus self.old.buffers)
+            → Layered E.stands lent past self.new.layer self.new.behind self.new.reports (B.bus self.new.buffers) }
+        ensures waits { (moments : List Moment) → Waited moments self.old.reports.left → Waited (Scanned ∷ moments) self.new.reports.left }
+        ensures less { self.new.reports.left ≡ self.old.reports.left - 1 }
+    {
+        self.reports.scan();
+    }
+
+    /// The host has the status packet of its transfer.
+    pub fn is_done(&mut self)
+        ensures stands { (lent : Lent) (past : List Event)
+            → Layered E.stands lent past self.old.layer self.old.behind self.old.reports (B.bus self.old.buffers)
+            → Layered E.stands lent past self.new.layer self.new.behind self.new.reports (B.bus self.new.buffers) }
+        ensures waits { (moments : List Moment) → Waited (Released ∷ moments) self.new.reports.left }
+    {
+        self.buffers.host_began();
+        self.reports.release(true);
+    }
+
+    /// Takes what the host has taken of endpoint 1, and fills its buffers where it is ready and nothing is waited for: with
+    /// packets of the report under way, or of the next one that the device behind has.
+    ///
+    /// Nothing is withheld: behind the call all of a report, or as much as there are buffers, is in them or was just taken,
+    /// or the device behind has none.
+    pub fn serve_reports(&mut self)
+        ensures stands { (lent : Lent) (past : List Event)
+            → Layered E.stands lent past self.old.layer self.old.behind self.old.reports (B.bus self.old.buffers)
+            → (later : List Event) × Layered E.stands lent later self.new.layer self.new.behind self.new.reports (B.bus self.new.buffers)
+            × NothingWithheld (may_send (is_ready self.old.layer.endpoint) self.old.reports.left) (room_of B.two) self.new.reports (B.bus self.new.buffers) (calls_of later)
+            × PolledOnce past later × (may_send (is_ready self.old.layer.endpoint) self.old.reports.left ≡ false
+            → (later ≡ past) × OnlyTold (B.bus self.old.buffers) (B.bus self.new.buffers)) }
+        ensures waits { self.new.reports.left ≡ self.old.reports.left }
+        ensures same { self.new.layer.endpoint ≡ self.old.layer.endpoint }
+    {
+        let count = self.buffers.taken_1();
+        self.reports.taken(count);
+        if self.is_ready() && self.reports.is_known() {
+            self.ask();
+            self.reports.fill(&mut self.buffers);
+        }
+    }
+
+    /// Whether endpoint 1 is ready.
+    fn is_ready(&self) -> bool
+        ensures { result ≡ is_ready self.now.layer.endpoint }
+    {
+        match self.layer.endpoint_1() {
+            Endpoint1::Ready => true,
+            Endpoint1::Off | Endpoint1::Halted => false,
+        }
+    }
+
+    /// Asks the device behind for a report, where none is under way.
+    fn ask(&mut self)
+        ensures stands { (lent : Lent) (past : List Event)
+            → Layered E.stands lent past self.old.layer self.old.behind self.old.reports (B.bus self.old.buffers)
+            → (later : List Event) × Layered E.stands lent later self.new.layer self.new.behind self.new.reports (B.bus self.new.buffers)
+            × (self.new.reports.course ≡ Rests → (before : List EpCall) × (calls_of later ≡ Polled None ∷ before)) × PolledOnce past later }
+        ensures waits { self.new.reports.left ≡ self.old.reports.left }
+        ensures same { self.new.layer.endpoint ≡ self.old.layer.endpoint }
+    {
+        if self.reports.is_free() {
+            match report_of(self.layer.poll(&mut self.behind)) {
+                Some(report) => self.reports.begin(report),
+                None => {}
+            }
+        }
+    }
+}
+
+impl<'a, E: Endpoints, B: Buffers> Endpoints for Device<'a, E, B> {
+    ghost stands = { λ calls d. (lent : Lent) × (past : List Event) × Layered E.stands lent past d.layer d.behind d.reports (B.bus d.buffers)
+        × (no_polls (calls_of past) ≡ no_polls calls) };
 
     fn setup(&mut self, packet: [u8; 8]) {
         self.layer.setup(packet, &mut self.behind);
+        self.reports.release(false);
     }
 
     fn out(&mut self, packet: &[u8]) -> EpAnswer {
@@ -27,19 +164,19 @@ impl<'a, E: Endpoints> Endpoints for Device<'a, E> {
     }
 
     fn in_packet(&mut self) -> EpAnswer {
-        // A controller that has to be told of the change takes it from the layer itself.
-        let (answer, _change) = self.layer.in_packet(&mut self.behind);
+        let (answer, change) = self.layer.in_packet(&mut self.behind);
+        follow(change, &mut self.buffers, &mut self.reports);
         answer
     }
 
+    /// None: the reports of the device behind go through the buffers.
     fn poll(&mut self) -> Option<Report> {
-        match self.layer.poll(&mut self.behind) {
-            PollAnswer::Data(report) => Some(report),
-            PollAnswer::Nak | PollAnswer::Stall | PollAnswer::Nothing => None,
-        }
+        None
     }
 
     fn bus_reset(&mut self) {
         self.layer.bus_reset(&mut self.behind);
+        self.buffers.forget();
+        self.reports.reset();
     }
 }

@@ -193,6 +193,7 @@ impl<'a> DeviceLayer<'a> {
     /// An IN token of endpoint 1. The device behind is asked only where the endpoint is ready.
     pub fn poll<E: Endpoints>(&mut self, behind: &mut E) -> PollAnswer
         ensures stands { (lent : Lent) (past : List Event) → StandsFor lent past self.old → StandsFor lent (PollAsked result ∷ past) self.new }
+        ensures same { self.new ≡ self.old }
         ensures session { (lent : Lent) (past : List Event) → StandsFor lent past self.old → E.stands (session lent past) behind.old
             → E.stands (session lent (PollAsked result ∷ past)) behind.new }
     {

@@ -6,7 +6,7 @@ ghost use Rattle.std.specs.Option.{option_map};
 ghost use Rattle.usb_device.specs.Calls.{EpCall};
 ghost use Rattle.usb_device.specs.KeyboardCalls.{KbCall, Scanned, KbSetUp, KbOut, KbIn, KbPolled, Worked, KbReset, usb_calls};
 
-use crate::{Endpoints, EpAnswer, Report};
+use crate::{Endpoints, EpAnswer, Report, Works};
 
 /// A keyboard with its flash, by the shape of its clauses.
 pub trait Session {
@@ -80,5 +80,11 @@ impl<K: Session> Endpoints for Keys<K> {
 
     fn bus_reset(&mut self) {
         self.keyboard.bus_reset();
+    }
+}
+
+impl<K: Session> Works for Keys<K> {
+    fn work(&mut self) {
+        let _settled = self.keyboard.work();
     }
 }

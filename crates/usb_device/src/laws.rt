@@ -9,7 +9,7 @@ ghost use Rattle.usb_device.specs.Steps.{AllAnswered, session, state_of};
 ghost use Rattle.usb_device.specs.States.{endpoint_by};
 ghost use Rattle.usb_device.specs.Through.{calls_of};
 ghost use Rattle.usb_device.specs.Bus.{Bus, Seen, InGot, Naks, NaksOut, nothing_met, is_write, setup_of, write_of};
-ghost use Rattle.usb_device.specs.Bus1.{Bus1, reports_of};
+ghost use Rattle.usb_device.specs.Bus1.{Bus1, reports_of, no_polls};
 ghost use Rattle.usb_device.specs.Reports.{GotInOrder};
 ghost use Rattle.usb_device.specs.Waits.{Moment, is_waiting, scans_last};
 ghost use Rattle.usb_device.specs.ties.Link1.{ReportState, Link1};
@@ -38,6 +38,16 @@ pub fn seen_is_confirmed()
 #[tactic(auto, using(crate::proofs::Behind::behind_confirmed))]
 pub fn confirmed_behind()
     ensures { (lent : Lent) (past : List Event) (setup data_ : List ℕ) → AllAnswered lent past → WasConfirmed setup data_ (calls_of past)
+        → WasConfirmed setup data_ (session lent past) }
+{}
+
+/// The guarantee, from the bus to the device behind the layer: what `UsbDevice::serve` keeps of a control write that the host
+/// saw the end of. The host sent this SETUP packet, the controller took this data first, and the host got the empty packet:
+/// then the device behind acknowledged just this data in the transfer of just this SETUP packet, and gave the empty packet.
+pub fn confirmed_on_the_bus()
+    ensures { (t : TransferState) (b : Bus) (calls : List EpCall) (lent : Lent) (past : List Event) (after before : List Seen) (setup data_ : List ℕ)
+        → Link t b calls → AllAnswered lent past → no_polls (calls_of past) ≡ no_polls calls
+        → b.seen ≡ after ++ (InGot [] ∷ before) → setup_of before ≡ Some setup → is_write setup ≡ true → write_of before ≡ Some data_
         → WasConfirmed setup data_ (session lent past) }
 {}
 

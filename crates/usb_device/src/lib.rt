@@ -1,19 +1,20 @@
 //! The USB device layer: what stands between a controller and a device that serves the class requests.
 //!
-//! `DeviceLayer` serves the standard requests of USB 2.0 chapter 9 in each state of the device, with descriptors and names
-//! that a maker lends (`Descriptors`), and hands everything else on to the device behind it (`Endpoints`).
-//! `ControlBuffers` and `ReportBuffers` hand the packets of endpoints 0 and 1 to a controller beforehand (`Controller`,
-//! `Buffers`). It takes no memory and needs no `unsafe`. Sections are those of USB 2.0.
+//! `UsbDevice` is what a loop calls. `DeviceLayer` serves the standard requests of USB 2.0 chapter 9 in each state of the
+//! device, with descriptors and names that a maker lends (`Descriptors`), and hands everything else on to the device behind
+//! it (`Endpoints`). `ControlBuffers` and `ReportBuffers` hand the packets of endpoints 0 and 1 to a controller beforehand
+//! (`Controller`, `Buffers`). `write` makes a whole control write, for a stack that keeps endpoint 0 to itself. It takes no
+//! memory and needs no `unsafe`. Sections are those of USB 2.0.
 //!
 //! The guarantee: a control write that the host saw the end of was acknowledged, and then confirmed by the empty packet, in
-//! the session of the device behind, whatever acknowledgements were lost (`laws::seen_is_confirmed`,
-//! `laws::confirmed_behind`, `laws::confirmed_in_session`). Each answer of a standard request is that of tables 9-3 and
-//! 9-4 in the state that the events before give (`laws::endpoint_is_looked_back`). The host takes as new the reports of the
-//! device, each whole, in their order (`laws::reports_are_got_in_order`): once, and at least once where endpoint 1 begins
-//! anew, whatever data toggle the host then wants. Endpoint 1 waits at most 50 scans for a host that does not take a status
-//! packet. Nothing else is withheld.
+//! the session of the device behind, whatever acknowledgements were lost (`laws::confirmed_on_the_bus`,
+//! `laws::confirmed_in_session`). Each answer of a standard request is that of tables 9-3 and 9-4 in the state that the
+//! events before give (`laws::endpoint_is_looked_back`). The host takes as new the reports of the device, each whole, in
+//! their order (`laws::reports_are_got_in_order`): once, and at least once where endpoint 1 begins anew, whatever data toggle
+//! the host then wants. The controller is told of each change of endpoint 1 before the host. Endpoint 1 waits at most 50 scans
+//! for a host that does not take a status packet. Nothing else is withheld.
 //!
-//! Not yet here: suspend and remote wakeup. The change of a status stage is an answer of `DeviceLayer::in_packet`, and no
+//! Not yet here: suspend and remote wakeup. The address of SET_ADDRESS is an answer of `DeviceLayer::in_packet`, and no
 //! controller is told of it yet.
 #![tactic(auto)]
 
@@ -31,6 +32,8 @@ mod quiet_controller;
 mod report_buffers;
 mod request;
 mod strings;
+mod usb_device;
+mod whole_transfers;
 
 pub use answer::{Change, Endpoint1, EpAnswer, PollAnswer, Report};
 pub use control_buffers::ControlBuffers;
@@ -43,3 +46,5 @@ pub use keyboard_shape::{Keys, Session};
 pub use quiet_controller::QuietController;
 pub use report_buffers::{Buffers, PacketSize, ReportBuffers};
 pub use strings::string_descriptor;
+pub use usb_device::UsbDevice;
+pub use whole_transfers::{TransferError, Works, write};

@@ -1,15 +1,16 @@
 //! Endpoint 1 behind buffers: reports in packets, and data toggles.
 
-ghost use Rattle.std.specs.Prelude.{◌≡◌, ◌⊎◌, ◌≤◌, ◌+◌, ◌-◌, ◌/◌, ◌∷◌, ℕ, ◌<◌, nat_lt, suc, length, Bool, true, false, List, [], take, drop, None};
+ghost use Rattle.std.specs.Prelude.{◌≡◌, ◌⊎◌, ◌≤◌, ◌+◌, ◌-◌, ◌/◌, ◌∷◌, ℕ, ◌<◌, nat_lt, suc, length, Bool, true, false, List, [], take, drop, Some, ◌==◌};
+ghost use Rattle.usb_device.specs.declared.answer.Endpoint1.{Endpoint1};
 ghost use Rattle.usb_device.specs.Calls.{EpCall, BusReset, Polled};
-ghost use Rattle.usb_device.specs.Bus1.{Bus1, Goes1, filled, room_of, told, anew, blank};
+ghost use Rattle.usb_device.specs.Bus1.{Bus1, Goes1, filled, room_of, told, anew, begun_if, blank};
 ghost use Rattle.usb_device.specs.Reports.{count_of};
-ghost use Rattle.usb_device.specs.Waits.{Moment, Held, Scanned, Released, is_waiting};
+ghost use Rattle.usb_device.specs.Waits.{Moment, Held, Scanned, Released};
 ghost use Rattle.usb_device.specs.ties.Waited.{Waited};
-ghost use Rattle.usb_device.specs.ties.Link1.{ReportState, Link1, to_hand, NothingWithheld, PolledOnce, size_of, may_send, is_more, is_over, IsHeld};
+ghost use Rattle.usb_device.specs.ties.Link1.{ReportState, Link1, to_hand, size_of, is_more, is_over, IsHeld, InStep};
 ghost use Rattle.usb_device.specs.declared.report_buffers.Course.TheVariants.{Rests, Begins, Goes};
 
-use crate::{Endpoints, Report};
+use crate::{Endpoint1, Report};
 use arrayvec::ArrayVec;
 use std::marker::Model;
 
@@ -25,7 +26,23 @@ pub trait Buffers {
     fn has_two(&self) -> bool
         ensures { result ≡ two };
 
-    /// Puts a packet into a free buffer; there is one. Without effect after a reset that was not told.
+    /// How many packets the host has taken, and acknowledged; told once.
+    fn taken_1(&mut self) -> usize
+        ensures { (steps : List Bus1) × (mid : Bus1) × Goes1 steps (bus self.old) mid × (result ≡ mid.taken) × (bus self.new ≡ told mid) };
+
+    /// Endpoint 1 is this from now on, with empty buffers and DATA0. Without effect after a reset that `forget` did not follow.
+    fn begin_anew(&mut self, state: Endpoint1)
+        ensures { (steps : List Bus1) × (mid : Bus1) × Goes1 steps (bus self.old) mid × (bus self.new ≡ anew mid state) };
+
+    /// The host has the status packet of the request behind the last `begin_anew`. Such a host has begun anew.
+    fn host_began(&mut self)
+        ensures { (steps : List Bus1) × (mid : Bus1) × Goes1 steps (bus self.old) mid × (bus self.new ≡ begun_if mid.opened mid) };
+
+    /// Follows a reset of the bus: endpoint 1 is off, with empty buffers and DATA0.
+    fn forget(&mut self)
+        ensures { bus self.new ≡ blank false };
+
+    /// Puts a packet into a free buffer; there is one. Without effect after a reset that `forget` did not follow.
     fn input_1(&mut self, packet: Report)
         ensures { (steps : List Bus1) × (mid : Bus1) × Goes1 steps (bus self.old) mid
             × (length mid.slots < room_of two → bus self.new ≡ filled mid packet.items) };
@@ -158,7 +175,7 @@ impl ReportBuffers {
     /// The controller empties the buffers, and begins with DATA0: a request that sets endpoint 1 is answered by its status
     /// packet. A report that the host has not whole begins anew, and nothing is handed over until `release` or 50 scans.
     pub fn begin_anew(&mut self)
-        ensures linked { (b : Bus1) (calls : List EpCall) → Link1 self.old b calls → Link1 self.new (anew b) calls }
+        ensures linked { (state : Endpoint1) (b : Bus1) (calls : List EpCall) → Link1 self.old b calls → Link1 self.new (anew b state) calls }
         ensures waits { (moments : List Moment) → Waited (Held ∷ moments) self.new.left }
     {
         self.unsure = true;
@@ -172,6 +189,7 @@ impl ReportBuffers {
     /// A scan of the matrix, a millisecond after the one before.
     pub fn scan(&mut self)
         ensures waits { (moments : List Moment) → Waited moments self.old.left → Waited (Scanned ∷ moments) self.new.left }
+        ensures less { self.new.left ≡ self.old.left - 1 }
         ensures linked { (b : Bus1) (calls : List EpCall) → Link1 self.old b calls → Link1 self.new b calls }
     {
         self.waits = self.waits.saturating_sub(1);
@@ -202,7 +220,7 @@ impl ReportBuffers {
 
     /// So many packets were taken since this was told before.
     pub fn taken(&mut self, count: usize)
-        ensures linked { (b : Bus1) (calls : List EpCall) → b.reset ≡ false → b.taken ≡ count → Link1 self.old b calls
+        ensures linked { (b : Bus1) (calls : List EpCall) → b.taken ≡ count → Link1 self.old b calls
             → Link1 self.new (told b) calls }
         ensures waits { self.new.left ≡ self.old.left }
     {
@@ -231,54 +249,41 @@ impl ReportBuffers {
         self.due > 0 || self.again
     }
 
-    /// Fills the free buffers, where endpoint 1 is ready and nothing is waited for: with packets of the report under way, or
-    /// of the next one that is due.
-    ///
-    /// What the host takes as new are the reports that the device gave, each whole, in their order: once, or more often where
-    /// the device began anew. Nothing is withheld: behind the call all of a report, or as much as there are buffers, is in
-    /// them or was just taken, or the device has none.
-    pub fn serve<E: Endpoints, B: Buffers>(
-        &mut self,
-        is_ready: bool,
-        device: &mut E,
-        buffers: &mut B,
-    )
-        ensures linked { (moments : List Moment) (calls : List EpCall) → Waited moments self.old.left → E.stands calls device.old
-            → Link1 self.old (B.bus buffers.old) calls
-            → (later : List EpCall) × E.stands later device.new × Link1 self.new (B.bus buffers.new) later
-            × NothingWithheld (may_send is_ready moments) (room_of B.two) self.new (B.bus buffers.new) later
-            × (may_send is_ready moments ≡ false → (later ≡ calls) × (buffers.new ≡ buffers.old)) × PolledOnce calls later }
-        ensures waits { self.new.left ≡ self.old.left }
+    /// Whether nothing is waited for.
+    pub fn is_known(&self) -> bool
+        ensures { result ≡ (self.now.left == 0) }
     {
-        if is_ready && self.waits == 0 {
-            self.ask(device);
-            self.fill(buffers);
+        self.waits == 0
+    }
+
+    /// Whether no report is under way.
+    pub fn is_free(&self) -> bool
+        ensures free { result ≡ true → self.now.course ≡ Rests }
+        ensures busy { result ≡ false → self.now.course ≡ Rests → ⊥ }
+    {
+        match self.course {
+            Course::Rests => true,
+            Course::Begins | Course::Goes => false,
         }
     }
 
-    /// Asks the device for a report, where none is under way.
-    fn ask<E: Endpoints>(&mut self, device: &mut E)
-        ensures linked { (b : Bus1) (calls : List EpCall) → E.stands calls device.old → Link1 self.old b calls
-            → (later : List EpCall) × E.stands later device.new × Link1 self.new b later × PolledOnce calls later
-            × (self.new.course ≡ Rests → (before : List EpCall) × (later ≡ Polled None ∷ before)) }
+    /// A report that the device gave is under way. For buffers that are free.
+    pub fn begin(&mut self, report: Report)
+        ensures linked { (b : Bus1) (calls : List EpCall) → self.old.course ≡ Rests → Link1 self.old b calls
+            → Link1 self.new b (Polled (Some report.items) ∷ calls) }
+        ensures begins { self.new.course ≡ Begins }
         ensures waits { self.new.left ≡ self.old.left }
     {
-        match self.course {
-            Course::Rests => match device.poll() {
-                Some(report) => {
-                    self.report = report;
-                    self.course = Course::Begins;
-                }
-                None => {}
-            },
-            Course::Begins | Course::Goes => {}
-        }
+        self.report = report;
+        self.course = Course::Begins;
     }
 
     /// Hands over packets of the report under way, while there are free buffers.
-    fn fill<B: Buffers>(&mut self, buffers: &mut B)
+    pub fn fill<B: Buffers>(&mut self, buffers: &mut B)
         ensures linked { (calls : List EpCall) → Link1 self.old (B.bus buffers.old) calls → Link1 self.new (B.bus buffers.new) calls }
         ensures held { (self.new.course ≡ Goes) × IsHeld (room_of B.two) self.new ⊎ (self.old.course ≡ Rests) × (buffers.new ≡ buffers.old) × (self.new ≡ self.old) }
+        ensures told { (states : List Endpoint1) (calls : List EpCall) → Link1 self.old (B.bus buffers.old) calls
+            → InStep states (B.bus buffers.old) → InStep states (B.bus buffers.new) }
         ensures waits { self.new.left ≡ self.old.left }
     {
         match self.course {
@@ -300,6 +305,8 @@ impl ReportBuffers {
             → Link1 self.new (B.bus buffers.new) calls }
         ensures goes { self.new.course ≡ Goes }
         ensures one { self.new.buffered ≡ 1 }
+        ensures told { (states : List Endpoint1) (calls : List EpCall) → self.old.course ≡ Begins → Link1 self.old (B.bus buffers.old) calls
+            → InStep states (B.bus buffers.old) → InStep states (B.bus buffers.new) }
         ensures waits { self.new.left ≡ self.old.left }
     {
         self.restart();
@@ -316,6 +323,8 @@ impl ReportBuffers {
         ensures goes { self.new.course ≡ self.old.course }
         ensures none { IsHeld (room_of B.two) self.old → self.new ≡ self.old }
         ensures more { (self.new ≡ self.old) × IsHeld (room_of B.two) self.old ⊎ (self.new.buffered ≡ self.old.buffered + 1) }
+        ensures told { (states : List Endpoint1) (calls : List EpCall) → self.old.course ≡ Goes → Link1 self.old (B.bus buffers.old) calls
+            → InStep states (B.bus buffers.old) → InStep states (B.bus buffers.new) }
         ensures waits { self.new.left ≡ self.old.left }
     {
         if self.buffered < room(buffers) && self.is_more() {

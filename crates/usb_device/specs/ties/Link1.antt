@@ -1,12 +1,12 @@
 -- Only ties code to its definitions: how the buffers of endpoint 1 and the session hang together.
-use Rattle.std.specs.Prelude.{◌≡◌, ◌⊎◌, ◌≤◌, nat_lt, ◌==◌, ◌&&◌, ◌||◌, not, ℕ, ◌+◌, Bool, true, false, List, [], ◌∷◌, ◌++◌, length, Option, None}
+use Rattle.std.specs.Prelude.{◌≡◌, ◌⊎◌, ◌≤◌, nat_lt, ◌==◌, ◌&&◌, ◌||◌, not, ℕ, ◌+◌, Bool, true, false, List, [], ◌∷◌, ◌++◌, length, None}
 use Rattle.usb_device.specs.declared.report_buffers.PacketSize.{PacketSize}
 use Rattle.usb_device.specs.declared.report_buffers.PacketSize.TheVariants as Sizes
-use Rattle.usb_device.specs.Waits.{Moment, is_waiting}
 use Rattle.usb_device.specs.declared.report_buffers.Course.{Course}
 use Rattle.usb_device.specs.declared.report_buffers.Course.TheVariants.{Rests, Begins, Goes}
+use Rattle.usb_device.specs.declared.answer.Endpoint1.{Endpoint1}
 use Rattle.usb_device.specs.Calls.{EpCall, Polled}
-use Rattle.usb_device.specs.Bus1.{Got, Anew, Bus1, blank, agree, reports_of}
+use Rattle.usb_device.specs.Bus1.{Got, Anew, Bus1, blank, agree, reports_of, states_told}
 use Rattle.usb_device.specs.Reports.{cut, packets_of, with_new, IsPacket, HasAnew, Carries, Begun}
 
 abbrev pub size_of : PacketSize → ℕ
@@ -71,7 +71,7 @@ pub record Free (unsure : Bool) (b : Bus1) : Type 0 where
 pub record Resting (s : ReportState) (b : Bus1) (calls : List EpCall) : Type 0 where
   pub free : Free s.unsure b
   pub carried : Carries s.size b.got (reports_of calls)
-  pub marked : s.unsure ≡ true → (before : List Got) × (b.got ≡ Anew ∷ before) × Carries s.size before (reports_of calls)
+  pub marked : s.unsure ≡ true → (state : Endpoint1) × (before : List Got) × (b.got ≡ Anew state ∷ before) × Carries s.size before (reports_of calls)
 
 -- one is to be handed over from its first packet on
 pub record Beginning (s : ReportState) (b : Bus1) (calls : List EpCall) : Type 0 where
@@ -109,8 +109,8 @@ abbrev pub IsHeld : ℕ → ReportState → Type 0
 IsHeld room s = (to_hand s ≡ []) ⊎ (room ≤ s.buffered)
 
 -- endpoint 1 is ready, and waits for nothing
-abbrev pub may_send : Bool → List Moment → Bool
-may_send is_ready moments = is_ready && not (is_waiting moments)
+abbrev pub may_send : Bool → ℕ → Bool
+may_send is_ready left = is_ready && (left == 0)
 
 -- nothing is withheld: endpoint 1 may not send; or a reset is to be looked at; or packets are in the buffers or were just taken,
 -- and all of the report is handed over, or as much as there are buffers; or the device, asked last, has none
@@ -121,6 +121,6 @@ pub data NothingWithheld (may : Bool) (room : ℕ) (s : ReportState) (b : Bus1) 
   all_full : nat_lt 0 (length b.slots + b.taken) ≡ true → room ≤ length b.slots + b.taken → NothingWithheld may room s b calls
   has_none : (before : List EpCall) → b.slots ≡ [] → calls ≡ Polled None ∷ before → NothingWithheld may room s b calls
 
--- the calls are these, or one poll more
-abbrev pub PolledOnce : List EpCall → List EpCall → Type 0
-PolledOnce calls later = (later ≡ calls) ⊎ ((answer : Option (List ℕ)) × (later ≡ Polled answer ∷ calls))
+-- the controller was told of each of these, and of nothing else
+abbrev pub InStep : List Endpoint1 → Bus1 → Type 0
+InStep states b = b.reset ≡ false → states_told b.got ≡ states

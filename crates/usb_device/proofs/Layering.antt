@@ -1,0 +1,131 @@
+-- What keeps a device with its layer and its buffers in step.
+use Rattle.std.proofs.Common.{◌≡◌, inl, inr, ℕ, Bool, true, false, List, [], ◌∷◌, refl, sym, ap, subst, ◌∙◌}
+use Rattle.usb_device.specs.declared.answer.Endpoint1.{Endpoint1}
+use Rattle.usb_device.specs.declared.answer.EpAnswer.TheVariants.{Ack, Nak, Packet, Stall}
+use Rattle.usb_device.specs.Calls.{EpCall, SetUp, Out, In, Polled, BusReset}
+use Rattle.usb_device.specs.Confirmed.{asked_of, taken_of, WasConfirmed}
+use Rattle.usb_device.specs.Events.{Event}
+use Rattle.usb_device.specs.Through.{calls_of}
+use Rattle.usb_device.specs.ties.Layered.{PolledOnce}
+use Rattle.usb_device.specs.Bus1.{Got, Bus1, agree, received, Happens1, takes, loses, host_begins, resets1, Goes1, told, unless_reset, filled, anew, begun_if, with_host_anew, states_told, no_polls}
+use Rattle.usb_device.specs.ties.Link1.{ReportState, Link1, InStep}
+use Rattle.usb_device.proofs.Carrying.{true_false}
+use Rattle.usb_device.proofs.Reporting.{step1, goes1}
+
+received_states : (a : Bool) (packet : List ℕ) (got : List Got) → states_told (received a packet got) ≡ states_told got
+received_states true packet got = refl
+received_states false packet got = refl
+
+in_step1 : (states : List Endpoint1) (b next : Bus1) → Happens1 b next → InStep states b → InStep states next
+in_step1 states b next (takes packet rest i e) h =
+    let P : Bus1 → Type 0 = λ x. InStep states x in subst P (sym e) (λ r. received_states (agree b) packet b.got ∙ h r)
+in_step1 states b next (loses packet rest i e) h =
+    let P : Bus1 → Type 0 = λ x. InStep states x in subst P (sym e) (λ r. received_states (agree b) packet b.got ∙ h r)
+in_step1 states b next (host_begins o e) h = let P : Bus1 → Type 0 = λ x. InStep states x in subst P (sym e) h
+in_step1 states b next (resets1 e) h = let P : Bus1 → Type 0 = λ x. InStep states x in subst P (sym e) (λ r. absurd (true_false r))
+
+pub goes_in_step : (steps : List Bus1) (states : List Endpoint1) (b next : Bus1) → Goes1 steps b next → InStep states b → InStep states next
+goes_in_step [] states b next e h = let P : Bus1 → Type 0 = λ x. InStep states x in subst P (sym e) h
+goes_in_step (mid ∷ rest) states b next g h = goes_in_step rest states mid next g.1 (in_step1 states b mid g.0 h)
+
+unless_in_step : (reset : Bool) (states others : List Endpoint1) (b other : Bus1) → b.reset ≡ reset → InStep states b → (reset ≡ false → InStep others other)
+    → InStep others (unless_reset reset b other)
+unless_in_step true states others b other e h k = λ r. absurd (true_false (sym e ∙ r))
+unless_in_step false states others b other e h k = k refl
+
+pub filled_in_step : (steps : List Bus1) (states : List Endpoint1) (b mid new : Bus1) (packet : List ℕ) → Goes1 steps b mid → new ≡ filled mid packet
+    → InStep states b → InStep states new
+filled_in_step steps states b mid new packet g e h =
+    let P : Bus1 → Type 0 = λ x. InStep states x in
+    let m = goes_in_step steps states b mid g h in
+    subst P (sym e) (unless_in_step mid.reset states states mid _ refl m (λ _. m))
+
+pub told_in_step : (steps : List Bus1) (states : List Endpoint1) (b mid new : Bus1) → Goes1 steps b mid → new ≡ told mid → InStep states b → InStep states new
+told_in_step steps states b mid new g e h =
+    let P : Bus1 → Type 0 = λ x. InStep states x in subst P (sym e) (goes_in_step steps states b mid g h)
+
+pub anew_in_step : (steps : List Bus1) (states : List Endpoint1) (state : Endpoint1) (b mid new : Bus1) → Goes1 steps b mid → new ≡ anew mid state
+    → InStep states b → InStep (state ∷ states) new
+anew_in_step steps states state b mid new g e h =
+    let P : Bus1 → Type 0 = λ x. InStep (state ∷ states) x in
+    let m = goes_in_step steps states b mid g h in
+    subst P (sym e) (unless_in_step mid.reset states (state ∷ states) mid _ refl m (λ f r. ap (λ x. state ∷ x) (m r)))
+
+begun_in_step : (opened : Bool) (states : List Endpoint1) (b : Bus1) → InStep states b → InStep states (begun_if opened b)
+begun_in_step true states b h = h
+begun_in_step false states b h = h
+
+pub began_in_step : (steps : List Bus1) (states : List Endpoint1) (b mid new : Bus1) → Goes1 steps b mid → new ≡ begun_if mid.opened mid
+    → InStep states b → InStep states new
+began_in_step steps states b mid new g e h =
+    let P : Bus1 → Type 0 = λ x. InStep states x in subst P (sym e) (begun_in_step mid.opened states mid (goes_in_step steps states b mid g h))
+
+begun_link : (opened : Bool) (s : ReportState) (b : Bus1) (calls : List EpCall) → b.opened ≡ opened → Link1 s b calls → Link1 s (begun_if opened b) calls
+begun_link true s b calls o h = step1 s b (with_host_anew b) calls (host_begins o refl) h
+begun_link false s b calls o h = h
+
+pub began_link : (steps : List Bus1) (s : ReportState) (b mid new : Bus1) (calls : List EpCall) → Goes1 steps b mid → new ≡ begun_if mid.opened mid
+    → Link1 s b calls → Link1 s new calls
+began_link steps s b mid new calls g e h =
+    let P : Bus1 → Type 0 = λ x. Link1 s x calls in subst P (sym e) (begun_link mid.opened s mid calls refl (goes1 steps s b mid calls g h))
+
+begun_host : (opened : Bool) (b : Bus1) → b.opened ≡ opened → (begun_if opened b).opened ≡ true → (begun_if opened b).host ≡ false
+begun_host true b o e = refl
+begun_host false b o e = absurd (true_false (sym e ∙ o))
+
+pub began_host : (mid new : Bus1) → new ≡ begun_if mid.opened mid → new.opened ≡ true → new.host ≡ false
+began_host mid new e = let P : Bus1 → Type 0 = λ x. x.opened ≡ true → x.host ≡ false in subst P (sym e) (begun_host mid.opened mid refl)
+
+-- a poll is nothing to endpoint 0
+pub polled_once : (past later : List Event) → PolledOnce past later → no_polls (calls_of later) ≡ no_polls (calls_of past)
+polled_once past later (inl e) = ap (λ x. no_polls (calls_of x)) e
+polled_once past later (inr p) = ap (λ x. no_polls (calls_of x)) p.1
+
+asked_same : (calls : List EpCall) → asked_of (no_polls calls) ≡ asked_of calls
+asked_same [] = refl
+asked_same (SetUp bytes ∷ before) = refl
+asked_same (Out packet answer ∷ before) = asked_same before
+asked_same (In answer ∷ before) = asked_same before
+asked_same (Polled answer ∷ before) = asked_same before
+asked_same (BusReset ∷ before) = refl
+
+taken_same : (calls : List EpCall) → taken_of (no_polls calls) ≡ taken_of calls
+taken_same [] = refl
+taken_same (SetUp bytes ∷ before) = refl
+taken_same (Out packet Ack ∷ before) = refl
+taken_same (Out packet Nak ∷ before) = taken_same before
+taken_same (Out packet (Packet bytes) ∷ before) = taken_same before
+taken_same (Out packet Stall ∷ before) = taken_same before
+taken_same (In answer ∷ before) = taken_same before
+taken_same (Polled answer ∷ before) = taken_same before
+taken_same (BusReset ∷ before) = refl
+
+confirmed_to : (s d : List ℕ) (calls : List EpCall) → WasConfirmed s d calls → WasConfirmed s d (no_polls calls)
+confirmed_to s d [] w = w
+confirmed_to s d (SetUp bytes ∷ before) (inl e) = cc
+confirmed_to s d (SetUp bytes ∷ before) (inr w) = inr (confirmed_to s d before w)
+confirmed_to s d (Out packet answer ∷ before) (inl e) = cc
+confirmed_to s d (Out packet answer ∷ before) (inr w) = inr (confirmed_to s d before w)
+confirmed_to s d (In answer ∷ before) (inl e) = inl (e.0, asked_same before ∙ e.1, taken_same before ∙ e.2)
+confirmed_to s d (In answer ∷ before) (inr w) = inr (confirmed_to s d before w)
+confirmed_to s d (Polled answer ∷ before) (inl e) = cc
+confirmed_to s d (Polled answer ∷ before) (inr w) = confirmed_to s d before w
+confirmed_to s d (BusReset ∷ before) (inl e) = cc
+confirmed_to s d (BusReset ∷ before) (inr w) = inr (confirmed_to s d before w)
+
+confirmed_from : (s d : List ℕ) (calls : List EpCall) → WasConfirmed s d (no_polls calls) → WasConfirmed s d calls
+confirmed_from s d [] w = w
+confirmed_from s d (SetUp bytes ∷ before) (inl e) = cc
+confirmed_from s d (SetUp bytes ∷ before) (inr w) = inr (confirmed_from s d before w)
+confirmed_from s d (Out packet answer ∷ before) (inl e) = cc
+confirmed_from s d (Out packet answer ∷ before) (inr w) = inr (confirmed_from s d before w)
+confirmed_from s d (In answer ∷ before) (inl e) = inl (e.0, sym (asked_same before) ∙ e.1, sym (taken_same before) ∙ e.2)
+confirmed_from s d (In answer ∷ before) (inr w) = inr (confirmed_from s d before w)
+confirmed_from s d (Polled answer ∷ before) w = inr (confirmed_from s d before w)
+confirmed_from s d (BusReset ∷ before) (inl e) = cc
+confirmed_from s d (BusReset ∷ before) (inr w) = inr (confirmed_from s d before w)
+
+-- but for polls the calls are the same
+pub confirmed_same : (s d : List ℕ) (calls others : List EpCall) → no_polls others ≡ no_polls calls → WasConfirmed s d calls → WasConfirmed s d others
+confirmed_same s d calls others e w =
+    let P : List EpCall → Type 0 = λ x. WasConfirmed s d x in confirmed_from s d others (subst P (sym e) (confirmed_to s d calls w))

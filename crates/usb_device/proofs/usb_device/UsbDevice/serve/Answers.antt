@@ -1,0 +1,30 @@
+use Rattle.std.proofs.Common.{ℕ, sym, subst, ◌∙◌}
+use Rattle.usb_device.specs.Bus1.{room_of}
+use Rattle.usb_device.specs.Through.{calls_of}
+use Rattle.usb_device.specs.Transfers.{TransferState, NothingWithheld0}
+use Rattle.usb_device.specs.declared.answer.Endpoint1.{Endpoint1}
+use Rattle.usb_device.specs.ties.Link.{Link}
+use Rattle.usb_device.specs.ties.Link1.{NothingWithheld, may_send}
+use Rattle.usb_device.specs.ties.Layered.{is_ready}
+use Rattle.usb_device.proofs.Layering.{polled_once}
+use Rattle.usb_device.proofs.usb_device.UsbDevice.serve.Goals as goal
+
+pub returns : goal.returns
+returns g c = λ calls lent past h.
+    let a = c.serve.ensures calls (lent, past, h.2, h.3) h.0 h.1 in
+    let bus = g.C.Controller.bus c.serve.new.controller in
+    let b = g.B.Buffers.bus c.serve_reports.new.self.buffers in
+    let settled = c.settle.ensures.stands a.1.0 a.1.1 a.1.2 in
+    let r = c.serve_reports.ensures.stands a.1.0 a.1.1 settled in
+    let T : TransferState → Type 0 = λ x. Link x bus a.0 in
+    let N : TransferState → Type 0 = λ x. NothingWithheld0 x bus a.0 in
+    let E : Endpoint1 → Type 0 = λ x. NothingWithheld (may_send (is_ready x) c.settle.new.self.device.reports.left) (room_of g.B.Buffers.two) c.serve_reports.new.self.reports b (calls_of r.0) in
+    let L : ℕ → Type 0 =
+    λ x. NothingWithheld (may_send (is_ready c.serve_reports.new.self.layer.endpoint) x) (room_of g.B.Buffers.two) c.serve_reports.new.self.reports b (calls_of r.0)
+    in (
+      a.0,
+      a.1.0,
+      r.0,
+      (subst T (sym c.settle.ensures.same) a.2, subst N (sym c.settle.ensures.same) a.3, r.1, polled_once a.1.1 r.0 r.3 ∙ a.1.3),
+      subst L (sym c.serve_reports.ensures.waits) (subst E (sym c.serve_reports.ensures.same) r.2),
+    )

@@ -1,0 +1,84 @@
+//! A device with its layer and its buffers, behind a controller: what a loop calls.
+
+ghost use Rattle.std.specs.Prelude.{◌≡◌, ◌-◌, [], false, List};
+ghost use Rattle.usb_device.specs.Calls.{EpCall};
+ghost use Rattle.usb_device.specs.Bus.{Bus};
+ghost use Rattle.usb_device.specs.Bus1.{blank, room_of};
+ghost use Rattle.usb_device.specs.Requests.{Lent};
+ghost use Rattle.usb_device.specs.Events.{Event};
+ghost use Rattle.usb_device.specs.Through.{calls_of};
+ghost use Rattle.usb_device.specs.Transfers.{Idle, is_done};
+ghost use Rattle.usb_device.specs.ties.Stands.{StandsFor};
+ghost use Rattle.usb_device.specs.ties.Link1.{NothingWithheld, may_send};
+ghost use Rattle.usb_device.specs.ties.Layered.{Layered, Runs, is_ready};
+
+use crate::report_buffers::Buffers;
+use crate::{ControlBuffers, Controller, Device, DeviceLayer, Endpoints, PacketSize};
+
+/// A device with its layer and its buffers, behind a controller that is handed packets beforehand.
+///
+/// A loop calls `serve` when an interrupt of the controller has come, and behind each scan; it may be called at any time.
+/// `scan` tells that a millisecond has gone by.
+pub struct UsbDevice<'a, E, B> {
+    control: ControlBuffers,
+    device: Device<'a, E, B>,
+}
+
+impl<'a, E: Endpoints, B: Buffers> UsbDevice<'a, E, B> {
+    /// The power comes: the device has no address and is not configured, and the buffers are empty.
+    pub fn new(
+        layer: DeviceLayer<'a>,
+        behind: E,
+        buffers: B,
+        size: PacketSize,
+    ) -> UsbDevice<'a, E, B>
+        ensures { (lent : Lent) → StandsFor lent [] layer.entry → E.stands [] behind → B.bus buffers ≡ blank false
+            → (result.control ≡ Idle)
+            × Layered E.stands lent [] result.device.layer result.device.behind result.device.reports (B.bus result.device.buffers) }
+    {
+        UsbDevice {
+            control: ControlBuffers::new(),
+            device: Device::new(layer, behind, buffers, size),
+        }
+    }
+
+    /// A scan of the matrix, a millisecond after the one before.
+    pub fn scan(&mut self)
+        ensures runs { (b : Bus) (calls : List EpCall) (lent : Lent) (past : List Event)
+            → Runs E.stands self.old.control b calls lent past self.old.device.layer self.old.device.behind self.old.device.reports (B.bus self.old.device.buffers)
+            → Runs E.stands self.new.control b calls lent past self.new.device.layer self.new.device.behind self.new.device.reports (B.bus self.new.device.buffers) }
+        ensures waits { self.new.device.reports.left ≡ self.old.device.reports.left - 1 }
+    {
+        self.device.scan();
+    }
+
+    /// Takes what the controller has met, and fills its buffers.
+    ///
+    /// What a host saw the end of is confirmed by the device behind (`laws::confirmed_on_the_bus`), and the host takes as new
+    /// the reports of the device behind, each whole, in their order (`laws::reports_are_got_in_order`). Nothing is withheld.
+    pub fn serve<C: Controller>(&mut self, controller: &mut C)
+        ensures { (calls : List EpCall) (lent : Lent) (past : List Event)
+            → Runs E.stands self.old.control (C.bus controller.old) calls lent past self.old.device.layer self.old.device.behind self.old.device.reports (B.bus self.old.device.buffers)
+            → (later : List EpCall) × (named : Lent) × (since : List Event)
+            × Runs E.stands self.new.control (C.bus controller.new) later named since self.new.device.layer self.new.device.behind self.new.device.reports (B.bus self.new.device.buffers)
+            × NothingWithheld (may_send (is_ready self.new.device.layer.endpoint) self.new.device.reports.left) (room_of B.two) self.new.device.reports
+            (B.bus self.new.device.buffers) (calls_of since) }
+    {
+        self.control.serve(&mut self.device, controller);
+        self.settle();
+        self.device.serve_reports();
+    }
+
+    /// Endpoint 1 goes on once the host has the status packet.
+    fn settle(&mut self)
+        ensures stands { (lent : Lent) (past : List Event)
+            → Layered E.stands lent past self.old.device.layer self.old.device.behind self.old.device.reports (B.bus self.old.device.buffers)
+            → Layered E.stands lent past self.new.device.layer self.new.device.behind self.new.device.reports (B.bus self.new.device.buffers) }
+        ensures known { is_done self.old.control ≡ false → self.new ≡ self.old }
+        ensures same { self.new.control ≡ self.old.control }
+    {
+        if self.control.is_done() {
+            self.device.is_done();
+        }
+    }
+}
