@@ -11,7 +11,7 @@ no_span logical =
     if int_lt logical.min logical.max then None else
     (if int_lt logical.max logical.min then Some InvertedLimits else Some EqualLimits)
 
--- extents that items declare: numbers of 32 bits, signed or not
+-- extents that are at most 2 ^ 32 from 0, as all that items declare
 abbrev pub are_of_items : Extents → Bool
 are_of_items extents = not (nat_lt (2 ^ 32) (unsigned_abs extents.min)) && not (nat_lt (2 ^ 32) (unsigned_abs extents.max))
 

@@ -28,14 +28,14 @@ pub enum NoPhysical {
     EqualLimits,
     /// The Logical Minimum is over the Logical Maximum.
     InvertedLimits,
-    /// A physical extent is none that an item declares: a number of 32 bits, signed or not.
+    /// A physical extent is over 2 ^ 32 or under -2 ^ 32; those that items declare are not.
     LargeExtents,
 }
 
 /// The physical value of a logical one: the line through the logical and the physical extents, also past their ends.
 ///
 /// The errors: `EqualLimits` where the logical extents are equal, `InvertedLimits` where the minimum is over the maximum,
-/// and then `LargeExtents` where a physical extent is no number of 32 bits; those of a descriptor all are.
+/// and then `LargeExtents` where a physical extent is over 2 ^ 32 or under -2 ^ 32; those of a descriptor are not.
 pub fn physical_value(
     logical: Extents,
     physical: Extents,
@@ -55,12 +55,12 @@ pub fn physical_value(
     Ok(reduced(numerator, logical.max.abs_diff(logical.min), exponent))
 }
 
-/// Whether extents are numbers that items declare.
+/// Whether extents are at most so far from 0 as those that items declare may be.
 fn are_of_items(extents: Extents) -> bool {
     extents.min.unsigned_abs() <= MOST && extents.max.unsigned_abs() <= MOST
 }
 
-/// How far from 0 a number of 32 bits may be, signed or not.
+/// More than how far from 0 a number of 32 bits is, signed or not.
 const MOST: u64 = 1 << 32;
 
 /// The physical value times the logical span.
