@@ -8,18 +8,21 @@ import acceptance
 import by_hand
 from room import ROOT, Failed, Skipped, proptest, say
 
+# All of the crates that a firmware takes.
+FEATURES = "wuzhikar/sim,wuzhikar-log/sim,wuzhikar-log/settings"
+
 
 def crates(room, _):
     """Builds, tests and documents the crates as they are committed. A warning is a fault."""
     example(room, "hid_driver")  # (the tests of wuzhikar-hid take its descriptors)
     room.cargo("build", "--release", "--workspace")
-    room.tests("--features", "sim", "-p", "wuzhikar", "-p", "wuzhikar-log", name="wuzhikar and wuzhikar-log with their docs")
+    room.tests("--features", FEATURES, "-p", "wuzhikar", "-p", "wuzhikar-log", name="wuzhikar and wuzhikar-log with their docs")
     room.tests("-p", "wuzhikar-reader", "-p", "wuzhikar-hid", "-p", "wuzhikar-device", "-p", "kbsim", name="the other crates with their docs")
 
 
 def documents(room, _):
     """Makes the documents of all crates, and lists what each would publish."""
-    room.cargo("doc", "--workspace", "--no-deps", "--features", "wuzhikar/sim,wuzhikar-log/sim", RUSTDOCFLAGS="-D warnings")
+    room.cargo("doc", "--workspace", "--no-deps", "--features", FEATURES, RUSTDOCFLAGS="-D warnings")
     for crate in sorted(os.listdir(room.rust)):
         if not os.path.isdir(f"{room.rust}/{crate}/src") or crate == "tests":
             continue
@@ -43,7 +46,7 @@ def lints(room, _):
             if room.run(["rustfmt", "--edition", "2024", "--config-path", f"{room.rust}/rustfmt.toml"], given=text) != text:
                 raise Failed(f"rust/{name} is not as rustfmt writes it")
     example(room, "hid_driver")  # (the tests of wuzhikar-hid take its descriptors)
-    for more in ([], ["--features", "wuzhikar/sim,wuzhikar-log/sim"]):
+    for more in ([], ["--features", FEATURES]):
         room.cargo("clippy", "--workspace", "--all-targets", *more, "--", "-D", "warnings")
     room.cargo("clippy", "--all-targets", "--", "-D", "warnings", cwd=f"{room.rust}/tests", **proptest())
 
