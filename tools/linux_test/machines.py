@@ -74,7 +74,7 @@ def boot(work, programs, reports):
 def linux(work, keyboard, booted, words):
     """What a stock Linux says that boots with these words, with a keyboard behind its own controller, whose hands are at the second
     serial line."""
-    words = f"console=ttyS0 quiet panic=-1 i8042.nokbd i8042.noaux suspend.pm_test_delay=1 nowatchdog wire={keyboard.serial} {words}"
+    words = f"console=ttyS0 quiet panic=-1 i8042.nokbd i8042.noaux suspend.pm_test_delay=1 nowatchdog no_timer_check wire={keyboard.serial} {words}"
     path, image = f"{work}/{keyboard.serial}", f"{work}/{keyboard.serial}.image"
     with open(image, "wb") as file:
         file.write(guest.full_image())
