@@ -22,6 +22,7 @@ WANTED = [
     ("librust-thiserror-dev", "/usr/share/cargo/registry/thiserror-*"),
     ("librust-clap-complete-dev", "/usr/share/cargo/registry/clap_complete-*"),
     ("librust-proptest-dev", "/usr/share/cargo/registry/proptest-*"),
+    ("librust-proptest+std-dev", "/usr/share/cargo/registry/quick-error-*"),
     ("gcc", "cc"),
     ("gcc-multilib", "/usr/lib32/crt1.o"),
     ("valgrind", "valgrind"),

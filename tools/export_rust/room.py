@@ -48,10 +48,11 @@ def debian_sources():
 
 def proptest():
     """The variables by which cargo finds the crate proptest too."""
-    lacks = lacking(*OF_PROGRAM, "proptest")
+    of_tests = ("proptest", "quick-error", "regex-syntax", "lazy_static")
+    lacks = lacking(*OF_PROGRAM, *of_tests)
     if lacks:
         raise Skipped(lacks)
-    if installed("proptest"):
+    if all(installed(crate) for crate in of_tests):
         return {}
     return {"CARGO_HOME": os.environ.get("CARGO_HOME", os.path.expanduser("~/.cargo")), "CARGO_NET_OFFLINE": "false"}
 
