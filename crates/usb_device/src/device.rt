@@ -6,7 +6,7 @@ ghost use Rattle.usb_device.specs.declared.report_buffers.Course.TheVariants.{Re
 ghost use Rattle.usb_device.specs.Steps.{polled_of};
 ghost use Rattle.usb_device.specs.ties.Stands.{StandsFor};
 ghost use Rattle.usb_device.specs.declared.answer.Endpoint1.{Endpoint1};
-ghost use Rattle.usb_device.specs.Calls.{EpCall, Polled};
+ghost use Rattle.usb_device.specs.Calls.{EpCall, Polled, Out};
 ghost use Rattle.usb_device.specs.Bus1.{no_polls, room_of, blank, OnlyTold};
 ghost use Rattle.usb_device.specs.Requests.{Lent};
 ghost use Rattle.usb_device.specs.Events.{Event};
@@ -132,6 +132,18 @@ impl<'a, E: Endpoints, B: Buffers> Device<'a, E, B> {
         }
     }
 
+    /// Hands an OUT packet of endpoint 0 to the layer.
+    fn take(&mut self, packet: &[u8]) -> EpAnswer
+        ensures { (calls : List EpCall) → ((lent : Lent) × (past : List Event)
+            × Layered E.stands lent past self.old.layer self.old.behind self.old.reports (B.bus self.old.buffers)
+            × (no_polls (calls_of past) ≡ no_polls calls))
+            → (lent : Lent) × (past : List Event)
+            × Layered E.stands lent past self.new.layer self.new.behind self.new.reports (B.bus self.new.buffers)
+            × (no_polls (calls_of past) ≡ no_polls (Out packet.now result ∷ calls)) }
+    {
+        self.layer.out_packet(packet, &mut self.behind)
+    }
+
     /// Asks the device behind for a report, where none is under way.
     fn ask(&mut self)
         ensures stands { (lent : Lent) (past : List Event)
@@ -160,7 +172,7 @@ impl<'a, E: Endpoints, B: Buffers> Endpoints for Device<'a, E, B> {
     }
 
     fn out(&mut self, packet: &[u8]) -> EpAnswer {
-        self.layer.out_packet(packet, &mut self.behind)
+        self.take(packet)
     }
 
     fn in_packet(&mut self) -> EpAnswer {
