@@ -1,5 +1,5 @@
-"""Runs what the documents show: each fenced program, command and output of README.md, of docs/USING*.md and docs/simulator.md, and of
-the READMEs of examples/.
+"""Runs what the documents show: each fenced program, command and output of README.md, of the pages of docs/ that `SHOWING` names, and
+of the READMEs of examples/.
 
 A fence says what it is, and a copy of the repository's folders, called `wuzhikar`, is what it runs on:
 
@@ -31,7 +31,8 @@ sys.path.insert(0, f"{ROOT}/tools")
 from debian_crates import OF_PROGRAM, environment  # noqa: E402
 
 README = f"{ROOT}/README.md"
-PAGES = [README, *sorted(glob.glob(f"{ROOT}/docs/USING*.md") + glob.glob(f"{ROOT}/examples/*/README.md")), f"{ROOT}/docs/simulator.md"]
+SHOWING = ("USING", "firmware", "hosts", "log", "reader", "simulator")
+PAGES = [README, *(f"{ROOT}/docs/{name}.md" for name in SHOWING), *sorted(glob.glob(f"{ROOT}/examples/*/README.md"))]
 NOT_RUN = re.compile(r"<!-- not run: \S.* -->")
 KINDS = ("toml", "rust", "sh", "python", "console", "text", "text part")
 SECONDS = 1200  # (much, for a machine that many share)

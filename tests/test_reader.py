@@ -244,7 +244,7 @@ def looked_at(folder, made):
 
 
 class Shown:
-    """The commands of docs/USING_READER.md, which begin with `$`, and what they print: of the program that the variable KBSIM names, or
+    """The commands of docs/reader.md, which begin with `$`, and what they print: of the program that the variable KBSIM names, or
     else of bin/kbsim's plain Rust."""
 
     def __init__(self):
@@ -258,12 +258,12 @@ class Shown:
 
     def wrong(self):
         """The commands that print something else, with what they print."""
-        blocks = re.findall(r"^```console\n(.*?)^```$", (ROOT / "docs/USING_READER.md").read_text(), re.M | re.S)
+        blocks = re.findall(r"^```console\n(.*?)^```$", (ROOT / "docs/reader.md").read_text(), re.M | re.S)
         found = []
         for part in "".join(blocks).split("$ ")[1:]:
             command, _, wanted = part.partition("\n")
             found += [(command, wanted, told)] if (told := self.ran(command)) != wanted else []
-        assert blocks, "docs/USING_READER.md shows no command"
+        assert blocks, "docs/reader.md shows no command"
         return found
 
     def wrong_values(self, texts):

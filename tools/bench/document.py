@@ -7,7 +7,7 @@ CHIPS = ["thumbv7em", "thumbv6m"]
 MARKS = {"table": ("<!-- bench: table -->\n", "<!-- end -->\n"), "sentence": ("<!-- bench: sentence -->", "<!-- end -->")}
 
 # Which documents show what.
-SHOWN = {"bench/README.md": "table", "docs/USING_FIRMWARE.md": "sentence"}
+SHOWN = {"bench/README.md": "table", "docs/firmware.md": "sentence"}
 
 # The rows of the table, each of which the two chips have.
 ROWS = [

@@ -69,7 +69,7 @@ impl Plays {
         self.events([Event::Setup(setup), Event::In]);
     }
 
-    /// What a stock Linux asks, in its order (`docs/USING_FIRMWARE.md`, "Hosts").
+    /// What a stock Linux asks, in its order (`docs/firmware.md`, "Hosts").
     fn enumerate(&mut self) {
         self.events([Event::Reset]);
         self.read("GET_DESCRIPTOR: device, 64 bytes", [0x80, 6, 0, 1, 0, 0, 64, 0], 1);

@@ -1,5 +1,5 @@
 //! What a host can make of the flash, by commands and by cuts of the power: the numbers of SECURITY.md. And what holds of a
-//! record that a cut tore and that reads whole: docs/USING_LOG.md.
+//! record that a cut tore and that reads whole: docs/log.md.
 
 use crate::{EpAnswer, FlashKeyboard, KeyNo, LayerNo, Work};
 use wuzhikar_log::{FlashFault, NorFlash, PAGE_SLOTS};

@@ -9,7 +9,7 @@ fn checks(unit: [u8; 8]) -> u8 {
     clear.fold(0xff, |checks, (column, _)| checks ^ column)
 }
 
-/// The unit behind that of a slot (docs/USING_LOG.md, "Flash with error correction").
+/// The unit behind that of a slot (docs/log.md, "Flash with error correction").
 fn second(slot: [u8; 8]) -> [u8; 8] {
     let word = u32::from_le_bytes(std::array::from_fn(|at| slot[at]));
     let check = word ^ word.rotate_left(8);

@@ -1,4 +1,4 @@
-//! The same as JSON; docs/USING_READER.md has the schema.
+//! The same as JSON; docs/reader.md has the schema.
 
 use super::details::bit_words;
 use super::ends::Ended;

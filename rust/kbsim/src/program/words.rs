@@ -72,7 +72,7 @@ fn parse() -> Command {
 fn read() -> Command {
     command("read", "Tells the values in HID reports", include_str!("help/read.txt")).args([
         flag("names", "Usages by their names"),
-        flag("json", "An object of JSON a line; docs/USING_READER.md has the schema"),
+        flag("json", "An object of JSON a line; docs/reader.md has the schema"),
         flag("raw", "The reports are bytes, and not lines"),
         kind("The kind of the reports").default_value("input"),
         form(LOOKED_AT),

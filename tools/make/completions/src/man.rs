@@ -24,7 +24,7 @@ kbsim read \-\-raw /sys/class/hidraw/hidraw0/device/report_descriptor /dev/hidra
 kbsim write examples/hid_driver/keyboard.hex 0 00080001=1
 .fi
 .SH SEE ALSO
-The files \fIdocs/simulator.md\fR and \fIdocs/USING_READER.md\fR of the repository.
+The files \fIdocs/simulator.md\fR and \fIdocs/reader.md\fR of the repository.
 ";
 
 /// The page of a program.
