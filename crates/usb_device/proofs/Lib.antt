@@ -12,3 +12,4 @@ pub mod Characters
 pub mod Scans
 pub mod Layering
 pub mod Wholes
+mod Playing

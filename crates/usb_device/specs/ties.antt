@@ -6,3 +6,4 @@ pub mod Keys
 pub mod Link1
 pub mod Waited
 pub mod Layered
+pub mod Played

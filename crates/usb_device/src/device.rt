@@ -20,10 +20,11 @@ use crate::report_buffers::{Buffers, ReportBuffers};
 use crate::{Change, DeviceLayer, Endpoint1, Endpoints, EpAnswer, PacketSize, PollAnswer, Report};
 
 /// A device behind its USB device layer, with endpoint 1 behind the buffers of a controller.
+#[derive(Drop)]
 pub struct Device<'a, E, B> {
     layer: DeviceLayer<'a>,
     behind: E,
-    buffers: B,
+    pub(crate) buffers: B,
     reports: ReportBuffers,
 }
 

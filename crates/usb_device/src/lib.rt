@@ -28,10 +28,13 @@ mod endpoints;
 mod keyboard_shape;
 pub mod laws;
 mod packets;
+mod played_buffers;
 mod quiet_controller;
 mod report_buffers;
 mod request;
 mod strings;
+#[cfg(test)]
+mod tests;
 mod usb_device;
 mod whole_transfers;
 
@@ -43,6 +46,7 @@ pub use device::Device;
 pub use device_layer::DeviceLayer;
 pub use endpoints::Endpoints;
 pub use keyboard_shape::{Keys, Session};
+pub use played_buffers::{Brought, Played, PlayedBuffers};
 pub use quiet_controller::QuietController;
 pub use report_buffers::{Buffers, PacketSize, ReportBuffers};
 pub use strings::string_descriptor;

@@ -131,7 +131,7 @@ fn room<B: Buffers>(buffers: &B) -> usize
 }
 
 /// At most 23 bytes, held.
-fn held(bytes: &[u8]) -> Report
+pub(crate) fn held(bytes: &[u8]) -> Report
     ensures { length bytes.now ≤ 23 → result.items ≡ bytes.now }
 {
     let mut held = ArrayVec::new();
