@@ -204,7 +204,9 @@ class Page:
     def console(self, fence):
         for shown in fence.text.removeprefix("$ ").split("\n$ "):
             command, _, wanted = shown.partition("\n")
-            script = f'kbsim() {{ "{ROOT}/bin/kbsim" --quiet --way plain "$@"; }}; exec 2>&1; {command} || true'
+            # (The first run of a fresh clone says that it builds.)
+            called = f'"{ROOT}/bin/kbsim" --quiet --way plain'
+            script = f'{called} --version >/dev/null 2>&1; kbsim() {{ {called} "$@"; }}; exec 2>&1; {command} || true'
             told = self.ran(fence, ["bash", "-c", script], ROOT)
             self.test.assertEqual(told.rstrip("\n"), wanted.rstrip("\n"), f"{fence.place}: {command}")
 
