@@ -13,3 +13,4 @@ pub mod Scans
 pub mod Layering
 pub mod Wholes
 mod Playing
+mod Playing0

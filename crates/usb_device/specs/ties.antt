@@ -7,3 +7,4 @@ pub mod Link1
 pub mod Waited
 pub mod Layered
 pub mod Played
+pub mod Played0
