@@ -40,7 +40,7 @@ impl Endpoints for Counts {
     }
 
     fn poll(&mut self) -> Option<Report> {
-        if self.next == 9 {
+        if self.next >= 9 {
             return None;
         }
         self.next += 1;
