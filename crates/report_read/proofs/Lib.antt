@@ -2,3 +2,4 @@ pub mod Usages
 pub mod Lists
 pub mod Refused
 pub mod Rows
+pub mod Bytes
