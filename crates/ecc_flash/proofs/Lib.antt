@@ -4,6 +4,7 @@ pub mod Images
 pub mod OfCells
 pub mod Operating
 pub mod Leaving
+mod Health
 mod Words
 pub mod Witnessing
 mod Thrice

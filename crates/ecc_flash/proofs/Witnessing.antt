@@ -1,5 +1,5 @@
 -- The units of a flash in memory.
-use Rattle.std.proofs.Common.{◌≡◌, ℕ, ◌+◌, ◌*◌, ◌<◌, ◌≤◌, cond, Bool, true, false, nat_lt, List, get_or, set, length, arith, ◌∙◌, ap, sym, subst, refl, inl, inr, get_or-set_same, get_or-set_other}
+use Rattle.std.proofs.Common.{◌≡◌, ℕ, Some, ◌+◌, ◌*◌, ◌<◌, ◌≤◌, cond, Bool, true, false, nat_lt, List, get_or, set, length, arith, ◌∙◌, ap, sym, subst, refl, inl, inr, get_or-set_same, get_or-set_other}
 use Rattle.std.proofs.lemmas.Bool.{cases_lt, lt-ltb}
 use Rattle.std.proofs.lemmas.Bool.Decides.{eqb_tells}
 use Rattle.std.proofs.lemmas.List.{get_or-replicate, get_or_past}
@@ -66,6 +66,9 @@ all_erased old new page s u l =
     let was : HeldUnit = get_or old (1024 * page + u) never in
     subst (λ (x : WriteUnit). MayBeErased x (unit_at new page u)) (sym (at_is old page u l))
     (subst (λ (x : WriteUnit). MayBeErased (write_unit was) x) (sym (at_is new page u l ∙ ap write_unit (s.done u l))) (erased_by was.meant was.is_blank))
+
+pub all_blank : (old new : List HeldUnit) (page : ℕ) → SoFar old page 1024 new → (u : ℕ) → u < 1024 → (unit_at new page u).reads ≡ Some blank
+all_blank old new page s u l = ap (λ (x : WriteUnit). x.reads) (at_is new page u l ∙ ap write_unit (s.done u l))
 
 same_if : (b : Bool) (x y : HeldUnit) → (b ≡ true → x ≡ y) → write_unit (cond b x never) ≡ write_unit (cond b y never)
 same_if true x y h = ap write_unit (h refl)

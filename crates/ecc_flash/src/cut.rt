@@ -4,7 +4,7 @@
 //! torn, and from then on nothing is written. `PairedFlash` is proved on every `EccFlash`, and so on
 //! this one: what an operation of it leaves there is what the units held when the power failed.
 
-ghost use Rattle.std.specs.Prelude.{◌≡◌, ◌<◌, ◌≤◌, ℕ, suc, None, Some, IsErr};
+ghost use Rattle.std.specs.Prelude.{◌≡◌, ◌<◌, ◌≤◌, ℕ, suc, None, Some, IsErr, IsOk};
 ghost use Rattle.flash_model.specs.Image.{page_count, slot_at, IsImage};
 ghost use Rattle.flash_model.specs.Operations.{MayProgram, MayErase};
 ghost use Rattle.ecc_flash.specs.Reading.{blank};
@@ -59,6 +59,8 @@ impl<F: EccFlash + Drop> EccFlash for CutFlash<F> {
 
     ghost takes = { λ _ _ _. ⊥ };
 
+    ghost is_healthy = { λ _. ⊥ };
+
     ghost operates = { λ old operation new. CutOperates F.operates old operation new };
 
     fn pages(&self) -> usize {
@@ -83,6 +85,7 @@ impl<F: EccFlash + Drop> EccFlash for CutFlash<F> {
         ensures others { OneUnit (F.units self.old.0) page unit (F.units self.new.0) }
         ensures taken { ⊥ → (F.units self.new.0 page unit).reads ≡ Some blank → bytes ≡ blank }
         ensures still_takes { (p u : ℕ) → ⊥ → ⊥ }
+        ensures healthy { ⊥ → IsOk result × ((F.units self.new.0 page unit).reads ≡ Some bytes) × ⊥ }
         ensures counts { (left : ℕ) → self.old.1 ≡ Some (suc left) → self.new.1 ≡ Some left }
         ensures fails { self.old.1 ≡ Some 0 → (self.new.1 ≡ None) × IsErr result }
         ensures off { self.old.1 ≡ None → (self.new ≡ self.old) × IsErr result }
@@ -107,6 +110,7 @@ impl<F: EccFlash + Drop> EccFlash for CutFlash<F> {
         ensures same_pages { F.page_total self.new.0 ≡ F.page_total self.old.0 }
         ensures outcome { (u : ℕ) → u < PAGE_UNITS → MayBeErased (F.units self.old.0 page u) (F.units self.new.0 page u) }
         ensures others { OnePageOfUnits (F.units self.old.0) page (F.units self.new.0) }
+        ensures healthy { ⊥ → IsOk result × ((u : ℕ) → u < PAGE_UNITS → (F.units self.new.0 page u).reads ≡ Some blank) × ⊥ }
         ensures counts { (left : ℕ) → self.old.1 ≡ Some (suc left) → self.new.1 ≡ Some left }
         ensures fails { self.old.1 ≡ Some 0 → (self.new.1 ≡ None) × IsErr result }
         ensures off { self.old.1 ≡ None → (self.new ≡ self.old) × IsErr result }

@@ -9,9 +9,12 @@
 //! The promise is that of `NorFlash`: a torn operation leaves no other word than that which was
 //! meant (`laws`). A driver implements `EccFlash`; a log, a store and a keyboard run on a
 //! `PairedFlash`.
+//!
+//! On a healthy flash a `PairedFlash` stores: each word of a log goes into a slot that is
+//! Free, each page is erased, and a format succeeds.
 #![tactic(auto)]
 
-ghost use Rattle.std.specs.Prelude.{◌≡◌, ◌<◌, ◌≤◌, ℕ, Some};
+ghost use Rattle.std.specs.Prelude.{◌≡◌, ◌<◌, ◌≤◌, ℕ, Some, IsOk};
 ghost use Rattle.ecc_flash.specs.Reading.{blank};
 ghost use Rattle.ecc_flash.specs.Model.{WriteUnit, MayHold, MayBeErased, OneUnit, OnePageOfUnits};
 ghost use Rattle.ecc_flash.specs.UnitOperation.{UnitOperation, programs_unit, erases_units};
@@ -56,6 +59,10 @@ pub trait EccFlash {
     /// else than FFh, it no longer reads as blank. Of hardware nothing makes this hold.
     ghost takes: { Self → ℕ → ℕ → Type 0 };
 
+    /// From here on each program of a blank unit is whole, and so is each erase: it answers `Ok`, and what
+    /// it wrote reads back. Of hardware nothing makes this hold.
+    ghost is_healthy: { Self → Type 0 };
+
     /// This unit program or erase makes the second flash of the first. What it says beside `units` is
     /// each flash's own: of one whose power fails, that nothing is made behind that.
     ghost operates: { Self → UnitOperation → Self → Type 0 };
@@ -89,6 +96,7 @@ pub trait EccFlash {
         ensures others { OneUnit (units self.old) page unit (units self.new) }
         ensures taken { takes self.old page unit → (units self.new page unit).reads ≡ Some blank → bytes ≡ blank }
         ensures still_takes { (p u : ℕ) → takes self.old p u → takes self.new p u }
+        ensures healthy { is_healthy self.old → IsOk result × ((units self.new page unit).reads ≡ Some bytes) × is_healthy self.new }
         ensures operated { operates self.old (programs_unit page unit bytes) self.new };
 
     /// Erases page `page`.
@@ -100,5 +108,6 @@ pub trait EccFlash {
         ensures same_pages { page_total self.new ≡ page_total self.old }
         ensures outcome { (u : ℕ) → u < PAGE_UNITS → MayBeErased (units self.old page u) (units self.new page u) }
         ensures others { OnePageOfUnits (units self.old) page (units self.new) }
+        ensures healthy { is_healthy self.old → IsOk result × ((u : ℕ) → u < PAGE_UNITS → (units self.new page u).reads ≡ Some blank) × is_healthy self.new }
         ensures operated { operates self.old (erases_units page) self.new };
 }

@@ -2,6 +2,7 @@
 
 ghost use Rattle.std.specs.Prelude.{◌≡◌, true, ◌+◌, ◌*◌, ◌%◌, ◌^◌, ◌<◌, ◌≤◌, ℕ, ◌↔◌, Some, IsOk, IsTrue, MatchResult, IfOk, is_ok, if◌then◌else◌, List};
 ghost use Rattle.flash_model.specs.Image.{page_count, slot_at, IsImage};
+ghost use Rattle.flash_model.specs.Assured.{IsAssured};
 ghost use Rattle.flash_model.specs.Operations.{Programs, MayProgram, Erases, MayErase};
 ghost use Rattle.ecc_flash.specs.Reading.{blank, is_word};
 ghost use Rattle.ecc_flash.specs.Model.{MayHold, MayBeErased, OneUnit, OnePageOfUnits};
@@ -55,9 +56,11 @@ impl<F: EccFlash + Drop> PairedFlash<F> {
 
     /// The adapter of any flash, whatever it holds: all of it is erased, and what it held is lost.
     ///
-    /// `FlashFault`: a page does not read as erased.
+    /// `FlashFault`: a page does not read as erased, or the flash told of a fault. On a healthy flash
+    /// that does not come.
     pub fn format(mut flash: F) -> Result<PairedFlash<F>, FlashFault>
-        ensures { IfOk result (λ paired. (p u : ℕ) → p < F.page_total paired.0 → u < PAGE_UNITS → (F.units paired.0 p u).reads ≡ Some blank) }
+        ensures blank { IfOk result (λ paired. (p u : ℕ) → p < F.page_total paired.0 → u < PAGE_UNITS → (F.units paired.0 p u).reads ≡ Some blank) }
+        ensures healthy { F.is_healthy flash → IsOk result × IfOk result (λ paired. F.is_healthy paired.0) }
     {
         let pages = flash.pages();
         for page in 0..pages {
@@ -90,7 +93,7 @@ impl<F: EccFlash + Drop> NorFlash for PairedFlash<F> {
 
     ghost faults = { λ s. s.2 };
 
-    ghost is_faultless = { λ _. ⊥ };
+    ghost is_faultless = { λ s. F.is_healthy s.0 };
 
     ghost operates = { λ old operation new. PairOperates F.units F.operates old.0 operation new.0 };
 
@@ -119,7 +122,7 @@ impl<F: EccFlash + Drop> NorFlash for PairedFlash<F> {
         ensures same_pages { page_count (image_of (F.units self.new.0) (F.page_total self.new.0)) ≡ page_count (image_of (F.units self.old.0) (F.page_total self.old.0)) }
         ensures counted { self.new.1 ≡ (self.old.1 + 1) % 2 ^ 64 }
         ensures faulted { self.new.2 ≡ (if is_ok result then self.old.2 else (self.old.2 + 1) % 2 ^ 64) }
-        ensures faultless { ⊥ → IsOk result × ⊥ }
+        ensures faultless { F.is_healthy self.old.0 → IsAssured (image_of (F.units self.old.0) (F.page_total self.old.0)) page slot bytes → IsOk result × F.is_healthy self.new.0 }
         ensures operated { PairOperates F.units F.operates self.old.0 (programs page slot bytes) self.new.0 }
         ensures marked { is_word bytes ≡ true → F.takes self.old.0 page (2 * slot + 1) → slot_in (F.units self.new.0) page slot ≡ blank → ⊥ }
     {
@@ -159,6 +162,7 @@ fn program<F: EccFlash>(
         (λ _. Programs (image_of (F.units flash.old) (F.page_total flash.old)) page slot bytes (image_of (F.units flash.new) (F.page_total flash.old)))
         (λ _. MayProgram (image_of (F.units flash.old) (F.page_total flash.old)) page slot bytes (image_of (F.units flash.new) (F.page_total flash.old))) }
     ensures marked { is_word bytes ≡ true → F.takes flash.old page (2 * slot + 1) → slot_in (F.units flash.new) page slot ≡ blank → ⊥ }
+    ensures healthy { F.is_healthy flash.old → is_word bytes ≡ true → slot_in (F.units flash.old) page slot ≡ blank → IsOk result × F.is_healthy flash.new }
     ensures operated { ProgramsPair F.units F.operates flash.old page slot bytes flash.new }
 {
     let first = 2 * slot;
@@ -195,6 +199,7 @@ fn write_unit<F: EccFlash>(
     ensures read_back { IfOk result (λ _. (F.units flash.new page unit).reads ≡ Some bytes) }
     ensures others { OneUnit (F.units flash.old) page unit (F.units flash.new) }
     ensures still_takes { (p u : ℕ) → F.takes flash.old p u → F.takes flash.new p u }
+    ensures healthy { F.is_healthy flash.old → IsOk result × F.is_healthy flash.new }
     ensures operated { F.operates flash.old (programs_unit page unit bytes) flash.new }
 {
     let done = flash.program_unit(page, unit, bytes);
@@ -215,6 +220,7 @@ fn erase<F: EccFlash>(flash: &mut F, page: usize) -> Result<(), FlashFault>
     ensures outcome { MatchResult result
         (λ _. Erases (image_of (F.units flash.old) (F.page_total flash.old)) page (image_of (F.units flash.new) (F.page_total flash.old)))
         (λ _. MayErase (image_of (F.units flash.old) (F.page_total flash.old)) page (image_of (F.units flash.new) (F.page_total flash.old))) }
+    ensures healthy { F.is_healthy flash.old → IsOk result × F.is_healthy flash.new }
     ensures operated { F.operates flash.old (erases_units page) flash.new }
 {
     match erase_units(flash, page) {
@@ -230,6 +236,7 @@ fn erase_units<F: EccFlash>(flash: &mut F, page: usize) -> Result<(), FlashFault
     ensures outcome { (u : ℕ) → u < PAGE_UNITS → MayBeErased (F.units flash.old page u) (F.units flash.new page u) }
     ensures read_back { IfOk result (λ _. (u : ℕ) → u < PAGE_UNITS → (F.units flash.new page u).reads ≡ Some blank) }
     ensures others { OnePageOfUnits (F.units flash.old) page (F.units flash.new) }
+    ensures healthy { F.is_healthy flash.old → IsOk result × F.is_healthy flash.new }
     ensures operated { F.operates flash.old (erases_units page) flash.new }
 {
     let done = flash.erase_units(page);
@@ -243,7 +250,7 @@ fn erase_units<F: EccFlash>(flash: &mut F, page: usize) -> Result<(), FlashFault
 /// Whether each unit of a page reads blank.
 fn is_erased<F: EccFlash>(flash: &F, page: usize) -> bool
     requires { page < F.page_total flash.now }
-    ensures { IsTrue result → (u : ℕ) → u < PAGE_UNITS → (F.units flash.now page u).reads ≡ Some blank }
+    ensures { IsTrue result ↔ ((u : ℕ) → u < PAGE_UNITS → (F.units flash.now page u).reads ≡ Some blank) }
 {
     for unit in 0..PAGE_UNITS {
         if !is_free(flash, page, unit) {

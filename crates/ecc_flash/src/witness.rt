@@ -1,6 +1,6 @@
 //! That a flash can keep all clauses of `EccFlash`: one in memory, of which each operation is whole.
 //!
-//! No program calls it.
+//! It is healthy, so that the clauses on health are met by a flash that stores. No program calls it.
 
 ghost use Rattle.std.specs.Prelude.{◌≡◌, ◌+◌, ◌*◌, ◌<◌, ◌≤◌, ℕ, Some, length};
 ghost use Rattle.ecc_flash.specs.Reading.{blank};
@@ -53,6 +53,8 @@ impl EccFlash for WholeFlash {
 
     ghost takes = { λ _ _ _. Unit {0} };
 
+    ghost is_healthy = { λ _. Unit {0} };
+
     ghost operates = { λ _ _ _. Unit {0} };
 
     fn pages(&self) -> usize {
@@ -91,6 +93,7 @@ impl EccFlash for WholeFlash {
 /// Erases the units of a page.
 fn erase(units: &mut [HeldUnit], page: usize)
     requires { 1024 * page + 1024 ≤ length units.old }
+    ensures blank { (u : ℕ) → u < PAGE_UNITS → (unit_at units.new page u).reads ≡ Some blank }
     ensures outcome { (u : ℕ) → u < PAGE_UNITS → MayBeErased (unit_at units.old page u) (unit_at units.new page u) }
     ensures others { OnePageOfUnits (unit_at units.old) page (unit_at units.new) }
 {

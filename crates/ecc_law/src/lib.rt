@@ -7,15 +7,19 @@
 //! between the two, by any part of the cells.
 //!
 //! Nothing is kept here. The promise is that of `work_cut`: what the host was told is stored is there
-//! after such a cut, and a restart on it is legal. A maker whose flash has error correction reads it.
+//! after such a cut, and a restart on it is legal. `serve` adds that on a healthy flash a command ends
+//! stored. A maker whose flash has error correction reads it.
 #![tactic(auto)]
 
-ghost use Rattle.std.specs.Prelude.{◌≡◌, ◌≢◌, ◌∷◌, [], ℕ, List};
+ghost use Rattle.std.specs.Prelude.{◌≡◌, ◌≢◌, ◌∷◌, ◌++◌, [], ℕ, List, Ok, length};
 ghost use Rattle.ecc_flash.specs.Cut.{PairOperates};
 ghost use Rattle.ecc_flash.specs.Paired.{AllKept, image_of};
+ghost use Rattle.layers.specs.declared.command.Command.{Command};
 ghost use Rattle.keyboard.specs.Acknowledged.{IsAcknowledgedInSession};
-ghost use Rattle.keyboard.specs.Calls.{Call, Worked, image_after, keymap};
+ghost use Rattle.keyboard.specs.Calls.{Call, SetUp, Out, In, Worked, image_after, keymap};
+ghost use Rattle.keyboard.specs.Feature.{command_in};
 ghost use Rattle.keyboard.specs.Lawful.{IsAnswered, MakesSuch};
+ghost use Rattle.keyboard.specs.Progress.{set_feature, IsReady, AreWhole, steps_for, IsServed};
 ghost use Rattle.keyboard.specs.Restart.{RestartsLegally, CutsLegally};
 ghost use Rattle.keyboard.specs.ties.Stands.{StandsFor};
 ghost use Rattle.keyboard.specs.ties.Value.{RunsOn};
@@ -24,8 +28,8 @@ ghost use Rattle.page_turnover.specs.Next.{on_flash};
 ghost use Rattle.ecc_law.specs.WorkCut.{WorkIsCut};
 
 use ecc_flash::{CutFlash, EccFlash, PairedFlash};
-use keyboard::laws::{acknowledged_is_stored, restarts_are_legal};
-use keyboard::{Keyboard, Room, Work};
+use keyboard::laws::{a_command_is_served, acknowledged_is_stored, restarts_are_legal};
+use keyboard::{EpAnswer, Keyboard, Room, Work};
 
 /// A keyboard starts on a flash with error correction: it stands for no call, on the image of its slots.
 pub fn start<F: EccFlash + Drop>(room: Room, flash: &PairedFlash<F>) -> Keyboard
@@ -37,7 +41,7 @@ pub fn start<F: EccFlash + Drop>(room: Room, flash: &PairedFlash<F>) -> Keyboard
 
 /// A step of the flash work on a flash with error correction, with the keyboard's promise: its answer is
 /// the one that it has to be; what it leaves, and each image that its operation might have left, makes a
-/// legal restart; and what the host was told is stored is there.
+/// legal restart; and what the host was told is stored is there. On a healthy flash no step fails.
 pub fn work<F: EccFlash + Drop>(keyboard: &mut Keyboard, flash: &mut PairedFlash<F>) -> Work
     requires { RunsOn (image_of (F.units flash.old.0) (F.page_total flash.old.0)) keyboard.old }
     ensures runs_on { RunsOn (image_of (F.units flash.new.0) (F.page_total flash.new.0)) keyboard.new }
@@ -50,6 +54,7 @@ pub fn work<F: EccFlash + Drop>(keyboard: &mut Keyboard, flash: &mut PairedFlash
     ensures operated { (start : List ℕ) (past : List Call) → StandsFor start past keyboard.old → image_after start past ≡ image_of (F.units flash.old.0) (F.page_total flash.old.0)
         → result ≢ Work.Idle → MakesSuch start past result (image_of (F.units flash.new.0) (F.page_total flash.new.0)) (λ operation. PairOperates F.units F.operates flash.old.0 (on_flash operation) flash.new.0) }
     ensures untouched { result ≡ Work.Idle → flash.new ≡ flash.old }
+    ensures faultless { F.is_healthy flash.old.0 → F.is_healthy flash.new.0 × (result ≢ Work.Failed) }
     ensures legal { (start : List ℕ) (past : List Call) → StandsFor start past keyboard.old → image_after start past ≡ image_of (F.units flash.old.0) (F.page_total flash.old.0)
         → RestartsLegally start past (image_of (F.units flash.new.0) (F.page_total flash.new.0)) }
     ensures acknowledged { (start : List ℕ) (past : List Call) (layer key code : ℕ) → StandsFor start past keyboard.old → image_after start past ≡ image_of (F.units flash.old.0) (F.page_total flash.old.0)
@@ -58,6 +63,49 @@ pub fn work<F: EccFlash + Drop>(keyboard: &mut Keyboard, flash: &mut PairedFlash
     acknowledged_is_stored();
     restarts_are_legal();
     keyboard.work(flash)
+}
+
+/// A command on a flash with error correction, as a host sends it: a SETUP packet of SET_REPORT, the
+/// report with the command, `steps` steps of the flash work, and the status stage. It gives the answer to
+/// the report and that to the status stage.
+///
+/// Progress: where each slot 0 is sound, the log is not worn, no command works and the flash is healthy,
+/// `steps` being as many as the command takes, the report is acknowledged, no step fails, the last is
+/// answered Settled, and the status stage by the empty packet. The flash is still healthy then.
+pub fn serve<F: EccFlash + Drop>(
+    keyboard: &mut Keyboard,
+    flash: &mut PairedFlash<F>,
+    report: [u8; 6],
+    steps: usize,
+) -> (EpAnswer, EpAnswer)
+    requires { RunsOn (image_of (F.units flash.old.0) (F.page_total flash.old.0)) keyboard.old }
+    ensures served { (start : List ℕ) (past : List Call) (a b c d e : ℕ) (command : Command) → StandsFor start past keyboard.old → image_after start past ≡ image_of (F.units flash.old.0) (F.page_total flash.old.0)
+        → F.is_healthy flash.old.0 → IsReady start past → report ≡ 3 ∷ a ∷ b ∷ c ∷ d ∷ e ∷ [] → command_in (a ∷ b ∷ c ∷ d ∷ e ∷ []) ≡ Ok command → steps ≡ steps_for (image_after start past) command
+        → (worked : List Call) × IsServed result.0 worked result.1 × (length worked ≡ steps) × F.is_healthy flash.new.0
+        × StandsFor start (In result.1 ∷ worked ++ Out report result.0 ∷ SetUp set_feature ∷ past) keyboard.new }
+{
+    a_command_is_served();
+    keyboard.setup(SET_FEATURE);
+    let given = keyboard.out(&report);
+    run(keyboard, flash, steps);
+    let status = keyboard.in_packet();
+    (given, status)
+}
+
+/// The SETUP packet of SET_REPORT for the feature report, ID 3, with six bytes (HID 1.11 section 7.2.2).
+const SET_FEATURE: [u8; 8] = [0x21, 0x09, 3, 3, 0, 0, 6, 0];
+
+/// So many steps of the flash work, and nothing between them.
+fn run<F: EccFlash + Drop>(keyboard: &mut Keyboard, flash: &mut PairedFlash<F>, steps: usize)
+    requires { RunsOn (image_of (F.units flash.old.0) (F.page_total flash.old.0)) keyboard.old }
+    ensures runs_on { RunsOn (image_of (F.units flash.new.0) (F.page_total flash.new.0)) keyboard.new }
+    ensures whole { (start : List ℕ) (past : List Call) → StandsFor start past keyboard.old → image_after start past ≡ image_of (F.units flash.old.0) (F.page_total flash.old.0) → F.is_healthy flash.old.0
+        → (worked : List Call) × AreWhole worked × (length worked ≡ steps) × F.is_healthy flash.new.0 × StandsFor start (worked ++ past) keyboard.new
+        × (image_after start (worked ++ past) ≡ image_of (F.units flash.new.0) (F.page_total flash.new.0)) }
+{
+    for step in 0..steps {
+        let _work = work(keyboard, flash);
+    }
 }
 
 /// A step of the flash work in which the power fails inside the unit program, or the erase, that comes

@@ -10,6 +10,9 @@
 //! The promise is that of `NorFlash`: a torn operation leaves no other word than that which was
 //! meant. A driver implements `EccFlash`; a log, a store and a keyboard run on a
 //! `PairedFlash`.
+//!
+//! On a healthy flash a `PairedFlash` stores: each word of a log goes into a slot that is
+//! Free, each page is erased, and a format succeeds.
 
 pub mod cut;
 pub mod paired;

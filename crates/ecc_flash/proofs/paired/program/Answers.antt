@@ -78,3 +78,13 @@ returns-in-Err-write_unit-clause-operated g c =
 pub returns-then-is_free-clause-operated : goal.returns-then-is_free-clause-operated
 returns-then-is_free-clause-operated g c =
     marked _ c.write_unit.ensures.operated (c.is_free-in-Err.ensures.0 c.if-is_free.true) c.program_unit-marked.ensures.operated
+
+pub returns-then-not-is_log_word-clause-healthy : goal.returns-then-not-is_log_word-clause-healthy
+returns-then-not-is_log_word-clause-healthy g c h word free =
+    let both = free_units _ _ free in
+    let no : ⊥ = elim c.then-not-is_log_word.branch [
+      | then-not-is_log_word-via-then-not-is_log_word w ↦ cc (w.if-not-is_log_word.true, c.is_log_word.ensures)
+      | then-not-is_log_word-via-else-not-is_log_word+then-not-is_free w ↦ cc (w.if-not-is_free.true, w.is_free.ensures.1 both.0)
+      | then-not-is_log_word-via-else-not-is_log_word+else-not-is_free+then-not-is_free-2 w ↦ cc (w.if-not-is_free-2.true, w.is_free-else-not-is_free.ensures.1 both.1)
+    ] in
+    absurd no

@@ -33,7 +33,8 @@ impl<F: EccFlash> PairedFlash<F> {
 
     /// The adapter of any flash, whatever it holds: all of it is erased, and what it held is lost.
     ///
-    /// `FlashFault`: a page does not read as erased.
+    /// `FlashFault`: a page does not read as erased, or the flash told of a fault. On a healthy flash
+    /// that does not come.
     pub fn format(mut flash: F) -> Result<PairedFlash<F>, FlashFault> {
         let pages = flash.pages();
         for page in 0..pages {
