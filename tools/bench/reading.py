@@ -12,7 +12,7 @@ from rattle import instructions
 from results import Row
 
 sys.path[:0] = [f"{ROOT}/tools", f"{ROOT}/tests"]
-from debian_crates import OF_PROGRAM, environment
+from debian_crates import OF_PROGRAM, environment, unlocked
 from test_kbsim import read_cases
 
 # Without checks of overflow, as a driver is built.
@@ -51,7 +51,7 @@ def touch_screen():
 def built(room, path, *crates):
     """Builds a program of the repository for release, and gives the folder that it is in."""
     made = {**environment(room.path("reading"), *crates), **BUILT, "CARGO_TARGET_DIR": room.path("reading", "target")}
-    room.run(["cargo", "build", "--release", "--quiet"], f"{ROOT}/{path}", **made)
+    room.run(["cargo", "build", "--release", "--quiet"], unlocked(room.path("reading", "source"), path), **made)
     return room.path("reading", "target", "release")
 
 
