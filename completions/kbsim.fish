@@ -16,6 +16,7 @@ complete -c kbsim -n "__fish_seen_subcommand_from read" -l kind -d 'The kind of 
 complete -c kbsim -n "__fish_seen_subcommand_from read" -l from -d 'How the descriptor\'s text says the bytes; it is told by what it looks like where nothing is said' -r -f -a "{hex	,c	,rust	,loose	,xxd	,hexdump	,rdesc	,usbhid-dump	,hid-recorder	,bytes	,auto	}"
 complete -c kbsim -n "__fish_seen_subcommand_from read" -l names -d 'Usages by their names'
 complete -c kbsim -n "__fish_seen_subcommand_from read" -l json -d 'An object of JSON a line; docs/reader.md has the schema'
+complete -c kbsim -n "__fish_seen_subcommand_from read" -l changes -d 'The usages that a report presses and releases, in place of its values'
 complete -c kbsim -n "__fish_seen_subcommand_from read" -l raw -d 'The reports are bytes, and not lines'
 complete -c kbsim -n "__fish_seen_subcommand_from read" -s h -l help -d 'Print help information (use `--help` for more detail)'
 complete -c kbsim -n "__fish_seen_subcommand_from write" -l kind -d 'The kind of the report' -r -f -a "{input	,output	,feature	}"

@@ -175,7 +175,7 @@ class Words(Calls):
         self.ends(1, "fault input\n", ["parse", "."], said="the text can't be read\n")
         self.ends(1, "fault input\n", ["run", "."], said="the input can't be read\n")
 
-    def test_a_full_output_is_told(self):
+    def test_a_full_output_is_reported(self):
         self.write("hex", b"05 01")
         self.write("script", b"in\nno\n")
         array, bytes_ = ["parse", "--from", "c", "hex"], ["parse", "--from", "bytes", "script"]
@@ -194,11 +194,11 @@ class Words(Calls):
 
     def test_each_explanation_stands_behind_its_answer(self):
         # Where both go to the same place, as docs/simulator.md shows it.
-        command = "$ kbsim run --explain examples/stored_key.kbs\n"
         with open(f"{ROOT}/docs/simulator.md", encoding="utf-8") as file:
-            shown = file.read().split(command)[1].split("```")[0]
-        words = [*KBSIM, "run", "--explain", "examples/stored_key.kbs"]
-        told = subprocess.run(words, stdout=subprocess.PIPE, stderr=subprocess.STDOUT, cwd=ROOT, text=True)
+            found = re.search(r"^\$ printf '([^']*)' \| kbsim run --explain\n(.*?)^```$", file.read(), re.M | re.S)
+        script, shown = found[1].replace("\\n", "\n"), found[2]
+        words = [*KBSIM, "run", "--explain"]
+        told = subprocess.run(words, input=script, stdout=subprocess.PIPE, stderr=subprocess.STDOUT, cwd=ROOT, text=True)
         self.assertEqual((told.returncode, told.stdout), (0, shown))
 
     def test_an_explanation_that_can_not_be_written_changes_nothing(self):
@@ -218,7 +218,7 @@ class Words(Calls):
                 told = {"run": b"fault line 1: unknown word\n", "parse": b"fault hex\n"}
                 self.assertEqual((ran.returncode, ran.stdout), (1, told[words[0]] if len(words) == 1 else b"fault input\n"))
 
-    def test_what_is_too_long_is_told(self):
+    def test_what_is_too_long_is_reported(self):
         self.write("long", b"#" * 1_048_577)
         self.ends(1, "fault too long\n", ["run", "long"], said="the script is longer than 1048576 bytes\n")
         self.ends(1, "fault too long\n", ["parse", "long"], said="the text is longer than 1048576 bytes\n")
@@ -296,7 +296,7 @@ class Files(Calls):
         self.assertEqual(self.read("saved"), kept)
         self.assertEqual(sorted(os.listdir(self.folder)), ["saved", "short"])
 
-    def test_a_part_that_is_there_already_is_told(self):
+    def test_an_existing_part_is_reported(self):
         self.write("saved.part", b"")
         said = "error: the flash can't be saved: FILE.part is there already\n"
         self.assertEqual(self.call(["run", "--save", "saved"], "set 0 0 0007\n"), (1, "1 ack\n", said))

@@ -12,12 +12,14 @@ A fence says what it is, and a copy of the repository's folders, called `wuzhika
 - README.md runs in the repository itself, and shows what a terminal does: standard error, too.
 - What is not run has `<!-- not run: why -->` in the line before.
 
-`-k marked` only looks whether each fence is one of these, and `-k counted` whether what is written by hand has as many lines as
-docs/USING.md says, within a tenth; both take no time. The rest needs cargo, rustc and cc.
+`-k marked` only looks whether each fence is one of these, `-k programs` whether the programs in READMEs of crates are those of docs
+that are run, and `-k counted` whether what is written by hand has as many lines as docs/USING.md says, within a tenth; these take no
+time. The rest needs cargo, rustc and cc.
 """
 
 import glob
 import os
+import pathlib
 import re
 import shutil
 import subprocess
@@ -114,6 +116,18 @@ class Counted(unittest.TestCase):
             self.assertLessEqual(abs(lines - int(said)), max(10, lines // 10), f"docs/USING.md:{names}has {lines} lines, not{said}")
             seen |= files
         self.assertEqual(sorted(left - seen), [], "no row of docs/USING.md names these files")
+
+
+class Crates(unittest.TestCase):
+    """The READMEs of the crates, whose programs are those of docs that are run."""
+
+    def test_programs_are_those_of_docs(self):
+        pages = [*glob.glob(f"{ROOT}/rust/*/src/lib.rs"), *glob.glob(f"{ROOT}/docs/*.md")]
+        run = {line.removeprefix("//!").strip() for page in pages for line in pathlib.Path(page).read_text("utf-8").splitlines()}
+        for page in glob.glob(f"{ROOT}/rust/*/README.md"):
+            for fence in fences(page):
+                for line in fence.text.splitlines():
+                    self.assertIn(line.strip(), run, f"{fence.place}: a line that no docs run")
 
 
 class Documents(unittest.TestCase):

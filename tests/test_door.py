@@ -15,6 +15,13 @@ sys.path.insert(0, f"{ROOT}/tools")
 import debian_crates  # noqa: E402
 
 SAYS = "#!/usr/bin/env bash\necho {} \"$@\"\n"
+ENDS = (signal.SIGTERM, signal.SIGINT, signal.SIGHUP)
+
+
+def hear_each():
+    """Takes the signals that end a program as they come: a shell can't trap one that its caller ignores."""
+    for number in ENDS:
+        signal.signal(number, signal.SIG_DFL)
 
 
 class Door(unittest.TestCase):
@@ -84,7 +91,7 @@ chmod +x "$into/$program"
     def begin(self):
         """A run in a process group of its own, which has begun to build."""
         how = {"env": {"PATH": self.path}, "stdout": subprocess.PIPE, "stderr": subprocess.PIPE, "start_new_session": True}
-        ran = subprocess.Popen([f"{self.top}/bin/kbsim", "run"], **how)
+        ran = subprocess.Popen([f"{self.top}/bin/kbsim", "run"], preexec_fn=hear_each, **how)
         self.assertIn(b"builds kbsim", ran.stderr.readline())
         time.sleep(0.5)
         return ran
@@ -124,7 +131,7 @@ chmod +x "$into/$program"
             self.assertTrue(said.startswith(f"kbsim: {name} is of plain Rust alone, and nothing here can build it: install cargo"), said)
             self.assertNotIn("Rattle", said)
 
-    def test_an_edit_is_seen_and_its_end_too(self):
+    def test_a_changed_source_is_seen_and_its_end_too(self):
         self.prove()
         self.write("crates/low/src/lib.rt", "2\n")
         os.utime(f"{self.top}/crates/low/src/lib.rt", (1, 1))
@@ -274,7 +281,7 @@ chmod +x "$into/$program"
 
     def test_an_interrupted_build_leaves_nothing(self):
         self.add_cargo(build='sleep 60 & wait; touch "$into/late"')
-        for number in (signal.SIGTERM, signal.SIGINT, signal.SIGHUP):
+        for number in ENDS:
             ran, begun = self.begin(), time.monotonic()
             ran.send_signal(number)
             ran.communicate()

@@ -51,6 +51,12 @@ def changed(text, chance):
     return bytes(bytes_of)
 
 
+def driver_prints(name):
+    """What a driver of examples/hid_driver is to print."""
+    with open(f"{ROOT}/examples/hid_driver/expected/{name}", encoding="utf-8") as file:
+        return file.read()
+
+
 class HidReader(unittest.TestCase):
     """The library, its demo, and its tests in C."""
 
@@ -131,10 +137,10 @@ class HidReader(unittest.TestCase):
         self.both("tests/memory.c", said, options=WRAPPED)
 
     def test_the_calls_of_a_reader(self):
-        said = "each refusal of a reader's calls; requests refused in turn: 18 of a reader, 1 of bytes, 5 of a report\n"
+        said = "each refusal of a reader's calls; requests refused in turn: 18 of a reader, 1 of bytes, 5 of a report, 4 of changes\n"
         self.both("tests/kept.c", said, options=WRAPPED)
 
-    def test_details_and_values_are_those_of_a_plain_program(self):
+    def test_attributes_and_values_are_those_of_the_reference_reader(self):
         program = self.built("tests/tell.c", *SANITIZERS)
         ran = subprocess.run(
             ["python3", "-B", f"{ROOT}/tests/test_reader.py", "--count", "1500", "--program", program], stdout=subprocess.PIPE, text=True
@@ -143,19 +149,17 @@ class HidReader(unittest.TestCase):
         self.assertRegex(ran.stdout, r" [0-9]{4} answers, 0 differences\n$")
 
     def test_the_drivers(self):
-        with open(f"{ROOT}/examples/hid_driver/README.md") as file:
-            shown = re.findall(r"^```text\n(.*?)^```$", file.read(), re.M | re.S)
+        # The last program prints its own names of refusals.
         drivers = {
-            "mouse": ("mouse.hex",),
-            "gamepad": ("gamepad.hex", "others/gamepad.hex"),
-            "touch_screen": ("touch_screen.hex", "others/touch_screen.hex"),
-            "num_lock": ("keyboard.hex", "../media_keys.hex"),
+            "mouse": ("mouse", "mouse.hex"),
+            "gamepad": ("gamepad", "gamepad.hex", "others/gamepad.hex"),
+            "touch_screen": ("touch_screen", "touch_screen.hex", "others/touch_screen.hex"),
+            "num_lock": ("num_lock_c", "keyboard.hex", "../media_keys.hex"),
         }
-        # The last program prints its own names of refusals, so that the page shows it twice.
-        for place, (name, given) in zip((0, 1, 2, 4), drivers.items()):
+        for name, (wanted, *given) in drivers.items():
             with self.subTest(name):
                 program = self.built(f"../hid_driver/c/{name}.c", *SANITIZERS, f"-I{EXAMPLE}")
-                self.says(shown[place], program, *(f"{ROOT}/examples/hid_driver/{file}" for file in given))
+                self.says(driver_prints(wanted), program, *(f"{ROOT}/examples/hid_driver/{file}" for file in given))
 
     def test_threads(self):
         self.both("tests/threads.c", "8 threads: each reading is right, or its handle was closed\n", ["20000"], ["200"])
@@ -166,6 +170,9 @@ class HidReader(unittest.TestCase):
         program = self.built("tests/fuzz.c", *SANITIZERS)
         for seed in range(1, SEEDS):
             self.says(said, program, str(ROUNDS), str(seed), *self.files)
+
+    def test_a_reader_at_random(self):
+        self.says("what is read, compared and written: each as it has to be\n", self.built("tests/fuzz_reader.c", *SANITIZERS), "5", "1", *self.files)
 
     def test_fields_are_those_of_kbsim(self):
         program = self.built("tests/lines.c", *SANITIZERS)
@@ -188,7 +195,7 @@ class HidReader(unittest.TestCase):
             ["nm", "-D", "--defined-only", f"{self.release}/libhid_reader.so"], stdout=subprocess.PIPE, check=True, text=True
         ).stdout
         self.assertEqual({line.split()[-1] for line in listed.splitlines()}, declared)
-        self.assertEqual(len(declared), 38)
+        self.assertEqual(len(declared), 39)
 
     def test_what_is_installed(self):
         lacks = [tool for tool in ("make", "pkg-config", "readelf") if not shutil.which(tool)]
@@ -207,8 +214,7 @@ class HidReader(unittest.TestCase):
             ["pkg-config", "--cflags", "--libs", "hid_reader"], env={**os.environ, **asked}, check=True, stdout=subprocess.PIPE, text=True
         ).stdout.split()
         self.assertEqual(flags, [f"-I{stage}/opt/hid/include", f"-L{libraries}", "-lhid_reader"])
-        with open(f"{ROOT}/examples/hid_driver/README.md") as file:
-            wanted = re.findall(r"^```text\n(.*?)^```$", file.read(), re.M | re.S)[0]
+        wanted = driver_prints("mouse")
         # Of the repository nothing is taken but the driver.
         source, program = f"{ROOT}/examples/hid_driver/c/mouse.c", f"{self.work}/installed"
         for library in (flags, [flags[0], f"{libraries}/libhid_reader.a"]):

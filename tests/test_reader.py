@@ -291,7 +291,7 @@ class Shown:
         asked = [
             ("bin/kbsim parse --details --json", none + " cannot be used with"), ("bin/kbsim read - -", none + " can't be both"),
             ("bin/kbsim read --colour x", none + " '--colour'"), ("bin/kbsim write x 256", none + " is no Report ID"),
-            ("bin/kbsim write --onto 0 x 0", none + " is not pairs of hex digits"), (f"bin/kbsim write {pad} 0 X=1", none + " is no setting"),
+            ("bin/kbsim write --onto 0 x 0", none + " is not pairs of hex digits"), (f"bin/kbsim write {pad} 0 Xx=1", none + " is no setting"),
             ("bin/kbsim read --from json x", none + " 'json'"), ("bin/kbsim parse --json a b", none + " 'b'"),
             ("echo 0 | bin/kbsim parse --json", "status 1, 'fault hex' and line 1, column 1: the text has 1 hex digits"),
             ("echo 0x5x | bin/kbsim parse --json --from c", "status 1, 'fault c' and 0x5x is no byte"),
@@ -306,6 +306,7 @@ class Shown:
             (f"bin/kbsim write --kind input {pad} 0 00010030=1 00010030=none", "status 1, 'fault write Twice 1' and set twice"),
             (f"bin/kbsim write --kind input {pad} 0 00010030=none", "status 1, 'fault write NoNull 0' and has no null"),
             (f"bin/kbsim write --kind input {pad} 0 f9=1", "status 1, 'fault write Unknown 0' and no such usage"),
+            (f"bin/kbsim write --kind input {pad} 0 'Hat Switch=unit:91'", "status 1, 'fault write NoStep 0' and just so much"),
             (f"bin/kbsim write --kind input --onto 00 {pad} 0", "status 1, 'fault write Short' and too short"),
             (f"bin/kbsim write {pad} 0", "status 1, 'fault write UnknownReport' and no such report"),
         ]

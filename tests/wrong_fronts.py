@@ -1,11 +1,10 @@
-"""Tries the wrong fronts, devices and adapters of tests/wrong_fronts on the crate rust/wuzhikar-device, whose tests have to refuse
-each of them.
+"""Tries the mutants of tests/wrong_fronts on the files by hand of rust/wuzhikar-device, whose tests have to refuse each of them.
 
 An edit names a file of the crate, a text that stands there once, and what takes its place. Those in the folder right change the
 code and not what it does: the tests have to pass. Each worker has a copy of rust/ and a target folder of its own, so that a try builds
 one crate anew. It takes some minutes.
 
-Each wrong one is refused by a test of the crate. None is there that a real host alone finds.
+What is exported has its mutants beside its source, in crates/usb_device/must-fail.
 """
 
 import argparse

@@ -3,7 +3,7 @@
 ENTRY(reset)
 MEMORY { FLASH : ORIGIN = 0, LENGTH = 248K  RAM : ORIGIN = 0x20000000, LENGTH = 16K }
 SECTIONS {
-  .text : { KEEP(*(.vectors)) *(.text .text.*) *(.rodata .rodata.*) . = ALIGN(4); } > FLASH
+  .text : { KEEP(*(.vectors)) *(.text.reset) *(.text .text.*) *(.rodata .rodata.*) . = ALIGN(4); } > FLASH
   .data : { *(.data .data.*) } > RAM
   ASSERT(SIZEOF(.data) == 0, "what is in RAM begins as zeros")
   .bss (NOLOAD) : { bss_start = .; *(.bss .bss.*) *(COMMON) . = ALIGN(4); bss_end = .; } > RAM

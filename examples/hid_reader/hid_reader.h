@@ -299,6 +299,14 @@ hidr_status hidr_read(hidr_reader reader, uint8_t kind, const uint8_t *report, s
 hidr_status hidr_buffered(hidr_reader reader, uint8_t kind, const uint8_t *report, size_t length, size_t field, uint8_t *into,
                           size_t room, size_t *count);
 
+/* The usages in which two reports of a kind and ID differ, each list rising, each usage once: those that are on in `now` alone, and
+ * those that are on in `before` alone. On is what an array names, and a variable field's usage whose value is not 0. The first
+ * `pressed_room` and `released_room`, and behind the counts how many there are. What hidr_read refuses of `before`, then of `now`;
+ * HIDR_OTHER_ID; HIDR_NO_MEMORY. */
+hidr_status hidr_changes(hidr_reader reader, uint8_t kind, const uint8_t *before, size_t before_length, const uint8_t *now,
+                         size_t now_length, uint32_t *pressed, size_t pressed_room, size_t *pressed_count, uint32_t *released,
+                         size_t released_room, size_t *released_count);
+
 /* numerator / denominator times ten to the power of exponent, in lowest terms; the denominator is at least 1. */
 typedef struct hidr_fraction {
     int64_t numerator, denominator, exponent;

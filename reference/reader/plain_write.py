@@ -94,11 +94,12 @@ class Writer:
         """The value of a place."""
         return value_of(item, self.bits.to_bytes(self.size, "little"), place)
 
-    def mark(self, place_of_field, place, number):
-        """Notes that a place is set."""
+    def mark(self, place_of_field, place, number, stays=True):
+        """Refuses a place that is set, and notes that it is, if it stays so."""
         if (place_of_field, place) in self.set:
             raise NotWritten("twice", number)
-        self.set.add((place_of_field, place))
+        if stays:
+            self.set.add((place_of_field, place))
 
     def having(self, usage):
         """What has a usage, in order: places of variable fields, and arrays."""
@@ -161,7 +162,7 @@ class Writer:
             if not having:
                 raise NotWritten("no-room", number)
         for place in having:
-            self.mark(place_of_field, place, number)
+            self.mark(place_of_field, place, number, stays=asked == 1)
             self.put(item, place, value if asked else unused(item))
 
 

@@ -52,16 +52,13 @@ def sentence(rows):
     """What a maker of keyboards asks of a Cortex-M4."""
     ours = {row.what: row.ours for row in rows if row.target == "thumbv7em"}
     starts = [ours[name] for name in ("start, blank flash", "start, 2 pages, 385 records", "start, 8 full pages")]
-    least, most = (count / MILLISECOND for count in (min(starts), max(starts)))
     scan = ours["scan without an edge, the worst of 10,000"]
     text, small = (next(row.ours for row in rows if row.key == (target, TEXT)) for target in CHIPS)
-    return (f'On a Cortex-M4, built at opt-level "s", the keyboard takes {ours["RAM of the keyboard, bytes"]:,} bytes of RAM, and of the '
-            f'stack {ours["stack of start, restart and work, bytes"]:,} bytes to start and to work on the flash, '
-            f'{ours["stack of any other call, bytes"]:,} for any other call. A scan, one each millisecond, takes {scan:,} instructions '
-            f"where no debounced key changes, of the {MILLISECOND:,} cycles that a millisecond has at 48 MHz. A start takes "
-            f"{min(starts):,} to {max(starts):,} instructions, as the flash is blank or full: {least:.1f} to {most:.1f} ms at 48 MHz "
-            f"where an instruction takes a cycle. The smallest firmware around it has {text:,} bytes of code and constants there, and "
-            f"{small:,} on a Cortex-M0+, without what drives the USB, the matrix and the flash.")
+    stack = max(ours[name] for name in ("stack of start, restart and work, bytes", "stack of any other call, bytes"))
+    return (f'On a Cortex-M4, at opt-level "s", the keyboard takes {ours["RAM of the keyboard, bytes"]:,} bytes of RAM and {stack:,} of '
+            f"stack. A scan takes {scan:,} instructions where no debounced key changes, of the {MILLISECOND:,} cycles of a millisecond at "
+            f"48 MHz. A start takes {min(starts):,} to {max(starts):,}, as the flash is blank or full. The smallest firmware, without drivers, has {text:,} "
+            f"bytes of code and constants, and {small:,} on a Cortex-M0+.")
 
 
 def rewritten(text, shown, rows):

@@ -25,6 +25,10 @@ BOOT = "0200040506070809"
 FINGERS = 10
 CONTACT = "01{:02x}34025601"
 
+# The usages 1 to 1,024, as one range and one by one.
+RANGE = "19012a0004"
+SINGLES = "".join(f"0a{usage.to_bytes(2, 'little').hex()}" for usage in range(1, 1025))
+
 
 def example(name):
     """A report descriptor of the examples, as lines of hex."""
@@ -40,6 +44,11 @@ def ten_fingers():
     text = lines[:first] + FINGERS * lines[first:second] + lines[2 * second - first:]
     contacts = "".join(CONTACT.format(number) for number in range(FINGERS))
     return "".join(text), f"01{contacts}1000{FINGERS:02x}"
+
+
+def many_places(usages):
+    """A field of 1,024 places of two bits with these usages of a vendor's page."""
+    return f"0600ff{usages}1500250275029600048102"
 
 
 def touch_screen():
@@ -69,13 +78,16 @@ def rows(room):
         return round((many - few) / 100)
 
     keyboard, text = "".join(example("keyboard")), touch_screen()
+    alone = counted("parse", text)
     lines = f"{BOOT}\n".encode()
     read = [kbsim, "read", f"{ROOT}/examples/hid_driver/keyboard.hex"]
     many, few = (instructions(room, read, lines * times) for times in (1100, 100))
     return [
         Row("reader", "a boot report of a keyboard, 14 values", counted("read", keyboard, BOOT), None),
         Row("reader", "a report of a touch screen with ten contacts, 42 values", counted("read", *ten_fingers()), None),
-        Row("reader", "details of a descriptor of 1,103 bytes, beside its parse", counted("details", text), counted("parse", text)),
+        Row("reader", "1,024 settings of a field with one range of usages", counted("write", many_places(RANGE)), None),
+        Row("reader", "1,024 settings of a field whose usages are declared one by one", counted("write", many_places(SINGLES)), None),
+        Row("reader", "details of a descriptor of 1,103 bytes, beside its parse", counted("details", text) - alone, alone),
         Row("reader", "a boot report in hex by `kbsim read`, its line of text with it", round((many - few) / 1000), None),
     ]
 

@@ -10,17 +10,19 @@ sys.path.insert(0, f"{ROOT}/tools/linux_test")
 import lists  # noqa: E402
 import machines  # noqa: E402
 import parts  # noqa: E402
-from processes import Silent  # noqa: E402
+import processes  # noqa: E402
+from processes import Over, Silent  # noqa: E402
 
 SIZE, SERIAL = 16, "nRF51"  # those of the firmware
 MISSING = parts.Missing
 
 
 class Hosts:
-    """What the hosts need beside the chip, built once."""
+    """What the hosts need beside the chip, built once. At `end`, if there is one, what they do is `Over`."""
 
-    def __init__(self, work):
+    def __init__(self, work, end):
         parts.need_programs()
+        processes.end_of_all = end
         os.makedirs(work, exist_ok=True)
         self.work, self.programs = work, parts.build(work)
         self.booted = machines.boot(work, self.programs, b"")

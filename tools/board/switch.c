@@ -5,6 +5,7 @@
 // At the start the rig sends a struct order and the bytes of the log's region; at a cut it gets a struct told and these bytes, resets
 // the machine while the processor is held, and answers one byte. What the processor does until the reset takes effect is undone:
 // the region is the rig's at each start, and the RAM begins as noise.
+#include <fcntl.h>
 #include <signal.h>
 #include <stdbool.h>
 #include <stddef.h>
@@ -12,6 +13,7 @@
 #include <stdio.h>
 #include <stdlib.h>
 #include <string.h>
+#include <sys/mman.h>
 #include <sys/prctl.h>
 #include <sys/socket.h>
 #include <sys/un.h>
@@ -56,6 +58,10 @@ struct told {
 };
 
 static int rig = -1;
+static volatile uint64_t *ticks;  // of all starts, in a file that the rig reads
+static volatile uint64_t *ordered; // behind it: how many orders the rig has sent to a running chip
+static uint64_t heard;
+static const char *program;
 static uint8_t *flash, *ram;
 static uint8_t shadow[FLASH], writes[FLASH / 4];
 static uint64_t reset_at, bss_end, log_bytes;
@@ -142,6 +148,7 @@ static void step(unsigned cpu, void *data)
         cut(0);
         return;
     }
+    ++*ticks;
     told.ticks++;
     told.instructions++;
 }
@@ -157,10 +164,9 @@ static void tear(size_t from, size_t length, uint32_t undone)
 // Takes another order that came meanwhile, which counts from here on.
 static void hear(void)
 {
-    struct order next;
-    if (recv(rig, &next, sizeof next, MSG_DONTWAIT | MSG_PEEK) != sizeof next) return;
-    get(&next, sizeof next);
-    order = next;
+    if (*ordered == heard) return;
+    heard++;
+    get(&order, sizeof order);
     if (order.operation) order.operation += told.operations;
     told.longest = 0;
 }
@@ -180,6 +186,7 @@ static void operated(size_t from, size_t length, uint32_t takes, uint64_t inside
     told.operations++;
     uint64_t began = told.ticks;
     told.ticks += takes;
+    *ticks += takes;
     if (told.operations == order.operation || (began <= order.tick && order.tick < told.ticks)) {
         tear(from, length, order.undone > 256 ? draw() % 257 : order.undone);
         cut(inside);
@@ -228,6 +235,14 @@ static void stored(unsigned cpu, qemu_plugin_meminfo_t info, uint64_t address, v
     else if (address - RAM < RAM_BYTES && address >= bss_end && address - RAM < lowest) lowest = address - RAM;
 }
 
+// Puts the program into the flash, of which QEMU has loaded the first page: no instruction of the rest is translated yet.
+static void load(void)
+{
+    FILE *file = fopen(program, "rb");
+    if (!file || !fread(flash, 1, FIRST, file)) _exit(4);
+    fclose(file);
+}
+
 static void translated(qemu_plugin_id_t id, struct qemu_plugin_tb *tb)
 {
     (void)id;
@@ -236,6 +251,7 @@ static void translated(qemu_plugin_id_t id, struct qemu_plugin_tb *tb)
         uint64_t at = qemu_plugin_insn_vaddr(insn);
         if (!flash) {
             flash = (uint8_t *)qemu_plugin_insn_haddr(insn) - at;
+            load();
             reset_at = word_at(flash + 4) & ~1u;
             bss_end = word_at(flash + 0x20);
             log_bytes = word_at(flash + 0x24);
@@ -251,8 +267,13 @@ __attribute__((visibility("default"))) int qemu_plugin_install(qemu_plugin_id_t 
     (void)info;
     prctl(PR_SET_PDEATHSIG, SIGKILL); // QEMU ends with the rig
     struct sockaddr_un to = {.sun_family = AF_UNIX};
-    if (argc != 1 || strncmp(argv[0], "rig=", 4)) return -1;
+    if (argc != 3 || strncmp(argv[0], "rig=", 4) || strncmp(argv[1], "clock=", 6) || strncmp(argv[2], "program=", 8)) return -1;
     snprintf(to.sun_path, sizeof to.sun_path, "%s", argv[0] + 4);
+    int clock = open(argv[1] + 6, O_RDWR);
+    ticks = mmap(NULL, 2 * sizeof *ticks, PROT_READ | PROT_WRITE, MAP_SHARED, clock, 0);
+    if (clock < 0 || ticks == MAP_FAILED) return -1;
+    ordered = ticks + 1;
+    program = strdup(argv[2] + 8);
     rig = socket(AF_UNIX, SOCK_STREAM, 0);
     if (rig < 0 || connect(rig, (struct sockaddr *)&to, sizeof to)) return -1;
     qemu_plugin_register_vcpu_tb_trans_cb(id, translated);

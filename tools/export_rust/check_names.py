@@ -43,6 +43,9 @@ ITEM = re.compile(r"(?P<vis>pub(?:\([^)]*\))?\s+)?(?:const\s+)?(?:fn|struct|enum
 OWNER = re.compile(r"^(?:impl(?:<[^>]*(?:<[^>]*>)?[^>]*>)?\s+(?:(?:[\w:]+(?:<[^{]*?>)?)\s+for\s+)?&?(?:'\w+\s+)?(?P<of>[\w:]+)"
                    r"|(?:pub(?:\([^)]*\))?\s+)?(?:trait|enum|struct)\s+(?P<own>\w+))", re.M)
 
+# A second name of a type, and that type.
+ALIAS = re.compile(r"\btype\s+(?P<name>\w+)(?:<[^=]*>)?\s*=\s*(?:\w+::)*(?P<of>\w+)")
+
 MEMBER = re.compile(r"(?:^|[{,\n])\s*(?:#\[[^\]]*\]\s*)*(?P<vis>pub(?:\([^)]*\))?\s+)?(?P<name>[A-Za-z_]\w*)\s*(?=[,:({=}])")
 
 
@@ -54,11 +57,13 @@ class Names:
         self.members = defaultdict(set)   # by owner: all
         self.shown = defaultdict(set)     # by owner: those that are public
         self.words = set()                # each identifier of the code
+        self.aliases = {}                 # second names of types: the type of each
 
     def join(self, other):
         self.public |= other.public
         self.all |= other.all
         self.words |= other.words
+        self.aliases |= other.aliases
         for mine, others in ((self.members, other.members), (self.shown, other.shown)):
             for owner, found in others.items():
                 mine[owner] |= found
@@ -85,6 +90,7 @@ def read_names(crate):
 def read_file(names, text):
     """Adds the names of a file."""
     names.words |= set(re.findall(r"[A-Za-z_]\w*", text))
+    names.aliases |= {found["name"]: found["of"] for found in ALIAS.finditer(text)}
     for found in ITEM.finditer(text):
         names.all.add(found["name"])
         if (found["vis"] or "").strip() == "pub":
@@ -169,7 +175,7 @@ def fault(names, crate, span, shown):
         if last in names.all or last in names.words or last in CRATES:
             return ""
         return "is nothing of this crate"
-    owner = owners[-1]
+    owner = names.aliases.get(owners[-1], owners[-1])
     if last in names.members["mod " + owner] or owner in CRATES and last in names.public:
         return ""
     if last not in names.members[owner]:

@@ -61,7 +61,7 @@ class Export:
                     self.faults.append(f"crates.txt: {crate} stands on {name}, which is not exported")
             neighbours = {name for name in stands_on.get(crate, ()) if held.get(name)}
             self.guarded(lambda: self.module(crate, "", neighbours, self.of.allocs))
-        named = set(self.of.owed) | self.of.hidden | set(self.of.renamed) | self.of.fallible_clones | set(self.of.derives) | self.of.inlined \
+        named = set(self.of.owed) | self.of.hidden | self.of.fallible_clones | set(self.of.derives) | self.of.inlined \
             | set(self.of.docs) | set(self.of.unstarted)
         for crate, name in sorted(named - self.met):
             self.faults.append(f"tools/export_rust/rules.py: {self.of.name} names {crate}::{name}, which is not there, or needs no rule")

@@ -359,10 +359,6 @@ class Translator:
             self.met.add(key)
             lead.docs = [f"/// {self.holder.owed[key]}", "///"] + lead.docs
             return tokens
-        if key in self.holder.renamed:
-            self.met.add(key)
-            at = after(tokens, find(tokens, "fn"))
-            tokens = tokens[:at] + [tokens[at]._replace(text=self.holder.renamed[key])] + tokens[at + 1:]
         if key in self.holder.hidden:
             self.met.add(key)
         elif not has_condition:

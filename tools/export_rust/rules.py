@@ -22,8 +22,6 @@ class Rules:
     owed: dict = field(default_factory=dict)
     # Methods that take or give a type which has no name outside, by (crate, Type::name).
     hidden: frozenset = frozenset()
-    # What a method is called here where a call by hand has its name, by (crate, Type::name).
-    renamed: dict = field(default_factory=dict)
     # The trait of `calls`, which is written by hand, by which the crates above reach such methods, by (crate, Type::name).
     calls: dict = field(default_factory=dict)
     # Types of which `Clone` can be refused in the source, by (crate, name).
@@ -78,14 +76,14 @@ KEYBOARD = Rules(
     crates=("layers", "keymap_store", "debounce", "reports", "key_reports", "descriptor_build", "control_ep", "keyboard"),
     below=(LOG,),
     conditions={("reports", "plain"): LEFT_OUT},
-    owed={("keyboard", "Keyboard::work"): "**Needs** the flash that the keyboard last started or restarted on, as the keyboard left it. "
+    owed={("keyboard", "KeyboardOf::work"): "**Needs** the flash that the keyboard last started or restarted on, as the keyboard left it. "
                                 "Nothing checks it: [`FlashKeyboard`](crate::FlashKeyboard) holds both."},
-    hidden=frozenset({("keyboard", "Keyboard::start"), ("keyboard", "Keyboard::start_in")}),
-    calls={("keyboard", "Keyboard::start"): "KeyboardCalls", ("keyboard", "Keyboard::start_in"): "KeyboardCalls",
+    hidden=frozenset({("keyboard", "KeyboardOf::start"), ("keyboard", "KeyboardOf::start_in")}),
+    calls={("keyboard", "KeyboardOf::start"): "KeyboardCalls", ("keyboard", "KeyboardOf::start_in"): "KeyboardCalls",
            ("layers", "LayerNo::known"): "Known", ("layers", "KeyNo::known"): "Known",
            ("debounce", "Scan::has"): "ScanCalls", ("debounce", "Scan::with"): "ScanCalls", ("debounce", "Debouncer::is_down"): "DebouncerCalls"},
     derives={("reports", "InputReport"): ("Clone", "Copy")},
-    unstarted={("layers", "Code"): None, ("layers", "LayerNo"): None, ("layers", "KeyNo"): None, ("layers", "Keymap"): None,
+    unstarted={("layers", "Code"): None, ("layers", "LayerNo"): None, ("layers", "KeyNo"): None, ("layers", "KeymapOf"): None,
                ("layers", "Command"): "Command::SetKey { layer: LayerNo::UNSTARTED, key: KeyNo::UNSTARTED, code: Code::UNSTARTED }",
                ("layers", "Held"): None, ("layers", "Usages"): None, ("debounce", "Scan"): None, ("debounce", "Matrix"): None,
                ("reports", "Protocol"): "Protocol::Boot", ("reports", "Input"): "Input::Boot", ("reports", "Sent"): None,
@@ -93,7 +91,7 @@ KEYBOARD = Rules(
                ("control_ep", "Source"): "Source::Copied(ArrayVec::new_const())", ("control_ep", "ReadData"): None,
                ("control_ep", "Sending"): None, ("control_ep", "Stage"): "Stage::Sending(Sending::UNSTARTED)",
                ("control_ep", "ControlEp"): None, ("keymap_store", "Job"): "Job::Turning { command: Command::UNSTARTED, from: 0 }",
-               ("keymap_store", "Store"): None, ("keyboard", "Keyboard"): None},
+               ("keymap_store", "StoreOf"): None, ("keyboard", "KeyboardOf"): None},
     docs={("descriptor_build", ""): [("`parse_lines` prints them", "the crate `kbsim` prints them")],
           ("keyboard", ""): [("A firmware calls it; `world` does on", "A firmware calls it; the crate `kbsim` does on")]},
 )
@@ -118,14 +116,13 @@ DETAILS = Rules(
     crates=("field_details", "field_values", "report_write", "report_read"),
     below=(READER,),
     allocs=True,
-    hidden=frozenset({("field_details", "Details::around")}),
-    renamed={("field_details", "Details::around"): "numbers_around", ("field_details", "Details::each_around"): "around"},
     inlined=frozenset(("field_details", name) for name in
                       ("PlacedFields::next", "PlacedFields::take", "Applications::next", "Applications::take", "first_from", "passes",
                        "belongs", "is_of_report", "same_kind", "application_of", "inside", "outer", "less", "is_application",
                        "PlacedFields::new", "Detail::is_constant", "Collection::is_application")),
     derives={("field_details", "Details"): ("Clone", "Default", "PartialEq", "Eq"), ("report_read", "Plan"): ("Clone",),
-             ("report_read", "Plans"): ("Clone",), ("report_read", "ReportReader"): ("Clone", "Debug"), ("report_read", "Reading"): ("Clone",)},
+             ("report_read", "Plans"): ("Clone",), ("report_read", "ReportReader"): ("Clone", "Debug"), ("report_read", "Reading"): ("Clone",),
+             ("report_read", "Changed"): ("Clone", "Default", "PartialEq", "Eq")},
     docs={("field_details", "text"): [("`descriptor_parse::parse`", "`wuzhikar_reader::parse`")],
           ("field_details", "told"): [("`descriptor_parse::Descriptor`", "`wuzhikar_reader::Descriptor`"),
                                       ("`descriptor_parse::Descriptor::fields`", "`wuzhikar_reader::Descriptor::fields`")]},
@@ -136,7 +133,7 @@ SIMULATOR = Rules(
     crates=("host", "world", "text_io", "script", "kbsim", "parse_lines", "explanations"),
     below=(KEYBOARD, LOG, READER),
     allocs=True,
-    hidden=frozenset({("world", "World::new"), ("host", "Host::new")}),
+    hidden=frozenset({("world", "WorldOf::new"), ("host", "Host::new")}),
     fallible_clones=frozenset({("host", "UsageList"), ("host", "Reading")}),
     derives={("kbsim", "Outcome"): ("Debug",), ("kbsim", "Step"): ("Debug",)},
     docs={("host", ""): [("`descriptor_parse::Parser` and `host_extract`", "`wuzhikar_reader::Parser` and `wuzhikar_reader::extract`")],
@@ -144,8 +141,23 @@ SIMULATOR = Rules(
           ("parse_lines", ""): [("The program `kbsim_cli` calls them", "The program of this crate calls them")]},
 )
 
+USB = Rules(
+    name="wuzhikar-device",
+    crates=("usb_device",),
+    below=(KEYBOARD,),
+    conditions={("usb_device", module): LEFT_OUT
+                for module in ("played_buffers", "played_controller", "quiet_controller", "tests")},
+    docs={("usb_device", ""): [("acknowledgements were lost (`laws::confirmed_on_the_bus`); `usb_keyboard` leads\n//! on to the flash. Each", "acknowledgements were lost. Each"),
+                               ("feature commands (`guard_laws`). It", "feature commands. It"),
+                               ("events before give (`laws::endpoint_is_looked_back`). The", "events before give. The"),
+                               ("their order (`laws::reports_are_got_in_order`): once", "their order: once")],
+          ("usb_device", "control_buffers"): [("confirmed by the device: `laws::seen_is_confirmed` of the link that the call keeps. And", "confirmed by the device. And")],
+          ("usb_device", "usb_device"): [("the device behind (`laws::confirmed_on_the_bus`), and the", "the device behind, and the"),
+                                         ("in their order (`laws::reports_are_got_in_order`). Nothing", "in their order. Nothing")]},
+)
+
 # All crates of plain Rust that are made, lowest first.
-WORKSPACE = (LOG, KEYBOARD, READER, DETAILS, SIMULATOR)
+WORKSPACE = (LOG, KEYBOARD, USB, READER, DETAILS, SIMULATOR)
 
 # Crates that are laws or definitions alone, of which nothing is left.
 PROOF_CRATES = {"shapes", "session_law", "reading_law"}
@@ -166,7 +178,7 @@ STAND_INS_UNSTARTED = {"HeapCircularBuffer"}
 STD_STAND_INS = {"alloc", "simd"}
 
 # Modules of Rattle's std whose parts are those of Rust's core.
-STD_CORE = {"array", "cmp", "convert", "fmt", "iter", "mem", "num", "ops", "option", "result", "slice", "str"}
+STD_CORE = {"array", "cmp", "convert", "fmt", "iter", "marker", "mem", "num", "ops", "option", "result", "slice", "str"}
 
 # Modules of Rattle's std whose parts are those of Rust's std, where memory may be taken.
 STD_HOSTED = {"io"}

@@ -18,8 +18,6 @@ PAIRS = {"(": ")", "[": "]", "{": "}"}
 
 # Calls that may fail in the source, and the calls by hand that stand for them.
 CALLS = {"push_in": "push", "insert_in": "insert", "extend_in": "extend_from_slice", "reserve_in": "reserve", "try_clone": "clone"}
-# Methods that have another name beside a call by hand, by their file.
-RENAMED = {"field_details/told": {"numbers_around": "around", "around": "each_around"}}
 # Modules of the source that are no part of the product: they are tests' and a witness.
 LEFT_OUT = {"ecc_flash": {"witness"}, "reports": {"plain"}}
 # Derives that the source has and Rust does by itself or has written out, and those that may be added: no code of the source calls them.
@@ -237,9 +235,7 @@ class Exported:
                                  ("crate :: rattle :: Vec", "Vec"),
                                  ("crate :: rattle :: circular_buffer", "circular_buffer"), ("crate :: rattle :: hex", "hex"),
                                  ("crate :: rattle :: alloc", "std :: alloc"), ("crate :: rattle :: simd", "std :: simd"), ("core ::", "std ::")])
-        names = RENAMED.get(f"{crate}/{module}", {})
-        called = {**CALLS, **names}
-        words = [called.get(word, word) if before in (".", "fn") else word for before, word in itertools.pairwise(["", *words])]
+        words = [CALLS.get(word, word) if before in (".", "fn") else word for before, word in itertools.pairwise(["", *words])]
         self.words = derived(words)
 
     def added(self, words, at):

@@ -18,7 +18,7 @@ SOURCES = "Debian: rustc-web and rust-web-src, of 1.96; the sources of 1.85 have
 PROGRAMS = {
     "firmware": ("firmware", BARE, 10_000),
     "chip_nrf51": ("chip_nrf51", ("thumbv6m-none-eabi",), 10_000),
-    "settings_stm32g0": ("settings", ("thumbv6m-none-eabi",), 2_000),
+    "settings_stm32g0": ("settings", ("thumbv6m-none-eabi",), 1_500),
 }
 
 

@@ -70,6 +70,10 @@ REFUSED = [
     "fn f() -> u8 { ghost let a = { 1 }; 1 }",
     "fn f() -> u8 requires a b { c } { 1 }",
     "fn f() -> u8 { for x in 250u8.. { return x; } 1 }",
+    "fn f(a: &[usize]) -> usize { a.iter().sum() }",
+    "fn f(a: &[usize]) -> usize { a.iter().copied().product::<usize>() }",
+    "fn f(a: &[u8], b: &[u8]) -> usize { a.len() + self.b.len() }",
+    "const N: usize = usize::MAX;",
     "const N: usize = size_of::<S>();",
     "const N: usize = std::mem::size_of::<S>();",
     "fn f() -> u8 { unsafe { 1 } }",
@@ -109,14 +113,14 @@ class Forms(unittest.TestCase):
                 self.assertRegex(str(fault.exception), r"^f\.rt:3: ")
 
     def test_a_condition_that_stays_is_said_first(self):
-        source = "impl Keyboard {\n    /// Works.\n    pub fn work(&mut self) -> u8\n        requires { a }\n    { 1 }\n}\n"
+        source = "impl<D: Defaults> KeyboardOf<D> {\n    /// Works.\n    pub fn work(&mut self) -> u8\n        requires { a }\n    { 1 }\n}\n"
         made = [line.strip() for line in rust(source, crate="keyboard").split("\n")]
-        self.assertEqual(made[1:4], [f"/// {rules.KEYBOARD.owed['keyboard', 'Keyboard::work']}", "///", "/// Works."])
+        self.assertEqual(made[1:4], [f"/// {rules.KEYBOARD.owed['keyboard', 'KeyboardOf::work']}", "///", "/// Works."])
 
     def test_a_call_with_a_type_that_has_no_name_is_for_the_crate(self):
-        source = "impl Keyboard { pub fn start_in(room: Room) -> u8\n    ensures { a }\n{ 1 } }\n"
-        self.assertEqual(rust(source, crate="keyboard"), "impl Keyboard { pub(crate) fn start_in(room: Room) -> u8 { 1 } }\n")
-        self.assertEqual(rust(source, crate="layers"), "impl Keyboard { pub fn start_in(room: Room) -> u8 { 1 } }\n")
+        source = "impl<D: Defaults> KeyboardOf<D> { pub fn start_in(room: Room) -> u8\n    ensures { a }\n{ 1 } }\n"
+        self.assertEqual(rust(source, crate="keyboard"), "impl<D: Defaults> KeyboardOf<D> { pub(crate) fn start_in(room: Room) -> u8 { 1 } }\n")
+        self.assertEqual(rust(source, crate="layers"), "impl<D: Defaults> KeyboardOf<D> { pub fn start_in(room: Room) -> u8 { 1 } }\n")
 
     def test_a_function_that_the_rules_name_is_inlined(self):
         source = "impl Item { /// Tag.\nfn tag() -> u8 { 1 } }\nfn tag() -> u8 { 2 }\n"
@@ -125,6 +129,10 @@ class Forms(unittest.TestCase):
         with self.assertRaises(Refused):
             rust("impl Item { #[inline(never)] fn tag() -> u8 { 1 } }\n", crate="descriptor_parse", of=rules.READER)
 
+    def test_a_field_with_the_name_of_a_sum_is_none(self):
+        source = "fn f(a: A) -> u8 { a.product }\n"
+        self.assertEqual(rust(source), source)
+
     def test_memory_that_waits_for_a_keyboard_is_zeros(self):
         of = dataclasses.replace(rules.KEYBOARD, unstarted={("keymap_store", name): None for name in "SRT"} | {("keymap_store", "E"): "E::A(0)"})
         for source, zeros in [
@@ -132,6 +140,7 @@ class Forms(unittest.TestCase):
                 ("struct S { c: [Option<T>; 3], d: Option<E>, e: T<8> }\n",
                  "impl S { S { c: [const { None }; 3], d: Some(E::UNSTARTED), e: T::UNSTARTED } }"),
                 ("struct R<const N: usize> { a: [u16; N], }\n", "impl<const N: usize> R<N> { R { a: [0; N] } }"),
+                ("struct R<D: Defaults> { s: S<D>, d: PhantomData<D> }\n", "impl<D: Defaults> R<D> { R { s: S::UNSTARTED, d: PhantomData } }"),
                 ("struct S { log: Log }\n", "impl S { S { log: <Log as wuzhikar_log::calls::Unstarted>::UNSTARTED } }"),
                 ("pub enum E { A(u8), B }\n", "impl E { E::A(0) }"),
                 ("struct U { a: u8 }\n", "")]:
@@ -149,7 +158,7 @@ class Forms(unittest.TestCase):
 
 
 class Tokens(unittest.TestCase):
-    def test_each_operator_and_number_that_is_changed_is_told(self):
+    def test_each_changed_operator_and_number_is_reported(self):
         files, laws = all_files()
         changed = {"<": "<=", "==": "!=", "+": "-", "0": "1", "1": "2", "true": "false", "return": "break"}
         tried = 0
@@ -209,7 +218,7 @@ class Whole(unittest.TestCase):
             made = sorted(os.listdir(os.path.join(folder, "a")))
             self.assertEqual(made, ["BY_HAND", "Cargo.toml", "README.md", "rustfmt.toml", "wuzhikar", "wuzhikar-log"])
 
-    def test_what_differs_is_told_by_its_name(self):
+    def test_what_differs_is_reported_by_its_name(self):
         with tempfile.TemporaryDirectory() as folder:
             for name, text in {"BY_HAND": "BY_HAND\ngone\n", "made": "new\n", "stray": "", "target/x": "", "old": "a\nb\n"}.items():
                 os.makedirs(os.path.dirname(os.path.join(folder, name)), exist_ok=True)

@@ -30,6 +30,14 @@ pub trait NorFlash {
 }
 
 pub const LENGTH: usize = 8;
+
+pub type PlainLog = crate::LogOf<Plain>;
+
+pub struct LogOf<P>(P);
+
+impl<P> LogOf<P> {
+    pub fn mount() {}
+}
 """
 
 
@@ -43,12 +51,12 @@ def why(span, shown=True, crate="wuzhikar-log"):
 class Spans(unittest.TestCase):
     def test_what_is_there_is_found(self):
         for span in ("Log", "Log::step", "Log::step()", "step", "offset", "Log::room", "Step::Idle", "Step::Failed(n)", "LENGTH",
-                     "NorFlash::erase_page", "NorFlash::UNIT", "crate::Log", "None", "wuzhikar_log"):
+                     "NorFlash::erase_page", "NorFlash::UNIT", "PlainLog::mount", "crate::Log", "None", "wuzhikar_log"):
             with self.subTest(span):
                 self.assertEqual(why(span), "")
 
-    def test_what_is_not_there_is_told(self):
-        for span in ("Logs", "Log::steps", "Log::offset", "Step::Done", "steps()", "laws::f", "NorFlash::UNITS", "world"):
+    def test_what_is_not_there_is_reported(self):
+        for span in ("Logs", "Log::steps", "Log::offset", "Step::Done", "steps()", "laws::f", "NorFlash::UNITS", "PlainLog::step", "world"):
             with self.subTest(span):
                 self.assertIn("nothing", why(span))
 

@@ -5,7 +5,7 @@ from deriving import members
 from lexing import after, find, group_end, text_at, trimmed
 
 # Zeros, by the first word of a type. Every other type of the source is one that has the constant, too.
-ZEROS = {**{number: "0" for number in ("u8", "u16", "u32", "u64", "usize")}, "bool": "false", "Option": "None"}
+ZEROS = {**{number: "0" for number in ("u8", "u16", "u32", "u64", "usize")}, "bool": "false", "Option": "None", "PhantomData": "PhantomData"}
 
 CONSTANT = "UNSTARTED"
 
@@ -17,7 +17,7 @@ def unstarted_impl(translator, tokens, variant):
     name, opening = words[name_at].text, find(words, "{")
     generics = [token for token in words[name_at + 1:opening] if token.kind != "blank"]
     declared = "".join(token.text + " " * (token.text in ("const", ":")) for token in generics)
-    used = f"<{generics[2].text}>" if generics else ""
+    used = f"<{generics[1 + (generics[1].text == 'const')].text}>" if generics else ""
     value = variant or f"{name} {{ {', '.join(fields(translator, words[opening + 1:group_end(words, opening) - 1]))} }}"
     return f"\n\nimpl{declared} {name}{used} {{\n    /// Zeros, where memory waits for a keyboard to start there.\n" \
         + f"    pub(crate) const {CONSTANT}: Self = {value};\n}}"

@@ -74,7 +74,7 @@ def unpacked(kernel):
 
 def full_image():
     """A flash of two pages whose first is full (docs/formats.md): each key of layers 1 to 3 is the letter a, again and again. The
-    first command that changes something makes a turnover with a copy of each."""
+    first command that changes something makes a compaction with a copy of each."""
     assigned = [(layer, key) for layer in range(1, LAYERS) for key in range(KEYS)]
     words = [0x20000000] + [0x10000004 | layer << 24 | key << 16 for layer, key in (assigned * 2)[:SLOTS - 1]]
     slots = b"".join(struct.pack("<II", word, word ^ 0xFFFFFFFF) for word in words)

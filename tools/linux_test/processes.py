@@ -12,6 +12,14 @@ PATIENCE = 600.0
 LONGEST = 1800.0
 
 
+# When all have to be done, by time.monotonic(); without a number never.
+end_of_all = None
+
+
+class Over(Exception):
+    """All had to be done by now."""
+
+
 class Silent(Exception):
     """A program ended, or said nothing for too long, before it said what it should. `said` is what it did say."""
 
@@ -41,6 +49,8 @@ class Program:
             for text in texts:
                 if text.encode() in self.said:
                     return text
+            if end_of_all is not None and time.monotonic() > end_of_all:
+                raise Over
             if time.monotonic() > min(last + self.patience, longest):
                 raise Silent(f"{self.name} did not say {wanted}, and nothing for {time.monotonic() - last:.0f} seconds", self.text())
             if select.select([self.process.stdout], [], [], 1.0)[0]:

@@ -56,9 +56,13 @@ def clauses(crate, text):
 
 
 def definitions(crate, text):
-    """The names that a file of definitions gives."""
+    """The names that a file of definitions gives, also in a block of `module _`, which is indented."""
+    margin = ""
     for line in text.split("\n"):
-        if not line or line[0] in " -\t)]}":
+        if line and line[0] != " ":
+            margin = "  " if line.startswith("module _") else ""
+        line = line.removeprefix(margin)
+        if not line or line[0] in " -\t)]}" or line.startswith("module _"):
             continue
         words = [word for word in re.split(r"[\s(:{]+", line) if word and word not in MODIFIERS]
         if words and words[0] not in NO_NAMES:

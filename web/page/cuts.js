@@ -24,8 +24,8 @@ const FULL = 511;
  */
 export const CHANGES = {
     append: { name: "an append", image: () => imageOf([[headerWord(2, 1), ...records(3)], []]) },
-    turnover: { name: "a turnover", image: () => imageOf([[headerWord(2, 1), ...records(FULL)], []]) },
-    erase: { name: "a turnover with an erase", image: () => imageOf([[headerWord(2, 2), ...records(FULL)], [headerWord(2, 1), ...records(FULL)]]) },
+    turnover: { name: "a compaction", image: () => imageOf([[headerWord(2, 1), ...records(FULL)], []]) },
+    erase: { name: "a compaction with an erase", image: () => imageOf([[headerWord(2, 2), ...records(FULL)], [headerWord(2, 1), ...records(FULL)]]) },
     migration: { name: "a migration of format 1", image: () => imageOf([[headerWord(1, 7), recordWord(0, 0, 5), recordWord(1, 2, 0x400b), recordWord(0, 4, 0x1d)], []]) },
 };
 

@@ -104,7 +104,7 @@ class Described(PageTest):
             return [wrong, pressed.length, odd];
         })()"""), [0, 4096, 0])
 
-    def test_what_stands_behind_a_report_is_told(self):
+    def test_what_stands_behind_a_report_is_shown(self):
         self.b.click("#boot-descriptor")
         self.b.choose("#report", "02 00 04 05 00 00 00 00")
         self.shows("#report-said", re.compile(r".* values, \d+ not 0\."))

@@ -17,7 +17,7 @@ class Opened(PageTest):
         self.b.dark(False)
         self.open(compose.PAGE)
 
-    def test_it_says_what_it_promises_and_keeps_it(self):
+    def test_it_says_what_it_guarantees_and_keeps_it(self):
         self.assertIn("A key that this keyboard confirmed is never lost.", self.b.text(".lead"))
         self.ledger("Set a key, then cut the power")
         self.assign(0, 5)

@@ -79,7 +79,7 @@ class Cuts(PageTest):
         self.entry(0, 0, 5)
         self.ledger("Nothing was lost")
 
-    def test_turnovers_with_cuts_between(self):
+    def test_compactions_with_power_losses_between(self):
         self.b.js("""for (let n = 0; n < 560; n++) {
             page.session.bench.set(n % 4, n % 96, 0x4001 + n);
             if (n % 37 === 0) document.querySelector('#cut').click();

@@ -45,7 +45,7 @@ class Unpressed(PageTest):
             self.assertIn(control, there)
         support.NOTES.append(f"{len(there)} buttons, choices and fields, each used by a test")
 
-    def test_a_button_that_no_test_pressed_is_told(self):
+    def test_a_button_that_no_test_pressed_is_reported(self):
         self.b.js("document.querySelector('#describe').after(Object.assign(document.createElement('button'), { textContent: 'More' }))")
         self.b.js("document.querySelector('#speed').append(new Option('never'))")
         self.assertLessEqual({"#describe-view More", "select#speed never"}, self.there() - set(PRESSED))

@@ -3,6 +3,7 @@ pub mod Numbers
 pub mod TagLemmas
 pub mod TotalLemmas
 pub mod PartLemmas
+pub mod StackLemmas
 pub mod GlobalLemmas
 pub mod LocalLemmas
 pub mod ReportLemmas
@@ -19,3 +20,4 @@ pub mod WellLemmas
 pub mod WalkLemmas
 pub mod LinkLemmas
 mod ReaderLemmas
+mod BesideLemmas

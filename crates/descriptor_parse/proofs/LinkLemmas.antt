@@ -1,5 +1,5 @@
 -- The chain of each report's fields.
-use Rattle.std.proofs.Common.{◌≡◌, ℕ, zero, suc, ◌+◌, ◌<◌, ◌≤◌, List, [], ◌∷◌, length, length-drop, drop, map, set, get_or, arith, refl, sym, ◌∙◌, ap, inl, inr, true, false}
+use Rattle.std.proofs.Common.{◌≡◌, ℕ, ◌+◌, ◌<◌, ◌≤◌, List, [], ◌∷◌, length, length-drop, drop, set, get_or, arith, refl, sym, ◌∙◌, ap, inl, inr, true}
 use Rattle.std.specs.Prelude.{All, if◌then◌else◌, slice_index}
 use Rattle.std.proofs.lemmas.Bool.{cases_eq, cases_Bool}
 use Rattle.std.proofs.lemmas.List.{drop_more, drop_all, drop-drop, get_or-map, get_or-set_other, map-set, length-map}
@@ -10,7 +10,7 @@ use Rattle.descriptor_parse.specs.declared.reports.Link.{Link}
 use Rattle.descriptor_parse.specs.declared.totals.Totals.{Totals}
 use Rattle.descriptor_parse.specs.Readers.{is_of_report}
 use Rattle.descriptor_parse.specs.ties.Totals.{first_in, no_field}
-use Rattle.descriptor_parse.specs.ties.Linked.{ends_of, nexts_of, first_from, HaveNext, AreLinked, HasFirst}
+use Rattle.descriptor_parse.specs.ties.Linked.{nexts_of, first_from, HaveNext, AreLinked, HasFirst}
 use Rattle.descriptor_parse.specs.ties.FieldsLeft.{IsNext}
 
 -- ---- a report's first field from a place on

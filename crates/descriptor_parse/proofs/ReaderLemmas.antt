@@ -1,5 +1,5 @@
 -- The fields of one report among all.
-use Rattle.std.proofs.Common.{◌≡◌, ℕ, zero, suc, ◌+◌, ◌<◌, ◌≤◌, List, [], ◌∷◌, length, length-drop, take, drop, get_or, arith, refl, sym, ◌∙◌, ap, inl, inr, true, false, None, Some}
+use Rattle.std.proofs.Common.{◌≡◌, ℕ, zero, suc, ◌+◌, ◌<◌, ◌≤◌, List, [], ◌∷◌, length, length-drop, take, drop, get_or, arith, refl, sym, ◌∙◌, ap, inl, inr, true, false}
 use Rattle.std.specs.Prelude.{pos, ◌-◌, ◌==◌, if◌then◌else◌, filter, zip, min, slice_index, slice_get, unwrap_or}
 use Rattle.std.proofs.lemmas.Bool.{cases_Bool, and_parts, eqb-true}
 use Rattle.std.proofs.lemmas.Option.{unwrap_or-slice_get}
@@ -9,7 +9,7 @@ use Rattle.descriptor_parse.specs.declared.field.Kind.{Kind}
 use Rattle.descriptor_parse.specs.declared.field.Field.{Field}
 use Rattle.descriptor_parse.specs.declared.reports.Link.{Link}
 use Rattle.descriptor_parse.specs.Tags.{same_kind}
-use Rattle.descriptor_parse.specs.ties.Parts.{parts_from, parts, AreEnds}
+use Rattle.descriptor_parse.specs.ties.Parts.{parts}
 use Rattle.descriptor_parse.specs.Counts.{AreCounts}
 use Rattle.descriptor_parse.specs.ties.CountsStand.{StandTogether}
 use Rattle.descriptor_parse.specs.Readers.{is_of_report}

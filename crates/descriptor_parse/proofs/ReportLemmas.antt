@@ -23,7 +23,7 @@ use Rattle.descriptor_parse.specs.ties.Linked.{ends_of}
 use Rattle.descriptor_parse.specs.ties.CountsStand.{wrapped_counts, AreWrapped}
 use Rattle.descriptor_parse.proofs.PartLemmas.{ends_more, parts_more}
 use Rattle.descriptor_parse.proofs.CountLemmas.{wrapped_len, counts_more}
-use Rattle.descriptor_parse.specs.ties.GlobalsStand.{globals_of}
+use Rattle.descriptor_parse.specs.ties.GlobalsOf.{globals_of}
 use Rattle.descriptor_parse.specs.ties.LocalsStand.{LocalsStand, range_on}
 use Rattle.descriptor_parse.specs.ties.ReportsStand.{declares, field_by, Declares, FitsData, ReportsStand}
 

@@ -1,4 +1,4 @@
-use Rattle.std.proofs.Common.{◌≡◌, ℕ, ◌+◌, ◌-◌, ◌/◌, ◌<◌, ◌≤◌, ◌^◌, List, ◌∷◌, length, refl, arith, sym, ◌∙◌, ap, Bool, true, false, cond, Some, None, inl, inr}
+use Rattle.std.proofs.Common.{◌≡◌, ℕ, ◌+◌, ◌-◌, ◌/◌, ◌<◌, ◌≤◌, ◌^◌, List, ◌∷◌, refl, arith, sym, ◌∙◌, ap, Bool, true, false, cond, Some, None, inl, inr}
 use Rattle.std.specs.Prelude.{◌==◌, ◌&&◌, ◌||◌, not, nat_lt, IsTrue, Option, option_map, is_some}
 use Rattle.std.proofs.lemmas.Bool.{cases_Bool, or_parts, ltb-false, leb-false, eqb-false}
 use Rattle.descriptor_parse.specs.declared.fault.ParseFault.{ParseFault}
@@ -16,16 +16,18 @@ use Rattle.descriptor_parse.specs.declared.tag.LocalTag.{LocalTag}
 use Rattle.descriptor_parse.specs.declared.tag.LocalTag.TheVariants as local
 use Rattle.descriptor_parse.specs.Items.{ItemValue}
 use Rattle.descriptor_parse.specs.Tags.{tag, tag_of, is_collection, is_end_collection}
-use Rattle.descriptor_parse.specs.Globals.{unsigned, pushes, report_size, report_count}
+use Rattle.descriptor_parse.specs.Globals.{unsigned, report_size, report_count}
 use Rattle.descriptor_parse.specs.Locals.{has_page, unpaired, is_match, is_minimum}
 use Rattle.descriptor_parse.specs.Fields.{is_constant, is_field, open_collections}
 use Rattle.descriptor_parse.specs.Faults.{shows, fault_at, wants_memory}
-use Rattle.descriptor_parse.specs.ties.GlobalsStand.{GlobalsStand}
+use Rattle.descriptor_parse.specs.ties.GlobalsOf.{globals_of}
+use Rattle.descriptor_parse.specs.ties.StackStands.{StackStands}
 use Rattle.descriptor_parse.specs.ties.Written.{usage_of}
 use Rattle.descriptor_parse.specs.ties.LocalsStand.{LocalsStand, raw_of, half_of, are_alike, fault_of_local, adds_range}
 use Rattle.descriptor_parse.specs.ties.ReportsStand.{ReportsStand, FitsData, declares, fills}
 use Rattle.descriptor_parse.specs.ties.StateStands.{StateStands, IsData, fault_of_main, fault_of_global}
-use Rattle.descriptor_parse.proofs.GlobalLemmas.{none_saved, stand_other, is_global}
+use Rattle.descriptor_parse.proofs.GlobalLemmas.{stand_other, is_global}
+use Rattle.descriptor_parse.proofs.StackLemmas.{none_saved}
 use Rattle.descriptor_parse.proofs.LocalLemmas.{stand_silent, is_silent}
 use Rattle.descriptor_parse.proofs.ReportLemmas.{stand_neutral, is_neutral, declares_field}
 
@@ -68,8 +70,8 @@ judged_local before item t locals e s = local_at t before item (unpaired before)
 global_at : (t : GlobalTag) (before : List ItemValue) (item : ItemValue) (s : State) → tag item ≡ Global t → StateStands before s
     → fault_at before item ≡ fault_of_global t (unsigned item.bytes) s
 unfolding fault_at shows
-global_at Pop before item s e st = rw (e, none_saved before s.globals st.globals) refl
-global_at Push before item s e st = rw (e, none_saved before s.globals st.globals) refl
+global_at Pop before item s e st = rw (e, none_saved globals_of before s.globals st.globals) refl
+global_at Push before item s e st = rw (e, none_saved globals_of before s.globals st.globals) refl
 global_at ReportId before item s e st = rw (e, st.reports.has_bare) refl
 global_at UsagePage before item s e st = rw e refl
 global_at LogicalMinimum before item s e st = rw e refl
@@ -108,7 +110,7 @@ judged_skipped before item e = rw e refl
 
 -- an item that opens and closes no collection
 pub stand_plain : (before : List ItemValue) (item : ItemValue) (old new : State) → is_collection (tag item) ≡ false → is_end_collection (tag item) ≡ false
-    → GlobalsStand (item ∷ before) new.globals → LocalsStand (item ∷ before) new.locals → ReportsStand (item ∷ before) new.reports
+    → StackStands globals_of (item ∷ before) new.globals → LocalsStand (item ∷ before) new.locals → ReportsStand (item ∷ before) new.reports
     → new.collections ≡ old.collections → StateStands before old → StateStands (item ∷ before) new
 stand_plain before item old new n m g l r c s = record {
   globals = g;
@@ -119,7 +121,7 @@ stand_plain before item old new n m g l r c s = record {
 }
 
 pub stand_opened : (before : List ItemValue) (item : ItemValue) (old new : State) → tag item ≡ Main Collection
-    → GlobalsStand (item ∷ before) new.globals → LocalsStand (item ∷ before) new.locals → ReportsStand (item ∷ before) new.reports
+    → StackStands globals_of (item ∷ before) new.globals → LocalsStand (item ∷ before) new.locals → ReportsStand (item ∷ before) new.reports
     → new.collections ≡ old.collections + 1 → StateStands before old → StateStands (item ∷ before) new
 stand_opened before item old new e g l r c s =
     let b = s.balanced in
@@ -132,7 +134,7 @@ stand_opened before item old new e g l r c s =
     }
 
 pub stand_closed : (before : List ItemValue) (item : ItemValue) (old new : State) → tag item ≡ Main EndCollection → 0 < open_collections before
-    → GlobalsStand (item ∷ before) new.globals → LocalsStand (item ∷ before) new.locals → ReportsStand (item ∷ before) new.reports
+    → StackStands globals_of (item ∷ before) new.globals → LocalsStand (item ∷ before) new.locals → ReportsStand (item ∷ before) new.reports
     → new.collections ≡ old.collections - 1 → StateStands before old → StateStands (item ∷ before) new
 stand_closed before item old new e some g l r c s =
     let b = s.balanced in
@@ -192,13 +194,6 @@ pub collection_left : (before : List ItemValue) (item : ItemValue) (s : State) �
 collection_left before item s st none =
     let some : s.collections ≡ 0 → ⊥ = eqb-false _ _ (none_left _ _ _ none).0 in
     let now = st.collections in omega arith
-
-pub push_left : (before : List ItemValue) (t : GlobalTag) (value : ℕ) (s : State) → StateStands before s
-    → fault_of_global t value s ≡ None → t ≡ Pop → 0 < pushes before
-push_left before t value s st none e =
-    let none' : fault_of_global Pop value s ≡ None = (rw e at none) in
-    let some : length s.globals.saved.items ≡ 0 → ⊥ = eqb-false _ _ (none_left _ _ _ none').0 in
-    let now : length s.globals.saved.items ≡ pushes before = none_saved before s.globals st.globals in omega arith
 
 pub small_id : (t : GlobalTag) (value : ℕ) (s : State) → fault_of_global t value s ≡ None → t ≡ ReportId → value < 256
 small_id t value s none e =

@@ -7,6 +7,7 @@ pub mod Locals
 pub mod Fields
 pub mod Faults
 pub mod Descriptor
+pub mod Beside
 pub mod Counts
 pub mod Parse
 pub mod Fed

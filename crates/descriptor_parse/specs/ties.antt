@@ -4,12 +4,13 @@ pub mod Descriptor
 pub mod DescriptorView
 pub mod Fed
 pub mod FieldsLeft
-pub mod GlobalsStand
+pub mod GlobalsOf
 pub mod Linked
 pub mod LocalsStand
 pub mod Parse
 pub mod Parts
 pub mod ReportsStand
+pub mod StackStands
 pub mod StandsFor
 pub mod StateStands
 pub mod TagTable

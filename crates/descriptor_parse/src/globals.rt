@@ -1,35 +1,52 @@
-//! The Global items in force, and those that were pushed (HID 1.11, 6.2.2.7).
+//! The Global items that the parser uses (HID 1.11, 6.2.2.7).
 
-ghost use Rattle.std.specs.Prelude.{◌≡◌, ◌≢◌, ◌≤◌, ◌<◌, ℕ, List, [], ◌∷◌, OnOk, OnErr, length, int_lt, if◌then◌else◌, pos};
+ghost use Rattle.std.specs.Prelude.{◌≡◌, ◌≤◌, ◌<◌, List, ◌∷◌, OnOk, OnErr, length};
 ghost use Rattle.descriptor_parse.specs.Items.{ItemValue};
 ghost use Rattle.descriptor_parse.specs.Tags.{tag_of};
-ghost use Rattle.descriptor_parse.specs.Globals.{unsigned, pushes};
-ghost use Rattle.descriptor_parse.specs.ties.GlobalsStand.{GlobalsStand, max_of, globals_with};
+ghost use Rattle.descriptor_parse.specs.Globals.{unsigned};
+ghost use Rattle.descriptor_parse.specs.ties.GlobalsOf.{globals_of, max_of, globals_with};
+ghost use Rattle.descriptor_parse.specs.ties.StackStands.{StackStands};
 ghost use Rattle.descriptor_parse.specs.declared.tag.Tag.{Tag};
 ghost use Rattle.descriptor_parse.specs.declared.tag.GlobalTag.{GlobalTag};
 
 use crate::number::{signed, unsigned};
+use crate::stack::Stack;
 use crate::tag::GlobalTag;
-use std::alloc::{AllocError, Global};
+use std::alloc::AllocError;
 
 /// The values of the Global items that the parser uses.
-#[derive(Clone, Copy)]
-pub(crate) struct Globals {
-    pub(crate) page: u16,
-    pub(crate) min: i64,
+#[derive(Clone, Copy, Debug)]
+pub struct Globals {
+    /// The Usage Page.
+    pub page: u16,
+    /// The Logical Minimum.
+    pub min: i64,
     /// The Logical Maximum, read as signed.
-    pub(crate) signed_max: i64,
+    pub signed_max: i64,
     /// The same, read as unsigned.
-    pub(crate) unsigned_max: u32,
-    pub(crate) size: u32,
-    pub(crate) count: u32,
+    pub unsigned_max: u32,
+    /// The Report Size.
+    pub size: u32,
+    /// The Report Count.
+    pub count: u32,
     /// The Report ID, 0 if there is none.
-    pub(crate) id: u8,
+    pub id: u8,
 }
 
 impl Globals {
+    /// Those before the first item.
+    pub(crate) const NONE: Globals = Globals {
+        page: 0,
+        min: 0,
+        signed_max: 0,
+        unsigned_max: 0,
+        size: 0,
+        count: 0,
+        id: 0,
+    };
+
     /// The Logical Maximum: signed only under a negative minimum.
-    pub(crate) fn max(&self) -> i64
+    pub fn max(&self) -> i64
         ensures { result ≡ max_of self.now }
     {
         if self.min < 0 {
@@ -62,57 +79,23 @@ impl Globals {
     }
 }
 
-/// The Globals in force, and those of the Pushes that are still to be popped, the latest last.
-#[derive(Drop)]
-pub(crate) struct GlobalStack {
-    pub(crate) now: Globals,
-    pub(crate) saved: Vec<Globals>,
-}
-
-impl GlobalStack {
-    pub(crate) fn new(alloc: Global) -> GlobalStack
-        ensures { GlobalsStand [] result }
-    {
-        GlobalStack {
-            now: Globals {
-                page: 0,
-                min: 0,
-                signed_max: 0,
-                unsigned_max: 0,
-                size: 0,
-                count: 0,
-                id: 0,
-            },
-            saved: Vec::new(alloc),
-        }
+/// Takes a Global item.
+#[inline(always)]
+pub(crate) fn take_global(
+    globals: &mut Stack<Globals>,
+    tag: GlobalTag,
+    bytes: &[u8],
+) -> Result<(), AllocError>
+    requires { length bytes.now ≤ 4 }
+    ensures taken { OnOk result ((before : List ItemValue) (item : ItemValue) → tag_of item.prefix ≡ Tag.Global tag
+        → item.bytes ≡ bytes.now → (tag ≡ GlobalTag.ReportId → unsigned item.bytes < 256)
+        → StackStands globals_of before globals.old → StackStands globals_of (item ∷ before) globals.new) }
+    ensures refused { OnErr result (tag ≡ GlobalTag.Push) }
+{
+    match tag {
+        GlobalTag::Push => globals.save()?,
+        GlobalTag::Pop => globals.restore(),
+        _ => globals.now.set(tag, bytes),
     }
-
-    /// Takes a Global item.
-    #[inline(always)]
-    pub(crate) fn take(&mut self, tag: GlobalTag, bytes: &[u8]) -> Result<(), AllocError>
-        requires { length bytes.now ≤ 4 }
-        ensures taken { OnOk result ((before : List ItemValue) (item : ItemValue) → tag_of item.prefix ≡ Tag.Global tag
-            → item.bytes ≡ bytes.now → (tag ≡ GlobalTag.Pop → 0 < pushes before)
-            → (tag ≡ GlobalTag.ReportId → unsigned item.bytes < 256)
-            → GlobalsStand before self.old → GlobalsStand (item ∷ before) self.new) }
-        ensures refused { OnErr result (tag ≡ GlobalTag.Push) }
-    {
-        match tag {
-            GlobalTag::Push => self.saved.push(self.now)?,
-            GlobalTag::Pop => self.pop(),
-            _ => self.now.set(tag, bytes),
-        }
-        Ok(())
-    }
-
-    /// Puts the latest saved Globals in force again.
-    fn pop(&mut self)
-        ensures { (before : List ItemValue) (item : ItemValue) → tag_of item.prefix ≡ Tag.Global GlobalTag.Pop → 0 < pushes before
-            → GlobalsStand before self.old → GlobalsStand (item ∷ before) self.new }
-    {
-        match self.saved.pop() {
-            Some(globals) => self.now = globals,
-            None => {}
-        }
-    }
+    Ok(())
 }

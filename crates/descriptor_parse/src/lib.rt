@@ -9,12 +9,13 @@
 //! those that the text declares, and that a refusal is the text's first fault. `host_extract` reads reports by it.
 #![tactic(auto)]
 
+pub mod beside;
 mod counts;
 pub mod descriptor;
 pub mod fault;
 pub mod field;
 pub mod field_usages;
-mod globals;
+pub mod globals;
 pub mod items;
 pub mod laws;
 mod locals;
@@ -23,7 +24,8 @@ pub mod parser;
 pub mod readers;
 mod reading;
 mod reports;
-mod state;
+pub mod stack;
+pub mod state;
 mod tag;
 mod text;
 mod totals;

@@ -4,6 +4,7 @@ ghost use Rattle.std.specs.Prelude.{◌≡◌, ◌≢◌, ◌+◌, ◌-◌, ◌�
 ghost use Rattle.descriptor_parse.specs.Items.{item_size, front_item};
 ghost use Rattle.descriptor_parse.specs.ItemViews.{item_view};
 ghost use Rattle.descriptor_parse.specs.Fed.{RefusesAll};
+ghost use Rattle.descriptor_parse.specs.Parse.{Answers};
 ghost use Rattle.descriptor_parse.specs.ties.Fed.{AreBytes, IsAt, IsFront};
 
 use crate::descriptor::Descriptor;
@@ -82,7 +83,6 @@ impl Reading {
 
 impl Reading {
     ghost use Rattle.descriptor_parse.specs.ties.Fed.{IsReading};
-    ghost use Rattle.descriptor_parse.specs.Parse.{Answers};
 
     /// Ends the text: its descriptor, or that it ends too early.
     pub(crate) fn finish(self) -> Result<Descriptor, ParseError>
@@ -94,20 +94,29 @@ impl Reading {
             part,
             offset,
         } = self;
-        if has_bytes(&part) {
-            return Err(ParseError {
-                fault: ParseFault::Truncated,
-                offset,
-            });
-        }
-        if state.collections > 0 {
-            return Err(ParseError {
-                fault: ParseFault::CollectionOpen,
-                offset,
-            });
-        }
-        Ok(Descriptor::new(state.into_reports()))
+        end(state, &part, offset)
     }
+}
+
+/// Ends a text of which these bytes at an offset are left, which make no item.
+pub(crate) fn end(state: State, left: &[u8], offset: usize) -> Result<Descriptor, ParseError>
+    requires short { length left.now < item_size left.now }
+    requires read { ∥ ((text : List ℕ) × AreBytes text × IsAt text left.now offset state) ∥₁ }
+    ensures { (text : List ℕ) → IsAt text left.now offset state → Answers text result }
+{
+    if has_bytes(left) {
+        return Err(ParseError {
+            fault: ParseFault::Truncated,
+            offset,
+        });
+    }
+    if state.collections > 0 {
+        return Err(ParseError {
+            fault: ParseFault::CollectionOpen,
+            offset,
+        });
+    }
+    Ok(Descriptor::new(state.into_reports()))
 }
 
 /// Whether there are bytes of an item that is not whole.
@@ -167,7 +176,11 @@ fn read_items<'a>(
 ///
 /// An item that reaches past the greatest length of a text is judged, and never taken.
 #[inline(always)]
-fn take_item(state: &mut State, item: &Item<'_>, size: usize) -> Result<usize, ParseError>
+pub(crate) fn take_item(
+    state: &mut State,
+    item: &Item<'_>,
+    size: usize,
+) -> Result<usize, ParseError>
     requires few { item.now.prefix ≢ 254 → length item.now.bytes.now ≤ 4 }
     requires not_three { item.now.prefix ≢ 254 → length item.now.bytes.now ≢ 3 }
     requires small { size ≤ 258 }

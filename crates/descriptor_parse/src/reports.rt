@@ -6,7 +6,7 @@ ghost use Rattle.descriptor_parse.specs.Tags.{tag_of};
 ghost use Rattle.descriptor_parse.specs.Globals.{unsigned, in_force, report_size, report_count, usage_page};
 ghost use Rattle.descriptor_parse.specs.Locals.{usages_since_main};
 ghost use Rattle.descriptor_parse.specs.Fields.{is_constant};
-ghost use Rattle.descriptor_parse.specs.ties.GlobalsStand.{globals_of};
+ghost use Rattle.descriptor_parse.specs.ties.GlobalsOf.{globals_of};
 ghost use Rattle.descriptor_parse.specs.ties.Linked.{AreLinked, HasFirst, ends_of};
 ghost use Rattle.descriptor_parse.specs.ties.DescriptorView.{value_of};
 ghost use Rattle.descriptor_parse.specs.ties.LocalsStand.{LocalsStand};

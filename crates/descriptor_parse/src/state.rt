@@ -4,9 +4,10 @@ ghost use Rattle.std.specs.Prelude.{◌≡◌, ◌≢◌, ◌≤◌, ◌<◌, �
 ghost use Rattle.descriptor_parse.specs.Items.{ItemValue};
 ghost use Rattle.descriptor_parse.specs.ItemViews.{item_view};
 ghost use Rattle.descriptor_parse.specs.Tags.{tag_of};
-ghost use Rattle.descriptor_parse.specs.Globals.{unsigned};
-ghost use Rattle.descriptor_parse.specs.Fields.{open_collections};
+ghost use Rattle.descriptor_parse.specs.Globals.{unsigned, in_force, report_id};
+ghost use Rattle.descriptor_parse.specs.Fields.{open_collections, report_bits};
 ghost use Rattle.descriptor_parse.specs.Faults.{fault_at};
+ghost use Rattle.descriptor_parse.specs.ties.GlobalsOf.{globals_of};
 ghost use Rattle.descriptor_parse.specs.ties.ReportsStand.{FitsData, fills};
 ghost use Rattle.descriptor_parse.specs.ties.Written.{usage_of};
 ghost use Rattle.descriptor_parse.specs.ties.StateStands.{StateStands, Takes, IsRefused, IsData, fault_of_data, fault_of_main, fault_of_global};
@@ -17,14 +18,17 @@ ghost use Rattle.descriptor_parse.specs.declared.tag.LocalTag.{LocalTag};
 
 use crate::fault::ParseFault;
 use crate::field::Kind;
-use crate::globals::GlobalStack;
+use crate::globals::{Globals, take_global};
 use crate::items::{Item, LONG};
 use crate::locals::Locals;
 use crate::number::unsigned;
 use crate::reports::{MAX_COUNT, MAX_SIZE, Reports, declares};
+use crate::stack::Stack;
 use crate::tag::{GlobalTag, LocalTag, MainTag, Tag};
 use crate::usage::{Usage, read_usage};
 use std::alloc::{AllocError, Global};
+use std::fmt;
+use std::fmt::Debug;
 
 /// The most bits of a Constant item's place.
 const MAX_CONSTANT_SIZE: u32 = 1024;
@@ -37,8 +41,8 @@ const MAX_PUSHES: usize = 8;
 
 /// What the items so far leave to the next one.
 #[derive(Drop)]
-pub(crate) struct State {
-    pub(crate) globals: GlobalStack,
+pub struct State {
+    pub(crate) globals: Stack<Globals>,
     pub(crate) locals: Locals,
     pub(crate) reports: Reports,
     /// The collections that are open.
@@ -50,11 +54,25 @@ impl State {
         ensures { StateStands [] result }
     {
         State {
-            globals: GlobalStack::new(alloc),
+            globals: Stack::new(alloc, Globals::NONE),
             locals: Locals::new(alloc),
             reports: Reports::new(alloc),
             collections: 0,
         }
+    }
+
+    /// The Globals in force.
+    pub fn globals(&self) -> &Globals
+        ensures { (before : List ItemValue) → StateStands before self.now → result.now ≡ globals_of (in_force before) }
+    {
+        &self.globals.now
+    }
+
+    /// The bits so far of the report of a kind that has the ID in force.
+    pub fn bits(&self, kind: Kind) -> u64
+        ensures { (before : List ItemValue) → StateStands before self.now → result ≡ report_bits kind (report_id before) before }
+    {
+        self.reports.totals.bits(kind, self.globals.now.id)
     }
 
     pub(crate) fn into_reports(self) -> Reports
@@ -224,7 +242,7 @@ impl State {
             → StateStands before self.old → fault_at before item ≡ None → StateStands (item ∷ before) self.new) }
         ensures refused { OnErr result (tag ≡ GlobalTag.Push) }
     {
-        self.globals.take(tag, bytes)?;
+        take_global(&mut self.globals, tag, bytes)?;
         self.reports.note(tag);
         Ok(())
     }
@@ -278,6 +296,14 @@ impl State {
     {
         self.collections = self.collections.saturating_sub(1);
         self.locals.clear();
+    }
+}
+
+impl Debug for State {
+    fn fmt<W: fmt::Write>(&self, f: &mut fmt::Formatter<W>) -> fmt::Result {
+        f.debug_struct("State")
+            .field("collections", &self.collections)
+            .finish_non_exhaustive()
     }
 }
 

@@ -5,17 +5,13 @@
 //! this one: what an operation of it leaves there is what the units held when the power failed.
 
 ghost use Rattle.std.specs.Prelude.{◌≡◌, ◌<◌, ◌≤◌, ℕ, suc, None, Some, IsErr, IsOk};
-ghost use Rattle.flash_model.specs.Image.{page_count, slot_at, IsImage};
-ghost use Rattle.flash_model.specs.Operations.{MayProgram, MayErase};
 ghost use Rattle.ecc_flash.specs.Reading.{blank};
 ghost use Rattle.ecc_flash.specs.Model.{MayHold, MayBeErased, OneUnit, OnePageOfUnits};
-ghost use Rattle.ecc_flash.specs.Paired.{AllKept, image_of};
 ghost use Rattle.ecc_flash.specs.UnitOperation.{programs_unit, erases_units};
-ghost use Rattle.ecc_flash.specs.Cut.{CutOperates, CutInside};
-ghost use Rattle.flash_model.specs.FlashOperation.{programs, erases};
+ghost use Rattle.ecc_flash.specs.Cut.{CutOperates};
 
-use crate::{EccFlash, PAGE_UNITS, PairedFlash, UNIT_BYTES};
-use flash_model::{FlashFault, NorFlash, PAGE_SLOTS, SLOT_BYTES};
+use crate::{EccFlash, PAGE_UNITS, UNIT_BYTES};
+use flash_model::FlashFault;
 use std::marker::Model;
 
 /// A flash whose power fails inside a program or an erase.
@@ -129,37 +125,4 @@ impl<F: EccFlash + Drop> EccFlash for CutFlash<F> {
             }
         }
     }
-}
-
-/// A program of a slot in which the power fails, inside the unit program that comes after `whole`
-/// others: what it leaves is an outcome of a torn program. With `whole` 0 that is inside the first
-/// unit or before it, with 1 inside the second or between the two. The units before are programmed
-/// as the flash does it, that one may be torn, and none is behind it.
-pub fn program_cut<F: EccFlash + Drop>(
-    flash: PairedFlash<F>,
-    page: usize,
-    slot: usize,
-    bytes: [u8; SLOT_BYTES],
-    whole: u32,
-) -> PairedFlash<F>
-    requires in_pages { page < page_count (image_of (F.units flash.0) (F.page_total flash.0)) }
-    requires in_page { slot < PAGE_SLOTS }
-    ensures torn { MayProgram (image_of (F.units flash.0) (F.page_total flash.0)) page slot bytes (image_of (F.units result.0) (F.page_total result.0)) }
-    ensures cut { CutInside F.units F.operates flash.0 (programs page slot bytes) whole result.0 }
-{
-    let mut cut = PairedFlash::mount(CutFlash::new(flash.into_flash(), whole));
-    let _done = cut.program_slot(page, slot, bytes);
-    PairedFlash::mount(cut.into_flash().into_flash())
-}
-
-/// An erase of a page in which the power fails: what it leaves is an outcome of a torn erase.
-pub fn erase_cut<F: EccFlash + Drop>(flash: PairedFlash<F>, page: usize) -> PairedFlash<F>
-    requires { page < page_count (image_of (F.units flash.0) (F.page_total flash.0)) }
-    ensures torn { MayErase (image_of (F.units flash.0) (F.page_total flash.0)) page (image_of (F.units result.0) (F.page_total result.0)) }
-    ensures cut { CutInside F.units F.operates flash.0 (erases page) 0 result.0 }
-{
-    let mut cut = PairedFlash::mount(CutFlash::new(flash.into_flash(), 0));
-    let _pages = cut.pages();
-    let _done = cut.erase_page(page);
-    PairedFlash::mount(cut.into_flash().into_flash())
 }

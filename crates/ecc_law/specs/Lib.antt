@@ -1,1 +1,3 @@
 pub mod WorkCut
+pub mod Happenings
+pub mod ties

@@ -11,6 +11,8 @@
 //! stored. A maker whose flash has error correction reads it.
 #![tactic(auto)]
 
+pub mod board;
+
 ghost use Rattle.std.specs.Prelude.{◌≡◌, ◌≢◌, ◌∷◌, ◌++◌, [], ℕ, List, Ok, length};
 ghost use Rattle.ecc_flash.specs.Cut.{PairOperates};
 ghost use Rattle.ecc_flash.specs.Paired.{AllKept, image_of};
@@ -27,38 +29,43 @@ ghost use Rattle.keymap_store.specs.declared.store.Work.{Work};
 ghost use Rattle.page_turnover.specs.Next.{on_flash};
 ghost use Rattle.ecc_law.specs.WorkCut.{WorkIsCut};
 
+pub use board::{Happening, Told, begin, take};
 use ecc_flash::{CutFlash, EccFlash, PairedFlash};
 use keyboard::laws::{a_command_is_served, acknowledged_is_stored, restarts_are_legal};
-use keyboard::{EpAnswer, Keyboard, Room, Work};
+use keyboard::{EpAnswer, KeyboardOf, Room, Work};
+use layers::Defaults;
 
 /// A keyboard starts on a flash with error correction: it stands for no call, on the image of its slots.
-pub fn start<F: EccFlash + Drop>(room: Room, flash: &PairedFlash<F>) -> Keyboard
-    ensures stands { StandsFor (image_of (F.units flash.now.0) (F.page_total flash.now.0)) [] result }
-    ensures runs_on { RunsOn (image_of (F.units flash.now.0) (F.page_total flash.now.0)) result }
+pub fn start<D: Defaults, F: EccFlash + Drop>(room: Room, flash: &PairedFlash<F>) -> KeyboardOf<D>
+    ensures stands { StandsFor D.defaults (image_of (F.units flash.now.0) (F.page_total flash.now.0)) [] result }
+    ensures runs_on { RunsOn D.defaults (image_of (F.units flash.now.0) (F.page_total flash.now.0)) result }
 {
-    Keyboard::start_in(room, flash)
+    KeyboardOf::start_in(room, flash)
 }
 
 /// A step of the flash work on a flash with error correction, with the keyboard's promise: its answer is
 /// the one that it has to be; what it leaves, and each image that its operation might have left, makes a
 /// legal restart; and what the host was told is stored is there. On a healthy flash no step fails.
-pub fn work<F: EccFlash + Drop>(keyboard: &mut Keyboard, flash: &mut PairedFlash<F>) -> Work
-    requires { RunsOn (image_of (F.units flash.old.0) (F.page_total flash.old.0)) keyboard.old }
-    ensures runs_on { RunsOn (image_of (F.units flash.new.0) (F.page_total flash.new.0)) keyboard.new }
-    ensures stands { (start : List ℕ) (past : List Call) → StandsFor start past keyboard.old → image_after start past ≡ image_of (F.units flash.old.0) (F.page_total flash.old.0)
-        → StandsFor start (Worked result (image_of (F.units flash.new.0) (F.page_total flash.new.0)) ∷ past) keyboard.new }
-    ensures answer { (start : List ℕ) (past : List Call) → StandsFor start past keyboard.old → image_after start past ≡ image_of (F.units flash.old.0) (F.page_total flash.old.0)
-        → IsAnswered start past (Worked result (image_of (F.units flash.new.0) (F.page_total flash.new.0))) }
-    ensures cut { (start : List ℕ) (past : List Call) → StandsFor start past keyboard.old → image_after start past ≡ image_of (F.units flash.old.0) (F.page_total flash.old.0)
-        → result ≢ Work.Idle → CutsLegally start past result (image_of (F.units flash.new.0) (F.page_total flash.new.0)) }
-    ensures operated { (start : List ℕ) (past : List Call) → StandsFor start past keyboard.old → image_after start past ≡ image_of (F.units flash.old.0) (F.page_total flash.old.0)
-        → result ≢ Work.Idle → MakesSuch start past result (image_of (F.units flash.new.0) (F.page_total flash.new.0)) (λ operation. PairOperates F.units F.operates flash.old.0 (on_flash operation) flash.new.0) }
+pub fn work<D: Defaults, F: EccFlash + Drop>(
+    keyboard: &mut KeyboardOf<D>,
+    flash: &mut PairedFlash<F>,
+) -> Work
+    requires { RunsOn D.defaults (image_of (F.units flash.old.0) (F.page_total flash.old.0)) keyboard.old }
+    ensures runs_on { RunsOn D.defaults (image_of (F.units flash.new.0) (F.page_total flash.new.0)) keyboard.new }
+    ensures stands { (start : List ℕ) (past : List Call) → StandsFor D.defaults start past keyboard.old → image_after start past ≡ image_of (F.units flash.old.0) (F.page_total flash.old.0)
+        → StandsFor D.defaults start (Worked result (image_of (F.units flash.new.0) (F.page_total flash.new.0)) ∷ past) keyboard.new }
+    ensures answer { (start : List ℕ) (past : List Call) → StandsFor D.defaults start past keyboard.old → image_after start past ≡ image_of (F.units flash.old.0) (F.page_total flash.old.0)
+        → IsAnswered D.defaults start past (Worked result (image_of (F.units flash.new.0) (F.page_total flash.new.0))) }
+    ensures cut { (start : List ℕ) (past : List Call) → StandsFor D.defaults start past keyboard.old → image_after start past ≡ image_of (F.units flash.old.0) (F.page_total flash.old.0)
+        → result ≢ Work.Idle → CutsLegally D.defaults start past result (image_of (F.units flash.new.0) (F.page_total flash.new.0)) }
+    ensures operated { (start : List ℕ) (past : List Call) → StandsFor D.defaults start past keyboard.old → image_after start past ≡ image_of (F.units flash.old.0) (F.page_total flash.old.0)
+        → result ≢ Work.Idle → MakesSuch D.defaults start past result (image_of (F.units flash.new.0) (F.page_total flash.new.0)) (λ operation. PairOperates F.units F.operates flash.old.0 (on_flash operation) flash.new.0) }
     ensures untouched { result ≡ Work.Idle → flash.new ≡ flash.old }
     ensures faultless { F.is_healthy flash.old.0 → F.is_healthy flash.new.0 × (result ≢ Work.Failed) }
-    ensures legal { (start : List ℕ) (past : List Call) → StandsFor start past keyboard.old → image_after start past ≡ image_of (F.units flash.old.0) (F.page_total flash.old.0)
-        → RestartsLegally start past (image_of (F.units flash.new.0) (F.page_total flash.new.0)) }
-    ensures acknowledged { (start : List ℕ) (past : List Call) (layer key code : ℕ) → StandsFor start past keyboard.old → image_after start past ≡ image_of (F.units flash.old.0) (F.page_total flash.old.0)
-        → IsAcknowledgedInSession past layer key code → keymap (image_of (F.units flash.new.0) (F.page_total flash.new.0)) layer key ≡ code }
+    ensures legal { (start : List ℕ) (past : List Call) → StandsFor D.defaults start past keyboard.old → image_after start past ≡ image_of (F.units flash.old.0) (F.page_total flash.old.0)
+        → RestartsLegally D.defaults start past (image_of (F.units flash.new.0) (F.page_total flash.new.0)) }
+    ensures acknowledged { (start : List ℕ) (past : List Call) (layer key code : ℕ) → StandsFor D.defaults start past keyboard.old → image_after start past ≡ image_of (F.units flash.old.0) (F.page_total flash.old.0)
+        → IsAcknowledgedInSession D.defaults past layer key code → keymap D.defaults (image_of (F.units flash.new.0) (F.page_total flash.new.0)) layer key ≡ code }
 {
     acknowledged_is_stored();
     restarts_are_legal();
@@ -72,17 +79,17 @@ pub fn work<F: EccFlash + Drop>(keyboard: &mut Keyboard, flash: &mut PairedFlash
 /// Progress: where each slot 0 is sound, the log is not worn, no command works and the flash is healthy,
 /// `steps` being as many as the command takes, the report is acknowledged, no step fails, the last is
 /// answered Settled, and the status stage by the empty packet. The flash is still healthy then.
-pub fn serve<F: EccFlash + Drop>(
-    keyboard: &mut Keyboard,
+pub fn serve<D: Defaults, F: EccFlash + Drop>(
+    keyboard: &mut KeyboardOf<D>,
     flash: &mut PairedFlash<F>,
     report: [u8; 6],
     steps: usize,
 ) -> (EpAnswer, EpAnswer)
-    requires { RunsOn (image_of (F.units flash.old.0) (F.page_total flash.old.0)) keyboard.old }
-    ensures served { (start : List ℕ) (past : List Call) (a b c d e : ℕ) (command : Command) → StandsFor start past keyboard.old → image_after start past ≡ image_of (F.units flash.old.0) (F.page_total flash.old.0)
-        → F.is_healthy flash.old.0 → IsReady start past → report ≡ 3 ∷ a ∷ b ∷ c ∷ d ∷ e ∷ [] → command_in (a ∷ b ∷ c ∷ d ∷ e ∷ []) ≡ Ok command → steps ≡ steps_for (image_after start past) command
+    requires { RunsOn D.defaults (image_of (F.units flash.old.0) (F.page_total flash.old.0)) keyboard.old }
+    ensures served { (start : List ℕ) (past : List Call) (a b c d e : ℕ) (command : Command) → StandsFor D.defaults start past keyboard.old → image_after start past ≡ image_of (F.units flash.old.0) (F.page_total flash.old.0)
+        → F.is_healthy flash.old.0 → IsReady D.defaults start past → report ≡ 3 ∷ a ∷ b ∷ c ∷ d ∷ e ∷ [] → command_in (a ∷ b ∷ c ∷ d ∷ e ∷ []) ≡ Ok command → steps ≡ steps_for D.defaults (image_after start past) command
         → (worked : List Call) × IsServed result.0 worked result.1 × (length worked ≡ steps) × F.is_healthy flash.new.0
-        × StandsFor start (In result.1 ∷ worked ++ Out report result.0 ∷ SetUp set_feature ∷ past) keyboard.new }
+        × StandsFor D.defaults start (In result.1 ∷ worked ++ Out report result.0 ∷ SetUp set_feature ∷ past) keyboard.new }
 {
     a_command_is_served();
     keyboard.setup(SET_FEATURE);
@@ -96,11 +103,15 @@ pub fn serve<F: EccFlash + Drop>(
 const SET_FEATURE: [u8; 8] = [0x21, 0x09, 3, 3, 0, 0, 6, 0];
 
 /// So many steps of the flash work, and nothing between them.
-fn run<F: EccFlash + Drop>(keyboard: &mut Keyboard, flash: &mut PairedFlash<F>, steps: usize)
-    requires { RunsOn (image_of (F.units flash.old.0) (F.page_total flash.old.0)) keyboard.old }
-    ensures runs_on { RunsOn (image_of (F.units flash.new.0) (F.page_total flash.new.0)) keyboard.new }
-    ensures whole { (start : List ℕ) (past : List Call) → StandsFor start past keyboard.old → image_after start past ≡ image_of (F.units flash.old.0) (F.page_total flash.old.0) → F.is_healthy flash.old.0
-        → (worked : List Call) × AreWhole worked × (length worked ≡ steps) × F.is_healthy flash.new.0 × StandsFor start (worked ++ past) keyboard.new
+fn run<D: Defaults, F: EccFlash + Drop>(
+    keyboard: &mut KeyboardOf<D>,
+    flash: &mut PairedFlash<F>,
+    steps: usize,
+)
+    requires { RunsOn D.defaults (image_of (F.units flash.old.0) (F.page_total flash.old.0)) keyboard.old }
+    ensures runs_on { RunsOn D.defaults (image_of (F.units flash.new.0) (F.page_total flash.new.0)) keyboard.new }
+    ensures whole { (start : List ℕ) (past : List Call) → StandsFor D.defaults start past keyboard.old → image_after start past ≡ image_of (F.units flash.old.0) (F.page_total flash.old.0) → F.is_healthy flash.old.0
+        → (worked : List Call) × AreWhole worked × (length worked ≡ steps) × F.is_healthy flash.new.0 × StandsFor D.defaults start (worked ++ past) keyboard.new
         × (image_after start (worked ++ past) ≡ image_of (F.units flash.new.0) (F.page_total flash.new.0)) }
 {
     for step in 0..steps {
@@ -116,19 +127,21 @@ fn run<F: EccFlash + Drop>(keyboard: &mut Keyboard, flash: &mut PairedFlash<F>, 
 /// behind it. A restart on it is legal: it finds the keymap of the session's start, changed by a
 /// prefix of the accepted commands that did not fail, with each settled one among them. And an entry
 /// whose code the host was told is stored, and that no later command writes, has this code.
-pub fn work_cut<F: EccFlash + Drop>(
-    keyboard: &mut Keyboard,
+pub fn work_cut<D: Defaults, F: EccFlash + Drop>(
+    keyboard: &mut KeyboardOf<D>,
     flash: PairedFlash<F>,
     whole: u32,
 ) -> PairedFlash<F>
-    requires { RunsOn (image_of (F.units flash.0) (F.page_total flash.0)) keyboard.old }
-    ensures legal { (start : List ℕ) (past : List Call) → StandsFor start past keyboard.old → image_after start past ≡ image_of (F.units flash.0) (F.page_total flash.0)
-        → RestartsLegally start past (image_of (F.units result.0) (F.page_total result.0)) }
-    ensures acknowledged { (start : List ℕ) (past : List Call) (layer key code : ℕ) → StandsFor start past keyboard.old → image_after start past ≡ image_of (F.units flash.0) (F.page_total flash.0)
-        → IsAcknowledgedInSession past layer key code → keymap (image_of (F.units result.0) (F.page_total result.0)) layer key ≡ code }
+    requires { RunsOn D.defaults (image_of (F.units flash.0) (F.page_total flash.0)) keyboard.old }
+    ensures legal { (start : List ℕ) (past : List Call) → StandsFor D.defaults start past keyboard.old → image_after start past ≡ image_of (F.units flash.0) (F.page_total flash.0)
+        → RestartsLegally D.defaults start past (image_of (F.units result.0) (F.page_total result.0)) }
+    ensures acknowledged { (start : List ℕ) (past : List Call) (layer key code : ℕ) → StandsFor D.defaults start past keyboard.old → image_after start past ≡ image_of (F.units flash.0) (F.page_total flash.0)
+        → IsAcknowledgedInSession D.defaults past layer key code → keymap D.defaults (image_of (F.units result.0) (F.page_total result.0)) layer key ≡ code }
     ensures kept { AllKept (F.units result.0) (F.page_total result.0) }
-    ensures cut { (start : List ℕ) (past : List Call) → StandsFor start past keyboard.old → image_after start past ≡ image_of (F.units flash.0) (F.page_total flash.0)
-        → WorkIsCut F.units F.operates start past flash.0 whole result.0 }
+    ensures answered { (start : List ℕ) (past : List Call) → StandsFor D.defaults start past keyboard.old → image_after start past ≡ image_of (F.units flash.0) (F.page_total flash.0)
+        → (work : Work) × IsAnswered D.defaults start past (Worked work (image_of (F.units result.0) (F.page_total result.0))) }
+    ensures cut { (start : List ℕ) (past : List Call) → StandsFor D.defaults start past keyboard.old → image_after start past ≡ image_of (F.units flash.0) (F.page_total flash.0)
+        → WorkIsCut D.defaults F.units F.operates start past flash.0 whole result.0 }
 {
     let mut cut = PairedFlash::mount(CutFlash::new(flash.into_flash(), whole));
     let _work = work(keyboard, &mut cut);

@@ -1,9 +1,9 @@
 -- The collections around a data item, by the numbers that are told.
-use Rattle.std.proofs.Common.{◌≡◌, ℕ, zero, suc, ◌+◌, ◌-◌, ◌<◌, List, [], ◌∷◌, ◌++◌, length, take, refl, arith, sym, ◌∙◌, ap, subst, Bool, true, false, cond, Some, None, inl, inr, length-append, reverse}
+use Rattle.std.proofs.Common.{◌≡◌, ℕ, zero, suc, ◌+◌, ◌-◌, ◌<◌, List, [], ◌∷◌, ◌++◌, length, take, refl, arith, sym, ◌∙◌, ap, subst, true, false, cond, Some, None, inl, inr, length-append, reverse}
 use Rattle.std.proofs.lemmas.Bool.{cases_Bool, cases_lt, lt-ltb, ltb-true}
 use Rattle.std.proofs.lemmas.List.{reverse-append, reverse-reverse, take-append-le, append-nil}
 use Rattle.std.proofs.lemmas.Option.{slice_get_past}
-use Rattle.std.specs.Prelude.{find, nat_lt, slice_get, Option, option_and_then, unwrap_or}
+use Rattle.std.specs.Prelude.{nat_lt, slice_get, Option, option_and_then, unwrap_or}
 use Rattle.descriptor_parse.specs.Items.{ItemValue}
 use Rattle.descriptor_parse.specs.declared.tag.Tag.{Tag}
 use Rattle.descriptor_parse.specs.declared.tag.Tag.TheVariants.{Main, Global, Local, Skipped}
@@ -192,37 +192,6 @@ chain_around (item ∷ before) place =
           (by_lists (collections (item ∷ before)) (details before) (all_around before) (declared_detail before item) (open_now before) place (as_many before) old new)
       | inr p ↦ rw (around_same before item p, told_same before item p) old
     ]
-
--- ---- the way outwards
-
--- what is left of it
-pub record IsLeft (groups : List Group) (next : Option ℕ) (all xs : List ℕ) : Type 0 where
-  pub left : List ℕ
-  pub chain : IsChain groups next left
-  pub whole : xs ≡ all ++ left
-
-pub left_all : (groups : List Group) (next : Option ℕ) (xs : List ℕ) → IsChain groups next xs → IsLeft groups next [] xs
-left_all groups next xs c = record { left = xs; chain = c; whole = refl }
-
-append_one : (all : List ℕ) (x : ℕ) (rest : List ℕ) → (all ++ x ∷ []) ++ rest ≡ all ++ x ∷ rest
-append_one [] x rest = refl
-append_one (a ∷ all) x rest = ap (λ ys. a ∷ ys) (append_one all x rest)
-
-left_by : (groups : List Group) (number : ℕ) (all xs left : List ℕ) → IsChain groups (Some number) left → xs ≡ all ++ left → IsLeft groups (outer_in groups number) (all ++ number ∷ []) xs
-left_by groups number all xs [] c w = cc
-left_by groups number all xs (x ∷ rest) c w =
-    let e : number ≡ x = (let s = c.0 in cc) in
-    record { left = rest; chain = rw e c.2; whole = w ∙ rw e (sym (append_one all x rest)) }
-
-pub left_fewer : (groups : List Group) (number : ℕ) (all xs : List ℕ) → IsLeft groups (Some number) all xs → IsLeft groups (outer_in groups number) (all ++ number ∷ []) xs
-left_fewer groups number all xs l = left_by groups number all xs l.left l.chain l.whole
-
-none_left : (groups : List Group) (left : List ℕ) → IsChain groups None left → left ≡ []
-none_left groups [] c = refl
-none_left groups (x ∷ xs) c = (let no = c.0 in cc)
-
-pub left_none : (groups : List Group) (all xs : List ℕ) → IsLeft groups None all xs → xs ≡ all
-left_none groups all xs l = l.whole ∙ ap (λ ys. all ++ ys) (none_left groups l.left l.chain) ∙ append-nil all
 
 -- ---- heights
 

@@ -1,4 +1,4 @@
-pub mod GlobalLemmas
+pub mod ExtentLemmas
 pub mod ReportLemmas
 pub mod WalkLemmas
 pub mod FieldLemmas

@@ -1,10 +1,9 @@
 -- What an item changes in all that is kept.
-use Rattle.std.proofs.Common.{◌≡◌, ◌≢◌, ℕ, zero, suc, ◌+◌, ◌-◌, ◌*◌, ◌^◌, ◌≤◌, ◌%◌, List, [], ◌∷◌, ◌++◌, length, take, drop, refl, arith, sym, ◌∙◌, ap, Bool, true, false, cond, Some, None, inl, inr, length-append, length-drop, Result, Ok, Err, OnOk}
+use Rattle.std.proofs.Common.{◌≡◌, ◌≢◌, ℕ, zero, suc, ◌+◌, ◌-◌, ◌^◌, ◌<◌, ◌≤◌, ◌%◌, List, [], ◌∷◌, ◌++◌, length, take, drop, refl, arith, sym, ◌∙◌, ap, Bool, true, false, cond, Some, None, inl, inr, length-append, length-drop, Result, Ok, Err, OnOk}
 use Rattle.std.proofs.lemmas.Bool.{cases_Bool, cond_both, ne_eqb, ltb-false}
 use Rattle.std.proofs.lemmas.List.{length-take}
 use Rattle.std.specs.Prelude.{filter, min, nat_lt, ◌==◌, option_map, Option}
 use Rattle.std.specs.Option.{option_or}
-use Rattle.descriptor_parse.specs.declared.fault.ParseError.{ParseError}
 use Rattle.descriptor_parse.specs.declared.field.Kind.{Kind}
 use Rattle.descriptor_parse.specs.declared.tag.Tag.{Tag}
 use Rattle.descriptor_parse.specs.declared.tag.Tag.TheVariants.{Main, Global, Local, Skipped}
@@ -14,20 +13,22 @@ use Rattle.descriptor_parse.specs.declared.tag.LocalTag.{LocalTag}
 use Rattle.descriptor_parse.specs.declared.tag.LocalTag.TheVariants.{Usage}
 use Rattle.descriptor_parse.specs.Items.{ItemValue, data_size, item_size, front_item, first_items, items_at}
 use Rattle.descriptor_parse.specs.Tags.{tag, tag_of, is_main, is_data, is_collection, is_end_collection}
-use Rattle.descriptor_parse.specs.Globals.{unsigned, in_force}
+use Rattle.descriptor_parse.specs.Globals.{unsigned, in_force, report_id}
+use Rattle.descriptor_parse.specs.declared.globals.Globals.{Globals}
+use Rattle.descriptor_parse.specs.ties.GlobalsOf.{globals_of}
 use Rattle.descriptor_parse.specs.Locals.{since_main, usage_number}
 use Rattle.descriptor_parse.specs.Fields.{takes_bit, report_bits}
-use Rattle.descriptor_parse.specs.Faults.{onto, all_items}
 use Rattle.descriptor_parse.specs.declared.usage.Usage.{Usage as Written}
 use Rattle.descriptor_parse.specs.ties.Written.{usage_of, usage_on}
 use Rattle.descriptor_parse.proofs.LocalLemmas.{number_on}
 use Rattle.field_details.specs.ties.Asked.{AreShort}
 use Rattle.field_details.specs.declared.walk.Walk.{Walk}
-use Rattle.field_details.specs.declared.globals.Globals.{Globals}
+use Rattle.field_details.specs.declared.extents.Extents.{Extents}
 use Rattle.field_details.specs.Collections.{is_usage, first_usage, open_now, collections, collection_count, without_last, innermost, declared_collection}
 use Rattle.field_details.specs.Details.{details, declared_detail}
-use Rattle.field_details.specs.ties.Stands.{WalkStands, GlobalsStand, globals_of, detail_by}
-use Rattle.field_details.proofs.GlobalLemmas.{stand_silent, is_silent}
+use Rattle.field_details.specs.ties.Stands.{WalkStands, extents_of, detail_by}
+use Rattle.descriptor_parse.specs.ties.StackStands.{StackStands}
+use Rattle.field_details.proofs.ExtentLemmas.{stand_known}
 use Rattle.field_details.proofs.ReportLemmas.{details_other}
 
 pub on_ok : {A E : Type 0} (r : Result A E) {P Q : Type 0} → (P → Q) → OnOk r P → OnOk r Q
@@ -63,11 +64,14 @@ pub usage_told : (page : ℕ) (o : Option (List ℕ)) → option_map (usage_on p
 usage_told page None = refl
 usage_told page (Some bytes) = ap Some (number_on page bytes)
 
--- what the Globals in force make of a data item
-pub detail_is : (before : List ItemValue) (item : ItemValue) (k : Kind) (g : Globals) (bit : ℕ) (inside : Option ℕ)
-    → tag item ≡ Main (Data k) → g ≡ globals_of (in_force before) → bit ≡ min (2 ^ 64 - 1) (report_bits k g.id before) → inside ≡ innermost (open_now before)
-    → detail_by k item.offset (unsigned item.bytes) bit inside g ≡ declared_detail before item
-detail_is before item k g bit inside e is b i = rw (b, i, is, e) refl
+-- what the values in force make of a data item
+pub detail_is : (before : List ItemValue) (item : ItemValue) (k : Kind) (g : Globals) (x : Extents) (bit : ℕ) (inside : Option ℕ)
+    → tag item ≡ Main (Data k) → g ≡ globals_of (in_force before) → x ≡ extents_of (in_force before)
+    → bit ≡ report_bits k (report_id before) before → bit < 2 ^ 64 → inside ≡ innermost (open_now before)
+    → detail_by k item.offset (unsigned item.bytes) bit inside g x ≡ declared_detail before item
+detail_is before item k g x bit inside e is xs b few i =
+    let whole : bit ≡ min (2 ^ 64 - 1) (report_bits k (report_id before) before) = omega (arith, few, b) in
+    rw (whole, i, is, xs, e) refl
 
 -- ---- an item that declares, opens and closes nothing
 
@@ -94,11 +98,11 @@ pub collections_same : (before : List ItemValue) (item : ItemValue) → is_colle
 unfolding collections
 collections_same before item o = rw o refl
 
-plain : (before : List ItemValue) (item : ItemValue) (old new : Walk) → IsPlain (tag item) → GlobalsStand (item ∷ before) new.globals
+plain : (before : List ItemValue) (item : ItemValue) (old new : Walk) → IsPlain (tag item) → StackStands extents_of (item ∷ before) new.extents
     → new.usage ≡ option_map usage_of (first_usage (since_main (item ∷ before))) → new.opened ≡ old.opened → new.told ≡ old.told
     → WalkStands before old → WalkStands (item ∷ before) new
-plain before item old new p globals usage opened told s = record {
-  globals = globals;
+plain before item old new p extents usage opened told s = record {
+  extents = extents;
   usage = usage;
   opened = ap (λ v. v.items) opened ∙ s.opened ∙ sym (open_same before item p.opens p.ends);
   fields = ap (λ d. d.fields.items) told ∙ s.fields ∙ sym (details_other before item p.items);
@@ -106,13 +110,13 @@ plain before item old new p globals usage opened told s = record {
 }
 
 -- a Global item, or one that is skipped
-pub stand_globals : (before : List ItemValue) (item : ItemValue) (old new : Walk) → is_main (tag item) ≡ false → is_usage (tag item) ≡ false → GlobalsStand (item ∷ before) new.globals
+pub stand_extents : (before : List ItemValue) (item : ItemValue) (old new : Walk) → is_main (tag item) ≡ false → is_usage (tag item) ≡ false → StackStands extents_of (item ∷ before) new.extents
     → new.usage ≡ old.usage → new.opened ≡ old.opened → new.told ≡ old.told → WalkStands before old → WalkStands (item ∷ before) new
-stand_globals before item old new m u globals usage opened told s =
-    plain before item old new (not_main (tag item) m) globals (usage ∙ s.usage ∙ sym (ap (option_map usage_of) (usage_same before item m u))) opened told s
+stand_extents before item old new m u extents usage opened told s =
+    plain before item old new (not_main (tag item) m) extents (usage ∙ s.usage ∙ sym (ap (option_map usage_of) (usage_same before item m u))) opened told s
 
-local_globals : (before : List ItemValue) (item : ItemValue) (l : LocalTag) (walk : Walk) → tag item ≡ Local l → WalkStands before walk → GlobalsStand (item ∷ before) walk.globals
-local_globals before item l walk e s = stand_silent before item walk.globals (ap is_silent e) s.globals
+local_extents : (before : List ItemValue) (item : ItemValue) (l : LocalTag) (walk : Walk) → tag item ≡ Local l → WalkStands before walk → StackStands extents_of (item ∷ before) walk.extents
+local_extents before item l walk e s = stand_known before item (Local l) walk.extents e (λ no. cc) refl refl s.extents
 
 no_usage : (l : LocalTag) → (l ≡ Usage → ⊥) → is_usage (Local l) ≡ false
 no_usage Usage n = absurd (n refl)
@@ -122,20 +126,20 @@ no_usage _ n = refl
 pub stand_local : (before : List ItemValue) (item : ItemValue) (l : LocalTag) (walk : Walk) → tag item ≡ Local l → (l ≡ Usage → ⊥)
     → WalkStands before walk → WalkStands (item ∷ before) walk
 stand_local before item l walk e n s =
-    stand_globals before item walk walk (ap is_main e) (ap is_usage e ∙ no_usage l n) (local_globals before item l walk e s) refl refl refl s
+    stand_extents before item walk walk (ap is_main e) (ap is_usage e ∙ no_usage l n) (local_extents before item l walk e s) refl refl refl s
 
 pub stand_usage : (before : List ItemValue) (item : ItemValue) (usage : Written) (old new : Walk) → tag item ≡ Local Usage → usage ≡ usage_of item.bytes
     → new ≡ record old { usage = option_or old.usage (Some usage) } → WalkStands before old → WalkStands (item ∷ before) new
 stand_usage before item usage old new e u w s =
-    let globals : new.globals ≡ old.globals = ap (λ v. v.globals) w in
-    plain before item old new (rw e (plain_local Usage)) (rw globals (local_globals before item Usage old e s))
+    let extents : new.extents ≡ old.extents = ap (λ v. v.extents) w in
+    plain before item old new (rw e (plain_local Usage)) (rw extents (local_extents before item Usage old e s))
     (ap (λ v. v.usage) w ∙ rw (s.usage, u, usage_more before item e) (sym (mapped_or usage_of (first_usage (since_main before)) item.bytes)))
     (ap (λ v. v.opened) w) (ap (λ v. v.told) w) s
 
 -- ---- Main items
 
-main_globals : (before : List ItemValue) (item : ItemValue) (m : MainTag) (old new : Walk) → tag item ≡ Main m → new.globals ≡ old.globals → WalkStands before old → GlobalsStand (item ∷ before) new.globals
-main_globals before item m old new e g s = rw g (stand_silent before item old.globals (ap is_silent e) s.globals)
+main_extents : (before : List ItemValue) (item : ItemValue) (m : MainTag) (old new : Walk) → tag item ≡ Main m → new.extents ≡ old.extents → WalkStands before old → StackStands extents_of (item ∷ before) new.extents
+main_extents before item m old new e g s = rw g (stand_known before item (Main m) old.extents e (λ no. cc) refl refl s.extents)
 
 main_usage : (before : List ItemValue) (item : ItemValue) (m : MainTag) → tag item ≡ Main m → None ≡ option_map usage_of (first_usage (since_main (item ∷ before)))
 main_usage before item m e = sym (ap (option_map usage_of) (usage_after_main before item (ap is_main e)))
@@ -152,11 +156,11 @@ details_empty before item k e t = rw (e, t) refl
 
 -- a data item that takes a bit
 pub stand_placed : (before : List ItemValue) (item : ItemValue) (k : Kind) (old new : Walk) → tag item ≡ Main (Data k) → takes_bit before ≡ true
-    → new.globals ≡ old.globals → new.usage ≡ None → new.opened ≡ old.opened
+    → new.extents ≡ old.extents → new.usage ≡ None → new.opened ≡ old.opened
     → new.told.fields.items ≡ old.told.fields.items ++ declared_detail before item ∷ [] → new.told.collections ≡ old.told.collections
     → WalkStands before old → WalkStands (item ∷ before) new
-stand_placed before item k old new e t globals usage opened fields groups s = record {
-  globals = main_globals before item (Data k) old new e globals s;
+stand_placed before item k old new e t extents usage opened fields groups s = record {
+  extents = main_extents before item (Data k) old new e extents s;
   usage = usage ∙ main_usage before item (Data k) e;
   opened = ap (λ v. v.items) opened ∙ s.opened ∙ sym (open_same before item (ap is_collection e) (ap is_end_collection e));
   fields = fields ∙ ap (λ xs. xs ++ declared_detail before item ∷ []) s.fields ∙ sym (details_placed before item k e t);
@@ -165,10 +169,10 @@ stand_placed before item k old new e t globals usage opened fields groups s = re
 
 -- one that takes none
 pub stand_empty : (before : List ItemValue) (item : ItemValue) (k : Kind) (old new : Walk) → tag item ≡ Main (Data k) → takes_bit before ≡ false
-    → new.globals ≡ old.globals → new.usage ≡ None → new.opened ≡ old.opened → new.told ≡ old.told
+    → new.extents ≡ old.extents → new.usage ≡ None → new.opened ≡ old.opened → new.told ≡ old.told
     → WalkStands before old → WalkStands (item ∷ before) new
-stand_empty before item k old new e t globals usage opened told s = record {
-  globals = main_globals before item (Data k) old new e globals s;
+stand_empty before item k old new e t extents usage opened told s = record {
+  extents = main_extents before item (Data k) old new e extents s;
   usage = usage ∙ main_usage before item (Data k) e;
   opened = ap (λ v. v.items) opened ∙ s.opened ∙ sym (open_same before item (ap is_collection e) (ap is_end_collection e));
   fields = ap (λ d. d.fields.items) told ∙ s.fields ∙ sym (details_empty before item k e t);
@@ -195,13 +199,13 @@ unfolding collections
 collections_more before item e = rw e refl
 
 pub stand_opened : (before : List ItemValue) (item : ItemValue) (old new : Walk) → tag item ≡ Main Collection
-    → new.globals ≡ old.globals → new.usage ≡ None → new.opened.items ≡ old.opened.items ++ length old.told.collections.items ∷ []
+    → new.extents ≡ old.extents → new.usage ≡ None → new.opened.items ≡ old.opened.items ++ length old.told.collections.items ∷ []
     → new.told.fields ≡ old.told.fields → new.told.collections.items ≡ old.told.collections.items ++ declared_collection before item ∷ []
     → WalkStands before old → WalkStands (item ∷ before) new
-stand_opened before item old new e globals usage opened fields groups s =
+stand_opened before item old new e extents usage opened fields groups s =
     let number : length old.told.collections.items ≡ collection_count before = ap length s.groups ∙ count_is before in
     record {
-      globals = main_globals before item Collection old new e globals s;
+      extents = main_extents before item Collection old new e extents s;
       usage = usage ∙ main_usage before item Collection e;
       opened = opened ∙ rw (s.opened, number) (sym (open_more before item e));
       fields = ap (λ v. v.items) fields ∙ s.fields ∙ sym (details_other before item (ap is_data e));
@@ -213,19 +217,19 @@ unfolding open_now
 open_fewer before item e = rw e refl
 
 pub stand_closed : (before : List ItemValue) (item : ItemValue) (old new : Walk) → tag item ≡ Main EndCollection
-    → new.globals ≡ old.globals → new.usage ≡ None → new.opened.items ≡ without_last old.opened.items → new.told ≡ old.told
+    → new.extents ≡ old.extents → new.usage ≡ None → new.opened.items ≡ without_last old.opened.items → new.told ≡ old.told
     → WalkStands before old → WalkStands (item ∷ before) new
-stand_closed before item old new e globals usage opened told s = record {
-  globals = main_globals before item EndCollection old new e globals s;
+stand_closed before item old new e extents usage opened told s = record {
+  extents = main_extents before item EndCollection old new e extents s;
   usage = usage ∙ main_usage before item EndCollection e;
   opened = opened ∙ ap without_last s.opened ∙ sym (open_fewer before item e);
   fields = ap (λ d. d.fields.items) told ∙ s.fields ∙ sym (details_other before item (ap is_data e));
   groups = ap (λ d. d.collections.items) told ∙ s.groups ∙ sym (collections_same before item (ap is_collection e));
 }
 
-pub stand_new : (walk : Walk) → GlobalsStand [] walk.globals → walk.usage ≡ None → walk.opened.items ≡ [] → walk.told.fields.items ≡ [] → walk.told.collections.items ≡ [] → WalkStands [] walk
+pub stand_new : (walk : Walk) → StackStands extents_of [] walk.extents → walk.usage ≡ None → walk.opened.items ≡ [] → walk.told.fields.items ≡ [] → walk.told.collections.items ≡ [] → WalkStands [] walk
 unfolding open_now details collections
-stand_new walk globals usage opened fields groups = record { globals = globals; usage = usage; opened = opened; fields = fields; groups = groups }
+stand_new walk extents usage opened fields groups = record { extents = extents; usage = usage; opened = opened; fields = fields; groups = groups }
 
 -- a long item is skipped
 pub long_skipped : (prefix : ℕ) (t : Tag) → tag_of prefix ≡ t → (t ≡ Skipped → ⊥) → prefix ≢ 254
@@ -263,30 +267,3 @@ all_short (suc n) offset (b ∷ bs) =
 pub all_short_items : (text : List ℕ) → AreShort (items_at 0 text)
 unfolding items_at
 all_short_items text = all_short (length text) 0 text
-
--- The items before are taken; the rest of them is left.
-pub record Walked (text : List ℕ) (rest : List (Result ItemValue ParseError)) (first now : Walk) : Type 0 where
-  pub before : List ItemValue
-  pub stands : WalkStands [] first → WalkStands before now
-  pub short : AreShort rest
-  pub left : all_items text ≡ onto before rest
-
-pub walked_none : (text : List ℕ) (walk : Walk) → Walked text (items_at 0 text) walk walk
-unfolding all_items
-walked_none text walk = record { before = []; stands = λ s. s; short = all_short_items text; left = refl }
-
-pub walked_more : (text : List ℕ) (item : ItemValue) (more : List (Result ItemValue ParseError)) (first old new : Walk) → Walked text (Ok item ∷ more) first old
-    → ((before : List ItemValue) → WalkStands before old → WalkStands (item ∷ before) new) → Walked text more first new
-walked_more text item more first old new w takes = record {
-  before = item ∷ w.before;
-  stands = λ s. takes w.before (w.stands s);
-  short = w.short.1;
-  left = w.left;
-}
-
-pub walked_cut : (text : List ℕ) (e : ParseError) (more : List (Result ItemValue ParseError)) (first now : Walk) → Walked text (Err e ∷ more) first now
-    → WalkStands [] first → WalkStands (all_items text) now
-walked_cut text e more first now w s = rw w.left (w.stands s)
-
-pub walked_end : (text : List ℕ) (first now : Walk) → Walked text [] first now → WalkStands [] first → WalkStands (all_items text) now
-walked_end text first now w s = rw w.left (w.stands s)

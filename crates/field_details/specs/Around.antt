@@ -1,5 +1,5 @@
 -- Believed: the collections around a data item, and the application that it belongs to.
-use Rattle.std.specs.Prelude.{◌≡◌, ℕ, ◌+◌, ◌==◌, if◌then◌else◌, nat_lt, Bool, false, List, [], ◌∷◌, ◌++◌, reverse, find, slice_get, Option, Some, None, option_map, option_and_then, unwrap_or}
+use Rattle.std.specs.Prelude.{◌≡◌, ℕ, ◌==◌, if◌then◌else◌, nat_lt, Bool, false, List, [], ◌∷◌, ◌++◌, reverse, find, slice_get, Option, Some, None, option_map, option_and_then, unwrap_or}
 use Rattle.descriptor_parse.specs.Items.{ItemValue}
 use Rattle.field_details.specs.declared.collection.Collection.{Collection}
 use Rattle.field_details.specs.declared.detail.Detail.{Detail}

@@ -1,8 +1,8 @@
 //! What a report descriptor declares beside the bits of its fields (HID 1.11, sections 6.2.2.4 to 6.2.2.8).
 //!
-//! [`details_of`] reads a text that `descriptor_parse` takes: of each data item, padding among them, all bits of the item, the
-//! logical and the physical extents, the unit and its power of ten, and the collections around it. Who asks for the fields
-//! alone pays nothing for it.
+//! [`parse_details`] parses a text as `descriptor_parse` does, and keeps of each data item, padding among them, all bits of the
+//! item, the logical and the physical extents, the unit and its power of ten, and the collections around it. Who asks for the
+//! fields alone pays nothing for it.
 //!
 //! The promise is that each of these is exactly what the items before the data item say, by a look back over them.
 #![tactic(auto)]
@@ -11,7 +11,7 @@ mod applications;
 mod around;
 pub mod collection;
 pub mod detail;
-mod globals;
+mod extents;
 pub mod laws;
 mod naming;
 mod placed;
@@ -28,6 +28,6 @@ pub use detail::Detail;
 pub use naming::{NamedRanges, Naming, namings};
 pub use placed::{Placed, PlacedFields};
 pub use report::{ReportFacts, Reports, ReportsOf};
-pub use text::details_of;
+pub use text::parse_details;
 pub use told::Details;
 pub use unit::Dimension;

@@ -1,16 +1,16 @@
 //! What was declared.
 
-ghost use Rattle.std.specs.Prelude.{◌≡◌, List, [], IfOk};
+ghost use Rattle.std.specs.Prelude.{◌≡◌, List, []};
 ghost use Rattle.descriptor_parse.specs.Items.{ItemValue};
 
 use crate::applications::Applications;
-use crate::around::{Around, application_of, inside, outer};
+use crate::around::{Around, application_of};
 use crate::collection::Collection;
 use crate::detail::Detail;
 use crate::placed::{PlacedFields, Question};
 use crate::report::{Reports, ReportsOf};
 use descriptor_parse::Kind;
-use std::alloc::{AllocError, Global};
+use std::alloc::Global;
 
 /// What a report descriptor declares, padding among it.
 ///
@@ -39,22 +39,6 @@ impl Details {
         }
     }
 
-    /// The numbers of the collections around a data item, outermost first; none where there is no such item.
-    ///
-    /// `AllocError` where there was no memory for them.
-    pub fn around(&self, alloc: Global, place: usize) -> Result<Vec<usize>, AllocError>
-        ensures { (items : List ItemValue) → Tells items self.now → IfOk result (λ all. all.items ≡ around items place) }
-    {
-        let mut all = Vec::new(alloc);
-        let mut next = inside(&self.fields, place);
-        while let Some(number) = next {
-            all.push(number)?;
-            next = outer(&self.collections, number);
-        }
-        all.reverse();
-        Ok(all)
-    }
-
     /// The number of the innermost Application collection around a data item, if it is in one.
     pub fn application(&self, place: usize) -> Option<usize>
         ensures { (items : List ItemValue) → Tells items self.now → result ≡ application items place }
@@ -62,8 +46,8 @@ impl Details {
         application_of(&self.fields, &self.collections, place)
     }
 
-    /// The numbers of the collections around a data item, outermost first, one by one; none where there is no such item.
-    pub fn each_around(&self, place: usize) -> Around<'_>
+    /// The numbers of the collections around a data item, outermost first; none where there is no such item.
+    pub fn around(&self, place: usize) -> Around<'_>
         ensures { (items : List ItemValue) → Tells items self.now → result ≡ around items place }
     {
         Around::new(&self.fields, &self.collections, place)

@@ -1,33 +1,36 @@
-//! The walk over the items of a text, which keeps what is in force.
+//! The walk over the items of a text, which keeps what is in force beside the parser.
 
 ghost use Rattle.std.specs.Prelude.{◌≡◌, ◌≢◌, ◌≤◌, List, [], ◌∷◌, OnOk, length, Some, option_map};
 ghost use Rattle.std.specs.Option.{option_or};
 ghost use Rattle.descriptor_parse.specs.Items.{ItemValue};
-ghost use Rattle.descriptor_parse.specs.ItemViews.{item_view};
 ghost use Rattle.descriptor_parse.specs.Tags.{tag_of};
 ghost use Rattle.descriptor_parse.specs.Globals.{unsigned};
-ghost use Rattle.descriptor_parse.specs.Faults.{all_items};
 ghost use Rattle.descriptor_parse.specs.declared.tag.Tag.{Tag};
 ghost use Rattle.descriptor_parse.specs.declared.tag.MainTag.{MainTag};
+ghost use Rattle.descriptor_parse.specs.ties.ReportsStand.{fills};
+ghost use Rattle.descriptor_parse.specs.ties.StateStands.{StateStands};
 ghost use Rattle.descriptor_parse.specs.ties.Written.{usage_on};
 ghost use Rattle.field_details.specs.Collections.{innermost, declared_collection};
-ghost use Rattle.field_details.specs.Details.{declared_detail, details};
-ghost use Rattle.field_details.specs.ties.Stands.{WalkStands};
+ghost use Rattle.field_details.specs.Details.{declared_detail};
+ghost use Rattle.field_details.specs.ties.Stands.{WalkStands, detail_by};
 
 use crate::collection::Collection;
 use crate::detail::Detail;
-use crate::globals::GlobalStack;
-use crate::report::end_of_report;
+use crate::extents::{Extents, take_global, take_skipped};
 use crate::told::Details;
+use descriptor_parse::beside::Beside;
+use descriptor_parse::globals::Globals;
 use descriptor_parse::number::unsigned;
+use descriptor_parse::stack::Stack;
+use descriptor_parse::state::State;
 use descriptor_parse::usage::{Usage, read_usage};
-use descriptor_parse::{Item, Items, Kind, LocalTag, MainTag, Tag};
+use descriptor_parse::{Item, Kind, LocalTag, MainTag, Tag};
 use std::alloc::{AllocError, Global};
 
 /// What the items so far leave to the next one, and what they declared.
 #[derive(Drop)]
 pub(crate) struct Walk {
-    pub(crate) globals: GlobalStack,
+    pub(crate) extents: Stack<Extents>,
     /// The first Usage since the latest Main item.
     pub(crate) usage: Option<Usage>,
     /// The numbers of the collections that are open, outermost first.
@@ -40,7 +43,7 @@ impl Walk {
         ensures { WalkStands [] result }
     {
         Walk {
-            globals: GlobalStack::new(alloc),
+            extents: Stack::new(alloc, Extents::NONE),
             usage: None,
             opened: Vec::new(alloc),
             told: Details::new(alloc),
@@ -53,44 +56,11 @@ impl Walk {
     {
         let Walk {
             told,
-            globals: _,
+            extents: _,
             usage: _,
             opened: _,
         } = self;
         told
-    }
-
-    /// Takes the items of a text, up to its end or to the first that is not whole.
-    pub(crate) fn take_all(&mut self, text: &[u8]) -> Result<(), AllocError>
-        ensures { OnOk result (WalkStands [] self.old → WalkStands (all_items text.now) self.new) }
-    {
-        for each in Items::new(text) {
-            match each {
-                Ok(item) => self.take(&item)?,
-                Err(_) => return Ok(()),
-            }
-        }
-        Ok(())
-    }
-
-    /// Takes an item.
-    fn take(&mut self, item: &Item<'_>) -> Result<(), AllocError>
-        requires few { item.now.prefix ≢ 254 → length item.now.bytes.now ≤ 4 }
-        requires not_three { item.now.prefix ≢ 254 → length item.now.bytes.now ≢ 3 }
-        ensures { OnOk result ((before : List ItemValue) → WalkStands before self.old → WalkStands (item_view item.now ∷ before) self.new) }
-    {
-        match item.tag() {
-            Tag::Main(tag) => self.take_main(tag, item.offset, unsigned(item.bytes)),
-            Tag::Global(tag) => self.globals.take(tag, item.bytes),
-            Tag::Local(tag) => {
-                self.take_local(tag, item.bytes);
-                Ok(())
-            }
-            Tag::Skipped => {
-                self.globals.take_skipped(item.prefix, item.bytes);
-                Ok(())
-            }
-        }
     }
 
     /// Takes a Local item.
@@ -116,13 +86,19 @@ impl Walk {
     }
 
     /// Takes a Main item.
-    fn take_main(&mut self, tag: MainTag, offset: usize, value: u32) -> Result<(), AllocError>
-        ensures { OnOk result ((before : List ItemValue) (item : ItemValue) → tag_of item.prefix ≡ Tag.Main tag → item.offset ≡ offset
-            → unsigned item.bytes ≡ value → WalkStands before self.old → WalkStands (item ∷ before) self.new) }
+    fn take_main(
+        &mut self,
+        tag: MainTag,
+        offset: usize,
+        value: u32,
+        before: &State,
+    ) -> Result<(), AllocError>
+        ensures { OnOk result ((items : List ItemValue) (item : ItemValue) → tag_of item.prefix ≡ Tag.Main tag → item.offset ≡ offset
+            → unsigned item.bytes ≡ value → StateStands items before.now → WalkStands items self.old → WalkStands (item ∷ items) self.new) }
     {
         match tag {
-            MainTag::Data(kind) => self.take_data(kind, offset, value),
-            MainTag::Collection => self.open_collection(offset, value),
+            MainTag::Data(kind) => self.take_data(kind, offset, value, before),
+            MainTag::Collection => self.open_collection(offset, value, before),
             MainTag::EndCollection => {
                 self.close_collection();
                 Ok(())
@@ -131,28 +107,41 @@ impl Walk {
     }
 
     /// Takes a data item.
-    fn take_data(&mut self, kind: Kind, offset: usize, flags: u32) -> Result<(), AllocError>
-        ensures { OnOk result ((before : List ItemValue) (item : ItemValue) → tag_of item.prefix ≡ Tag.Main (MainTag.Data kind) → item.offset ≡ offset
-            → unsigned item.bytes ≡ flags → WalkStands before self.old → WalkStands (item ∷ before) self.new) }
+    fn take_data(
+        &mut self,
+        kind: Kind,
+        offset: usize,
+        flags: u32,
+        before: &State,
+    ) -> Result<(), AllocError>
+        ensures { OnOk result ((items : List ItemValue) (item : ItemValue) → tag_of item.prefix ≡ Tag.Main (MainTag.Data kind) → item.offset ≡ offset
+            → unsigned item.bytes ≡ flags → StateStands items before.now → WalkStands items self.old → WalkStands (item ∷ items) self.new) }
     {
-        if !self.globals.now.fills() {
+        if !fills(before.globals()) {
             self.usage = None;
             return Ok(());
         }
-        let detail = self.detail(kind, offset, flags);
+        let detail = self.detail(kind, offset, flags, before);
         self.told.fields.push(detail)?;
         self.usage = None;
         Ok(())
     }
 
     /// What a data item declares.
-    fn detail(&self, kind: Kind, offset: usize, flags: u32) -> Detail
-        ensures { (before : List ItemValue) (item : ItemValue) → tag_of item.prefix ≡ Tag.Main (MainTag.Data kind) → item.offset ≡ offset
-            → unsigned item.bytes ≡ flags → WalkStands before self.now → result ≡ declared_detail before item }
+    fn detail(&self, kind: Kind, offset: usize, flags: u32, before: &State) -> Detail
+        ensures { (items : List ItemValue) (item : ItemValue) → tag_of item.prefix ≡ Tag.Main (MainTag.Data kind) → item.offset ≡ offset
+            → unsigned item.bytes ≡ flags → StateStands items before.now → WalkStands items self.now → result ≡ declared_detail items item }
     {
-        let globals = &self.globals.now;
-        let bit = end_of_report(&self.told.fields, kind, globals.id);
-        globals.detail(kind, offset, flags, bit, self.innermost())
+        let (globals, extents) = (before.globals(), &self.extents.now);
+        detail_by(
+            kind,
+            offset,
+            flags,
+            before.bits(kind),
+            self.innermost(),
+            globals,
+            extents,
+        )
     }
 
     /// The number of the innermost collection that is open, if one is.
@@ -163,11 +152,16 @@ impl Walk {
     }
 
     /// Takes a Collection item.
-    fn open_collection(&mut self, offset: usize, kind: u32) -> Result<(), AllocError>
-        ensures { OnOk result ((before : List ItemValue) (item : ItemValue) → tag_of item.prefix ≡ Tag.Main MainTag.Collection → item.offset ≡ offset
-            → unsigned item.bytes ≡ kind → WalkStands before self.old → WalkStands (item ∷ before) self.new) }
+    fn open_collection(
+        &mut self,
+        offset: usize,
+        kind: u32,
+        before: &State,
+    ) -> Result<(), AllocError>
+        ensures { OnOk result ((items : List ItemValue) (item : ItemValue) → tag_of item.prefix ≡ Tag.Main MainTag.Collection → item.offset ≡ offset
+            → unsigned item.bytes ≡ kind → StateStands items before.now → WalkStands items self.old → WalkStands (item ∷ items) self.new) }
     {
-        let collection = self.collection(offset, kind);
+        let collection = self.collection(offset, kind, before);
         self.opened.push(self.told.collections.len())?;
         self.told.collections.push(collection)?;
         self.usage = None;
@@ -175,14 +169,14 @@ impl Walk {
     }
 
     /// What a Collection item declares.
-    fn collection(&self, offset: usize, kind: u32) -> Collection
-        ensures { (before : List ItemValue) (item : ItemValue) → item.offset ≡ offset → unsigned item.bytes ≡ kind
-            → WalkStands before self.now → result ≡ declared_collection before item }
+    fn collection(&self, offset: usize, kind: u32, before: &State) -> Collection
+        ensures { (items : List ItemValue) (item : ItemValue) → item.offset ≡ offset → unsigned item.bytes ≡ kind
+            → StateStands items before.now → WalkStands items self.now → result ≡ declared_collection items item }
     {
         Collection {
             offset,
             kind,
-            usage: usage_on(self.globals.now.page, self.usage),
+            usage: usage_on(before.globals().page, self.usage),
             outer: self.innermost(),
         }
     }
@@ -195,6 +189,62 @@ impl Walk {
         let _ = self.opened.pop();
         self.usage = None;
     }
+}
+
+impl Beside for Walk {
+    ghost stands = { WalkStands };
+
+    fn take(&mut self, item: &Item<'_>, before: &State) -> Result<(), AllocError> {
+        match item.tag() {
+            Tag::Main(tag) => self.take_main(tag, item.offset, unsigned(item.bytes), before),
+            Tag::Global(tag) => take_global(&mut self.extents, tag),
+            Tag::Local(tag) => {
+                self.take_local(tag, item.bytes);
+                Ok(())
+            }
+            Tag::Skipped => {
+                take_skipped(&mut self.extents, item.prefix, item.bytes);
+                Ok(())
+            }
+        }
+    }
+}
+
+/// A data item under these values, from a bit on.
+fn detail_by(
+    kind: Kind,
+    offset: usize,
+    flags: u32,
+    bit: u64,
+    inside: Option<usize>,
+    globals: &Globals,
+    extents: &Extents,
+) -> Detail
+    ensures { result ≡ detail_by kind offset flags bit inside globals.now extents.now }
+{
+    Detail {
+        offset,
+        kind,
+        flags,
+        id: globals.id as u32,
+        bit,
+        size: globals.size,
+        count: globals.count,
+        min: globals.min,
+        max: globals.max(),
+        physical_min: extents.min,
+        physical_max: extents.greatest(),
+        unit: extents.unit,
+        exponent: extents.exponent,
+        inside,
+    }
+}
+
+/// Whether a data item under these Globals takes a bit.
+fn fills(globals: &Globals) -> bool
+    ensures { result ≡ fills globals.now }
+{
+    globals.size > 0 && globals.count > 0
 }
 
 /// The number of a usage, if there is one.

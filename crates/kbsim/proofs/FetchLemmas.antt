@@ -10,6 +10,7 @@ use Rattle.world.specs.ties.Value.{WorldValue}
 use Rattle.kbsim.specs.Fetches.{get_report_descriptor, Gives, AllFull, Gathers, IsGathered, IsFetched, IsUnclosed, IsCutShort, IsUnfetched}
 use Rattle.kbsim.specs.Outputs.{GoesOn, Takes}
 use Rattle.kbsim.proofs.PacketLemmas.{few_full}
+use Rattle.layers.specs.Standard.{standard}
 
 -- the SETUP packet, and so many full packets
 abbrev pub GatheredSoFar : ℕ → WorldValue → WorldValue → Type 0
@@ -73,8 +74,8 @@ cut_short count old world new answer so_far takes other start past stands =
 pub never_full : (P : List Step → Type 0) (count : ℕ) (old new : WorldValue) → count ≡ 32 → GatheredSoFar count old new → GoesOn P old new
 never_full P count old new whole so_far start past stands =
     let (steps, (full, gathers, long), none, stood) = so_far start past stands in
-    let there : StandsFor start (full ++ gathers.setup ∷ past) new
-    = subst (λ (xs : List Step). StandsFor start xs new) (ap (λ (xs : List Step). xs ++ past) gathers.steps_are ∙ append_assoc full (gathers.setup ∷ []) past) stood in
+    let there : StandsFor standard start (full ++ gathers.setup ∷ past) new
+    = subst (λ (xs : List Step). StandsFor standard start xs new) (ap (λ (xs : List Step). xs ++ past) gathers.steps_are ∙ append_assoc full (gathers.setup ∷ []) past) stood in
     let few : length full < 32 = few_full start past gathers.setup full new there gathers.setup_is gathers.all in
     absurd (omega (arith, few, long, whole))
 

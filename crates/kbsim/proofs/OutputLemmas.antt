@@ -15,6 +15,7 @@ use Rattle.world.specs.declared.event.Event.{Event}
 use Rattle.world.specs.declared.event.Event.TheVariants as event
 use Rattle.world.specs.declared.event.Answer.{Answer}
 use Rattle.world.specs.declared.event.Answer.TheVariants.{Ack, Worked}
+use Rattle.layers.specs.Standard.{standard}
 use Rattle.keymap_store.specs.declared.store.Work.TheVariants.{Working}
 use Rattle.flash_model.specs.Image.{page_count}
 use Rattle.flash_model.specs.Sim.{SimValue}
@@ -84,25 +85,25 @@ step_is s e a f p q r n = rw (← p, ← q, ← r, ← n) refl
 
 -- a run of one event is that event's step
 pub took_one : (P : SimValue → List Step → Type 0) (old new : WorldValue) (e : Event) (room : ℕ) (before after rest : List Answer) (answer : Answer)
-    → Runs P old new (e ∷ []) room before after true → before ≡ [] → length after ≡ 1 → after ≡ rest ++ answer ∷ [] → Takes e answer old new
+    → Runs standard P old new (e ∷ []) room before after true → before ≡ [] → length after ≡ 1 → after ≡ rest ++ answer ∷ [] → Takes e answer old new
 took_one P old new e room before after rest answer runs none one last start past stands =
-    let g : LongerHistory P start past new (e ∷ []) room before after true = runs start past stands in
+    let g : LongerHistory standard P start past new (e ∷ []) room before after true = runs start past stands in
     let told : after ≡ map (λ (s : Step). s.answer) (reverse g.steps) = g.answers_are ∙ ap (λ (xs : List Answer). xs ++ map (λ (s : Step). s.answer) (reverse g.steps)) none in
     let count : length g.steps ≡ 1 = sym (length-reverse g.steps) ∙ sym (length-map (reverse g.steps) (λ (s : Step). s.answer)) ∙ sym (ap length told) ∙ one in
     let (s, is) = one_of g.steps count in
     let event_is : s.event ∷ [] ≡ e ∷ [] = rw is at g.events_are in
     let no_more : rest ≡ [] = none_of rest (omega (arith, one, ap length last, length-append rest (answer ∷ []))) in
     let answer_is : s.answer ∷ [] ≡ answer ∷ [] = sym (rw is at told) ∙ last ∙ ap (λ (xs : List Answer). xs ++ answer ∷ []) no_more in
-    let stood : StandsFor start (s ∷ past) new = rw is at g.stands in
+    let stood : StandsFor standard start (s ∷ past) new = rw is at g.stands in
     let flash_is : new.flash ≡ s.flash = g.flash_is ∙ ap (λ (xs : List Step). flash_after start (xs ++ past)) is in
     let (none_refused, rest_none) = rw is at g.ends.1 in
     let event_same : s.event ≡ e = cc in
     let answer_same : s.answer ≡ answer = cc in
-    subst (λ (x : Step). StandsFor start (x ∷ past) new) (step_is s e answer new.flash event_same answer_same (sym flash_is) none_refused) stood
+    subst (λ (x : Step). StandsFor standard start (x ∷ past) new) (step_is s e answer new.flash event_same answer_same (sym flash_is) none_refused) stood
 
 -- the same, where all that is known of the answers is that there is one
 pub passed_one : (P : SimValue → List Step → Type 0) (old new : WorldValue) (e : Event) (room : ℕ) (before after : List Answer)
-    → Runs P old new (e ∷ []) room before after true → before ≡ [] → length after ≡ length before + 1 → IsPassed e after old new
+    → Runs standard P old new (e ∷ []) room before after true → before ≡ [] → length after ≡ length before + 1 → IsPassed e after old new
 passed_one P old new e room before after runs none one =
     let only : length after ≡ 1 = omega (arith, one, ap length none) in
     let (answer, is) = one_of after only in
@@ -188,7 +189,7 @@ worked_off count old world new answer so_far takes done start past stands =
 pub worked_all : (count : ℕ) (old new : WorldValue) → count ≡ most_steps → WorkedSoFar count old new → GoesOn IsFlashWork old new
 worked_all count old new whole so_far start past stands =
     let (steps, (all, long), none, stood) = so_far start past stands in
-    let few : length steps < 387 = working_few start past steps stood.answered (stays_in_time start (steps ++ past) stood.answered) all in
+    let few : length steps < 387 = working_few start past steps stood.answered (stays_in_time standard start (steps ++ past) stood.answered) all in
     absurd (omega (arith, few, long, whole))
 
 -- the two ways in which a `set` goes
@@ -240,19 +241,19 @@ set_taken layer key code old first second worked new told taken status shown rep
         shows = shows;
       }),
       (refl, none_refused-append work (out ∷ setup ∷ []) none (refl, (refl, tt))),
-      subst (λ (xs : List Step). StandsFor start (last ∷ xs) new) (sym (append_assoc work (out ∷ setup ∷ []) past)) (asks start (work ++ out ∷ setup ∷ past) stood),
+      subst (λ (xs : List Step). StandsFor standard start (last ∷ xs) new) (sym (append_assoc work (out ∷ setup ∷ []) past)) (asks start (work ++ out ∷ setup ∷ past) stood),
     )
 
 -- the lines so far, on a device that started on this flash, and what was printed of them
 pub record RunSoFar (start : SimValue) (lines : List Line) (world : WorldValue) (first now : Option (List ℕ)) : Type 0 where
   pub steps : List Step
   pub text : List ℕ
-  pub stands : StandsFor start steps world
+  pub stands : StandsFor standard start steps world
   pub none_refused : NoneRefused steps
   pub prints : Prints lines steps text
   pub appends : Appends first now text
 
-pub run_none : (start : SimValue) (world : WorldValue) (first : Option (List ℕ)) → StandsFor start [] world → RunSoFar start [] world first first
+pub run_none : (start : SimValue) (world : WorldValue) (first : Option (List ℕ)) → StandsFor standard start [] world → RunSoFar start [] world first first
 run_none start world first starts = record { steps = []; text = []; stands = starts; none_refused = tt; prints = (refl, refl); appends = Appends-nil first }
 
 pub run_more : (start : SimValue) (lines : List Line) (world next : WorldValue) (first now after : Option (List ℕ)) (line : Line) (outcome : Outcome)
@@ -284,7 +285,7 @@ run_all start lines world first now so_far = (
   so_far.text,
   record {
     steps = so_far.steps;
-    promise = promise start so_far.steps so_far.stands.answered;
+    promise = promise standard start so_far.steps so_far.stands.answered;
     none_refused = so_far.none_refused;
     prints = so_far.prints;
     leaves = so_far.stands.flash;
@@ -317,7 +318,7 @@ stopped_at start lines i world first now so_far more =
 
 pub stopped_none : (start : SimValue) (lines : List Line) (first : Option (List ℕ)) → Stopped start lines first first
 stopped_none start lines first =
-    (0, [], start, inl refl, record { steps = []; promise = promise start [] tt; none_refused = tt; prints = (refl, refl); leaves = refl }, Appends-nil first)
+    (0, [], start, inl refl, record { steps = []; promise = promise standard start [] tt; none_refused = tt; prints = (refl, refl); leaves = refl }, Appends-nil first)
 
 pub stopped_some : (start : SimValue) (lines : List Line) (first now : Option (List ℕ)) → StoppedAt start lines first now → Stopped start lines first now
 stopped_some start lines first now (count, text, after, fewer, run, appends) = (count, text, after, inr fewer, run, appends)

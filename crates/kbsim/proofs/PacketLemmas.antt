@@ -17,6 +17,7 @@ use Rattle.control_ep.specs.declared.answer.Effect.{Effect}
 use Rattle.control_ep.specs.declared.answer.Effect.TheVariants.{Nothing}
 use Rattle.control_ep.specs.Packets.{packet_at}
 use Rattle.control_ep.proofs.Moves.{in_sent}
+use Rattle.layers.specs.Standard.{standard}
 use Rattle.keyboard.specs.Calls.{Call, SetUp, In}
 use Rattle.keyboard.specs.Effects.{effect_told}
 use Rattle.keyboard.specs.Endpoint.{ep_calls, view_after}
@@ -91,17 +92,17 @@ sends_more past count answer effect packet answered so_far is full =
     }
 
 sending : (first : List ℕ) (past : List Call) (full : List Step) → AllFull full
-    → AllAnswered (ep_calls first (calls_in full ++ SetUp get_report_descriptor ∷ past)) → IsSending (ep_calls first (calls_in full ++ SetUp get_report_descriptor ∷ past)) (length full)
+    → AllAnswered (ep_calls standard first (calls_in full ++ SetUp get_report_descriptor ∷ past)) → IsSending (ep_calls standard first (calls_in full ++ SetUp get_report_descriptor ∷ past)) (length full)
 unfolding ep_calls
 sending first past [] all answered = record {
-  stage_is = begins (ep_calls first past) (view_after first past);
+  stage_is = begins (ep_calls standard first past) (view_after standard first past);
   few = omega arith;
 }
 sending first past (step ∷ before) ((packet, (is_in, gives), eight), all) answered =
     let rest : List Call = calls_in before ++ SetUp get_report_descriptor ∷ past in
-    let more = sends_more (ep_calls first rest) (length before) (ep_told step.answer) (effect_told rest (ep_told step.answer)) packet answered
+    let more = sends_more (ep_calls standard first rest) (length before) (ep_told step.answer) (effect_told rest (ep_told step.answer)) packet answered
     (sending first past before all answered.1) (ap ep_told gives) eight in
-    subst (λ (n : ℕ). IsSending (ep_calls first (In (ep_told step.answer) ∷ rest)) n) (add-one (length before)) more
+    subst (λ (n : ℕ). IsSending (ep_calls standard first (In (ep_told step.answer) ∷ rest)) n) (add-one (length before)) more
 
 kind_in : (e : Event) (a : Answer) (image : List ℕ) → e ≡ InPacket → kind_of e a image ≡ calls (In (ep_told a))
 kind_in e a image is = rw is refl
@@ -118,11 +119,11 @@ session-gathers start past setup (step ∷ before) asks ((packet, (is_in, gives)
     ap (λ (k : Kind). session_with k step.flash.image (session start (before ++ setup ∷ past))) (kind_in step.event step.answer step.flash.image is_in)
     ∙ ap (λ (s : Session). session_with (calls (In (ep_told step.answer))) step.flash.image s) (session-gathers start past setup before asks all)
 
-pub few_full : (start : SimValue) (past : List Step) (setup : Step) (full : List Step) (world : WorldValue) → StandsFor start (full ++ setup ∷ past) world
+pub few_full : (start : SimValue) (past : List Step) (setup : Step) (full : List Step) (world : WorldValue) → StandsFor standard start (full ++ setup ∷ past) world
     → setup.event ≡ Setup get_report_descriptor → AllFull full → length full < 32
 few_full start past setup full world stands asks all =
     let p : Session = session start past in
-    let answered : AllAnswered (ep_calls p.first (calls_in full ++ SetUp get_report_descriptor ∷ p.past))
-    = subst (λ (s : Session). AllAnswered (ep_calls s.first s.past)) (session-gathers start past setup full asks all) stands.keyboard.now.ep.answered in
+    let answered : AllAnswered (ep_calls standard p.first (calls_in full ++ SetUp get_report_descriptor ∷ p.past))
+    = subst (λ (s : Session). AllAnswered (ep_calls standard s.first s.past)) (session-gathers start past setup full asks all) stands.keyboard.now.ep.answered in
     let few : 8 * length full ≤ 255 = (sending p.first p.past full all answered).few in
     omega (arith, few)

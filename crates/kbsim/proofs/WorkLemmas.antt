@@ -1,6 +1,7 @@
 -- The flash work of a command ends in time: steps that each needed more are fewer than the most that a command takes.
 use Rattle.std.proofs.Common.{◌≡◌, ℕ, suc, ◌+◌, ◌<◌, ◌≤◌, IsSome, Bool, Option, Some, None, List, [], ◌∷◌, ◌++◌, length, refl, ap, subst, ◌∙◌, arith}
 use Rattle.flash_model.specs.Sim.{SimValue}
+use Rattle.layers.specs.Standard.{standard}
 use Rattle.layers.specs.declared.command.Command.{Command}
 use Rattle.keymap_store.specs.declared.store.Work.{Work as WorkAnswer}
 use Rattle.keymap_store.specs.declared.store.Work.TheVariants.{Working}
@@ -51,41 +52,41 @@ steps_since-working (step ∷ before) past =
     omega (arith, more, earlier)
 
 -- a step needs more only while a command works, and leaves the keymap
-works_before : (first : List ℕ) (past : List Call) (w : Option Command) (image : List ℕ) → keyboard.WorkedOn first past w Working image
-    → IsSome w × SameEntries (keymap image) (keymap (image_after first past))
+works_before : (first : List ℕ) (past : List Call) (w : Option Command) (image : List ℕ) → keyboard.WorkedOn standard first past w Working image
+    → IsSome w × SameEntries (keymap standard image) (keymap standard (image_after first past))
 works_before first past None image (idle, same) = cc
 works_before first past (Some command) image on = (refl, on.outcome)
 
 -- and the command still works then
-works_after : (first : List ℕ) (past : List Call) (image : List ℕ) → EachCall keyboard.IsAnswered first past
-    → keyboard.IsAnswered first past (CalledWork Working image) → IsSome (working first (CalledWork Working image ∷ past))
+works_after : (first : List ℕ) (past : List Call) (image : List ℕ) → EachCall (keyboard.IsAnswered standard) first past
+    → keyboard.IsAnswered standard first past (CalledWork Working image) → IsSome (working standard first (CalledWork Working image ∷ past))
 works_after first past image lawful answered =
     let call : Call = CalledWork Working image in
-    let (some, kept) = works_before first past (working first past) image answered in
-    let after : working first (call ∷ past) ≡ working first past = working_after first past call (working first past)
-    (after_stays first past call (orderly first past lawful) (record { keeps = ended_by-working image }) (accepts-work past Working image) kept) in
+    let (some, kept) = works_before first past (working standard first past) image answered in
+    let after : working standard first (call ∷ past) ≡ working standard first past = working_after standard first past call (working standard first past)
+    (after_stays standard first past call (orderly standard first past lawful) (record { keeps = ended_by-working standard image }) (accepts-work past Working image) kept) in
     rw after some
 
 -- the call of such a step is answered as it has to be
-lawful_call : (start : SimValue) (past : List Step) (step : Step) → IsAnswered start past step → step.event ≡ Work → step.answer ≡ Worked Working
-    → keyboard.IsAnswered (session start past).first (session start past).past (CalledWork Working step.flash.image)
+lawful_call : (start : SimValue) (past : List Step) (step : Step) → IsAnswered standard start past step → step.event ≡ Work → step.answer ≡ Worked Working
+    → keyboard.IsAnswered standard (session start past).first (session start past).past (CalledWork Working step.flash.image)
 lawful_call start past step answered is_work needs =
     let (work, is, worked, none) =
-    subst (λ (e : Event). Answered (session start past) (host_calls past) (flash_after start past) e step.answer step.refused step.flash) is_work answered in
+    subst (λ (e : Event). Answered standard (session start past) (host_calls past) (flash_after start past) e step.answer step.refused step.flash) is_work answered in
     let same : work ≡ Working = cc in
-    subst (λ (w : WorkAnswer). keyboard.IsAnswered (session start past).first (session start past).past (CalledWork w step.flash.image)) same worked.lawful
+    subst (λ (w : WorkAnswer). keyboard.IsAnswered standard (session start past).first (session start past).past (CalledWork w step.flash.image)) same worked.lawful
 
-pub working_few : (start : SimValue) (past steps : List Step) → EachStep IsAnswered start (steps ++ past) → EachStep StaysInTime start (steps ++ past)
+pub working_few : (start : SimValue) (past steps : List Step) → EachStep (IsAnswered standard) start (steps ++ past) → EachStep (StaysInTime standard) start (steps ++ past)
     → AllWorking steps → length steps < most_steps
 working_few start past [] answered timely all = omega arith
 working_few start past (step ∷ before) (answered, earlier) (timely, others) (is_work, needs, all) =
     let s : Session = session start (before ++ past) in
     let p : Session = session start past in
     let call : Call = CalledWork Working step.flash.image in
-    let some : IsSome (working s.first (call ∷ s.past))
-    = works_after s.first s.past step.flash.image (here start (before ++ past) earlier).lawful (lawful_call start (before ++ past) step answered is_work needs) in
-    let in_time : IsInTime s.first (call ∷ s.past)
-    = subst (λ (k : Kind). let now = session_with k step.flash.image s in IsInTime now.first now.past) (kind_by step.event step.answer step.flash.image is_work needs) timely in
+    let some : IsSome (working standard s.first (call ∷ s.past))
+    = works_after s.first s.past step.flash.image (here standard start (before ++ past) earlier).lawful (lawful_call start (before ++ past) step answered is_work needs) in
+    let in_time : IsInTime standard s.first (call ∷ s.past)
+    = subst (λ (k : Kind). let now = session_with k step.flash.image s in IsInTime standard now.first now.past) (kind_by step.event step.answer step.flash.image is_work needs) timely in
     let few : suc (steps_since (call ∷ s.past)) ≤ 387 = in_time some in
     let count : steps_since (call ∷ s.past) ≡ length (step ∷ before) + steps_since p.past
     = ap (λ (t : Session). steps_since (call ∷ t.past)) (session-working start past before all) ∙ steps_since-working (step ∷ before) p.past in

@@ -10,6 +10,7 @@ use Rattle.world.specs.declared.event.Event.{Event}
 use Rattle.world.specs.declared.event.Event.TheVariants as event
 use Rattle.world.specs.declared.event.Answer.{Answer}
 use Rattle.world.specs.declared.event.Answer.TheVariants.{Ack, Packet, Worked}
+use Rattle.layers.specs.Standard.{standard}
 use Rattle.keymap_store.specs.declared.store.Work.TheVariants.{Working}
 use Rattle.world.specs.Kinds.{Step}
 use Rattle.world.specs.History.{flash_after}
@@ -122,7 +123,7 @@ blank pages = holding (replicate (4096 * pages) 255)
 -- which the promise holds, and in which the host was refused no memory
 pub record IsRun (start : SimValue) (lines : List Line) (text : Bytes) (after : SimValue) : Type 0 where
   pub steps : List Step
-  pub promise : Promise start steps
+  pub promise : Promise standard start steps
   pub none_refused : NoneRefused steps
   pub prints : Prints lines steps text
   pub leaves : after ≡ flash_after start steps
@@ -146,13 +147,13 @@ pub record IsBegun (start : SimValue) (script text : Bytes) : Type 0 where
 -- was refused no memory
 abbrev pub GoesOn : (List Step → Type 0) → WorldValue → WorldValue → Type 0
 GoesOn P old new =
-    (start : SimValue) (past : List Step) → StandsFor start past old → (steps : List Step) × P steps × NoneRefused steps × StandsFor start (steps ++ past) new
+    (start : SimValue) (past : List Step) → StandsFor standard start past old → (steps : List Step) × P steps × NoneRefused steps × StandsFor standard start (steps ++ past) new
 
 -- the world took one event, and the host was refused no memory
 abbrev pub Takes : Event → Answer → WorldValue → WorldValue → Type 0
 Takes event answer old new =
-    (start : SimValue) (past : List Step) → StandsFor start past old
-    → StandsFor start (record { event = event; answer = answer; flash = new.flash; refused = false } ∷ past) new
+    (start : SimValue) (past : List Step) → StandsFor standard start past old
+    → StandsFor standard start (record { event = event; answer = answer; flash = new.flash; refused = false } ∷ past) new
 
 -- the same, and these answers are that event's alone
 abbrev pub IsPassed : Event → List Answer → WorldValue → WorldValue → Type 0

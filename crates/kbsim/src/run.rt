@@ -1,6 +1,7 @@
 //! Running a script.
 
 ghost use Rattle.std.specs.Prelude.{◌≡◌, ◌≢◌, ◌<◌, ◌≤◌, ℕ, List, [], ◌++◌, slice_index, length, take, Some, ◌↔◌, ◌⊎◌, IfOk, IfErr, IfSome, OnOk, IsTrue};
+ghost use Rattle.layers.specs.Standard.{standard};
 ghost use Rattle.std.specs.Int.NonZero.{non_zero_u16_get};
 ghost use Rattle.std.specs.Str.Lines.{lines};
 ghost use Rattle.std.specs.Io.KnownBytes.{Appends};
@@ -231,11 +232,11 @@ fn run_each<W: Write, S: Sink>(
     printer: &mut Printer<'_, W>,
     sink: &mut S,
 ) -> Result<(), RunError>
-    ensures printed { OnOk result ((start : SimValue) → StandsFor start [] world.old → (text : List ℕ)
+    ensures printed { OnOk result ((start : SimValue) → StandsFor standard start [] world.old → (text : List ℕ)
         × IsRun start lines.now text world.new.flash × Prints W.contents printer.old printer.new text) }
     ensures same_writer { OnOk result (printer_writer printer.new ≡ printer_writer printer.old) }
     ensures late { IfErr result (λ e. (e ≡ RunError.Memory) ⊎ ((e ≡ RunError.Output) × (lines.now ≢ []))) }
-    ensures stopped { result ≡ Err RunError.Memory → (start : SimValue) → StandsFor start [] world.old
+    ensures stopped { result ≡ Err RunError.Memory → (start : SimValue) → StandsFor standard start [] world.old
         → (count : ℕ) × (text : List ℕ) × (after : SimValue) × (count < length lines.now)
         × IsRun start (take count lines.now) text after × Prints W.contents printer.old printer.new text }
     ensures same_writer_stopped { result ≡ Err RunError.Memory → printer_writer printer.new ≡ printer_writer printer.old }
@@ -276,7 +277,7 @@ fn put<W: Write>(
 
 /// A device that starts on a flash; `Memory` where it finds no room.
 fn world_on(alloc: Global, flash: SimFlash) -> Result<World, RunError>
-    ensures starts { IfOk result (λ world. StandsFor flash [] world) }
+    ensures starts { IfOk result (λ world. StandsFor standard flash [] world) }
     ensures memory { IfErr result (λ e. e ≡ RunError.Memory) }
 {
     World::new(alloc, flash).map_err(|_| RunError::Memory)

@@ -15,7 +15,7 @@ ghost use Rattle.key_reports.specs.Tables.{table};
 
 use crate::keys::{make_for, take_edges};
 use debounce::{KeySet, Matrix, Scan};
-use layers::{Held, Keymap, Usages};
+use layers::{Defaults, Held, KeymapOf, Usages};
 use reports::{IdleId, Poller, Protocol, Report};
 use std::alloc::{AllocError, Global};
 use std::marker::Model;
@@ -69,7 +69,7 @@ impl KeyReports {
     /// Takes one scan, one millisecond after the last. The keys that the debounced scan releases are
     /// released, then those that it presses are pressed, each by rising key and with this keymap. The
     /// reports of the protocol whose bytes this changes wait for a poll.
-    pub fn scan(&mut self, scan: Scan, keymap: &Keymap, protocol: Protocol)
+    pub fn scan<D: Defaults>(&mut self, scan: Scan, keymap: &KeymapOf<D>, protocol: Protocol)
         ensures stands { (past : List KeyCall) → StandsFor past self.old
             → StandsFor (Scanned scan keymap.now protocol ∷ past) self.new }
         ensures entries { (past : List KeyCall) (entries : ℕ → ℕ → ℕ) → HasEntries entries keymap.now
@@ -85,7 +85,7 @@ impl KeyReports {
 
     /// Takes the keys that a scan changed.
     #[inline(never)]
-    fn take(&mut self, flips: &KeySet, keymap: &Keymap, protocol: Protocol)
+    fn take<D: Defaults>(&mut self, flips: &KeySet, keymap: &KeymapOf<D>, protocol: Protocol)
         ensures { (past : List KeyCall) (scan : Scan) → IsFed scan flips.now past self.old
             → StandsFor (Scanned scan keymap.now protocol ∷ past) self.new }
     {

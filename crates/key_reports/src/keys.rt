@@ -10,11 +10,16 @@ ghost use Rattle.key_reports.specs.ties.Edges.{with_releases, with_presses, with
 ghost use Rattle.key_reports.specs.Past.{held_calls, wanted_after};
 
 use debounce::KeySet;
-use layers::{Held, KeyNo, Keymap};
+use layers::{Defaults, Held, KeyNo, KeymapOf};
 use reports::{Poller, Protocol};
 
 /// Takes the edges of a scan: the releases, then the presses, each by rising number.
-pub(crate) fn take_edges(held: &mut Held, keymap: &Keymap, released: &KeySet, pressed: &KeySet)
+pub(crate) fn take_edges<D: Defaults>(
+    held: &mut Held,
+    keymap: &KeymapOf<D>,
+    released: &KeySet,
+    pressed: &KeySet,
+)
     ensures takes { Takes (with_edges keymap.now (record { released = released.now; pressed = pressed.now })) held.old held.new }
     ensures named { held.new.named ≡ true }
 {
@@ -33,7 +38,7 @@ fn release_all(held: &mut Held, released: &KeySet)
 }
 
 /// Presses these keys, by rising number.
-fn press_all(held: &mut Held, keymap: &Keymap, pressed: &KeySet)
+fn press_all<D: Defaults>(held: &mut Held, keymap: &KeymapOf<D>, pressed: &KeySet)
     ensures { Takes (with_presses keymap.now pressed.now) held.old held.new }
 {
     for key in pressed.keys() {

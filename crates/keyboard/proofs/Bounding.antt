@@ -1,5 +1,6 @@
 -- How many steps of the flash work a command takes, after one call more.
 use Rattle.std.proofs.Common.{◌≡◌, ℕ, suc, ◌≤◌, IsSome, Option, Some, None, List, ◌∷◌, ap, ◌∙◌, arith}
+use Rattle.layers.specs.Codes.{DefaultCodes}
 use Rattle.layers.specs.declared.command.Command.{Command}
 use Rattle.page_turnover.specs.Value.{LogValue}
 use Rattle.keymap_store.specs.declared.store.Job.{Job}
@@ -10,15 +11,6 @@ use Rattle.keymap_store.specs.Left.{left, left_for}
 use Rattle.keyboard.specs.Calls.{Call, image_after}
 use Rattle.keyboard.specs.Commands.{accepts}
 use Rattle.keyboard.specs.Bounded.{most_steps, counted, unless_accepted, steps_since, image_if, accepted_image}
-
--- a command that works needs a step more
-needs_for : (image : List ℕ) (log : LogValue) (job : Job) → IsSome (working_in job) → 1 ≤ left_for image log job
-needs_for image log Resting s = cc
-needs_for image log (Appending command) s = omega arith
-needs_for image log (Turning command from) s = omega arith
-
-pub needs_more : (image : List ℕ) (store : StoreValue) → IsSome (working_in store.job) → 1 ≤ left image store
-needs_more image store s = needs_for image store.log store.job s
 
 -- calls that are no flash work, and accept nothing
 pub steps_since-same : (call : Call) (past : List Call) → ((count : ℕ) → counted call count ≡ count) → accepts past call ≡ None → steps_since (call ∷ past) ≡ steps_since past
@@ -52,3 +44,13 @@ nothing_needed w A n s = cc
 
 pub none_works : (w : Option Command) (command : Command) (A : Type 0) → w ≡ None → w ≡ Some command → A
 none_works w command A n s = cc
+
+module _ (defaults : DefaultCodes) where
+  -- a command that works needs a step more
+  needs_for : (image : List ℕ) (log : LogValue) (job : Job) → IsSome (working_in job) → 1 ≤ left_for defaults image log job
+  needs_for image log Resting s = cc
+  needs_for image log (Appending command) s = omega arith
+  needs_for image log (Turning command from) s = omega arith
+
+  pub needs_more : (image : List ℕ) (store : StoreValue) → IsSome (working_in store.job) → 1 ≤ left defaults image store
+  needs_more image store s = needs_for image store.log store.job s

@@ -2,7 +2,7 @@
 use Rattle.std.proofs.Common.{◌≡◌, ◌≢◌, ℕ, ◌<◌, ◌==◌, ◌||◌, Bool, true, false, not, zero, suc, [], ◌∷◌, refl, arith, inl, inr}
 use Rattle.std.proofs.lemmas.Bool.{cases_eq}
 use Rattle.std.proofs.lemmas.Bool.Decides.{nat_tests}
-use Rattle.layers.specs.Codes.{layers, keys}
+use Rattle.layers.specs.Codes.{layers, keys, DefaultCodes}
 use Rattle.layers.specs.Entries.{changed, ChangesSome, ChangesNothing}
 use Rattle.layers.specs.declared.command.Command.{Command}
 use Rattle.layers.specs.Held.{any_below}
@@ -46,20 +46,6 @@ not_false a b e = grind (arith, nat_tests)
 not_true : (a b : ℕ) → a ≢ b → not (a == b) ≡ true
 not_true a b n = grind (arith, nat_tests)
 
-pub changes-false : (entries : ℕ → ℕ → ℕ) (command : Command) → changes entries command ≡ false → (layer key : ℕ) → layer < layers → key < keys → changed entries (command ∷ []) layer key ≡ entries layer key
-unfolding changes
-changes-false entries command e layer key l k =
-    not_false (changed entries (command ∷ []) layer key) (entries layer key)
-    (any_below-false keys (λ key. not (changed entries (command ∷ []) layer key == entries layer key))
-    (any_below-false layers (λ layer. any_below (λ key. not (changed entries (command ∷ []) layer key == entries layer key)) keys) e layer l) key k)
-
-pub changes-some : (entries : ℕ → ℕ → ℕ) (command : Command) → ChangesSome entries command → changes entries command ≡ true
-unfolding changes
-changes-some entries command s =
-    any_below-true layers (λ layer. any_below (λ key. not (changed entries (command ∷ []) layer key == entries layer key)) keys) s.layer s.in_layers
-    (any_below-true keys (λ key. not (changed entries (command ∷ []) s.layer key == entries s.layer key)) s.key s.in_keys
-    (not_true (changed entries (command ∷ []) s.layer s.key) (entries s.layer s.key) s.differs))
-
 none_below : (n : ℕ) (test : ℕ → Bool) → ((k : ℕ) → k < n → test k ≡ false) → any_below test n ≡ false
 unfolding any_below
 none_below zero test h = refl
@@ -68,9 +54,24 @@ none_below (suc n) test h = rw (h n (omega arith)) (none_below n test (λ k l. h
 not_same : (a b : ℕ) → a ≡ b → not (a == b) ≡ false
 not_same a b e = grind (arith, nat_tests)
 
-pub changes-nothing : (entries : ℕ → ℕ → ℕ) (command : Command) → ChangesNothing entries command → changes entries command ≡ false
-unfolding changes
-changes-nothing entries command s =
-    none_below layers (λ layer. any_below (λ key. not (changed entries (command ∷ []) layer key == entries layer key)) keys)
-    (λ layer l. none_below keys (λ key. not (changed entries (command ∷ []) layer key == entries layer key))
-    (λ key k. not_same (changed entries (command ∷ []) layer key) (entries layer key) (s.each layer key l k)))
+module _ (defaults : DefaultCodes) where
+  pub changes-false : (entries : ℕ → ℕ → ℕ) (command : Command) → changes defaults entries command ≡ false → (layer key : ℕ) → layer < layers → key < keys → changed defaults entries (command ∷ []) layer key ≡ entries layer key
+  unfolding changes
+  changes-false entries command e layer key l k =
+      not_false (changed defaults entries (command ∷ []) layer key) (entries layer key)
+      (any_below-false keys (λ key. not (changed defaults entries (command ∷ []) layer key == entries layer key))
+      (any_below-false layers (λ layer. any_below (λ key. not (changed defaults entries (command ∷ []) layer key == entries layer key)) keys) e layer l) key k)
+
+  pub changes-some : (entries : ℕ → ℕ → ℕ) (command : Command) → ChangesSome defaults entries command → changes defaults entries command ≡ true
+  unfolding changes
+  changes-some entries command s =
+      any_below-true layers (λ layer. any_below (λ key. not (changed defaults entries (command ∷ []) layer key == entries layer key)) keys) s.layer s.in_layers
+      (any_below-true keys (λ key. not (changed defaults entries (command ∷ []) s.layer key == entries s.layer key)) s.key s.in_keys
+      (not_true (changed defaults entries (command ∷ []) s.layer s.key) (entries s.layer s.key) s.differs))
+
+  pub changes-nothing : (entries : ℕ → ℕ → ℕ) (command : Command) → ChangesNothing defaults entries command → changes defaults entries command ≡ false
+  unfolding changes
+  changes-nothing entries command s =
+      none_below layers (λ layer. any_below (λ key. not (changed defaults entries (command ∷ []) layer key == entries layer key)) keys)
+      (λ layer l. none_below keys (λ key. not (changed defaults entries (command ∷ []) layer key == entries layer key))
+      (λ key k. not_same (changed defaults entries (command ∷ []) layer key) (entries layer key) (s.each layer key l k)))

@@ -4,6 +4,7 @@ use Rattle.std.specs.Option.{option_map}
 use Rattle.std.specs.Result.{result_ok}
 use Rattle.std.proofs.lemmas.List.{get_or-drop}
 use Rattle.std.proofs.lemmas.Bool.Decides.{nat_tests}
+use Rattle.layers.specs.Codes.{DefaultCodes}
 use Rattle.layers.specs.Entries.{ChangesSome, ChangesNothing}
 use Rattle.layers.specs.declared.code.KeymapError.{KeymapError}
 use Rattle.layers.specs.declared.command.Command.{Command}
@@ -57,28 +58,11 @@ use Rattle.keyboard.proofs.Standing.{ReceivedAs, received_as, takes_nothing, sta
 no_command : (bytes : List ℕ) (command : Command) → command_in bytes ≡ Ok command → slice_index bytes 0 ≡ 0 → ⊥
 no_command bytes command e z = (let f = rw z at e in cc)
 
-nothing_changes : (entries : ℕ → ℕ → ℕ) (bytes : List ℕ) → slice_index bytes 0 ≡ 0 → changes_by entries (command_in bytes) ≡ false
-nothing_changes entries bytes z = rw z refl
-
 none_read : (bytes : List ℕ) → slice_index bytes 0 ≡ 0 → result_ok (command_in bytes) ≡ None
 none_read bytes z = rw z refl
 
 pub free : (w : Option Command) → w ≡ None → is_some w ≡ true → ⊥
 free w n b = cc
-
--- the verdict on a command while none works
-judged_with : (image bytes : List ℕ) (command : Command) (verdict : Verdict) (old new : KeyboardValue) → at_work old ≡ None → command_in bytes ≡ Ok command
-    → CommandAnswer image command (judged_answer verdict) → verdict ≡ verdict_told (changes (keymap image) command) (judged_answer verdict)
-    → RunsOn image new → VerdictLeaves image bytes verdict old new → Judges image bytes verdict old new
-judged_with image bytes command verdict old new n c a t r l = record {
-  answer_is = no (free (at_work old) n) (no (no_command bytes command c) (subst (λ (x : Result Command KeymapError). ReadAnswer image x (judged_answer verdict)) (sym c) a));
-  told = t ∙ ap (λ (x : Result Command KeymapError). verdict_told (changes_by (keymap image) x) (judged_answer verdict)) (sym c);
-  runs_on = r;
-  leaves = l;
-}
-
-some_and_nothing : (entries : ℕ → ℕ → ℕ) (command : Command) → ChangesSome entries command → ChangesNothing entries command → ⊥
-some_and_nothing entries command s n = s.differs (n.each s.layer s.key s.in_layers s.in_keys)
 
 -- a flash with room for a record, or for a turn that makes it, is not worn
 not_worn : (image : List ℕ) → HasPlace image → IsWorn image → ⊥
@@ -86,59 +70,11 @@ unfolding next_seq
 not_worn image (inl room) w = w.full room
 not_worn image (inr (full, can)) w = (let low : next_seq image < 2 ^ 28 = can.numbered in let is : next_seq image ≡ 2 ^ 28 = rw w.last refl in absurd (omega arith))
 
-pub judged_settled : (image bytes : List ℕ) (command : Command) (old new : KeyboardValue) → at_work old ≡ None → command_in bytes ≡ Ok command
-    → IsUsable image → ChangesNothing (keymap image) command → RunsOn image new → new ≡ record old { store = new.store } → at_work new ≡ None → left image new.store ≤ most_steps
-    → Judges image bytes Done old new
-judged_settled image bytes command old new n c u s r o w m =
-    let nothing : changes (keymap image) command ≡ false = changes-nothing (keymap image) command s in
-    judged_with image bytes command Done old new n c (no (λ v. v u) (yes s refl)) (rw nothing refl) r
-    (commands command c refl n o (rw nothing w) m (λ x. nothing_needed (at_work new) (Needs image (left image new.store)) w x) (λ x. none_works (at_work new) command (rest_of image new.store ≡ operations_of image command) w x))
-
-pub judged_working : (image bytes : List ℕ) (command : Command) (old new : KeyboardValue) → at_work old ≡ None → command_in bytes ≡ Ok command
-    → IsUsable image → ChangesSome (keymap image) command → HasPlace image → RunsOn image new → new ≡ record old { store = new.store } → at_work new ≡ Some command → left image new.store ≤ most_steps
-    → Needs image (left image new.store) → rest_of image new.store ≡ operations_of image command → Judges image bytes Working old new
-judged_working image bytes command old new n c u s p r o w m k i =
-    let something : changes (keymap image) command ≡ true = changes-some (keymap image) command s in
-    judged_with image bytes command Working old new n c (no (λ v. v u) (no (some_and_nothing (keymap image) command s) (no (not_worn image p) refl))) (rw something refl) r
-    (commands command c refl n o (rw something w) m (λ x. k) (λ x. i))
-
-pub judged_unsound : (image bytes : List ℕ) (command : Command) (old new : KeyboardValue) → at_work old ≡ None → command_in bytes ≡ Ok command
-    → (IsUsable image → ⊥) → RunsOn image new → new ≡ old → Judges image bytes (Refused Unsound) old new
-judged_unsound image bytes command old new n c u r o = judged_with image bytes command (Refused Unsound) old new n c (yes u refl) refl r (refused (λ e. cc) o)
-
-pub judged_worn : (image bytes : List ℕ) (command : Command) (old new : KeyboardValue) → at_work old ≡ None → command_in bytes ≡ Ok command
-    → IsUsable image → ChangesSome (keymap image) command → IsWorn image → RunsOn image new → new ≡ old → Judges image bytes (Refused Worn) old new
-judged_worn image bytes command old new n c u s w r o =
-    judged_with image bytes command (Refused Worn) old new n c (no (λ v. v u) (no (some_and_nothing (keymap image) command s) (yes w refl))) refl r (refused (λ e. cc) o)
-
--- what the store makes of a command
-pub record Submitted (image : List ℕ) (command : Command) (taken : Result Taken SubmitRefusal) (old new : KeyboardValue) : Type 0 where
-  pub submits : Submits image old.store.job command taken
-  pub runs_on : RunsOn image new
-  pub only : new ≡ record old { store = new.store }
-  pub taken_is : taken ≡ Ok Takens.Working → at_work new ≡ Some command
-  pub unchanged : (taken ≡ Ok Takens.Working → ⊥) → new.store ≡ old.store
-  pub needs : taken ≡ Ok Takens.Working → Needs image (left image new.store)
-  pub few : left image new.store ≤ most_steps
-  pub operations : taken ≡ Ok Takens.Working → rest_of image new.store ≡ operations_of image command
-
 kept_by : (old new : KeyboardValue) → new ≡ record old { store = new.store } → new.store ≡ old.store → new ≡ old
 kept_by old new o s = o ∙ ap (λ (x : StoreValue). record old { store = x }) s
 
 not_busy : (w : Option Command) → w ≡ None → IsSome w → ⊥
 not_busy w n s = cc
-
-pub judged_submitted : (image bytes : List ℕ) (command : Command) (taken : Result Taken SubmitRefusal) (old new : KeyboardValue) → at_work old ≡ None → command_in bytes ≡ Ok command
-    → Submitted image command taken old new → Judges image bytes (verdict_of taken) old new
-judged_submitted image bytes command (Ok Takens.Settled) old new n c s =
-    judged_settled image bytes command old new n c s.submits.0.usable s.submits.1 s.runs_on s.only (ap (λ (x : StoreValue). working_in x.job) (s.unchanged (λ e. cc)) ∙ n) s.few
-judged_submitted image bytes command (Ok Takens.Working) old new n c s =
-    judged_working image bytes command old new n c s.submits.0.usable s.submits.1 s.submits.2 s.runs_on s.only (s.taken_is refl) s.few (s.needs refl) (s.operations refl)
-judged_submitted image bytes command (Err Refusals.Busy) old new n c s = absurd (not_busy (at_work old) n s.submits)
-judged_submitted image bytes command (Err Refusals.Unsound) old new n c s =
-    judged_unsound image bytes command old new n c s.submits.1 s.runs_on (kept_by old new s.only (s.unchanged (λ e. cc)))
-judged_submitted image bytes command (Err Refusals.Worn) old new n c s =
-    judged_worn image bytes command old new n c s.submits.0.usable s.submits.1 s.submits.2 s.runs_on (kept_by old new s.only (s.unchanged (λ e. cc)))
 
 -- only a feature report that is due is offered
 pub record Offered (past : List Call) (packet bytes : List ℕ) : Type 0 where
@@ -167,12 +103,6 @@ offered past packet bytes Waiting s a = cc
 offered past packet bytes (Status effect) s a = cc
 offered past packet bytes (Stalled why) s a = cc
 
--- the verdict leaves the endpoint to be told of it
-pub same_ep : (image bytes : List ℕ) (verdict : Verdict) (old new : KeyboardValue) → VerdictLeaves image bytes verdict old new → new.ep ≡ old.ep
-same_ep image bytes verdict old new (refused n o) = ap (λ (k : KeyboardValue). k.ep) o
-same_ep image bytes verdict old new (selects z a o) = ap (λ (k : KeyboardValue). k.ep) o
-same_ep image bytes verdict old new (commands command c a n o w m k i) = ap (λ (k : KeyboardValue). k.ep) o
-
 unacked : (past : List Call) (packet : List ℕ) (answer : EpAnswer) → (answer ≡ Ack → ⊥) → report_taken past (Out packet answer) ≡ None
 unacked past packet Ack n = absurd (n refl)
 unacked past packet Nak n = refl
@@ -199,67 +129,6 @@ command_when packet sent o e c = rw e c
 number_at : (packet bytes : List ℕ) (i : ℕ) → bytes ≡ drop 1 packet → slice_index bytes i ≡ slice_index packet (1 + i)
 number_at packet bytes i e = rw (e, get_or-drop 1 packet i 0) refl
 
--- what an offer and its verdict come to
-pub record OfferJudged (start : List ℕ) (past : List Call) (packet bytes : List ℕ) (verdict : Verdict) (old mid new : KeyboardValue) (ep : Stage) : Type 0 where
-  pub stands : StandsFor start past old
-  pub step : Offer bytes ≡ out_step (stage_after start past) packet
-  pub between : mid ≡ record old { ep = mid.ep }
-  pub judges : Judges (image_after start past) bytes verdict mid new
-  pub ep_is : control_ep.StandsFor (Judged verdict (judged_answer verdict) ∷ EpOut packet (Offer bytes) ∷ ep_calls start past) ep
-
-works_mid : (start : List ℕ) (past : List Call) (packet bytes : List ℕ) (verdict : Verdict) (old mid new : KeyboardValue) (ep : Stage) → OfferJudged start past packet bytes verdict old mid new ep → at_work mid ≡ working start past
-works_mid start past packet bytes verdict old mid new ep j = ap (λ (k : KeyboardValue). at_work k) j.between ∙ j.stands.now.works
-
-judged_is : (start : List ℕ) (past : List Call) (packet bytes : List ℕ) (verdict : Verdict) (old mid new : KeyboardValue) (ep : Stage) → OfferJudged start past packet bytes verdict old mid new ep
-    → IsAnswered start past (Out packet (judged_answer verdict))
-judged_is start past packet bytes verdict old mid new ep j =
-    subst (λ (x : OutStep). OutAnswer x (image_after start past) (is_some (working start past)) (judged_answer verdict)) j.step
-    (subst (λ (w : Option Command). FeatureAnswer (image_after start past) (is_some w) bytes (judged_answer verdict)) (works_mid start past packet bytes verdict old mid new ep j) j.judges.answer_is)
-
-ep_after : (start : List ℕ) (past : List Call) (packet bytes : List ℕ) (verdict : Verdict) (old mid new : KeyboardValue) (ep : Stage) → OfferJudged start past packet bytes verdict old mid new ep
-    → control_ep.StandsFor (ep_calls start (Out packet (judged_answer verdict) ∷ past)) ep
-ep_after start past packet bytes verdict old mid new ep j =
-    subst (λ (calls : List EpCall). control_ep.StandsFor calls ep) (sym (ep_calls-out start past packet (judged_answer verdict) (Offer bytes) j.step))
-    (subst (λ (v : Verdict). control_ep.StandsFor (Judged v (judged_answer verdict) ∷ EpOut packet (Offer bytes) ∷ ep_calls start past) ep) j.judges.told j.ep_is)
-
-offer_of : (start : List ℕ) (past : List Call) (packet bytes : List ℕ) (verdict : Verdict) (old mid new : KeyboardValue) (ep : Stage) → OfferJudged start past packet bytes verdict old mid new ep → Offered past packet bytes
-offer_of start past packet bytes verdict old mid new ep j = offered past packet bytes (stage_after start past) (serves start past) j.step
-
--- a report that is not acknowledged
-offer_refused : (start : List ℕ) (past : List Call) (packet bytes : List ℕ) (verdict : Verdict) (old mid new : KeyboardValue) (ep : Stage) → OfferJudged start past packet bytes verdict old mid new ep
-    → (judged_answer verdict ≡ Ack → ⊥) → new ≡ mid → StandsFor start (Out packet (judged_answer verdict) ∷ past) (record new { ep = ep })
-offer_refused start past packet bytes verdict old mid new ep j n o =
-    stands_untaken start past packet (judged_answer verdict) ep old (record new { ep = ep }) j.stands
-    (takes_nothing past packet (judged_answer verdict) (unacked past packet (judged_answer verdict) n))
-    (ap (λ (k : KeyboardValue). record k { ep = ep }) (o ∙ j.between))
-    (ep_after start past packet bytes verdict old mid new ep j)
-    (judged_is start past packet bytes verdict old mid new ep j)
-
--- an entry that is selected
-offer_selects : (start : List ℕ) (past : List Call) (packet bytes : List ℕ) (verdict : Verdict) (old mid new : KeyboardValue) (ep : Stage) → OfferJudged start past packet bytes verdict old mid new ep
-    → slice_index bytes 0 ≡ 0 → judged_answer verdict ≡ Ack → new ≡ record mid { layer = slice_index bytes 1; key = slice_index bytes 2 }
-    → StandsFor start (Out packet Ack ∷ past) (record new { ep = ep })
-offer_selects start past packet bytes verdict old mid new ep j z a o =
-    let of : Offered past packet bytes = offer_of start past packet bytes verdict old mid new ep j in
-    let is : record new { ep = ep } ≡ record old { ep = ep; layer = slice_index bytes 1; key = slice_index bytes 2 } =
-    ap (λ (k : KeyboardValue). record k { ep = ep }) o ∙ ap (λ (k : KeyboardValue). record k { ep = ep; layer = slice_index bytes 1; key = slice_index bytes 2 }) j.between in
-    let sent : report_taken past (Out packet Ack) ≡ Some (record { report = FeatureData; bytes = packet }) = feature_taken past packet of.names in
-    let zero_at : slice_index packet 1 ≡ 0 = sym (number_at packet bytes 0 of.bytes_are) ∙ z in
-    let none : command_in_report (report_taken past (Out packet Ack)) ≡ None = command_when packet (report_taken past (Out packet Ack)) None sent (subst (λ (bs : List ℕ). result_ok (command_in bs) ≡ None) of.bytes_are (none_read bytes z)) in
-    let selects_it : selected (Out packet Ack ∷ past) ≡ record { layer = slice_index packet 2; key = slice_index packet 3 } =
-    selected-out past packet Ack (Some (record { layer = slice_index packet 2; key = slice_index packet 3 })) (entry_when packet (report_taken past (Out packet Ack)) sent zero_at) in
-    subst (λ (k : KeyboardValue). StandsFor start (Out packet Ack ∷ past) k) (sym is)
-    (stands_with start past (Out packet Ack) old (record old { ep = ep; layer = slice_index bytes 1; key = slice_index bytes 2 }) j.stands (out_leaves start past packet Ack none) refl
-    (record {
-      ep = subst (λ (x : EpAnswer). control_ep.StandsFor (ep_calls start (Out packet x ∷ past)) ep) a (ep_after start past packet bytes verdict old mid new ep j);
-      keys = rw (keys-out start past packet Ack) j.stands.now.keys;
-      protocol = j.stands.now.protocol ∙ sym (protocol-out past packet Ack);
-      leds = j.stands.now.leds ∙ sym (leds-out past packet Ack None (no_leds_when packet (report_taken past (Out packet Ack)) sent));
-      layer = number_at packet bytes 1 of.bytes_are ∙ ap (λ (x : Entry). x.layer) (sym selects_it);
-      key = number_at packet bytes 2 of.bytes_are ∙ ap (λ (x : Entry). x.key) (sym selects_it);
-    })
-    (subst (λ (x : EpAnswer). IsAnswered start past (Out packet x)) a (judged_is start past packet bytes verdict old mid new ep j)))
-
 only_command : (works : Bool) (w : Option Command) (command other : Command) → w ≡ (if works then Some command else None) → w ≡ Some other → other ≡ command
 only_command true w command other e f = cc
 only_command false w command other e f = cc
@@ -267,81 +136,214 @@ only_command false w command other e f = cc
 plus_none : (n : ℕ) → n ≡ n + 0
 plus_none n = omega arith
 
--- a command
-offer_commands : (start : List ℕ) (past : List Call) (packet bytes : List ℕ) (verdict : Verdict) (command : Command) (old mid new : KeyboardValue) (ep : Stage) → OfferJudged start past packet bytes verdict old mid new ep
-    → command_in bytes ≡ Ok command → judged_answer verdict ≡ Ack → at_work mid ≡ None → new ≡ record mid { store = new.store }
-    → at_work new ≡ (if changes (keymap (image_after start past)) command then Some command else None) → left (image_after start past) new.store ≤ most_steps
-    → (IsSome (at_work new) → Needs (image_after start past) (left (image_after start past) new.store)) → (at_work new ≡ Some command → rest_of (image_after start past) new.store ≡ operations_of (image_after start past) command)
-    → StandsFor start (Out packet Ack ∷ past) (record new { ep = ep })
-offer_commands start past packet bytes verdict command old mid new ep j c a n o w m k i =
-    let call : Call = Out packet Ack in
-    let of : Offered past packet bytes = offer_of start past packet bytes verdict old mid new ep j in
-    let is : new ≡ record old { ep = mid.ep; store = new.store } = o ∙ ap (λ (k : KeyboardValue). record k { store = new.store }) j.between in
-    let sent : report_taken past call ≡ Some (record { report = FeatureData; bytes = packet }) = feature_taken past packet of.names in
-    let some : slice_index packet 1 ≡ 0 → ⊥ = λ z. no_command bytes command c (number_at packet bytes 0 of.bytes_are ∙ z) in
-    let accepted : accepts past call ≡ Some command =
-    accepts-out past packet Ack (Some command) (command_when packet (report_taken past call) (Some command) sent (subst (λ (bs : List ℕ). result_ok (command_in bs) ≡ Some command) of.bytes_are (ap result_ok c))) in
-    let none : working start past ≡ None = sym (works_mid start past packet bytes verdict old mid new ep j) ∙ n in
-    let keeps : selected (call ∷ past) ≡ selected past = selected-out past packet Ack None (no_entry_when packet (report_taken past call) sent some) in
-    let lawful : IsAnswered start past call = subst (λ (x : EpAnswer). IsAnswered start past (Out packet x)) a (judged_is start past packet bytes verdict old mid new ep j) in
-    record {
-      now = record {
-        ep = subst (λ (x : EpAnswer). control_ep.StandsFor (ep_calls start (Out packet x ∷ past)) ep) a (ep_after start past packet bytes verdict old mid new ep j);
-        keys = rw (keys-out start past packet Ack) (subst (λ (x : KeysValue). key_reports.StandsFor (key_calls start past) x) (sym (ap (λ (x : KeyboardValue). x.keys) is)) j.stands.now.keys);
-        store = j.judges.runs_on;
-        works = w ∙ by_taken (after_takes start past call command (orderly start past j.stands.answered) (ends_none_out packet Ack) accepted refl (free (working start past) none));
-        protocol = ap (λ (x : KeyboardValue). x.protocol) is ∙ j.stands.now.protocol ∙ sym (protocol-out past packet Ack);
-        leds = ap (λ (x : KeyboardValue). x.leds) is ∙ j.stands.now.leds ∙ sym (leds-out past packet Ack None (no_leds_when packet (report_taken past call) sent));
-        layer = ap (λ (x : KeyboardValue). x.layer) is ∙ j.stands.now.layer ∙ ap (λ (x : Entry). x.layer) (sym keeps);
-        key = ap (λ (x : KeyboardValue). x.key) is ∙ j.stands.now.key ∙ ap (λ (x : Entry). x.key) (sym keeps);
-        few =
-            λ x. subst (λ (n : ℕ). left (image_after start past) new.store + n ≤ most_steps) (sym (steps_since-none call past command accepted))
-            (let few : left (image_after start past) new.store ≤ 387 = m in omega (arith, few));
-        needs =
-            λ x. subst (λ (image : List ℕ). Needs image (left (image_after start past) new.store + steps_since (call ∷ past))) (sym (accepted_image-now start call past command accepted))
-            (subst (λ (n : ℕ). Needs (image_after start past) (left (image_after start past) new.store + n)) (sym (steps_since-none call past command accepted))
-            (subst (λ (n : ℕ). Needs (image_after start past) n) (plus_none (left (image_after start past) new.store)) (k x)));
-        order =
-            λ other x. (let same : other ≡ command = only_command (changes (keymap (image_after start past)) command) (at_work new) command other w x in
-            rw (same, steps_since-none call past command accepted, accepted_image-now start call past command accepted) (sym (i (rw same at x))));
-      };
-      answered = (lawful, j.stands.answered);
-    }
-  where
-    by_taken : AfterTaken start past (Out packet Ack) command
-        → (if changes (keymap (image_after start past)) command then Some command else None) ≡ working start (Out packet Ack ∷ past)
-    by_taken (now_works b h) = rw b (sym (working_after start past (Out packet Ack) (Some command) h))
-    by_taken (changed_nothing b h) = rw b (sym (working_after start past (Out packet Ack) None h))
-
-stands_by : (start : List ℕ) (past : List Call) (packet bytes : List ℕ) (verdict : Verdict) (old mid new : KeyboardValue) (ep : Stage) → OfferJudged start past packet bytes verdict old mid new ep
-    → VerdictLeaves (image_after start past) bytes verdict mid new → StandsFor start (Out packet (judged_answer verdict) ∷ past) (record new { ep = ep })
-stands_by start past packet bytes verdict old mid new ep j (refused n o) = offer_refused start past packet bytes verdict old mid new ep j n o
-stands_by start past packet bytes verdict old mid new ep j (selects z a o) =
-    subst (λ (x : EpAnswer). StandsFor start (Out packet x ∷ past) (record new { ep = ep })) (sym a) (offer_selects start past packet bytes verdict old mid new ep j z a o)
-stands_by start past packet bytes verdict old mid new ep j (commands command c a n o w m k i) =
-    subst (λ (x : EpAnswer). StandsFor start (Out packet x ∷ past) (record new { ep = ep })) (sym a) (offer_commands start past packet bytes verdict command old mid new ep j c a n o w m k i)
-
--- a feature report that was offered
-pub stands_offered : (start : List ℕ) (past : List Call) (packet bytes : List ℕ) (verdict : Verdict) (answer : EpAnswer) (old mid new : KeyboardValue) (ep : Stage) → OfferJudged start past packet bytes verdict old mid new ep
-    → answer ≡ judged_answer verdict → StandsFor start (Out packet answer ∷ past) (record new { ep = ep })
-stands_offered start past packet bytes verdict answer old mid new ep j a =
-    subst (λ (x : EpAnswer). StandsFor start (Out packet x ∷ past) (record new { ep = ep })) (sym a) (stands_by start past packet bytes verdict old mid new ep j j.judges.leaves)
-
--- the endpoint of a keyboard after a verdict
-pub told_ep : (image bytes : List ℕ) (verdict : Verdict) (old new : KeyboardValue) → VerdictLeaves image bytes verdict old new → {ep : Stage} → ep ≡ new.ep → ep ≡ old.ep
-told_ep image bytes verdict old new l e = e ∙ same_ep image bytes verdict old new l
-
 pub told_answer : (now : Stage) (verdict : Verdict) (answer : EpAnswer) → answer ≡ verdict_answer now verdict → now ≡ Taking FeatureData → answer ≡ judged_answer verdict
 told_answer now verdict answer a e = a ∙ ap (λ (s : Stage). verdict_answer s verdict) e
 
-pub offer_told : (start : List ℕ) (past : List Call) (packet bytes : List ℕ) (verdict : Verdict) (old mid new : KeyboardValue) (ep : Stage) → StandsFor start past old
-    → Offer bytes ≡ out_step (stage_after start past) packet → mid ≡ record old { ep = mid.ep } → Judges (image_after start past) bytes verdict mid new
-    → {answer : EpAnswer} → answer ≡ judged_answer verdict
-    → control_ep.StandsFor (Judged verdict answer ∷ EpOut packet (Offer bytes) ∷ ep_calls start past) ep → OfferJudged start past packet bytes verdict old mid new ep
-offer_told start past packet bytes verdict old mid new ep s o m j a e = record {
-  stands = s;
-  step = o;
-  between = m;
-  judges = j;
-  ep_is = subst (λ (x : EpAnswer). control_ep.StandsFor (Judged verdict x ∷ EpOut packet (Offer bytes) ∷ ep_calls start past) ep) a e;
-}
+module _ (defaults : DefaultCodes) where
+  nothing_changes : (entries : ℕ → ℕ → ℕ) (bytes : List ℕ) → slice_index bytes 0 ≡ 0 → changes_by defaults entries (command_in bytes) ≡ false
+  nothing_changes entries bytes z = rw z refl
+
+  -- the verdict on a command while none works
+  judged_with : (image bytes : List ℕ) (command : Command) (verdict : Verdict) (old new : KeyboardValue) → at_work old ≡ None → command_in bytes ≡ Ok command
+      → CommandAnswer defaults image command (judged_answer verdict) → verdict ≡ verdict_told (changes defaults (keymap defaults image) command) (judged_answer verdict)
+      → RunsOn defaults image new → VerdictLeaves defaults image bytes verdict old new → Judges defaults image bytes verdict old new
+  judged_with image bytes command verdict old new n c a t r l = record {
+    answer_is = no (free (at_work old) n) (no (no_command bytes command c) (subst (λ (x : Result Command KeymapError). ReadAnswer defaults image x (judged_answer verdict)) (sym c) a));
+    told = t ∙ ap (λ (x : Result Command KeymapError). verdict_told (changes_by defaults (keymap defaults image) x) (judged_answer verdict)) (sym c);
+    runs_on = r;
+    leaves = l;
+  }
+
+  some_and_nothing : (entries : ℕ → ℕ → ℕ) (command : Command) → ChangesSome defaults entries command → ChangesNothing defaults entries command → ⊥
+  some_and_nothing entries command s n = s.differs (n.each s.layer s.key s.in_layers s.in_keys)
+
+  pub judged_settled : (image bytes : List ℕ) (command : Command) (old new : KeyboardValue) → at_work old ≡ None → command_in bytes ≡ Ok command
+      → IsUsable image → ChangesNothing defaults (keymap defaults image) command → RunsOn defaults image new → new ≡ record old { store = new.store } → at_work new ≡ None → left defaults image new.store ≤ most_steps
+      → Judges defaults image bytes Done old new
+  judged_settled image bytes command old new n c u s r o w m =
+      let nothing : changes defaults (keymap defaults image) command ≡ false = changes-nothing defaults (keymap defaults image) command s in
+      judged_with image bytes command Done old new n c (no (λ v. v u) (yes s refl)) (rw nothing refl) r
+      (commands command c refl n o (rw nothing w) m (λ x. nothing_needed (at_work new) (Needs defaults image (left defaults image new.store)) w x) (λ x. none_works (at_work new) command (rest_of defaults image new.store ≡ operations_of defaults image command) w x))
+
+  pub judged_working : (image bytes : List ℕ) (command : Command) (old new : KeyboardValue) → at_work old ≡ None → command_in bytes ≡ Ok command
+      → IsUsable image → ChangesSome defaults (keymap defaults image) command → HasPlace image → RunsOn defaults image new → new ≡ record old { store = new.store } → at_work new ≡ Some command → left defaults image new.store ≤ most_steps
+      → Needs defaults image (left defaults image new.store) → rest_of defaults image new.store ≡ operations_of defaults image command → Judges defaults image bytes Working old new
+  judged_working image bytes command old new n c u s p r o w m k i =
+      let something : changes defaults (keymap defaults image) command ≡ true = changes-some defaults (keymap defaults image) command s in
+      judged_with image bytes command Working old new n c (no (λ v. v u) (no (some_and_nothing (keymap defaults image) command s) (no (not_worn image p) refl))) (rw something refl) r
+      (commands command c refl n o (rw something w) m (λ x. k) (λ x. i))
+
+  pub judged_unsound : (image bytes : List ℕ) (command : Command) (old new : KeyboardValue) → at_work old ≡ None → command_in bytes ≡ Ok command
+      → (IsUsable image → ⊥) → RunsOn defaults image new → new ≡ old → Judges defaults image bytes (Refused Unsound) old new
+  judged_unsound image bytes command old new n c u r o = judged_with image bytes command (Refused Unsound) old new n c (yes u refl) refl r (refused (λ e. cc) o)
+
+  pub judged_worn : (image bytes : List ℕ) (command : Command) (old new : KeyboardValue) → at_work old ≡ None → command_in bytes ≡ Ok command
+      → IsUsable image → ChangesSome defaults (keymap defaults image) command → IsWorn image → RunsOn defaults image new → new ≡ old → Judges defaults image bytes (Refused Worn) old new
+  judged_worn image bytes command old new n c u s w r o =
+      judged_with image bytes command (Refused Worn) old new n c (no (λ v. v u) (no (some_and_nothing (keymap defaults image) command s) (yes w refl))) refl r (refused (λ e. cc) o)
+
+  -- what the store makes of a command
+  pub record Submitted (image : List ℕ) (command : Command) (taken : Result Taken SubmitRefusal) (old new : KeyboardValue) : Type 0 where
+    pub submits : Submits defaults image old.store.job command taken
+    pub runs_on : RunsOn defaults image new
+    pub only : new ≡ record old { store = new.store }
+    pub taken_is : taken ≡ Ok Takens.Working → at_work new ≡ Some command
+    pub unchanged : (taken ≡ Ok Takens.Working → ⊥) → new.store ≡ old.store
+    pub needs : taken ≡ Ok Takens.Working → Needs defaults image (left defaults image new.store)
+    pub few : left defaults image new.store ≤ most_steps
+    pub operations : taken ≡ Ok Takens.Working → rest_of defaults image new.store ≡ operations_of defaults image command
+
+  pub judged_submitted : (image bytes : List ℕ) (command : Command) (taken : Result Taken SubmitRefusal) (old new : KeyboardValue) → at_work old ≡ None → command_in bytes ≡ Ok command
+      → Submitted image command taken old new → Judges defaults image bytes (verdict_of taken) old new
+  judged_submitted image bytes command (Ok Takens.Settled) old new n c s =
+      judged_settled image bytes command old new n c s.submits.0.usable s.submits.1 s.runs_on s.only (ap (λ (x : StoreValue). working_in x.job) (s.unchanged (λ e. cc)) ∙ n) s.few
+  judged_submitted image bytes command (Ok Takens.Working) old new n c s =
+      judged_working image bytes command old new n c s.submits.0.usable s.submits.1 s.submits.2 s.runs_on s.only (s.taken_is refl) s.few (s.needs refl) (s.operations refl)
+  judged_submitted image bytes command (Err Refusals.Busy) old new n c s = absurd (not_busy (at_work old) n s.submits)
+  judged_submitted image bytes command (Err Refusals.Unsound) old new n c s =
+      judged_unsound image bytes command old new n c s.submits.1 s.runs_on (kept_by old new s.only (s.unchanged (λ e. cc)))
+  judged_submitted image bytes command (Err Refusals.Worn) old new n c s =
+      judged_worn image bytes command old new n c s.submits.0.usable s.submits.1 s.submits.2 s.runs_on (kept_by old new s.only (s.unchanged (λ e. cc)))
+
+  -- the verdict leaves the endpoint to be told of it
+  pub same_ep : (image bytes : List ℕ) (verdict : Verdict) (old new : KeyboardValue) → VerdictLeaves defaults image bytes verdict old new → new.ep ≡ old.ep
+  same_ep image bytes verdict old new (refused n o) = ap (λ (k : KeyboardValue). k.ep) o
+  same_ep image bytes verdict old new (selects z a o) = ap (λ (k : KeyboardValue). k.ep) o
+  same_ep image bytes verdict old new (commands command c a n o w m k i) = ap (λ (k : KeyboardValue). k.ep) o
+
+  -- what an offer and its verdict come to
+  pub record OfferJudged (start : List ℕ) (past : List Call) (packet bytes : List ℕ) (verdict : Verdict) (old mid new : KeyboardValue) (ep : Stage) : Type 0 where
+    pub stands : StandsFor defaults start past old
+    pub step : Offer bytes ≡ out_step (stage_after defaults start past) packet
+    pub between : mid ≡ record old { ep = mid.ep }
+    pub judges : Judges defaults (image_after start past) bytes verdict mid new
+    pub ep_is : control_ep.StandsFor (Judged verdict (judged_answer verdict) ∷ EpOut packet (Offer bytes) ∷ ep_calls defaults start past) ep
+
+  works_mid : (start : List ℕ) (past : List Call) (packet bytes : List ℕ) (verdict : Verdict) (old mid new : KeyboardValue) (ep : Stage) → OfferJudged start past packet bytes verdict old mid new ep → at_work mid ≡ working defaults start past
+  works_mid start past packet bytes verdict old mid new ep j = ap (λ (k : KeyboardValue). at_work k) j.between ∙ j.stands.now.works
+
+  judged_is : (start : List ℕ) (past : List Call) (packet bytes : List ℕ) (verdict : Verdict) (old mid new : KeyboardValue) (ep : Stage) → OfferJudged start past packet bytes verdict old mid new ep
+      → IsAnswered defaults start past (Out packet (judged_answer verdict))
+  judged_is start past packet bytes verdict old mid new ep j =
+      subst (λ (x : OutStep). OutAnswer defaults x (image_after start past) (is_some (working defaults start past)) (judged_answer verdict)) j.step
+      (subst (λ (w : Option Command). FeatureAnswer defaults (image_after start past) (is_some w) bytes (judged_answer verdict)) (works_mid start past packet bytes verdict old mid new ep j) j.judges.answer_is)
+
+  ep_after : (start : List ℕ) (past : List Call) (packet bytes : List ℕ) (verdict : Verdict) (old mid new : KeyboardValue) (ep : Stage) → OfferJudged start past packet bytes verdict old mid new ep
+      → control_ep.StandsFor (ep_calls defaults start (Out packet (judged_answer verdict) ∷ past)) ep
+  ep_after start past packet bytes verdict old mid new ep j =
+      subst (λ (calls : List EpCall). control_ep.StandsFor calls ep) (sym (ep_calls-out defaults start past packet (judged_answer verdict) (Offer bytes) j.step))
+      (subst (λ (v : Verdict). control_ep.StandsFor (Judged v (judged_answer verdict) ∷ EpOut packet (Offer bytes) ∷ ep_calls defaults start past) ep) j.judges.told j.ep_is)
+
+  offer_of : (start : List ℕ) (past : List Call) (packet bytes : List ℕ) (verdict : Verdict) (old mid new : KeyboardValue) (ep : Stage) → OfferJudged start past packet bytes verdict old mid new ep → Offered past packet bytes
+  offer_of start past packet bytes verdict old mid new ep j = offered past packet bytes (stage_after defaults start past) (serves defaults start past) j.step
+
+  -- a report that is not acknowledged
+  offer_refused : (start : List ℕ) (past : List Call) (packet bytes : List ℕ) (verdict : Verdict) (old mid new : KeyboardValue) (ep : Stage) → OfferJudged start past packet bytes verdict old mid new ep
+      → (judged_answer verdict ≡ Ack → ⊥) → new ≡ mid → StandsFor defaults start (Out packet (judged_answer verdict) ∷ past) (record new { ep = ep })
+  offer_refused start past packet bytes verdict old mid new ep j n o =
+      stands_untaken defaults start past packet (judged_answer verdict) ep old (record new { ep = ep }) j.stands
+      (takes_nothing past packet (judged_answer verdict) (unacked past packet (judged_answer verdict) n))
+      (ap (λ (k : KeyboardValue). record k { ep = ep }) (o ∙ j.between))
+      (ep_after start past packet bytes verdict old mid new ep j)
+      (judged_is start past packet bytes verdict old mid new ep j)
+
+  -- an entry that is selected
+  offer_selects : (start : List ℕ) (past : List Call) (packet bytes : List ℕ) (verdict : Verdict) (old mid new : KeyboardValue) (ep : Stage) → OfferJudged start past packet bytes verdict old mid new ep
+      → slice_index bytes 0 ≡ 0 → judged_answer verdict ≡ Ack → new ≡ record mid { layer = slice_index bytes 1; key = slice_index bytes 2 }
+      → StandsFor defaults start (Out packet Ack ∷ past) (record new { ep = ep })
+  offer_selects start past packet bytes verdict old mid new ep j z a o =
+      let of : Offered past packet bytes = offer_of start past packet bytes verdict old mid new ep j in
+      let is : record new { ep = ep } ≡ record old { ep = ep; layer = slice_index bytes 1; key = slice_index bytes 2 } =
+      ap (λ (k : KeyboardValue). record k { ep = ep }) o ∙ ap (λ (k : KeyboardValue). record k { ep = ep; layer = slice_index bytes 1; key = slice_index bytes 2 }) j.between in
+      let sent : report_taken past (Out packet Ack) ≡ Some (record { report = FeatureData; bytes = packet }) = feature_taken past packet of.names in
+      let zero_at : slice_index packet 1 ≡ 0 = sym (number_at packet bytes 0 of.bytes_are) ∙ z in
+      let none : command_in_report (report_taken past (Out packet Ack)) ≡ None = command_when packet (report_taken past (Out packet Ack)) None sent (subst (λ (bs : List ℕ). result_ok (command_in bs) ≡ None) of.bytes_are (none_read bytes z)) in
+      let selects_it : selected (Out packet Ack ∷ past) ≡ record { layer = slice_index packet 2; key = slice_index packet 3 } =
+      selected-out past packet Ack (Some (record { layer = slice_index packet 2; key = slice_index packet 3 })) (entry_when packet (report_taken past (Out packet Ack)) sent zero_at) in
+      subst (λ (k : KeyboardValue). StandsFor defaults start (Out packet Ack ∷ past) k) (sym is)
+      (stands_with defaults start past (Out packet Ack) old (record old { ep = ep; layer = slice_index bytes 1; key = slice_index bytes 2 }) j.stands (out_leaves defaults start past packet Ack none) refl
+      (record {
+        ep = subst (λ (x : EpAnswer). control_ep.StandsFor (ep_calls defaults start (Out packet x ∷ past)) ep) a (ep_after start past packet bytes verdict old mid new ep j);
+        keys = rw (keys-out defaults start past packet Ack) j.stands.now.keys;
+        protocol = j.stands.now.protocol ∙ sym (protocol-out past packet Ack);
+        leds = j.stands.now.leds ∙ sym (leds-out past packet Ack None (no_leds_when packet (report_taken past (Out packet Ack)) sent));
+        layer = number_at packet bytes 1 of.bytes_are ∙ ap (λ (x : Entry). x.layer) (sym selects_it);
+        key = number_at packet bytes 2 of.bytes_are ∙ ap (λ (x : Entry). x.key) (sym selects_it);
+      })
+      (subst (λ (x : EpAnswer). IsAnswered defaults start past (Out packet x)) a (judged_is start past packet bytes verdict old mid new ep j)))
+
+  -- a command
+  offer_commands : (start : List ℕ) (past : List Call) (packet bytes : List ℕ) (verdict : Verdict) (command : Command) (old mid new : KeyboardValue) (ep : Stage) → OfferJudged start past packet bytes verdict old mid new ep
+      → command_in bytes ≡ Ok command → judged_answer verdict ≡ Ack → at_work mid ≡ None → new ≡ record mid { store = new.store }
+      → at_work new ≡ (if changes defaults (keymap defaults (image_after start past)) command then Some command else None) → left defaults (image_after start past) new.store ≤ most_steps
+      → (IsSome (at_work new) → Needs defaults (image_after start past) (left defaults (image_after start past) new.store)) → (at_work new ≡ Some command → rest_of defaults (image_after start past) new.store ≡ operations_of defaults (image_after start past) command)
+      → StandsFor defaults start (Out packet Ack ∷ past) (record new { ep = ep })
+  offer_commands start past packet bytes verdict command old mid new ep j c a n o w m k i =
+      let call : Call = Out packet Ack in
+      let of : Offered past packet bytes = offer_of start past packet bytes verdict old mid new ep j in
+      let is : new ≡ record old { ep = mid.ep; store = new.store } = o ∙ ap (λ (k : KeyboardValue). record k { store = new.store }) j.between in
+      let sent : report_taken past call ≡ Some (record { report = FeatureData; bytes = packet }) = feature_taken past packet of.names in
+      let some : slice_index packet 1 ≡ 0 → ⊥ = λ z. no_command bytes command c (number_at packet bytes 0 of.bytes_are ∙ z) in
+      let accepted : accepts past call ≡ Some command =
+      accepts-out past packet Ack (Some command) (command_when packet (report_taken past call) (Some command) sent (subst (λ (bs : List ℕ). result_ok (command_in bs) ≡ Some command) of.bytes_are (ap result_ok c))) in
+      let none : working defaults start past ≡ None = sym (works_mid start past packet bytes verdict old mid new ep j) ∙ n in
+      let keeps : selected (call ∷ past) ≡ selected past = selected-out past packet Ack None (no_entry_when packet (report_taken past call) sent some) in
+      let lawful : IsAnswered defaults start past call = subst (λ (x : EpAnswer). IsAnswered defaults start past (Out packet x)) a (judged_is start past packet bytes verdict old mid new ep j) in
+      record {
+        now = record {
+          ep = subst (λ (x : EpAnswer). control_ep.StandsFor (ep_calls defaults start (Out packet x ∷ past)) ep) a (ep_after start past packet bytes verdict old mid new ep j);
+          keys = rw (keys-out defaults start past packet Ack) (subst (λ (x : KeysValue). key_reports.StandsFor (key_calls defaults start past) x) (sym (ap (λ (x : KeyboardValue). x.keys) is)) j.stands.now.keys);
+          store = j.judges.runs_on;
+          works = w ∙ by_taken (after_takes defaults start past call command (orderly defaults start past j.stands.answered) (ends_none_out defaults packet Ack) accepted refl (free (working defaults start past) none));
+          protocol = ap (λ (x : KeyboardValue). x.protocol) is ∙ j.stands.now.protocol ∙ sym (protocol-out past packet Ack);
+          leds = ap (λ (x : KeyboardValue). x.leds) is ∙ j.stands.now.leds ∙ sym (leds-out past packet Ack None (no_leds_when packet (report_taken past call) sent));
+          layer = ap (λ (x : KeyboardValue). x.layer) is ∙ j.stands.now.layer ∙ ap (λ (x : Entry). x.layer) (sym keeps);
+          key = ap (λ (x : KeyboardValue). x.key) is ∙ j.stands.now.key ∙ ap (λ (x : Entry). x.key) (sym keeps);
+          few =
+              λ x. subst (λ (n : ℕ). left defaults (image_after start past) new.store + n ≤ most_steps) (sym (steps_since-none call past command accepted))
+              (let few : left defaults (image_after start past) new.store ≤ 387 = m in omega (arith, few));
+          needs =
+              λ x. subst (λ (image : List ℕ). Needs defaults image (left defaults (image_after start past) new.store + steps_since (call ∷ past))) (sym (accepted_image-now start call past command accepted))
+              (subst (λ (n : ℕ). Needs defaults (image_after start past) (left defaults (image_after start past) new.store + n)) (sym (steps_since-none call past command accepted))
+              (subst (λ (n : ℕ). Needs defaults (image_after start past) n) (plus_none (left defaults (image_after start past) new.store)) (k x)));
+          order =
+              λ other x. (let same : other ≡ command = only_command (changes defaults (keymap defaults (image_after start past)) command) (at_work new) command other w x in
+              rw (same, steps_since-none call past command accepted, accepted_image-now start call past command accepted) (sym (i (rw same at x))));
+        };
+        answered = (lawful, j.stands.answered);
+      }
+    where
+      by_taken : AfterTaken defaults start past (Out packet Ack) command
+          → (if changes defaults (keymap defaults (image_after start past)) command then Some command else None) ≡ working defaults start (Out packet Ack ∷ past)
+      by_taken (now_works b h) = rw b (sym (working_after defaults start past (Out packet Ack) (Some command) h))
+      by_taken (changed_nothing b h) = rw b (sym (working_after defaults start past (Out packet Ack) None h))
+
+  stands_by : (start : List ℕ) (past : List Call) (packet bytes : List ℕ) (verdict : Verdict) (old mid new : KeyboardValue) (ep : Stage) → OfferJudged start past packet bytes verdict old mid new ep
+      → VerdictLeaves defaults (image_after start past) bytes verdict mid new → StandsFor defaults start (Out packet (judged_answer verdict) ∷ past) (record new { ep = ep })
+  stands_by start past packet bytes verdict old mid new ep j (refused n o) = offer_refused start past packet bytes verdict old mid new ep j n o
+  stands_by start past packet bytes verdict old mid new ep j (selects z a o) =
+      subst (λ (x : EpAnswer). StandsFor defaults start (Out packet x ∷ past) (record new { ep = ep })) (sym a) (offer_selects start past packet bytes verdict old mid new ep j z a o)
+  stands_by start past packet bytes verdict old mid new ep j (commands command c a n o w m k i) =
+      subst (λ (x : EpAnswer). StandsFor defaults start (Out packet x ∷ past) (record new { ep = ep })) (sym a) (offer_commands start past packet bytes verdict command old mid new ep j c a n o w m k i)
+
+  -- a feature report that was offered
+  pub stands_offered : (start : List ℕ) (past : List Call) (packet bytes : List ℕ) (verdict : Verdict) (answer : EpAnswer) (old mid new : KeyboardValue) (ep : Stage) → OfferJudged start past packet bytes verdict old mid new ep
+      → answer ≡ judged_answer verdict → StandsFor defaults start (Out packet answer ∷ past) (record new { ep = ep })
+  stands_offered start past packet bytes verdict answer old mid new ep j a =
+      subst (λ (x : EpAnswer). StandsFor defaults start (Out packet x ∷ past) (record new { ep = ep })) (sym a) (stands_by start past packet bytes verdict old mid new ep j j.judges.leaves)
+
+  -- the endpoint of a keyboard after a verdict
+  pub told_ep : (image bytes : List ℕ) (verdict : Verdict) (old new : KeyboardValue) → VerdictLeaves defaults image bytes verdict old new → {ep : Stage} → ep ≡ new.ep → ep ≡ old.ep
+  told_ep image bytes verdict old new l e = e ∙ same_ep image bytes verdict old new l
+
+  pub offer_told : (start : List ℕ) (past : List Call) (packet bytes : List ℕ) (verdict : Verdict) (old mid new : KeyboardValue) (ep : Stage) → StandsFor defaults start past old
+      → Offer bytes ≡ out_step (stage_after defaults start past) packet → mid ≡ record old { ep = mid.ep } → Judges defaults (image_after start past) bytes verdict mid new
+      → {answer : EpAnswer} → answer ≡ judged_answer verdict
+      → control_ep.StandsFor (Judged verdict answer ∷ EpOut packet (Offer bytes) ∷ ep_calls defaults start past) ep → OfferJudged start past packet bytes verdict old mid new ep
+  offer_told start past packet bytes verdict old mid new ep s o m j a e = record {
+    stands = s;
+    step = o;
+    between = m;
+    judges = j;
+    ep_is = subst (λ (x : EpAnswer). control_ep.StandsFor (Judged verdict x ∷ EpOut packet (Offer bytes) ∷ ep_calls defaults start past) ep) a e;
+  }

@@ -1,6 +1,7 @@
 -- Restarts are legal, between two calls and inside an operation.
 use Rattle.std.proofs.Common.{◌≡◌, ℕ, Option, Some, List, [], ◌∷◌, ◌++◌, refl, ap, sym, ◌∙◌, subst}
 use Rattle.std.proofs.lemmas.List.{append-nil}
+use Rattle.layers.specs.Codes.{DefaultCodes}
 use Rattle.layers.specs.Entries.{changed}
 use Rattle.layers.specs.declared.command.Command.{Command}
 use Rattle.keymap_store.specs.Keymap.{SameEntries}
@@ -52,63 +53,64 @@ all_but_last-settled (one ∷ []) [] h k = tt
 all_but_last-settled (one ∷ []) (next ∷ later) h k = (h.0, k)
 all_but_last-settled (one ∷ next ∷ later) last h k = (h.0, all_but_last-settled (next ∷ later) last h.1 k)
 
-legal : (first next : ℕ → ℕ → ℕ) (all : List Accepted) (w : Option Command) → Shape all w → SameEntries next (changed first (settled_of all)) → LegalRestart first all next
-legal first next all w (at_rest ended) k = record {
-  kept = standing_of all;
-  lost = [];
-  prefix = append-nil (standing_of all);
-  holds_settled = refl;
-  at_most_last = subst (λ (xs : List Accepted). AllButLastSettled xs) (append-nil (standing_of all)) (all_but_last-settled (standing_of all) [] (standing-ended all ended) tt);
-  changed_by = subst (λ (cs : List Command). SameEntries next (changed first cs)) (sym (commands_of-standing all ended)) k;
-}
-legal first next all w (at_work front command e ended) k =
-    let one : Accepted = record { command = command; fate = works } in
-    let standing : standing_of all ≡ standing_of front ++ one ∷ [] = rw e (standing_of-append front (one ∷ [])) in
-    let settled_are : settled_of all ≡ settled_of front = rw e (settled_of-append front (one ∷ []) ∙ append-nil (settled_of front)) in
-    record {
-      kept = standing_of front;
-      lost = one ∷ [];
-      prefix = sym standing;
-      holds_settled = refl;
-      at_most_last = subst (λ (xs : List Accepted). AllButLastSettled xs) (sym standing) (all_but_last-settled (standing_of front) (one ∷ []) (standing-ended front ended) tt);
-      changed_by = subst (λ (cs : List Command). SameEntries next (changed first cs)) (settled_are ∙ sym (commands_of-standing front ended)) k;
-    }
-
 commands_of-append : (xs ys : List Accepted) → commands_of (xs ++ ys) ≡ commands_of xs ++ commands_of ys
 commands_of-append [] ys = refl
 commands_of-append (one ∷ xs) ys = ap (λ (cs : List Command). one.command ∷ cs) (commands_of-append xs ys)
 
--- the power was cut inside the operation that made the record of the working command whole
-pub legal_with : (start : List ℕ) (past : List Call) (command : Command) (image : List ℕ) → AtWork start past command
-    → SameEntries (keymap image) (changed (keymap (image_after start past)) (command ∷ [])) → RestartsLegally start past image
-legal_with start past command image w e =
-    let one : Accepted = record { command = command; fate = works } in
-    let standing : standing_of (accepted start past) ≡ standing_of w.front ++ one ∷ [] = ap standing_of w.were ∙ standing_of-append w.front (one ∷ []) in
-    let commands : commands_of (standing_of w.front ++ one ∷ []) ≡ settled_of w.front ++ command ∷ [] =
-    commands_of-append (standing_of w.front) (one ∷ []) ∙ ap (λ (cs : List Command). cs ++ command ∷ []) (commands_of-standing w.front w.ended) in
-    record {
-      kept = standing_of w.front ++ one ∷ [];
-      lost = [];
-      prefix = append-nil (standing_of w.front ++ one ∷ []) ∙ sym standing;
-      holds_settled = refl;
-      at_most_last = subst (λ (xs : List Accepted). AllButLastSettled xs) (sym standing) (all_but_last-settled (standing_of w.front) (one ∷ []) (standing-ended w.front w.ended) tt);
-      changed_by = subst (λ (cs : List Command). SameEntries (keymap image) (changed (keymap start) cs)) (sym commands) (changed_by_working start past command image w e);
-    }
+module _ (defaults : DefaultCodes) where
+  legal : (first next : ℕ → ℕ → ℕ) (all : List Accepted) (w : Option Command) → Shape all w → SameEntries next (changed defaults first (settled_of all)) → LegalRestart defaults first all next
+  legal first next all w (at_rest ended) k = record {
+    kept = standing_of all;
+    lost = [];
+    prefix = append-nil (standing_of all);
+    holds_settled = refl;
+    at_most_last = subst (λ (xs : List Accepted). AllButLastSettled xs) (append-nil (standing_of all)) (all_but_last-settled (standing_of all) [] (standing-ended all ended) tt);
+    changed_by = subst (λ (cs : List Command). SameEntries next (changed defaults first cs)) (sym (commands_of-standing all ended)) k;
+  }
+  legal first next all w (at_work front command e ended) k =
+      let one : Accepted = record { command = command; fate = works } in
+      let standing : standing_of all ≡ standing_of front ++ one ∷ [] = rw e (standing_of-append front (one ∷ [])) in
+      let settled_are : settled_of all ≡ settled_of front = rw e (settled_of-append front (one ∷ []) ∙ append-nil (settled_of front)) in
+      record {
+        kept = standing_of front;
+        lost = one ∷ [];
+        prefix = sym standing;
+        holds_settled = refl;
+        at_most_last = subst (λ (xs : List Accepted). AllButLastSettled xs) (sym standing) (all_but_last-settled (standing_of front) (one ∷ []) (standing-ended front ended) tt);
+        changed_by = subst (λ (cs : List Command). SameEntries next (changed defaults first cs)) (settled_are ∙ sym (commands_of-standing front ended)) k;
+      }
 
--- an image with the keymap of the flash
-pub legal_same : (start : List ℕ) (past : List Call) (image : List ℕ) → Orderly start past → SameEntries (keymap image) (keymap (image_after start past))
-    → RestartsLegally start past image
-legal_same start past image o e =
-    legal (keymap start) (keymap image) (accepted start past) (working start past) o.shape (λ layer key l k. e layer key l k ∙ o.kept layer key l k)
+  -- the power was cut inside the operation that made the record of the working command whole
+  pub legal_with : (start : List ℕ) (past : List Call) (command : Command) (image : List ℕ) → AtWork defaults start past command
+      → SameEntries (keymap defaults image) (changed defaults (keymap defaults (image_after start past)) (command ∷ [])) → RestartsLegally defaults start past image
+  legal_with start past command image w e =
+      let one : Accepted = record { command = command; fate = works } in
+      let standing : standing_of (accepted defaults start past) ≡ standing_of w.front ++ one ∷ [] = ap standing_of w.were ∙ standing_of-append w.front (one ∷ []) in
+      let commands : commands_of (standing_of w.front ++ one ∷ []) ≡ settled_of w.front ++ command ∷ [] =
+      commands_of-append (standing_of w.front) (one ∷ []) ∙ ap (λ (cs : List Command). cs ++ command ∷ []) (commands_of-standing w.front w.ended) in
+      record {
+        kept = standing_of w.front ++ one ∷ [];
+        lost = [];
+        prefix = append-nil (standing_of w.front ++ one ∷ []) ∙ sym standing;
+        holds_settled = refl;
+        at_most_last = subst (λ (xs : List Accepted). AllButLastSettled xs) (sym standing) (all_but_last-settled (standing_of w.front) (one ∷ []) (standing-ended w.front w.ended) tt);
+        changed_by = subst (λ (cs : List Command). SameEntries (keymap defaults image) (changed defaults (keymap defaults start) cs)) (sym commands) (changed_by_working defaults start past command image w e);
+      }
 
-pub restarts_legally : (start : List ℕ) (past : List Call) → EachCall IsAnswered start past → RestartsLegally start past (image_after start past)
-restarts_legally start past h = legal_same start past (image_after start past) (orderly start past h) (λ layer key l k. refl)
+  -- an image with the keymap of the flash
+  pub legal_same : (start : List ℕ) (past : List Call) (image : List ℕ) → Orderly defaults start past → SameEntries (keymap defaults image) (keymap defaults (image_after start past))
+      → RestartsLegally defaults start past image
+  legal_same start past image o e =
+      legal (keymap defaults start) (keymap defaults image) (accepted defaults start past) (working defaults start past) o.shape (λ layer key l k. e layer key l k ∙ o.kept layer key l k)
 
--- so with the working command, or without it
-pub restarts_with : (start : List ℕ) (past : List Call) (command : Command) (image : List ℕ) → EachCall IsAnswered start past → working start past ≡ Some command
-    → SameEntries (keymap image) (changed (keymap (image_after start past)) (command ∷ [])) → RestartsLegally start past image
-restarts_with start past command image h w e = legal_with start past command image (while_working start past command (orderly start past h) w) e
+  pub restarts_legally : (start : List ℕ) (past : List Call) → EachCall (IsAnswered defaults) start past → RestartsLegally defaults start past (image_after start past)
+  restarts_legally start past h = legal_same start past (image_after start past) (orderly defaults start past h) (λ layer key l k. refl)
 
-pub restarts_without : (start : List ℕ) (past : List Call) (image : List ℕ) → EachCall IsAnswered start past
-    → SameEntries (keymap image) (keymap (image_after start past)) → RestartsLegally start past image
-restarts_without start past image h e = legal_same start past image (orderly start past h) e
+  -- so with the working command, or without it
+  pub restarts_with : (start : List ℕ) (past : List Call) (command : Command) (image : List ℕ) → EachCall (IsAnswered defaults) start past → working defaults start past ≡ Some command
+      → SameEntries (keymap defaults image) (changed defaults (keymap defaults (image_after start past)) (command ∷ [])) → RestartsLegally defaults start past image
+  restarts_with start past command image h w e = legal_with start past command image (while_working defaults start past command (orderly defaults start past h) w) e
+
+  pub restarts_without : (start : List ℕ) (past : List Call) (image : List ℕ) → EachCall (IsAnswered defaults) start past
+      → SameEntries (keymap defaults image) (keymap defaults (image_after start past)) → RestartsLegally defaults start past image
+  restarts_without start past image h e = legal_same start past image (orderly defaults start past h) e

@@ -12,6 +12,7 @@ use Rattle.control_ep.specs.Calls.{EpCall}
 use Rattle.control_ep.specs.Requests.{request_of, transfer_of}
 use Rattle.control_ep.specs.Stage.{LastSetup, NoSetup, outcome_of, calls_since, last_setup, first_stall, Progress, progress_of, CommandState, NoCommand, Works, Settled, Failed, until_confirmed, after_command, stage_in, stage_with as stage_by, unless_stalled, stage}
 use Rattle.control_ep.specs.Answers.{out_step}
+use Rattle.layers.specs.Codes.{DefaultCodes}
 use Rattle.keymap_store.specs.declared.store.Work.TheVariants as Work
 use Rattle.keyboard.specs.Calls.{Call, Scanned, SetUp, Out, In, Polled, Worked, BusReset, setup_of, image_after, keymap}
 use Rattle.keyboard.specs.Effects.{report_named, effect_asked}
@@ -22,28 +23,6 @@ use Rattle.keyboard.proofs.Requests.{report_in, effect_in, begins_named}
 data Opened : Option (List ℕ) → LastSetup → Type 0 where
   nothing : Opened None NoSetup
   opened : (setup : List ℕ) (view : DeviceView) → Opened (Some setup) (outcome_of (transfer_of (request_of setup) view) (request_of setup).length)
-
-last_setup-out : (step : OutStep) (packet : List ℕ) (entries : ℕ → ℕ → ℕ) (answer : EpAnswer) (calls : List EpCall) → last_setup (with_out step packet entries answer calls) ≡ last_setup calls
-last_setup-out (Answered a) packet entries answer calls = refl
-last_setup-out (Leds leds) packet entries answer calls = refl
-last_setup-out (Offer bytes) packet entries answer calls = refl
-
-is_opened : (start : List ℕ) (past : List Call) → Opened (setup_of past) (last_setup (ep_calls start past))
-unfolding ep_calls
-is_opened start [] = nothing
-is_opened start (Scanned scan ∷ before) = is_opened start before
-is_opened start (SetUp bytes ∷ before) = opened bytes (view_after start before)
-is_opened start (Out packet answer ∷ before) =
-    subst (λ (o : LastSetup). Opened (setup_of before) o)
-    (sym (last_setup-out (out_step (stage (ep_calls start before)) packet) packet (keymap (image_after start before)) answer (ep_calls start before)))
-    (is_opened start before)
-is_opened start (In answer ∷ before) = is_opened start before
-is_opened start (Polled answer ∷ before) = is_opened start before
-is_opened start (Worked Work.Idle image ∷ before) = is_opened start before
-is_opened start (Worked Work.Working image ∷ before) = is_opened start before
-is_opened start (Worked Work.Settled image ∷ before) = is_opened start before
-is_opened start (Worked Work.Failed image ∷ before) = is_opened start before
-is_opened start (BusReset ∷ before) = nothing
 
 -- what the stage says of the SETUP packet
 abbrev pub Serves : Option (List ℕ) → Stage → Type 0
@@ -92,8 +71,31 @@ serves_unless : (setup : Option (List ℕ)) (why : Option Why) (now : Stage) →
 serves_unless setup (Some why) now h = tt
 serves_unless setup None now h = h
 
-pub serves : (start : List ℕ) (past : List Call) → Serves (setup_of past) (stage_after start past)
-unfolding stage
-serves start past =
-    serves_unless (setup_of past) (first_stall (calls_since (ep_calls start past))) (stage_by (last_setup (ep_calls start past)) (progress_of (calls_since (ep_calls start past))))
-    (serves_by (setup_of past) (last_setup (ep_calls start past)) (progress_of (calls_since (ep_calls start past))) (is_opened start past))
+module _ (defaults : DefaultCodes) where
+  last_setup-out : (step : OutStep) (packet : List ℕ) (entries : ℕ → ℕ → ℕ) (answer : EpAnswer) (calls : List EpCall) → last_setup (with_out defaults step packet entries answer calls) ≡ last_setup calls
+  last_setup-out (Answered a) packet entries answer calls = refl
+  last_setup-out (Leds leds) packet entries answer calls = refl
+  last_setup-out (Offer bytes) packet entries answer calls = refl
+
+  is_opened : (start : List ℕ) (past : List Call) → Opened (setup_of past) (last_setup (ep_calls defaults start past))
+  unfolding ep_calls
+  is_opened start [] = nothing
+  is_opened start (Scanned scan ∷ before) = is_opened start before
+  is_opened start (SetUp bytes ∷ before) = opened bytes (view_after defaults start before)
+  is_opened start (Out packet answer ∷ before) =
+      subst (λ (o : LastSetup). Opened (setup_of before) o)
+      (sym (last_setup-out (out_step (stage (ep_calls defaults start before)) packet) packet (keymap defaults (image_after start before)) answer (ep_calls defaults start before)))
+      (is_opened start before)
+  is_opened start (In answer ∷ before) = is_opened start before
+  is_opened start (Polled answer ∷ before) = is_opened start before
+  is_opened start (Worked Work.Idle image ∷ before) = is_opened start before
+  is_opened start (Worked Work.Working image ∷ before) = is_opened start before
+  is_opened start (Worked Work.Settled image ∷ before) = is_opened start before
+  is_opened start (Worked Work.Failed image ∷ before) = is_opened start before
+  is_opened start (BusReset ∷ before) = nothing
+
+  pub serves : (start : List ℕ) (past : List Call) → Serves (setup_of past) (stage_after defaults start past)
+  unfolding stage
+  serves start past =
+      serves_unless (setup_of past) (first_stall (calls_since (ep_calls defaults start past))) (stage_by (last_setup (ep_calls defaults start past)) (progress_of (calls_since (ep_calls defaults start past))))
+      (serves_by (setup_of past) (last_setup (ep_calls defaults start past)) (progress_of (calls_since (ep_calls defaults start past))) (is_opened start past))

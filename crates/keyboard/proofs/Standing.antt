@@ -1,6 +1,7 @@
 -- A keyboard stands for one call more.
 use Rattle.std.proofs.Common.{◌≡◌, ℕ, ◌%◌, ◌^◌, is_some, not, nat_lt, length, slice_index, drop, if◌then◌else◌, unwrap_or, Bool, true, false, Option, Some, None, Result, Ok, Err, List, [], ◌∷◌, refl, ap, sym, ◌∙◌, subst}
 use Rattle.std.specs.Option.{option_map}
+use Rattle.layers.specs.Codes.{DefaultCodes}
 use Rattle.layers.specs.declared.command.Command.{Command}
 use Rattle.debounce.specs.declared.Scan.{Scan}
 use Rattle.reports.specs.declared.Protocol.{Protocol}
@@ -43,113 +44,6 @@ use Rattle.keyboard.proofs.Bounding.{steps_since-same, accepted_image-same}
 use Rattle.keyboard.proofs.Served.{Serves, serves}
 use Rattle.keyboard.proofs.Effects.{ends_none_out}
 
--- a call that neither accepts nor ends a command, and leaves the flash
-pub record Leaves_commands (start : List ℕ) (past : List Call) (call : Call) : Type 0 where
-  pub ends_none : EndsNone call
-  pub accepts_none : accepts past call ≡ None
-  pub same_image : image_after start (call ∷ past) ≡ image_after start past
-  pub no_work : (count : ℕ) → counted call count ≡ count
-
-working-same : (start : List ℕ) (past : List Call) (call : Call) → Leaves_commands start past call → working start (call ∷ past) ≡ working start past
-unfolding working
-working-same start past call l = ap working_of (accepted-same start call past l.ends_none l.accepts_none)
-
--- what a call leaves beside the commands
-pub record PartsAfter (start : List ℕ) (past : List Call) (new : KeyboardValue) : Type 0 where
-  pub ep : control_ep.StandsFor (ep_calls start past) new.ep
-  pub keys : key_reports.StandsFor (key_calls start past) new.keys
-  pub protocol : new.protocol ≡ protocol_after past
-  pub leds : new.leds ≡ leds_after past
-  pub layer : new.layer ≡ (selected past).layer
-  pub key : new.key ≡ (selected past).key
-
-pub stands_with : (start : List ℕ) (past : List Call) (call : Call) (old new : KeyboardValue) → StandsFor start past old → Leaves_commands start past call → new.store ≡ old.store
-    → PartsAfter start (call ∷ past) new → IsAnswered start past call → StandsFor start (call ∷ past) new
-stands_with start past call old new h l s p a =
-    let count : steps_since (call ∷ past) ≡ steps_since past = steps_since-same call past l.no_work l.accepts_none in
-    let accepted_at : accepted_image start (call ∷ past) ≡ accepted_image start past = accepted_image-same start call past l.accepts_none in
-    record {
-      now = record {
-        ep = p.ep;
-        keys = p.keys;
-        store = rw (l.same_image, s) h.now.store;
-        works = ap (λ (x : StoreValue). working_in x.job) s ∙ h.now.works ∙ sym (working-same start past call l);
-        protocol = p.protocol;
-        leds = p.leds;
-        layer = p.layer;
-        key = p.key;
-        few = λ w. rw (l.same_image, s, count) (h.now.few (rw s at w));
-        needs = λ w. rw (accepted_at, l.same_image, s, count) (h.now.needs (rw s at w));
-        order = λ command w. rw (accepted_at, l.same_image, s, count) (h.now.order command (rw s at w));
-      };
-      answered = (a, h.answered);
-    }
-
--- a scan
-pub stands_scan : (start : List ℕ) (past : List Call) (scan : Scan) (keys : KeysValue) (old : KeyboardValue) → StandsFor start past old
-    → key_reports.StandsFor (KeysScanned scan (table (keymap (image_after start past))) old.protocol ∷ key_calls start past) keys
-    → StandsFor start (Scanned scan ∷ past) (record old { keys = keys })
-unfolding ep_calls key_calls leds_after selected protocol_after accepts
-stands_scan start past scan keys old h k =
-    stands_with start past (Scanned scan) old (record old { keys = keys }) h
-    (record { ends_none = record { keeps = λ f. refl }; accepts_none = refl; same_image = refl; no_work = λ count. refl }) refl
-    (record {
-      ep = h.now.ep;
-      keys = subst (λ (p : Protocol). key_reports.StandsFor (KeysScanned scan (table (keymap (image_after start past))) p ∷ key_calls start past) keys) h.now.protocol k;
-      protocol = h.now.protocol;
-      leds = h.now.leds;
-      layer = h.now.layer;
-      key = h.now.key;
-    })
-    tt
-
--- a poll
-pub stands_polled : (start : List ℕ) (past : List Call) (answer : Option (List ℕ)) (keys : KeysValue) (old : KeyboardValue) → StandsFor start past old
-    → answer ≡ answer_after old.protocol (key_calls start past) → key_reports.StandsFor (Asked (polled old.protocol answer) ∷ key_calls start past) keys
-    → StandsFor start (Polled answer ∷ past) (record old { keys = keys })
-unfolding ep_calls key_calls leds_after selected protocol_after accepts
-stands_polled start past answer keys old h a k =
-    stands_with start past (Polled answer) old (record old { keys = keys }) h
-    (record { ends_none = record { keeps = λ f. refl }; accepts_none = refl; same_image = refl; no_work = λ count. refl }) refl
-    (record {
-      ep = h.now.ep;
-      keys = subst (λ (p : Protocol). key_reports.StandsFor (Asked (polled p answer) ∷ key_calls start past) keys) h.now.protocol k;
-      protocol = h.now.protocol;
-      leds = h.now.leds;
-      layer = h.now.layer;
-      key = h.now.key;
-    })
-    (a ∙ ap (λ (p : Protocol). answer_after p (key_calls start past)) h.now.protocol)
-
--- a SETUP packet
-pub stands_setup : (start : List ℕ) (past : List Call) (packet : List ℕ) (view : DeviceView) (ep : Stage) (old : KeyboardValue) → StandsFor start past old
-    → view ≡ view_after start past → control_ep.StandsFor (Setup packet view ∷ ep_calls start past) ep
-    → StandsFor start (SetUp packet ∷ past) (record old { ep = ep })
-unfolding ep_calls key_calls leds_after selected protocol_after accepts
-stands_setup start past packet view ep old h v e =
-    stands_with start past (SetUp packet) old (record old { ep = ep }) h
-    (record { ends_none = record { keeps = λ f. refl }; accepts_none = refl; same_image = refl; no_work = λ count. refl }) refl
-    (record {
-      ep = subst (λ (x : DeviceView). control_ep.StandsFor (Setup packet x ∷ ep_calls start past) ep) v e;
-      keys = h.now.keys;
-      protocol = h.now.protocol;
-      leds = h.now.leds;
-      layer = h.now.layer;
-      key = h.now.key;
-    })
-    tt
-
--- a bus reset
-pub stands_reset : (start : List ℕ) (past : List Call) (ep : Stage) (keys : KeysValue) (old : KeyboardValue) → StandsFor start past old
-    → control_ep.StandsFor (Reset ∷ ep_calls start past) ep → key_reports.StandsFor (Asked was_reset ∷ key_calls start past) keys
-    → StandsFor start (BusReset ∷ past) (record old { ep = ep; keys = keys; protocol = Report; leds = 0 })
-unfolding ep_calls key_calls leds_after selected protocol_after accepts
-stands_reset start past ep keys old h e k =
-    stands_with start past BusReset old (record old { ep = ep; keys = keys; protocol = Report; leds = 0 }) h
-    (record { ends_none = record { keeps = λ f. refl }; accepts_none = refl; same_image = refl; no_work = λ count. refl }) refl
-    (record { ep = e; keys = k; protocol = refl; leds = refl; layer = h.now.layer; key = h.now.key })
-    tt
-
 -- the empty packet brings about what its SETUP packet asked for, and nothing in a read
 if_same : (b : Bool) (effect : Effect) → effect ≡ Nothing → (if b then effect else Nothing) ≡ Nothing
 if_same true effect e = e
@@ -166,27 +60,6 @@ told_by before (Taking report) s = refl
 told_by before Waiting s = refl
 told_by before (Status effect) s = s
 told_by before (Stalled why) s = refl
-
--- an IN packet
-pub stands_in : (start : List ℕ) (past : List Call) (answer : EpAnswer) (effect : Effect) (ep : Stage) (keys : KeysValue) (protocol : Protocol) (old : KeyboardValue) → StandsFor start past old
-    → answer ≡ in_answer (stage_after start past) → effect ≡ in_effect (stage_after start past)
-    → control_ep.StandsFor (EpIn answer effect ∷ ep_calls start past) ep → key_reports.StandsFor (with_effect effect (key_calls start past)) keys
-    → protocol ≡ protocol_then effect old.protocol
-    → StandsFor start (In answer ∷ past) (record old { ep = ep; keys = keys; protocol = protocol })
-unfolding ep_calls key_calls leds_after selected protocol_after accepts
-stands_in start past answer effect ep keys protocol old h a f e k p =
-    let told : effect ≡ effect_told past answer = f ∙ sym (told_by past (stage_after start past) (serves start past)) ∙ ap (λ (x : EpAnswer). effect_told past x) (sym a) in
-    stands_with start past (In answer) old (record old { ep = ep; keys = keys; protocol = protocol }) h
-    (record { ends_none = record { keeps = λ f. refl }; accepts_none = refl; same_image = refl; no_work = λ count. refl }) refl
-    (record {
-      ep = subst (λ (x : Effect). control_ep.StandsFor (EpIn answer x ∷ ep_calls start past) ep) told e;
-      keys = subst (λ (x : Effect). key_reports.StandsFor (with_effect x (key_calls start past)) keys) told k;
-      protocol = p ∙ ap (λ (x : Effect). protocol_then x old.protocol) told ∙ ap (λ (x : Protocol). protocol_then (effect_told past answer) x) h.now.protocol;
-      leds = h.now.leds;
-      layer = h.now.layer;
-      key = h.now.key;
-    })
-    a
 
 -- a report that was taken leaves everything where none was
 pub record TakesNothing (past : List Call) (packet : List ℕ) (answer : EpAnswer) : Type 0 where
@@ -247,17 +120,6 @@ answered_takes past packet answer Waiting s a = stalled_takes past packet answer
 answered_takes past packet answer (Status effect) s a = stalled_takes past packet answer _ a
 answered_takes past packet answer (Stalled why) s a = stalled_takes past packet answer why a
 
--- the endpoint's calls after an OUT packet
-pub ep_calls-out : (start : List ℕ) (past : List Call) (packet : List ℕ) (answer : EpAnswer) (step : OutStep) → step ≡ out_step (stage_after start past) packet
-    → ep_calls start (Out packet answer ∷ past) ≡ with_out step packet (keymap (image_after start past)) answer (ep_calls start past)
-unfolding ep_calls
-ep_calls-out start past packet answer step e = ap (λ (s : OutStep). with_out s packet (keymap (image_after start past)) answer (ep_calls start past)) (sym e)
-
--- what an OUT packet leaves beside the endpoint, by the report that it took
-pub keys-out : (start : List ℕ) (past : List Call) (packet : List ℕ) (answer : EpAnswer) → key_calls start (Out packet answer ∷ past) ≡ key_calls start past
-unfolding key_calls
-keys-out start past packet answer = refl
-
 pub protocol-out : (past : List Call) (packet : List ℕ) (answer : EpAnswer) → protocol_after (Out packet answer ∷ past) ≡ protocol_after past
 unfolding protocol_after
 protocol-out past packet answer = refl
@@ -273,36 +135,6 @@ selected-out past packet answer o e = ap (λ (x : Option Entry). unwrap_or x (se
 pub accepts-out : (past : List Call) (packet : List ℕ) (answer : EpAnswer) (o : Option Command) → command_in_report (report_taken past (Out packet answer)) ≡ o → accepts past (Out packet answer) ≡ o
 unfolding accepts
 accepts-out past packet answer o e = e
-
-pub out_leaves : (start : List ℕ) (past : List Call) (packet : List ℕ) (answer : EpAnswer) → command_in_report (report_taken past (Out packet answer)) ≡ None → Leaves_commands start past (Out packet answer)
-out_leaves start past packet answer e = record { ends_none = ends_none_out packet answer; accepts_none = accepts-out past packet answer None e; same_image = refl; no_work = λ count. refl }
-
--- an OUT packet that takes nothing
-pub stands_untaken : (start : List ℕ) (past : List Call) (packet : List ℕ) (answer : EpAnswer) (ep : Stage) (old new : KeyboardValue) → StandsFor start past old → TakesNothing past packet answer
-    → new ≡ record old { ep = ep } → control_ep.StandsFor (ep_calls start (Out packet answer ∷ past)) ep → IsAnswered start past (Out packet answer)
-    → StandsFor start (Out packet answer ∷ past) new
-stands_untaken start past packet answer ep old new h t n e a =
-    subst (λ (x : KeyboardValue). StandsFor start (Out packet answer ∷ past) x) (sym n)
-    (stands_with start past (Out packet answer) old (record old { ep = ep }) h (out_leaves start past packet answer t.command) refl
-    (record {
-      ep = e;
-      keys = rw (keys-out start past packet answer) h.now.keys;
-      protocol = h.now.protocol ∙ sym (protocol-out past packet answer);
-      leds = h.now.leds ∙ sym (leds-out past packet answer None t.leds);
-      layer = h.now.layer ∙ ap (λ (x : Entry). x.layer) (sym (selected-out past packet answer None t.entry));
-      key = h.now.key ∙ ap (λ (x : Entry). x.key) (sym (selected-out past packet answer None t.entry));
-    })
-    a)
-
--- an OUT packet that the endpoint answers
-pub stands_answered : (start : List ℕ) (past : List Call) (packet : List ℕ) (answer : EpAnswer) (ep : Stage) (old : KeyboardValue) → StandsFor start past old
-    → Answered answer ≡ out_step (stage_after start past) packet → control_ep.StandsFor (EpOut packet (Answered answer) ∷ ep_calls start past) ep
-    → StandsFor start (Out packet answer ∷ past) (record old { ep = ep })
-stands_answered start past packet answer ep old h s e =
-    stands_untaken start past packet answer ep old (record old { ep = ep }) h
-    (takes_nothing past packet answer (answered_takes past packet answer (stage_after start past) (serves start past) s)) refl
-    (subst (λ (calls : List EpCall). control_ep.StandsFor calls ep) (sym (ep_calls-out start past packet answer (Answered answer) s)) e)
-    (subst (λ (x : OutStep). OutAnswer x (image_after start past) (is_some (working start past)) answer) s refl)
 
 -- an output report
 pub record LedsTaken (past : List Call) (packet : List ℕ) (leds : ℕ) : Type 0 where
@@ -332,18 +164,188 @@ leds_taken past packet leds Waiting s a = cc
 leds_taken past packet leds (Status effect) s a = cc
 leds_taken past packet leds (Stalled why) s a = cc
 
-pub stands_leds : (start : List ℕ) (past : List Call) (packet : List ℕ) (leds : ℕ) (ep : Stage) (old : KeyboardValue) → StandsFor start past old
-    → Leds leds ≡ out_step (stage_after start past) packet → control_ep.StandsFor (EpOut packet (Leds leds) ∷ ep_calls start past) ep
-    → StandsFor start (Out packet Ack ∷ past) (record old { ep = ep; leds = leds })
-stands_leds start past packet leds ep old h s e =
-    let t : LedsTaken past packet leds = leds_taken past packet leds (stage_after start past) (serves start past) s in
-    stands_with start past (Out packet Ack) old (record old { ep = ep; leds = leds }) h (out_leaves start past packet Ack t.command) refl
-    (record {
-      ep = subst (λ (calls : List EpCall). control_ep.StandsFor calls ep) (sym (ep_calls-out start past packet Ack (Leds leds) s)) e;
-      keys = rw (keys-out start past packet Ack) h.now.keys;
-      protocol = h.now.protocol ∙ sym (protocol-out past packet Ack);
-      leds = sym (leds-out past packet Ack (Some leds) t.leds_is);
-      layer = h.now.layer ∙ ap (λ (x : Entry). x.layer) (sym (selected-out past packet Ack None t.entry));
-      key = h.now.key ∙ ap (λ (x : Entry). x.key) (sym (selected-out past packet Ack None t.entry));
-    })
-    (subst (λ (x : OutStep). OutAnswer x (image_after start past) (is_some (working start past)) Ack) s refl)
+module _ (defaults : DefaultCodes) where
+  -- a call that neither accepts nor ends a command, and leaves the flash
+  pub record Leaves_commands (start : List ℕ) (past : List Call) (call : Call) : Type 0 where
+    pub ends_none : EndsNone defaults call
+    pub accepts_none : accepts past call ≡ None
+    pub same_image : image_after start (call ∷ past) ≡ image_after start past
+    pub no_work : (count : ℕ) → counted call count ≡ count
+
+  working-same : (start : List ℕ) (past : List Call) (call : Call) → Leaves_commands start past call → working defaults start (call ∷ past) ≡ working defaults start past
+  unfolding working
+  working-same start past call l = ap working_of (accepted-same defaults start call past l.ends_none l.accepts_none)
+
+  -- what a call leaves beside the commands
+  pub record PartsAfter (start : List ℕ) (past : List Call) (new : KeyboardValue) : Type 0 where
+    pub ep : control_ep.StandsFor (ep_calls defaults start past) new.ep
+    pub keys : key_reports.StandsFor (key_calls defaults start past) new.keys
+    pub protocol : new.protocol ≡ protocol_after past
+    pub leds : new.leds ≡ leds_after past
+    pub layer : new.layer ≡ (selected past).layer
+    pub key : new.key ≡ (selected past).key
+
+  pub stands_with : (start : List ℕ) (past : List Call) (call : Call) (old new : KeyboardValue) → StandsFor defaults start past old → Leaves_commands start past call → new.store ≡ old.store
+      → PartsAfter start (call ∷ past) new → IsAnswered defaults start past call → StandsFor defaults start (call ∷ past) new
+  stands_with start past call old new h l s p a =
+      let count : steps_since (call ∷ past) ≡ steps_since past = steps_since-same call past l.no_work l.accepts_none in
+      let accepted_at : accepted_image start (call ∷ past) ≡ accepted_image start past = accepted_image-same start call past l.accepts_none in
+      record {
+        now = record {
+          ep = p.ep;
+          keys = p.keys;
+          store = rw (l.same_image, s) h.now.store;
+          works = ap (λ (x : StoreValue). working_in x.job) s ∙ h.now.works ∙ sym (working-same start past call l);
+          protocol = p.protocol;
+          leds = p.leds;
+          layer = p.layer;
+          key = p.key;
+          few = λ w. rw (l.same_image, s, count) (h.now.few (rw s at w));
+          needs = λ w. rw (accepted_at, l.same_image, s, count) (h.now.needs (rw s at w));
+          order = λ command w. rw (accepted_at, l.same_image, s, count) (h.now.order command (rw s at w));
+        };
+        answered = (a, h.answered);
+      }
+
+  -- a scan
+  pub stands_scan : (start : List ℕ) (past : List Call) (scan : Scan) (keys : KeysValue) (old : KeyboardValue) → StandsFor defaults start past old
+      → key_reports.StandsFor (KeysScanned scan (table (keymap defaults (image_after start past))) old.protocol ∷ key_calls defaults start past) keys
+      → StandsFor defaults start (Scanned scan ∷ past) (record old { keys = keys })
+  unfolding ep_calls key_calls leds_after selected protocol_after accepts
+  stands_scan start past scan keys old h k =
+      stands_with start past (Scanned scan) old (record old { keys = keys }) h
+      (record { ends_none = record { keeps = λ f. refl }; accepts_none = refl; same_image = refl; no_work = λ count. refl }) refl
+      (record {
+        ep = h.now.ep;
+        keys = subst (λ (p : Protocol). key_reports.StandsFor (KeysScanned scan (table (keymap defaults (image_after start past))) p ∷ key_calls defaults start past) keys) h.now.protocol k;
+        protocol = h.now.protocol;
+        leds = h.now.leds;
+        layer = h.now.layer;
+        key = h.now.key;
+      })
+      tt
+
+  -- a poll
+  pub stands_polled : (start : List ℕ) (past : List Call) (answer : Option (List ℕ)) (keys : KeysValue) (old : KeyboardValue) → StandsFor defaults start past old
+      → answer ≡ answer_after old.protocol (key_calls defaults start past) → key_reports.StandsFor (Asked (polled old.protocol answer) ∷ key_calls defaults start past) keys
+      → StandsFor defaults start (Polled answer ∷ past) (record old { keys = keys })
+  unfolding ep_calls key_calls leds_after selected protocol_after accepts
+  stands_polled start past answer keys old h a k =
+      stands_with start past (Polled answer) old (record old { keys = keys }) h
+      (record { ends_none = record { keeps = λ f. refl }; accepts_none = refl; same_image = refl; no_work = λ count. refl }) refl
+      (record {
+        ep = h.now.ep;
+        keys = subst (λ (p : Protocol). key_reports.StandsFor (Asked (polled p answer) ∷ key_calls defaults start past) keys) h.now.protocol k;
+        protocol = h.now.protocol;
+        leds = h.now.leds;
+        layer = h.now.layer;
+        key = h.now.key;
+      })
+      (a ∙ ap (λ (p : Protocol). answer_after p (key_calls defaults start past)) h.now.protocol)
+
+  -- a SETUP packet
+  pub stands_setup : (start : List ℕ) (past : List Call) (packet : List ℕ) (view : DeviceView) (ep : Stage) (old : KeyboardValue) → StandsFor defaults start past old
+      → view ≡ view_after defaults start past → control_ep.StandsFor (Setup packet view ∷ ep_calls defaults start past) ep
+      → StandsFor defaults start (SetUp packet ∷ past) (record old { ep = ep })
+  unfolding ep_calls key_calls leds_after selected protocol_after accepts
+  stands_setup start past packet view ep old h v e =
+      stands_with start past (SetUp packet) old (record old { ep = ep }) h
+      (record { ends_none = record { keeps = λ f. refl }; accepts_none = refl; same_image = refl; no_work = λ count. refl }) refl
+      (record {
+        ep = subst (λ (x : DeviceView). control_ep.StandsFor (Setup packet x ∷ ep_calls defaults start past) ep) v e;
+        keys = h.now.keys;
+        protocol = h.now.protocol;
+        leds = h.now.leds;
+        layer = h.now.layer;
+        key = h.now.key;
+      })
+      tt
+
+  -- a bus reset
+  pub stands_reset : (start : List ℕ) (past : List Call) (ep : Stage) (keys : KeysValue) (old : KeyboardValue) → StandsFor defaults start past old
+      → control_ep.StandsFor (Reset ∷ ep_calls defaults start past) ep → key_reports.StandsFor (Asked was_reset ∷ key_calls defaults start past) keys
+      → StandsFor defaults start (BusReset ∷ past) (record old { ep = ep; keys = keys; protocol = Report; leds = 0 })
+  unfolding ep_calls key_calls leds_after selected protocol_after accepts
+  stands_reset start past ep keys old h e k =
+      stands_with start past BusReset old (record old { ep = ep; keys = keys; protocol = Report; leds = 0 }) h
+      (record { ends_none = record { keeps = λ f. refl }; accepts_none = refl; same_image = refl; no_work = λ count. refl }) refl
+      (record { ep = e; keys = k; protocol = refl; leds = refl; layer = h.now.layer; key = h.now.key })
+      tt
+
+  -- an IN packet
+  pub stands_in : (start : List ℕ) (past : List Call) (answer : EpAnswer) (effect : Effect) (ep : Stage) (keys : KeysValue) (protocol : Protocol) (old : KeyboardValue) → StandsFor defaults start past old
+      → answer ≡ in_answer (stage_after defaults start past) → effect ≡ in_effect (stage_after defaults start past)
+      → control_ep.StandsFor (EpIn answer effect ∷ ep_calls defaults start past) ep → key_reports.StandsFor (with_effect effect (key_calls defaults start past)) keys
+      → protocol ≡ protocol_then effect old.protocol
+      → StandsFor defaults start (In answer ∷ past) (record old { ep = ep; keys = keys; protocol = protocol })
+  unfolding ep_calls key_calls leds_after selected protocol_after accepts
+  stands_in start past answer effect ep keys protocol old h a f e k p =
+      let told : effect ≡ effect_told past answer = f ∙ sym (told_by past (stage_after defaults start past) (serves defaults start past)) ∙ ap (λ (x : EpAnswer). effect_told past x) (sym a) in
+      stands_with start past (In answer) old (record old { ep = ep; keys = keys; protocol = protocol }) h
+      (record { ends_none = record { keeps = λ f. refl }; accepts_none = refl; same_image = refl; no_work = λ count. refl }) refl
+      (record {
+        ep = subst (λ (x : Effect). control_ep.StandsFor (EpIn answer x ∷ ep_calls defaults start past) ep) told e;
+        keys = subst (λ (x : Effect). key_reports.StandsFor (with_effect x (key_calls defaults start past)) keys) told k;
+        protocol = p ∙ ap (λ (x : Effect). protocol_then x old.protocol) told ∙ ap (λ (x : Protocol). protocol_then (effect_told past answer) x) h.now.protocol;
+        leds = h.now.leds;
+        layer = h.now.layer;
+        key = h.now.key;
+      })
+      a
+
+  -- the endpoint's calls after an OUT packet
+  pub ep_calls-out : (start : List ℕ) (past : List Call) (packet : List ℕ) (answer : EpAnswer) (step : OutStep) → step ≡ out_step (stage_after defaults start past) packet
+      → ep_calls defaults start (Out packet answer ∷ past) ≡ with_out defaults step packet (keymap defaults (image_after start past)) answer (ep_calls defaults start past)
+  unfolding ep_calls
+  ep_calls-out start past packet answer step e = ap (λ (s : OutStep). with_out defaults s packet (keymap defaults (image_after start past)) answer (ep_calls defaults start past)) (sym e)
+
+  -- what an OUT packet leaves beside the endpoint, by the report that it took
+  pub keys-out : (start : List ℕ) (past : List Call) (packet : List ℕ) (answer : EpAnswer) → key_calls defaults start (Out packet answer ∷ past) ≡ key_calls defaults start past
+  unfolding key_calls
+  keys-out start past packet answer = refl
+
+  pub out_leaves : (start : List ℕ) (past : List Call) (packet : List ℕ) (answer : EpAnswer) → command_in_report (report_taken past (Out packet answer)) ≡ None → Leaves_commands start past (Out packet answer)
+  out_leaves start past packet answer e = record { ends_none = ends_none_out defaults packet answer; accepts_none = accepts-out past packet answer None e; same_image = refl; no_work = λ count. refl }
+
+  -- an OUT packet that takes nothing
+  pub stands_untaken : (start : List ℕ) (past : List Call) (packet : List ℕ) (answer : EpAnswer) (ep : Stage) (old new : KeyboardValue) → StandsFor defaults start past old → TakesNothing past packet answer
+      → new ≡ record old { ep = ep } → control_ep.StandsFor (ep_calls defaults start (Out packet answer ∷ past)) ep → IsAnswered defaults start past (Out packet answer)
+      → StandsFor defaults start (Out packet answer ∷ past) new
+  stands_untaken start past packet answer ep old new h t n e a =
+      subst (λ (x : KeyboardValue). StandsFor defaults start (Out packet answer ∷ past) x) (sym n)
+      (stands_with start past (Out packet answer) old (record old { ep = ep }) h (out_leaves start past packet answer t.command) refl
+      (record {
+        ep = e;
+        keys = rw (keys-out start past packet answer) h.now.keys;
+        protocol = h.now.protocol ∙ sym (protocol-out past packet answer);
+        leds = h.now.leds ∙ sym (leds-out past packet answer None t.leds);
+        layer = h.now.layer ∙ ap (λ (x : Entry). x.layer) (sym (selected-out past packet answer None t.entry));
+        key = h.now.key ∙ ap (λ (x : Entry). x.key) (sym (selected-out past packet answer None t.entry));
+      })
+      a)
+
+  -- an OUT packet that the endpoint answers
+  pub stands_answered : (start : List ℕ) (past : List Call) (packet : List ℕ) (answer : EpAnswer) (ep : Stage) (old : KeyboardValue) → StandsFor defaults start past old
+      → Answered answer ≡ out_step (stage_after defaults start past) packet → control_ep.StandsFor (EpOut packet (Answered answer) ∷ ep_calls defaults start past) ep
+      → StandsFor defaults start (Out packet answer ∷ past) (record old { ep = ep })
+  stands_answered start past packet answer ep old h s e =
+      stands_untaken start past packet answer ep old (record old { ep = ep }) h
+      (takes_nothing past packet answer (answered_takes past packet answer (stage_after defaults start past) (serves defaults start past) s)) refl
+      (subst (λ (calls : List EpCall). control_ep.StandsFor calls ep) (sym (ep_calls-out start past packet answer (Answered answer) s)) e)
+      (subst (λ (x : OutStep). OutAnswer defaults x (image_after start past) (is_some (working defaults start past)) answer) s refl)
+
+  pub stands_leds : (start : List ℕ) (past : List Call) (packet : List ℕ) (leds : ℕ) (ep : Stage) (old : KeyboardValue) → StandsFor defaults start past old
+      → Leds leds ≡ out_step (stage_after defaults start past) packet → control_ep.StandsFor (EpOut packet (Leds leds) ∷ ep_calls defaults start past) ep
+      → StandsFor defaults start (Out packet Ack ∷ past) (record old { ep = ep; leds = leds })
+  stands_leds start past packet leds ep old h s e =
+      let t : LedsTaken past packet leds = leds_taken past packet leds (stage_after defaults start past) (serves defaults start past) s in
+      stands_with start past (Out packet Ack) old (record old { ep = ep; leds = leds }) h (out_leaves start past packet Ack t.command) refl
+      (record {
+        ep = subst (λ (calls : List EpCall). control_ep.StandsFor calls ep) (sym (ep_calls-out start past packet Ack (Leds leds) s)) e;
+        keys = rw (keys-out start past packet Ack) h.now.keys;
+        protocol = h.now.protocol ∙ sym (protocol-out past packet Ack);
+        leds = sym (leds-out past packet Ack (Some leds) t.leds_is);
+        layer = h.now.layer ∙ ap (λ (x : Entry). x.layer) (sym (selected-out past packet Ack None t.entry));
+        key = h.now.key ∙ ap (λ (x : Entry). x.key) (sym (selected-out past packet Ack None t.entry));
+      })
+      (subst (λ (x : OutStep). OutAnswer defaults x (image_after start past) (is_some (working defaults start past)) Ack) s refl)

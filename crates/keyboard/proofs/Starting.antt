@@ -1,6 +1,7 @@
 -- A keyboard that starts.
-use Rattle.std.proofs.Common.{◌≡◌, ℕ, ◌+◌, Some, None, List, [], drop, refl}
+use Rattle.std.proofs.Common.{◌≡◌, ℕ, ◌+◌, None, List, [], drop, refl}
 use Rattle.reports.specs.declared.Protocol.TheVariants.{Report}
+use Rattle.layers.specs.Codes.{DefaultCodes}
 use Rattle.key_reports.specs.ties.Value.{KeysValue}
 use Rattle.key_reports.specs.ties.Stands as key_reports
 use Rattle.control_ep.specs.Transfers.{Stage}
@@ -19,22 +20,23 @@ use Rattle.keyboard.specs.Bounded.{steps_since, accepted_image}
 use Rattle.keyboard.specs.ties.Stands.{StandsFor}
 use Rattle.keyboard.proofs.Bounding.{nothing_left, nothing_needed, none_works}
 
-pub stands_first : (image : List ℕ) (ep : Stage) (keys : KeysValue) (store : StoreValue) (layer key : ℕ) → control_ep.StandsFor [] ep → key_reports.StandsFor [] keys → Mirrors image store → working_in store.job ≡ None → layer ≡ 0 → key ≡ 0
-    → StandsFor image [] (record { ep = ep; keys = keys; store = store; protocol = Report; leds = 0; layer = layer; key = key })
-unfolding ep_calls key_calls leds_after selected protocol_after accepted working
-stands_first image ep keys store layer key e k m r l i = record {
-  now = record {
-    ep = e;
-    keys = k;
-    store = m;
-    works = r;
-    protocol = refl;
-    leds = refl;
-    layer = l;
-    key = i;
-    few = λ w. nothing_left (working_in store.job) (left image store + steps_since []) r w;
-    needs = λ w. nothing_needed (working_in store.job) (Needs (accepted_image image []) (left image store + steps_since [])) r w;
-    order = λ command w. none_works (working_in store.job) command (drop (steps_since []) (operations_of (accepted_image image []) command) ≡ rest_of image store) r w;
-  };
-  answered = tt;
-}
+module _ (defaults : DefaultCodes) where
+  pub stands_first : (image : List ℕ) (ep : Stage) (keys : KeysValue) (store : StoreValue) (layer key : ℕ) → control_ep.StandsFor [] ep → key_reports.StandsFor [] keys → Mirrors defaults image store → working_in store.job ≡ None → layer ≡ 0 → key ≡ 0
+      → StandsFor defaults image [] (record { ep = ep; keys = keys; store = store; protocol = Report; leds = 0; layer = layer; key = key })
+  unfolding ep_calls key_calls leds_after selected protocol_after accepted working
+  stands_first image ep keys store layer key e k m r l i = record {
+    now = record {
+      ep = e;
+      keys = k;
+      store = m;
+      works = r;
+      protocol = refl;
+      leds = refl;
+      layer = l;
+      key = i;
+      few = λ w. nothing_left (working_in store.job) (left defaults image store + steps_since []) r w;
+      needs = λ w. nothing_needed (working_in store.job) (Needs defaults (accepted_image image []) (left defaults image store + steps_since [])) r w;
+      order = λ command w. none_works (working_in store.job) command (drop (steps_since []) (operations_of defaults (accepted_image image []) command) ≡ rest_of defaults image store) r w;
+    };
+    answered = tt;
+  }

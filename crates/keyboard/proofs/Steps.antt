@@ -3,6 +3,7 @@ use Rattle.std.proofs.Common.{◌≡◌, ◌≢◌, ℕ, suc, ◌+◌, ◌<◌, 
 use Rattle.std.proofs.lemmas.Bool.{cases_lt}
 use Rattle.flash_model.specs.Image.{IsImage}
 use Rattle.flash_model.specs.Operations.{OneSlot, OnePage}
+use Rattle.layers.specs.Codes.{DefaultCodes}
 use Rattle.layers.specs.declared.command.Command.{Command}
 use Rattle.page_turnover.specs.declared.operation.Operation.{Operation}
 use Rattle.page_turnover.specs.declared.operation.Operation.TheVariants.{Program, Erase}
@@ -33,12 +34,6 @@ may_operate_by : (old : List ℕ) (operation : Operation) (new : List ℕ) → I
 may_operate_by old (Program page slot word) new u (p, s, w, f) m = may_program u page slot word p s w f m
 may_operate_by old (Erase page) new u (p, a) m = may_erase u page p a m
 
-pub whole_step : (start : List ℕ) (past : List Call) (command : Command) (old : List ℕ) (work : WorkAnswer) (new : List ℕ) → Works start past command old work new → work ≢ Failed → Operates old new
-whole_step start past command old work new w n = operates_by old w.operation new w.usable w.loses_nothing (w.attempts.done n).0
-
-pub torn_step : (start : List ℕ) (past : List Call) (command : Command) (old : List ℕ) (work : WorkAnswer) (new : List ℕ) → Works start past command old work new → work ≡ Failed → MayOperate old new
-torn_step start past command old work new w e = may_operate_by old w.operation new w.usable w.loses_nothing (w.attempts.torn e).0
-
 -- of the record
 placed_by : (command : Command) (old : List ℕ) (operation : Operation) (new : List ℕ) → IsRecord command old operation → Makes old operation new → IsPlacedAt old command new
 placed_by command old operation new r m =
@@ -54,37 +49,9 @@ torn_by command old operation new r m n =
 not_failed : (work : WorkAnswer) → work ≡ Settled → work ≢ Failed
 not_failed work e f = cc
 
-pub placed_step : (start : List ℕ) (past : List Call) (command : Command) (old : List ℕ) (work : WorkAnswer) (new : List ℕ) → Works start past command old work new → work ≡ Settled → IsPlacedAt old command new
-placed_step start past command old work new w e =
-    placed_by command old w.operation new (w.advances.record_last (w.advances.last e)) (w.attempts.done (not_failed work e)).0
-
-pub record_torn : (start : List ℕ) (past : List Call) (command : Command) (old : List ℕ) (work : WorkAnswer) (new : List ℕ) (works : Works start past command old work new) → work ≡ Failed → suc (steps_since past) ≡ works.advances.needed → IsTornAt old command new
-record_torn start past command old work new w e n =
-    let left = w.attempts.torn e in
-    torn_by command old w.operation new (w.advances.record_last n) left.0 left.1
-
 -- of a turn
 slot_in_page : (old : List ℕ) (page slot : ℕ) (new : List ℕ) → OneSlot old page slot new → OnePage old page new
 slot_in_page old page slot new o = record { same_length = o.same_length; others = λ p s l n. o.others p s l (λ e f. n e) }
-
-in_target_whole : (old : List ℕ) (operation : Operation) (new : List ℕ) → IsOfTurn old operation → Makes old operation new → OnePage old (target_page old) new
-in_target_whole old operation new (erases_target e used) m = (let M : Operation → Type 0 = λ o. Makes old o new in (subst M e m).rest)
-in_target_whole old operation new (copies n l e h) m = (let M : Operation → Type 0 = λ o. Makes old o new in slot_in_page old (target_page old) _ new (subst M e m).rest)
-in_target_whole old operation new (heads e h) m = (let M : Operation → Type 0 = λ o. Makes old o new in slot_in_page old (target_page old) 0 new (subst M e m).rest)
-
-in_target_torn : (old : List ℕ) (operation : Operation) (new : List ℕ) → IsOfTurn old operation → MayMake old operation new → OnePage old (target_page old) new
-in_target_torn old operation new (erases_target e used) m = (let M : Operation → Type 0 = λ o. MayMake old o new in (subst M e m).rest)
-in_target_torn old operation new (copies n l e h) m = (let M : Operation → Type 0 = λ o. MayMake old o new in slot_in_page old (target_page old) _ new (subst M e m).rest)
-in_target_torn old operation new (heads e h) m = (let M : Operation → Type 0 = λ o. MayMake old o new in slot_in_page old (target_page old) 0 new (subst M e m).rest)
-
-in_target_by : (old : List ℕ) (operation : Operation) (work : WorkAnswer) (new : List ℕ) → IsOfTurn old operation → Attempts old operation (work ≡ Idle) (work ≡ Failed) new → OnePage old (target_page old) new
-in_target_by old operation Idle new t a = absurd (a.not_idle refl)
-in_target_by old operation Working new t a = in_target_whole old operation new t (a.done (λ e. cc)).0
-in_target_by old operation Settled new t a = in_target_whole old operation new t (a.done (λ e. cc)).0
-in_target_by old operation Failed new t a = in_target_torn old operation new t (a.torn refl).0
-
-pub in_target : (start : List ℕ) (past : List Call) (command : Command) (old : List ℕ) (work : WorkAnswer) (new : List ℕ) (works : Works start past command old work new) → suc (steps_since past) < works.advances.needed → OnePage old (target_page old) new
-in_target start past command old work new w l = in_target_by old w.operation work new (w.advances.turn_before l) w.attempts
 
 -- what each operation of a turn asks of the flash
 same_page : (p q slot other word more : ℕ) → Program p slot word ≡ Program q other more → p ≡ q
@@ -99,32 +66,6 @@ same_word p q slot other word more e = cc
 erased_page : (p q : ℕ) → Erase p ≡ Erase q → p ≡ q
 erased_page p q e = cc
 
-by_turn_erased : (old : List ℕ) (operation : Operation) (page : ℕ) → IsOfTurn old operation → operation ≡ Erase page → (page ≡ target_page old) × (IsBlank old page → ⊥)
-by_turn_erased old operation page (erases_target e used) o =
-    let same : page ≡ target_page old = erased_page page (target_page old) (sym o ∙ e) in
-    (same, rw same used)
-by_turn_erased old operation page (copies n l e h) o = cc
-by_turn_erased old operation page (heads e h) o = cc
-
-by_turn_copied : (old : List ℕ) (operation : Operation) (n word : ℕ) → IsOfTurn old operation → operation ≡ Program (target_page old) (n + 1) word
-    → (word ≡ slice_index (all_copies (keymap old)) n) × HoldsFirst old n
-by_turn_copied old operation n word (erases_target e used) o = cc
-by_turn_copied old operation n word (copies k l e h) o =
-    let at : n + 1 ≡ k + 1 = same_slot (target_page old) (target_page old) (n + 1) (k + 1) word _ (sym o ∙ e) in
-    let same : k ≡ n = omega arith in
-    let w : word ≡ slice_index (all_copies (keymap old)) k = same_word (target_page old) (target_page old) (n + 1) (k + 1) word _ (sym o ∙ e) in
-    (rw same at w, subst (λ (x : ℕ). HoldsFirst old x) same h)
-by_turn_copied old operation n word (heads e h) o =
-    let at : n + 1 ≡ 0 = same_slot (target_page old) (target_page old) (n + 1) 0 word _ (sym o ∙ e) in
-    absurd (omega arith)
-
-by_turn_headed : (old : List ℕ) (operation : Operation) (word : ℕ) → IsOfTurn old operation → operation ≡ Program (target_page old) 0 word → HoldsFirst old (length (all_copies (keymap old)))
-by_turn_headed old operation word (erases_target e used) o = cc
-by_turn_headed old operation word (copies k l e h) o =
-    let at : 0 ≡ k + 1 = same_slot (target_page old) (target_page old) 0 (k + 1) word _ (sym o ∙ e) in
-    absurd (omega arith)
-by_turn_headed old operation word (heads e h) o = h
-
 -- a record is programmed, and not into slot 0
 no_erase : (command : Command) (old : List ℕ) (operation : Operation) (page : ℕ) → IsRecord command old operation → operation ≡ Erase page → ⊥
 no_erase command old operation page r o = (let e = r.operation_is in cc)
@@ -137,25 +78,86 @@ no_header command old operation word r o =
 last_of_all : (made needed : ℕ) → suc made ≤ needed → needed ≤ suc made → suc made ≡ needed
 last_of_all made needed w l = omega arith
 
-pub erased_step : (start : List ℕ) (past : List Call) (command : Command) (old : List ℕ) (work : WorkAnswer) (new : List ℕ) (page : ℕ) (works : Works start past command old work new) → works.operation ≡ Erase page
-    → (page ≡ target_page old) × (IsBlank old page → ⊥) × (HasRoom old → ⊥)
-erased_step start past command old work new page w o = elim (cases_lt (suc (steps_since past)) w.advances.needed) [
-  | inl l ↦ (let t = by_turn_erased old w.operation page (w.advances.turn_before l) o in (t.0, t.1, w.advances.no_room l))
-  | inr l ↦ absurd (no_erase command old w.operation page (w.advances.record_last (last_of_all (steps_since past) w.advances.needed w.advances.within l)) o)
-]
+module _ (defaults : DefaultCodes) where
+  pub whole_step : (start : List ℕ) (past : List Call) (command : Command) (old : List ℕ) (work : WorkAnswer) (new : List ℕ) → Works defaults start past command old work new → work ≢ Failed → Operates old new
+  whole_step start past command old work new w n = operates_by old w.operation new w.usable w.loses_nothing (w.attempts.done n).0
 
-pub copied_step : (start : List ℕ) (past : List Call) (command : Command) (old : List ℕ) (work : WorkAnswer) (new : List ℕ) (n word : ℕ) (works : Works start past command old work new) → suc (steps_since past) < works.advances.needed
-    → works.operation ≡ Program (target_page old) (n + 1) word → (word ≡ slice_index (all_copies (keymap old)) n) × HoldsFirst old n × (HasRoom old → ⊥)
-copied_step start past command old work new n word w l o = (let t = by_turn_copied old w.operation n word (w.advances.turn_before l) o in (t.0, t.1, w.advances.no_room l))
+  pub torn_step : (start : List ℕ) (past : List Call) (command : Command) (old : List ℕ) (work : WorkAnswer) (new : List ℕ) → Works defaults start past command old work new → work ≡ Failed → MayOperate old new
+  torn_step start past command old work new w e = may_operate_by old w.operation new w.usable w.loses_nothing (w.attempts.torn e).0
 
-pub headed_step : (start : List ℕ) (past : List Call) (command : Command) (old : List ℕ) (work : WorkAnswer) (new : List ℕ) (word : ℕ) (works : Works start past command old work new) → works.operation ≡ Program (target_page old) 0 word
-    → HoldsFirst old (length (all_copies (keymap old))) × (HasRoom old → ⊥)
-headed_step start past command old work new word w o = elim (cases_lt (suc (steps_since past)) w.advances.needed) [
-  | inl l ↦ (by_turn_headed old w.operation word (w.advances.turn_before l) o, w.advances.no_room l)
-  | inr l ↦ absurd (no_header command old w.operation word (w.advances.record_last (last_of_all (steps_since past) w.advances.needed w.advances.within l)) o)
-]
+  pub placed_step : (start : List ℕ) (past : List Call) (command : Command) (old : List ℕ) (work : WorkAnswer) (new : List ℕ) → Works defaults start past command old work new → work ≡ Settled → IsPlacedAt old command new
+  placed_step start past command old work new w e =
+      placed_by command old w.operation new (w.advances.record_last (w.advances.last e)) (w.attempts.done (not_failed work e)).0
 
--- and of a cut inside it
-pub cut_step : (start : List ℕ) (past : List Call) (command : Command) (work : WorkAnswer) (new image : List ℕ) (works : Works start past command (image_after start past) work new) → EachCall IsAnswered start past → working start past ≡ Some command → IsImage image
-    → MayMake (image_after start past) works.operation image → RestartsLegally start past image
-cut_step start past command work new image works h w i m = cut_legal start past command image h w (works.cut image i m).1
+  pub record_torn : (start : List ℕ) (past : List Call) (command : Command) (old : List ℕ) (work : WorkAnswer) (new : List ℕ) (works : Works defaults start past command old work new) → work ≡ Failed → suc (steps_since past) ≡ works.advances.needed → IsTornAt old command new
+  record_torn start past command old work new w e n =
+      let left = w.attempts.torn e in
+      torn_by command old w.operation new (w.advances.record_last n) left.0 left.1
+
+  in_target_whole : (old : List ℕ) (operation : Operation) (new : List ℕ) → IsOfTurn defaults old operation → Makes old operation new → OnePage old (target_page old) new
+  in_target_whole old operation new (erases_target e used) m = (let M : Operation → Type 0 = λ o. Makes old o new in (subst M e m).rest)
+  in_target_whole old operation new (copies n l e h) m = (let M : Operation → Type 0 = λ o. Makes old o new in slot_in_page old (target_page old) _ new (subst M e m).rest)
+  in_target_whole old operation new (heads e h) m = (let M : Operation → Type 0 = λ o. Makes old o new in slot_in_page old (target_page old) 0 new (subst M e m).rest)
+
+  in_target_torn : (old : List ℕ) (operation : Operation) (new : List ℕ) → IsOfTurn defaults old operation → MayMake old operation new → OnePage old (target_page old) new
+  in_target_torn old operation new (erases_target e used) m = (let M : Operation → Type 0 = λ o. MayMake old o new in (subst M e m).rest)
+  in_target_torn old operation new (copies n l e h) m = (let M : Operation → Type 0 = λ o. MayMake old o new in slot_in_page old (target_page old) _ new (subst M e m).rest)
+  in_target_torn old operation new (heads e h) m = (let M : Operation → Type 0 = λ o. MayMake old o new in slot_in_page old (target_page old) 0 new (subst M e m).rest)
+
+  in_target_by : (old : List ℕ) (operation : Operation) (work : WorkAnswer) (new : List ℕ) → IsOfTurn defaults old operation → Attempts old operation (work ≡ Idle) (work ≡ Failed) new → OnePage old (target_page old) new
+  in_target_by old operation Idle new t a = absurd (a.not_idle refl)
+  in_target_by old operation Working new t a = in_target_whole old operation new t (a.done (λ e. cc)).0
+  in_target_by old operation Settled new t a = in_target_whole old operation new t (a.done (λ e. cc)).0
+  in_target_by old operation Failed new t a = in_target_torn old operation new t (a.torn refl).0
+
+  pub in_target : (start : List ℕ) (past : List Call) (command : Command) (old : List ℕ) (work : WorkAnswer) (new : List ℕ) (works : Works defaults start past command old work new) → suc (steps_since past) < works.advances.needed → OnePage old (target_page old) new
+  in_target start past command old work new w l = in_target_by old w.operation work new (w.advances.turn_before l) w.attempts
+
+  by_turn_erased : (old : List ℕ) (operation : Operation) (page : ℕ) → IsOfTurn defaults old operation → operation ≡ Erase page → (page ≡ target_page old) × (IsBlank old page → ⊥)
+  by_turn_erased old operation page (erases_target e used) o =
+      let same : page ≡ target_page old = erased_page page (target_page old) (sym o ∙ e) in
+      (same, rw same used)
+  by_turn_erased old operation page (copies n l e h) o = cc
+  by_turn_erased old operation page (heads e h) o = cc
+
+  by_turn_copied : (old : List ℕ) (operation : Operation) (n word : ℕ) → IsOfTurn defaults old operation → operation ≡ Program (target_page old) (n + 1) word
+      → (word ≡ slice_index (all_copies defaults (keymap defaults old)) n) × HoldsFirst defaults old n
+  by_turn_copied old operation n word (erases_target e used) o = cc
+  by_turn_copied old operation n word (copies k l e h) o =
+      let at : n + 1 ≡ k + 1 = same_slot (target_page old) (target_page old) (n + 1) (k + 1) word _ (sym o ∙ e) in
+      let same : k ≡ n = omega arith in
+      let w : word ≡ slice_index (all_copies defaults (keymap defaults old)) k = same_word (target_page old) (target_page old) (n + 1) (k + 1) word _ (sym o ∙ e) in
+      (rw same at w, subst (λ (x : ℕ). HoldsFirst defaults old x) same h)
+  by_turn_copied old operation n word (heads e h) o =
+      let at : n + 1 ≡ 0 = same_slot (target_page old) (target_page old) (n + 1) 0 word _ (sym o ∙ e) in
+      absurd (omega arith)
+
+  by_turn_headed : (old : List ℕ) (operation : Operation) (word : ℕ) → IsOfTurn defaults old operation → operation ≡ Program (target_page old) 0 word → HoldsFirst defaults old (length (all_copies defaults (keymap defaults old)))
+  by_turn_headed old operation word (erases_target e used) o = cc
+  by_turn_headed old operation word (copies k l e h) o =
+      let at : 0 ≡ k + 1 = same_slot (target_page old) (target_page old) 0 (k + 1) word _ (sym o ∙ e) in
+      absurd (omega arith)
+  by_turn_headed old operation word (heads e h) o = h
+
+  pub erased_step : (start : List ℕ) (past : List Call) (command : Command) (old : List ℕ) (work : WorkAnswer) (new : List ℕ) (page : ℕ) (works : Works defaults start past command old work new) → works.operation ≡ Erase page
+      → (page ≡ target_page old) × (IsBlank old page → ⊥) × (HasRoom old → ⊥)
+  erased_step start past command old work new page w o = elim (cases_lt (suc (steps_since past)) w.advances.needed) [
+    | inl l ↦ (let t = by_turn_erased old w.operation page (w.advances.turn_before l) o in (t.0, t.1, w.advances.no_room l))
+    | inr l ↦ absurd (no_erase command old w.operation page (w.advances.record_last (last_of_all (steps_since past) w.advances.needed w.advances.within l)) o)
+  ]
+
+  pub copied_step : (start : List ℕ) (past : List Call) (command : Command) (old : List ℕ) (work : WorkAnswer) (new : List ℕ) (n word : ℕ) (works : Works defaults start past command old work new) → suc (steps_since past) < works.advances.needed
+      → works.operation ≡ Program (target_page old) (n + 1) word → (word ≡ slice_index (all_copies defaults (keymap defaults old)) n) × HoldsFirst defaults old n × (HasRoom old → ⊥)
+  copied_step start past command old work new n word w l o = (let t = by_turn_copied old w.operation n word (w.advances.turn_before l) o in (t.0, t.1, w.advances.no_room l))
+
+  pub headed_step : (start : List ℕ) (past : List Call) (command : Command) (old : List ℕ) (work : WorkAnswer) (new : List ℕ) (word : ℕ) (works : Works defaults start past command old work new) → works.operation ≡ Program (target_page old) 0 word
+      → HoldsFirst defaults old (length (all_copies defaults (keymap defaults old))) × (HasRoom old → ⊥)
+  headed_step start past command old work new word w o = elim (cases_lt (suc (steps_since past)) w.advances.needed) [
+    | inl l ↦ (by_turn_headed old w.operation word (w.advances.turn_before l) o, w.advances.no_room l)
+    | inr l ↦ absurd (no_header command old w.operation word (w.advances.record_last (last_of_all (steps_since past) w.advances.needed w.advances.within l)) o)
+  ]
+
+  -- and of a cut inside it
+  pub cut_step : (start : List ℕ) (past : List Call) (command : Command) (work : WorkAnswer) (new image : List ℕ) (works : Works defaults start past command (image_after start past) work new) → EachCall (IsAnswered defaults) start past → working defaults start past ≡ Some command → IsImage image
+      → MayMake (image_after start past) works.operation image → RestartsLegally defaults start past image
+  cut_step start past command work new image works h w i m = cut_legal defaults start past command image h w (works.cut image i m).1

@@ -1,6 +1,6 @@
 -- What the host was told is stored stays stored.
 use Rattle.std.proofs.Common.{◌≡◌, ℕ, ◌<◌, ◌||◌, Bool, true, false, if◌then◌else◌, is_some, Option, Some, None, Result, Ok, Err, List, [], ◌∷◌, ◌++◌, drop, refl, sym, ◌∙◌, append_assoc, subst, ap}
-use Rattle.layers.specs.Codes.{layers, keys}
+use Rattle.layers.specs.Codes.{layers, keys, DefaultCodes}
 use Rattle.layers.specs.Entries.{written}
 use Rattle.layers.specs.declared.code.KeymapError.{KeymapError}
 use Rattle.layers.specs.declared.command.Command.{Command}
@@ -32,103 +32,8 @@ use Rattle.keyboard.proofs.Served.{Serves, serves}
 use Rattle.keyboard.proofs.Effects.{Effect, stays, takes, settles, fails, effect, Accepts, accepted_by}
 use Rattle.keyboard.proofs.Sessions.{Orderly, orderly, working_after, after_stays, after_takes, after_settles, after_fails, AfterTaken, now_works, changed_nothing}
 
--- the entry has the code, and the command that works, if one does, leaves it
-record Stored (start : List ℕ) (past : List Call) (layer key code : ℕ) : Type 0 where
-  entry_is : keymap (image_after start past) layer key ≡ code
-  left_alone : DoesNotWrite layer key (working start past)
-
--- the working command leaves the entry
-left_by : (start : List ℕ) (past : List Call) (layer key code : ℕ) (command : Command) → Stored start past layer key code → working start past ≡ Some command → written command layer key ≡ None
-left_by start past layer key code command s w = rw w at s.left_alone
-
--- a call more keeps it, if the command that it accepts leaves the entry
-stored_more : (start : List ℕ) (before : List Call) (call : Call) (layer key code : ℕ) → layer < layers → key < keys → Orderly start before → Effect start before call
-    → DoesNotWrite layer key (accepts before call) → Stored start before layer key code → Stored start (call ∷ before) layer key code
-stored_more start before call layer key code l k o (stays n a e) leaves s =
-    let w : working start (call ∷ before) ≡ working start before = working_after start before call (working start before) (after_stays start before call o n a e) in
-    record { entry_is = e layer key l k ∙ s.entry_is; left_alone = rw w s.left_alone }
-stored_more start before call layer key code l k o (takes command n a e free) leaves s = by_taken (after_takes start before call command o n a e free)
-  where
-    entry : keymap (image_after start (call ∷ before)) layer key ≡ code
-    entry = ap (λ (image : List ℕ). keymap image layer key) e ∙ s.entry_is
-
-    by_taken : AfterTaken start before call command → Stored start (call ∷ before) layer key code
-    by_taken (now_works c x) = record { entry_is = entry; left_alone = (let w : working start (call ∷ before) ≡ Some command = working_after start before call (Some command) x in rw w (rw a at leaves)) }
-    by_taken (changed_nothing c x) = record { entry_is = entry; left_alone = (let w : working start (call ∷ before) ≡ None = working_after start before call None x in rw w tt) }
-stored_more start before call layer key code l k o (settles command a n w e) leaves s =
-    let left : written command layer key ≡ None = left_by start before layer key code command s w in
-    let now : working start (call ∷ before) ≡ None = working_after start before call None (after_settles start before call command o a n w e) in
-    record {
-      entry_is = e layer key l k ∙ changed-one (keymap (image_after start before)) command layer key ∙ rw left s.entry_is;
-      left_alone = rw now tt;
-    }
-stored_more start before call layer key code l k o (fails command a n w e) leaves s =
-    let now : working start (call ∷ before) ≡ None = working_after start before call None (after_fails start before call command o a n w e) in
-    record { entry_is = e layer key l k ∙ s.entry_is; left_alone = rw now tt }
-
--- any calls more
-stored : (start : List ℕ) (later past : List Call) (layer key code : ℕ) → layer < layers → key < keys → EachCall IsAnswered start (later ++ past) → NoneAcceptedWrites later past layer key
-    → Stored start past layer key code → Stored start (later ++ past) layer key code
-stored start [] past layer key code l k h n s = s
-stored start (call ∷ later) past layer key code l k h n s =
-    stored_more start (later ++ past) call layer key code l k (orderly start (later ++ past) h.1) (effect start (later ++ past) call h.0) n.0
-    (stored start later past layer key code l k h.1 n.1 s)
-
--- the command waits for its record, or is stored, or failed
-data Told (start : List ℕ) (past before between : List Call) (layer key code : ℕ) (asked : Command) : Type 0 where
-  waits : fate (keymap (image_after start before)) asked between ≡ works → working start past ≡ Some asked → Told start past before between layer key code asked
-  is_stored : Stored start past layer key code → Told start past before between layer key code asked
-  has_failed : fate (keymap (image_after start before)) asked between ≡ failed → Told start past before between layer key code asked
-
 not_accepted : (o : Option Command) (command : Command) → o ≡ None → o ≡ Some command → ⊥
 not_accepted o command n s = cc
-
--- the packet that brings the command
-told_at_packet : (start : List ℕ) (before : List Call) (call : Call) (layer key code : ℕ) (asked : Command) → layer < layers → key < keys → written asked layer key ≡ Some code → Orderly start before → Effect start before call
-    → accepts before call ≡ Some asked → Told start (call ∷ before) before [] layer key code asked
-told_at_packet start before call layer key code asked l k gives o (stays n a e) s = absurd (not_accepted (accepts before call) asked a s)
-told_at_packet start before call layer key code asked l k gives o (settles command a n w e) s = absurd (not_accepted (accepts before call) asked n s)
-told_at_packet start before call layer key code asked l k gives o (fails command a n w e) s = absurd (not_accepted (accepts before call) asked n s)
-told_at_packet start before call layer key code asked l k gives o (takes command n a e free) s =
-    by_taken (after_takes start before call asked o n s e free)
-  where
-    by_taken : AfterTaken start before call asked → Told start (call ∷ before) before [] layer key code asked
-    by_taken (now_works c h) = waits (rw c refl) (working_after start before call (Some asked) h)
-    by_taken (changed_nothing c h) =
-        is_stored (record {
-          entry_is = ap (λ (image : List ℕ). keymap image layer key) e
-              ∙ sym (changes-false (keymap (image_after start before)) asked c layer key l k)
-              ∙ changed-one (keymap (image_after start before)) asked layer key ∙ rw gives refl;
-          left_alone = (let w : working start (call ∷ before) ≡ None = working_after start before call None h in rw w tt);
-        })
-
--- a later call
-told_more : (start : List ℕ) (past : List Call) (call : Call) (before between : List Call) (layer key code : ℕ) (asked : Command) → layer < layers → key < keys → written asked layer key ≡ Some code → Orderly start past → Effect start past call
-    → DoesNotWrite layer key (accepts past call) → Told start past before between layer key code asked → Told start (call ∷ past) before (call ∷ between) layer key code asked
-told_more start past call before between layer key code asked l k gives o effect leaves (is_stored s) = is_stored (stored_more start past call layer key code l k o effect leaves s)
-told_more start past call before between layer key code asked l k gives o effect leaves (has_failed f) =
-    has_failed (fate-more (keymap (image_after start before)) asked call between ∙ ap (ended_by call) f ∙ ended_by-failed call)
-told_more start past call before between layer key code asked l k gives o (stays n a e) leaves (waits f w) =
-    waits (fate-more (keymap (image_after start before)) asked call between ∙ n.keeps (fate (keymap (image_after start before)) asked between) ∙ f)
-    (working_after start past call (working start past) (after_stays start past call o n a e) ∙ w)
-told_more start past call before between layer key code asked l k gives o (takes command n a e free) leaves (waits f w) = absurd (free (rw w refl))
-told_more start past call before between layer key code asked l k gives o (fails command a n v e) leaves (waits f w) =
-    has_failed (fate-more (keymap (image_after start before)) asked call between ∙ ap (ended_by call) f ∙ a)
-told_more start past call before between layer key code asked l k gives o (settles command a n v e) leaves (waits f w) =
-    let same : command ≡ asked = cc in
-    let now : working start (call ∷ past) ≡ None = working_after start past call None (after_settles start past call command o a n v e) in
-    is_stored (record {
-      entry_is = e layer key l k ∙ changed-one (keymap (image_after start past)) command layer key ∙ rw (same, gives) refl;
-      left_alone = rw now tt;
-    })
-
-told_between : (start : List ℕ) (between before : List Call) (call : Call) (layer key code : ℕ) (asked : Command) → layer < layers → key < keys → written asked layer key ≡ Some code
-    → EachCall IsAnswered start (between ++ call ∷ before) → NoneAcceptedWrites between (call ∷ before) layer key → accepts before call ≡ Some asked
-    → Told start (between ++ call ∷ before) before between layer key code asked
-told_between start [] before call layer key code asked l k gives h n s = told_at_packet start before call layer key code asked l k gives (orderly start before h.1) (effect start before call h.0) s
-told_between start (next ∷ between) before call layer key code asked l k gives h n s =
-    told_more start (between ++ call ∷ before) next before between layer key code asked l k gives (orderly start (between ++ call ∷ before) h.1) (effect start (between ++ call ∷ before) next h.0)
-    n.0 (told_between start between before call layer key code asked l k gives h.1 n.1 s)
 
 -- the endpoint's calls of a transfer whose feature report was taken, and what became of its command
 record TakenBy (calls : List EpCall) (state : CommandState) : Type 0 where
@@ -156,52 +61,16 @@ untaken_judged changing bytes packet Nak calls u e = u e
 untaken_judged changing bytes packet (Packet p) calls u e = u e
 untaken_judged changing bytes packet (Stall why) calls u e = u e
 
-untaken_out : (step : OutStep) (packet : List ℕ) (entries : ℕ → ℕ → ℕ) (answer : EpAnswer) (calls : List EpCall) → Untaken calls → Untaken (with_out step packet entries answer calls)
-untaken_out (Answered a) packet entries answer calls u e = u (or_false (is_ack a) (list_any acknowledges (calls_since calls)) e)
-untaken_out (Leds leds) packet entries answer calls u e = cc
-untaken_out (Offer bytes) packet entries answer calls u e = untaken_judged (changes_by entries (command_in bytes)) bytes packet answer calls u e
-
 ended_none : (state end : CommandState) → state ≡ NoCommand → state_after state end ≡ NoCommand
 ended_none NoCommand end e = refl
 ended_none Works end e = cc
 ended_none Settled end e = cc
 ended_none Failed end e = cc
 
-untaken : (start : List ℕ) (past : List Call) → Untaken (ep_calls start past)
-unfolding ep_calls
-untaken start [] e = refl
-untaken start (Scanned scan ∷ before) e = untaken start before e
-untaken start (SetUp bytes ∷ before) e = refl
-untaken start (Out packet answer ∷ before) e =
-    untaken_out (out_step (stage (ep_calls start before)) packet) packet (keymap (image_after start before)) answer (ep_calls start before) (untaken start before) e
-untaken start (In answer ∷ before) e = untaken start before e
-untaken start (Polled answer ∷ before) e = untaken start before e
-untaken start (Worked Work.Idle image ∷ before) e = untaken start before e
-untaken start (Worked Work.Working image ∷ before) e = untaken start before e
-untaken start (Worked Work.Settled image ∷ before) e = ended_none (command_state (calls_since (ep_calls start before))) Settled (untaken start before e)
-untaken start (Worked Work.Failed image ∷ before) e = ended_none (command_state (calls_since (ep_calls start before))) Failed (untaken start before e)
-untaken start (BusReset ∷ before) e = refl
-
 -- a feature report that was acknowledged was offered
 record Offered (now : Stage) (packet : List ℕ) : Type 0 where
   due : now ≡ Taking FeatureData
   step : out_step now packet ≡ Offer (drop 1 packet)
-
-offered_received : (image : List ℕ) (busy : Bool) (packet : List ℕ) (r : Result OutStep Why) → received_report FeatureData packet ≡ r → OutAnswer (report_step r) image busy Ack
-    → report_step r ≡ Offer (drop 1 packet)
-offered_received image busy packet (Err why) e a = cc
-offered_received image busy packet (Ok got) e a = sym (received_is FeatureData packet got e)
-
-offered_by : (image : List ℕ) (busy : Bool) (setup : Option (List ℕ)) (packet : List ℕ) (now : Stage) → Serves setup now → report_named setup ≡ Some FeatureData
-    → OutAnswer (out_step now packet) image busy Ack → Offered now packet
-offered_by image busy setup packet Rest s n a = cc
-offered_by image busy setup packet (Sending bytes asked sent) s n a = (let none : report_named setup ≡ None = s.0 in cc)
-offered_by image busy setup packet (Taking LedsWithId) s n a = (let led : report_named setup ≡ Some LedsWithId = s.0 in cc)
-offered_by image busy setup packet (Taking LedsAlone) s n a = (let led : report_named setup ≡ Some LedsAlone = s.0 in cc)
-offered_by image busy setup packet (Taking FeatureData) s n a = record { due = refl; step = offered_received image busy packet (received_report FeatureData packet) refl a }
-offered_by image busy setup packet Waiting s n a = cc
-offered_by image busy setup packet (Status effect) s n a = cc
-offered_by image busy setup packet (Stalled why) s n a = cc
 
 -- what the endpoint knows of a command, by what became of it
 abbrev state_told : Bool → Fate → CommandState
@@ -214,35 +83,6 @@ judged_state : (changing : Bool) (packet bytes : List ℕ) (calls : List EpCall)
     → command_state (calls_since (Judged (verdict_told changing Ack) Ack ∷ EpOut packet (Offer bytes) ∷ calls)) ≡ state_told changing works
 judged_state true packet bytes calls n = refl
 judged_state false packet bytes calls n = n
-
-taken_offered : (step : OutStep) (packet bytes : List ℕ) (entries : ℕ → ℕ → ℕ) (asked : Command) (calls : List EpCall) → step ≡ Offer bytes → command_in bytes ≡ Ok asked
-    → IsTaking FeatureData (first_stall (calls_since calls)) (last_setup calls) (progress_of (calls_since calls)) → Untaken calls
-    → TakenBy (with_out step packet entries Ack calls) (state_told (changes entries asked) works)
-taken_offered step packet bytes entries asked calls s c t u =
-    subst (λ (x : OutStep). TakenBy (with_out x packet entries Ack calls) (state_told (changes entries asked) works)) (sym s)
-    (record {
-      length = t.length;
-      begins = t.begins;
-      taken = refl;
-      command = judged_state (changes_by entries (command_in bytes)) packet bytes calls (u t.not_taken) ∙ ap (λ (r : Result Command KeymapError). state_told (changes_by entries r) works) c;
-    })
-
--- the packet that brings the command
-taken_at_packet : (start : List ℕ) (before : List Call) (packet : List ℕ) (answer : EpAnswer) (asked : Command) → accepts before (Out packet answer) ≡ Some asked
-    → IsAnswered start before (Out packet answer)
-    → TakenBy (ep_calls start (Out packet answer ∷ before)) (state_told (changes (keymap (image_after start before)) asked) works)
-unfolding ep_calls
-taken_at_packet start before packet answer asked s a =
-    let by : Accepts before packet answer asked = accepted_by before packet answer asked s in
-    let calls : List EpCall = ep_calls start before in
-    let entries : ℕ → ℕ → ℕ = keymap (image_after start before) in
-    let is : Offered (stage_after start before) packet =
-    offered_by (image_after start before) (is_some (working start before)) (setup_of before) packet (stage_after start before) (serves start before) by.names
-    (subst (λ (x : EpAnswer). OutAnswer (out_step (stage_after start before) packet) (image_after start before) (is_some (working start before)) x) by.acknowledged a) in
-    let due : IsTaking FeatureData (first_stall (calls_since calls)) (last_setup calls) (progress_of (calls_since calls)) =
-    taking_is FeatureData (first_stall (calls_since calls)) (last_setup calls) (progress_of (calls_since calls)) (sym is.due ∙ stage-is calls) in
-    subst (λ (x : EpAnswer). TakenBy (with_out (out_step (stage calls) packet) packet entries x calls) (state_told (changes entries asked) works)) (sym by.acknowledged)
-    (taken_offered (out_step (stage calls) packet) packet (drop 1 packet) entries asked calls is.step by.reads due (untaken start before))
 
 -- the stage of such a transfer
 taken_stage : (calls : List EpCall) (state : CommandState) → TakenBy calls state
@@ -260,51 +100,8 @@ stalls_out None NoCommand false packet = (_, refl)
 stalls_out None Settled true packet = (_, refl)
 stalls_out None Settled false packet = (_, refl)
 
-taken_answered : (step : OutStep) (packet : List ℕ) (entries : ℕ → ℕ → ℕ) (answer answered : EpAnswer) (calls : List EpCall) (state : CommandState) → step ≡ Answered answered → TakenBy calls state
-    → TakenBy (with_out step packet entries answer calls) state
-taken_answered step packet entries answer answered calls state s t =
-    subst (λ (x : OutStep). TakenBy (with_out x packet entries answer calls) state) (sym s)
-    (record { length = t.length; begins = t.begins; taken = or_true (is_ack answered) (list_any acknowledges (calls_since calls)) t.taken; command = t.command })
-
-taken_out : (packet : List ℕ) (entries : ℕ → ℕ → ℕ) (answer : EpAnswer) (calls : List EpCall) (state : CommandState) → TakenBy calls state
-    → TakenBy (with_out (out_step (stage calls) packet) packet entries answer calls) state
-taken_out packet entries answer calls state t =
-    let stalls = stalls_out (first_stall (calls_since calls)) state (list_any is_empty_in (calls_since calls)) packet in
-    taken_answered (out_step (stage calls) packet) packet entries answer stalls.0 calls state (ap (λ (now : Stage). out_step now packet) (taken_stage calls state t) ∙ stalls.1) t
-
-settled_state : (changing : Bool) (f : Fate) (image : List ℕ) → state_after (state_told changing f) Settled ≡ state_told changing (ended_by (Worked Work.Settled image) f)
-settled_state false f image = refl
-settled_state true works image = refl
-settled_state true settled image = refl
-settled_state true failed image = refl
-
-failed_state : (changing : Bool) (f : Fate) (image : List ℕ) → state_after (state_told changing f) Failed ≡ state_told changing (ended_by (Worked Work.Failed image) f)
-failed_state false f image = refl
-failed_state true works image = refl
-failed_state true settled image = refl
-failed_state true failed image = refl
-
 with_state : (calls : List EpCall) (state other : CommandState) → state ≡ other → TakenBy calls state → TakenBy calls other
 with_state calls state other e t = subst (λ (x : CommandState). TakenBy calls x) e t
-
--- a call of the same transfer
-taken_more : (start : List ℕ) (past : List Call) (call : Call) (changing : Bool) (between : List Call) → SameTransfer (call ∷ between) → TakenBy (ep_calls start past) (state_told changing (fate_after between))
-    → TakenBy (ep_calls start (call ∷ past)) (state_told changing (fate_after (call ∷ between)))
-unfolding ep_calls
-taken_more start past (Scanned scan) changing between same t = t
-taken_more start past (SetUp bytes) changing between same t = absurd same
-taken_more start past (Out packet answer) changing between same t = taken_out packet (keymap (image_after start past)) answer (ep_calls start past) (state_told changing (fate_after between)) t
-taken_more start past (In answer) changing between same t = record { length = t.length; begins = t.begins; taken = t.taken; command = t.command }
-taken_more start past (Polled answer) changing between same t = t
-taken_more start past (Worked Work.Idle image) changing between same t =
-    with_state (ep_calls start past) (state_told changing (fate_after between)) (state_told changing (ended_by (Worked Work.Idle image) (fate_after between))) (ap (state_told changing) (sym (ended_by-idle image (fate_after between)))) t
-taken_more start past (Worked Work.Working image) changing between same t =
-    with_state (ep_calls start past) (state_told changing (fate_after between)) (state_told changing (ended_by (Worked Work.Working image) (fate_after between))) (ap (state_told changing) (sym (ended_by-working image (fate_after between)))) t
-taken_more start past (Worked Work.Settled image) changing between same t =
-    record { length = t.length; begins = t.begins; taken = t.taken; command = ap (λ (x : CommandState). state_after x Settled) t.command ∙ settled_state changing (fate_after between) image }
-taken_more start past (Worked Work.Failed image) changing between same t =
-    record { length = t.length; begins = t.begins; taken = t.taken; command = ap (λ (x : CommandState). state_after x Failed) t.command ∙ failed_state changing (fate_after between) image }
-taken_more start past BusReset changing between same t = absurd same
 
 same_later : (call : Call) (between : List Call) → SameTransfer (call ∷ between) → SameTransfer between
 same_later (Scanned scan) between s = s
@@ -314,14 +111,6 @@ same_later (In answer) between s = s
 same_later (Polled answer) between s = s
 same_later (Worked work image) between s = s
 same_later BusReset between s = absurd s
-
-taken_between : (start : List ℕ) (between before : List Call) (packet : List ℕ) (answer : EpAnswer) (asked : Command) → SameTransfer between → accepts before (Out packet answer) ≡ Some asked
-    → IsAnswered start before (Out packet answer)
-    → TakenBy (ep_calls start (between ++ Out packet answer ∷ before)) (state_told (changes (keymap (image_after start before)) asked) (fate_after between))
-taken_between start [] before packet answer asked same s a = taken_at_packet start before packet answer asked s a
-taken_between start (call ∷ between) before packet answer asked same s a =
-    taken_more start (between ++ Out packet answer ∷ before) call (changes (keymap (image_after start before)) asked) between same
-    (taken_between start between before packet answer asked (same_later call between same) s a)
 
 -- the empty packet comes only once the command is settled
 ended_state : (stalled : Option Why) (state : CommandState) (confirmed : Bool) → Packet (record { items = [] }) ≡ in_answer (unless_stalled stalled (after_command state confirmed))
@@ -338,29 +127,11 @@ settled_fate true works w n = absurd (w refl)
 settled_fate true settled w n = refl
 settled_fate true failed w n = absurd (n refl)
 
-told_settled : (start : List ℕ) (between before : List Call) (packet : List ℕ) (answer : EpAnswer) (asked : Command) → SameTransfer between → accepts before (Out packet answer) ≡ Some asked
-    → IsAnswered start before (Out packet answer) → Packet (record { items = [] }) ≡ in_answer (stage_after start (between ++ Out packet answer ∷ before))
-    → fate (keymap (image_after start before)) asked between ≡ settled
-told_settled start between before packet answer asked same s a e =
-    let changing : Bool = changes (keymap (image_after start before)) asked in
-    let calls : List EpCall = ep_calls start (between ++ Out packet answer ∷ before) in
-    let state : CommandState = state_told changing (fate_after between) in
-    let t : TakenBy calls state = taken_between start between before packet answer asked same s a in
-    let ended = ended_state (first_stall (calls_since calls)) state (list_any is_empty_in (calls_since calls)) (e ∙ ap in_answer (taken_stage calls state t)) in
-    settled_fate changing (fate_after between) ended.0 ended.1
-
 settled_not_works : (f : Fate) → f ≡ works → f ≡ settled → ⊥
 settled_not_works f w s = cc
 
 settled_not_failed : (f : Fate) → f ≡ failed → f ≡ settled → ⊥
 settled_not_failed f w s = cc
-
--- so it is stored
-told_stored : (start : List ℕ) (between before past : List Call) (layer key code : ℕ) (asked : Command) → fate (keymap (image_after start before)) asked between ≡ settled
-    → Told start past before between layer key code asked → Stored start past layer key code
-told_stored start between before past layer key code asked done (is_stored s) = s
-told_stored start between before past layer key code asked done (waits f w) = absurd (settled_not_works (fate (keymap (image_after start before)) asked between) f done)
-told_stored start between before past layer key code asked done (has_failed f) = absurd (settled_not_failed (fate (keymap (image_after start before)) asked between) f done)
 
 -- a command comes with an OUT packet
 record IsOut (call : Call) : Type 0 where
@@ -382,40 +153,270 @@ pub EachCall-later : (P : List ℕ → List Call → Call → Type 0) (start : L
 EachCall-later P start [] past h = h
 EachCall-later P start (call ∷ later) past h = EachCall-later P start later past h.1
 
-NoneAcceptedWrites-later : (later earlier past : List Call) (layer key : ℕ) → NoneAcceptedWrites (later ++ earlier) past layer key → NoneAcceptedWrites earlier past layer key
-NoneAcceptedWrites-later [] earlier past layer key n = n
-NoneAcceptedWrites-later (call ∷ later) earlier past layer key n = NoneAcceptedWrites-later later earlier past layer key n.1
+module _ (defaults : DefaultCodes) where
+  -- the entry has the code, and the command that works, if one does, leaves it
+  record Stored (start : List ℕ) (past : List Call) (layer key code : ℕ) : Type 0 where
+    entry_is : keymap defaults (image_after start past) layer key ≡ code
+    left_alone : DoesNotWrite defaults layer key (working defaults start past)
 
-NoneAcceptedWrites-sooner : (later earlier past : List Call) (layer key : ℕ) → NoneAcceptedWrites (later ++ earlier) past layer key → NoneAcceptedWrites later (earlier ++ past) layer key
-NoneAcceptedWrites-sooner [] earlier past layer key n = tt
-NoneAcceptedWrites-sooner (call ∷ later) earlier past layer key n =
-    (subst (λ (xs : List Call). DoesNotWrite layer key (accepts xs call)) (append_assoc later earlier past) n.0, NoneAcceptedWrites-sooner later earlier past layer key n.1)
+  -- the working command leaves the entry
+  left_by : (start : List ℕ) (past : List Call) (layer key code : ℕ) (command : Command) → Stored start past layer key code → working defaults start past ≡ Some command → written defaults command layer key ≡ None
+  left_by start past layer key code command s w = rw w at s.left_alone
 
--- the command was settled when the empty packet came
-pub settled_here : (start : List ℕ) (between before : List Call) (call : Call) (asked : Command) → SameTransfer between → accepts before call ≡ Some asked → EachCall IsAnswered start (between ++ call ∷ before)
-    → Packet (record { items = [] }) ≡ in_answer (stage_after start (between ++ call ∷ before)) → fate (keymap (image_after start before)) asked between ≡ settled
-settled_here start between before call asked same s h e =
-    let o : IsOut call = accepts_out before call asked s in
-    let here : EachCall IsAnswered start (call ∷ before) = EachCall-later IsAnswered start between (call ∷ before) h in
-    told_settled start between before o.packet o.answer asked same (subst (λ (c : Call). accepts before c ≡ Some asked) o.is s)
-    (subst (λ (c : Call). IsAnswered start before c) o.is here.0)
-    (subst (λ (c : Call). Packet (record { items = [] }) ≡ in_answer (stage_after start (between ++ c ∷ before))) o.is e)
+  -- a call more keeps it, if the command that it accepts leaves the entry
+  stored_more : (start : List ℕ) (before : List Call) (call : Call) (layer key code : ℕ) → layer < layers → key < keys → Orderly defaults start before → Effect defaults start before call
+      → DoesNotWrite defaults layer key (accepts before call) → Stored start before layer key code → Stored start (call ∷ before) layer key code
+  stored_more start before call layer key code l k o (stays n a e) leaves s =
+      let w : working defaults start (call ∷ before) ≡ working defaults start before = working_after defaults start before call (working defaults start before) (after_stays defaults start before call o n a e) in
+      record { entry_is = e layer key l k ∙ s.entry_is; left_alone = rw w s.left_alone }
+  stored_more start before call layer key code l k o (takes command n a e free) leaves s = by_taken (after_takes defaults start before call command o n a e free)
+    where
+      entry : keymap defaults (image_after start (call ∷ before)) layer key ≡ code
+      entry = ap (λ (image : List ℕ). keymap defaults image layer key) e ∙ s.entry_is
 
--- what was acknowledged is what the flash says
-pub acknowledged : (start : List ℕ) (past : List Call) → EachCall IsAnswered start past → KeepsAcknowledged start past
-acknowledged start past h layer key code a =
-    let told : Call = In (Packet (record { items = [] })) in
-    let rest : List Call = a.between ++ a.packet ∷ a.before in
-    let is : past ≡ a.after ++ told ∷ rest = a.past_is ∙ append_assoc a.after (told ∷ a.between) (a.packet ∷ a.before) in
-    let all : EachCall IsAnswered start (a.after ++ told ∷ rest) = subst (λ (xs : List Call). EachCall IsAnswered start xs) is h in
-    let here : EachCall IsAnswered start (told ∷ rest) = EachCall-later IsAnswered start a.after (told ∷ rest) all in
-    let writes : NoneAcceptedWrites (told ∷ a.between) (a.packet ∷ a.before) layer key = NoneAcceptedWrites-later a.after (told ∷ a.between) (a.packet ∷ a.before) layer key a.not_since in
-    let there : Stored start rest layer key code =
-    told_stored start a.between a.before rest layer key code a.command
-    (settled_here start a.between a.before a.packet a.command a.same_transfer a.accepted here.1 here.0)
-    (told_between start a.between a.before a.packet layer key code a.command a.in_layers a.in_keys a.writes here.1 writes.1 a.accepted) in
-    let now : Stored start (told ∷ rest) layer key code =
-    stored_more start rest told layer key code a.in_layers a.in_keys (orderly start rest here.1) (effect start rest told here.0) writes.0 there in
-    let after : Stored start (a.after ++ told ∷ rest) layer key code =
-    stored start a.after (told ∷ rest) layer key code a.in_layers a.in_keys all (NoneAcceptedWrites-sooner a.after (told ∷ a.between) (a.packet ∷ a.before) layer key a.not_since) now in
-    subst (λ (xs : List Call). keymap (image_after start xs) layer key ≡ code) (sym is) after.entry_is
+      by_taken : AfterTaken defaults start before call command → Stored start (call ∷ before) layer key code
+      by_taken (now_works c x) = record { entry_is = entry; left_alone = (let w : working defaults start (call ∷ before) ≡ Some command = working_after defaults start before call (Some command) x in rw w (rw a at leaves)) }
+      by_taken (changed_nothing c x) = record { entry_is = entry; left_alone = (let w : working defaults start (call ∷ before) ≡ None = working_after defaults start before call None x in rw w tt) }
+  stored_more start before call layer key code l k o (settles command a n w e) leaves s =
+      let left : written defaults command layer key ≡ None = left_by start before layer key code command s w in
+      let now : working defaults start (call ∷ before) ≡ None = working_after defaults start before call None (after_settles defaults start before call command o a n w e) in
+      record {
+        entry_is = e layer key l k ∙ changed-one defaults (keymap defaults (image_after start before)) command layer key ∙ rw left s.entry_is;
+        left_alone = rw now tt;
+      }
+  stored_more start before call layer key code l k o (fails command a n w e) leaves s =
+      let now : working defaults start (call ∷ before) ≡ None = working_after defaults start before call None (after_fails defaults start before call command o a n w e) in
+      record { entry_is = e layer key l k ∙ s.entry_is; left_alone = rw now tt }
+
+  -- any calls more
+  stored : (start : List ℕ) (later past : List Call) (layer key code : ℕ) → layer < layers → key < keys → EachCall (IsAnswered defaults) start (later ++ past) → NoneAcceptedWrites defaults later past layer key
+      → Stored start past layer key code → Stored start (later ++ past) layer key code
+  stored start [] past layer key code l k h n s = s
+  stored start (call ∷ later) past layer key code l k h n s =
+      stored_more start (later ++ past) call layer key code l k (orderly defaults start (later ++ past) h.1) (effect defaults start (later ++ past) call h.0) n.0
+      (stored start later past layer key code l k h.1 n.1 s)
+
+  -- the command waits for its record, or is stored, or failed
+  data Told (start : List ℕ) (past before between : List Call) (layer key code : ℕ) (asked : Command) : Type 0 where
+    waits : fate defaults (keymap defaults (image_after start before)) asked between ≡ works → working defaults start past ≡ Some asked → Told start past before between layer key code asked
+    is_stored : Stored start past layer key code → Told start past before between layer key code asked
+    has_failed : fate defaults (keymap defaults (image_after start before)) asked between ≡ failed → Told start past before between layer key code asked
+
+  -- the packet that brings the command
+  told_at_packet : (start : List ℕ) (before : List Call) (call : Call) (layer key code : ℕ) (asked : Command) → layer < layers → key < keys → written defaults asked layer key ≡ Some code → Orderly defaults start before → Effect defaults start before call
+      → accepts before call ≡ Some asked → Told start (call ∷ before) before [] layer key code asked
+  told_at_packet start before call layer key code asked l k gives o (stays n a e) s = absurd (not_accepted (accepts before call) asked a s)
+  told_at_packet start before call layer key code asked l k gives o (settles command a n w e) s = absurd (not_accepted (accepts before call) asked n s)
+  told_at_packet start before call layer key code asked l k gives o (fails command a n w e) s = absurd (not_accepted (accepts before call) asked n s)
+  told_at_packet start before call layer key code asked l k gives o (takes command n a e free) s =
+      by_taken (after_takes defaults start before call asked o n s e free)
+    where
+      by_taken : AfterTaken defaults start before call asked → Told start (call ∷ before) before [] layer key code asked
+      by_taken (now_works c h) = waits (rw c refl) (working_after defaults start before call (Some asked) h)
+      by_taken (changed_nothing c h) =
+          is_stored (record {
+            entry_is = ap (λ (image : List ℕ). keymap defaults image layer key) e
+                ∙ sym (changes-false defaults (keymap defaults (image_after start before)) asked c layer key l k)
+                ∙ changed-one defaults (keymap defaults (image_after start before)) asked layer key ∙ rw gives refl;
+            left_alone = (let w : working defaults start (call ∷ before) ≡ None = working_after defaults start before call None h in rw w tt);
+          })
+
+  -- a later call
+  told_more : (start : List ℕ) (past : List Call) (call : Call) (before between : List Call) (layer key code : ℕ) (asked : Command) → layer < layers → key < keys → written defaults asked layer key ≡ Some code → Orderly defaults start past → Effect defaults start past call
+      → DoesNotWrite defaults layer key (accepts past call) → Told start past before between layer key code asked → Told start (call ∷ past) before (call ∷ between) layer key code asked
+  told_more start past call before between layer key code asked l k gives o effect leaves (is_stored s) = is_stored (stored_more start past call layer key code l k o effect leaves s)
+  told_more start past call before between layer key code asked l k gives o effect leaves (has_failed f) =
+      has_failed (fate-more defaults (keymap defaults (image_after start before)) asked call between ∙ ap (ended_by defaults call) f ∙ ended_by-failed defaults call)
+  told_more start past call before between layer key code asked l k gives o (stays n a e) leaves (waits f w) =
+      waits (fate-more defaults (keymap defaults (image_after start before)) asked call between ∙ n.keeps (fate defaults (keymap defaults (image_after start before)) asked between) ∙ f)
+      (working_after defaults start past call (working defaults start past) (after_stays defaults start past call o n a e) ∙ w)
+  told_more start past call before between layer key code asked l k gives o (takes command n a e free) leaves (waits f w) = absurd (free (rw w refl))
+  told_more start past call before between layer key code asked l k gives o (fails command a n v e) leaves (waits f w) =
+      has_failed (fate-more defaults (keymap defaults (image_after start before)) asked call between ∙ ap (ended_by defaults call) f ∙ a)
+  told_more start past call before between layer key code asked l k gives o (settles command a n v e) leaves (waits f w) =
+      let same : command ≡ asked = cc in
+      let now : working defaults start (call ∷ past) ≡ None = working_after defaults start past call None (after_settles defaults start past call command o a n v e) in
+      is_stored (record {
+        entry_is = e layer key l k ∙ changed-one defaults (keymap defaults (image_after start past)) command layer key ∙ rw (same, gives) refl;
+        left_alone = rw now tt;
+      })
+
+  told_between : (start : List ℕ) (between before : List Call) (call : Call) (layer key code : ℕ) (asked : Command) → layer < layers → key < keys → written defaults asked layer key ≡ Some code
+      → EachCall (IsAnswered defaults) start (between ++ call ∷ before) → NoneAcceptedWrites defaults between (call ∷ before) layer key → accepts before call ≡ Some asked
+      → Told start (between ++ call ∷ before) before between layer key code asked
+  told_between start [] before call layer key code asked l k gives h n s = told_at_packet start before call layer key code asked l k gives (orderly defaults start before h.1) (effect defaults start before call h.0) s
+  told_between start (next ∷ between) before call layer key code asked l k gives h n s =
+      told_more start (between ++ call ∷ before) next before between layer key code asked l k gives (orderly defaults start (between ++ call ∷ before) h.1) (effect defaults start (between ++ call ∷ before) next h.0)
+      n.0 (told_between start between before call layer key code asked l k gives h.1 n.1 s)
+
+  untaken_out : (step : OutStep) (packet : List ℕ) (entries : ℕ → ℕ → ℕ) (answer : EpAnswer) (calls : List EpCall) → Untaken calls → Untaken (with_out defaults step packet entries answer calls)
+  untaken_out (Answered a) packet entries answer calls u e = u (or_false (is_ack a) (list_any acknowledges (calls_since calls)) e)
+  untaken_out (Leds leds) packet entries answer calls u e = cc
+  untaken_out (Offer bytes) packet entries answer calls u e = untaken_judged (changes_by defaults entries (command_in bytes)) bytes packet answer calls u e
+
+  untaken : (start : List ℕ) (past : List Call) → Untaken (ep_calls defaults start past)
+  unfolding ep_calls
+  untaken start [] e = refl
+  untaken start (Scanned scan ∷ before) e = untaken start before e
+  untaken start (SetUp bytes ∷ before) e = refl
+  untaken start (Out packet answer ∷ before) e =
+      untaken_out (out_step (stage (ep_calls defaults start before)) packet) packet (keymap defaults (image_after start before)) answer (ep_calls defaults start before) (untaken start before) e
+  untaken start (In answer ∷ before) e = untaken start before e
+  untaken start (Polled answer ∷ before) e = untaken start before e
+  untaken start (Worked Work.Idle image ∷ before) e = untaken start before e
+  untaken start (Worked Work.Working image ∷ before) e = untaken start before e
+  untaken start (Worked Work.Settled image ∷ before) e = ended_none (command_state (calls_since (ep_calls defaults start before))) Settled (untaken start before e)
+  untaken start (Worked Work.Failed image ∷ before) e = ended_none (command_state (calls_since (ep_calls defaults start before))) Failed (untaken start before e)
+  untaken start (BusReset ∷ before) e = refl
+
+  offered_received : (image : List ℕ) (busy : Bool) (packet : List ℕ) (r : Result OutStep Why) → received_report FeatureData packet ≡ r → OutAnswer defaults (report_step r) image busy Ack
+      → report_step r ≡ Offer (drop 1 packet)
+  offered_received image busy packet (Err why) e a = cc
+  offered_received image busy packet (Ok got) e a = sym (received_is FeatureData packet got e)
+
+  offered_by : (image : List ℕ) (busy : Bool) (setup : Option (List ℕ)) (packet : List ℕ) (now : Stage) → Serves setup now → report_named setup ≡ Some FeatureData
+      → OutAnswer defaults (out_step now packet) image busy Ack → Offered now packet
+  offered_by image busy setup packet Rest s n a = cc
+  offered_by image busy setup packet (Sending bytes asked sent) s n a = (let none : report_named setup ≡ None = s.0 in cc)
+  offered_by image busy setup packet (Taking LedsWithId) s n a = (let led : report_named setup ≡ Some LedsWithId = s.0 in cc)
+  offered_by image busy setup packet (Taking LedsAlone) s n a = (let led : report_named setup ≡ Some LedsAlone = s.0 in cc)
+  offered_by image busy setup packet (Taking FeatureData) s n a = record { due = refl; step = offered_received image busy packet (received_report FeatureData packet) refl a }
+  offered_by image busy setup packet Waiting s n a = cc
+  offered_by image busy setup packet (Status effect) s n a = cc
+  offered_by image busy setup packet (Stalled why) s n a = cc
+
+  taken_offered : (step : OutStep) (packet bytes : List ℕ) (entries : ℕ → ℕ → ℕ) (asked : Command) (calls : List EpCall) → step ≡ Offer bytes → command_in bytes ≡ Ok asked
+      → IsTaking FeatureData (first_stall (calls_since calls)) (last_setup calls) (progress_of (calls_since calls)) → Untaken calls
+      → TakenBy (with_out defaults step packet entries Ack calls) (state_told (changes defaults entries asked) works)
+  taken_offered step packet bytes entries asked calls s c t u =
+      subst (λ (x : OutStep). TakenBy (with_out defaults x packet entries Ack calls) (state_told (changes defaults entries asked) works)) (sym s)
+      (record {
+        length = t.length;
+        begins = t.begins;
+        taken = refl;
+        command = judged_state (changes_by defaults entries (command_in bytes)) packet bytes calls (u t.not_taken) ∙ ap (λ (r : Result Command KeymapError). state_told (changes_by defaults entries r) works) c;
+      })
+
+  -- the packet that brings the command
+  taken_at_packet : (start : List ℕ) (before : List Call) (packet : List ℕ) (answer : EpAnswer) (asked : Command) → accepts before (Out packet answer) ≡ Some asked
+      → IsAnswered defaults start before (Out packet answer)
+      → TakenBy (ep_calls defaults start (Out packet answer ∷ before)) (state_told (changes defaults (keymap defaults (image_after start before)) asked) works)
+  unfolding ep_calls
+  taken_at_packet start before packet answer asked s a =
+      let by : Accepts before packet answer asked = accepted_by before packet answer asked s in
+      let calls : List EpCall = ep_calls defaults start before in
+      let entries : ℕ → ℕ → ℕ = keymap defaults (image_after start before) in
+      let is : Offered (stage_after defaults start before) packet =
+      offered_by (image_after start before) (is_some (working defaults start before)) (setup_of before) packet (stage_after defaults start before) (serves defaults start before) by.names
+      (subst (λ (x : EpAnswer). OutAnswer defaults (out_step (stage_after defaults start before) packet) (image_after start before) (is_some (working defaults start before)) x) by.acknowledged a) in
+      let due : IsTaking FeatureData (first_stall (calls_since calls)) (last_setup calls) (progress_of (calls_since calls)) =
+      taking_is FeatureData (first_stall (calls_since calls)) (last_setup calls) (progress_of (calls_since calls)) (sym is.due ∙ stage-is calls) in
+      subst (λ (x : EpAnswer). TakenBy (with_out defaults (out_step (stage calls) packet) packet entries x calls) (state_told (changes defaults entries asked) works)) (sym by.acknowledged)
+      (taken_offered (out_step (stage calls) packet) packet (drop 1 packet) entries asked calls is.step by.reads due (untaken start before))
+
+  taken_answered : (step : OutStep) (packet : List ℕ) (entries : ℕ → ℕ → ℕ) (answer answered : EpAnswer) (calls : List EpCall) (state : CommandState) → step ≡ Answered answered → TakenBy calls state
+      → TakenBy (with_out defaults step packet entries answer calls) state
+  taken_answered step packet entries answer answered calls state s t =
+      subst (λ (x : OutStep). TakenBy (with_out defaults x packet entries answer calls) state) (sym s)
+      (record { length = t.length; begins = t.begins; taken = or_true (is_ack answered) (list_any acknowledges (calls_since calls)) t.taken; command = t.command })
+
+  taken_out : (packet : List ℕ) (entries : ℕ → ℕ → ℕ) (answer : EpAnswer) (calls : List EpCall) (state : CommandState) → TakenBy calls state
+      → TakenBy (with_out defaults (out_step (stage calls) packet) packet entries answer calls) state
+  taken_out packet entries answer calls state t =
+      let stalls = stalls_out (first_stall (calls_since calls)) state (list_any is_empty_in (calls_since calls)) packet in
+      taken_answered (out_step (stage calls) packet) packet entries answer stalls.0 calls state (ap (λ (now : Stage). out_step now packet) (taken_stage calls state t) ∙ stalls.1) t
+
+  settled_state : (changing : Bool) (f : Fate) (image : List ℕ) → state_after (state_told changing f) Settled ≡ state_told changing (ended_by defaults (Worked Work.Settled image) f)
+  settled_state false f image = refl
+  settled_state true works image = refl
+  settled_state true settled image = refl
+  settled_state true failed image = refl
+
+  failed_state : (changing : Bool) (f : Fate) (image : List ℕ) → state_after (state_told changing f) Failed ≡ state_told changing (ended_by defaults (Worked Work.Failed image) f)
+  failed_state false f image = refl
+  failed_state true works image = refl
+  failed_state true settled image = refl
+  failed_state true failed image = refl
+
+  -- a call of the same transfer
+  taken_more : (start : List ℕ) (past : List Call) (call : Call) (changing : Bool) (between : List Call) → SameTransfer (call ∷ between) → TakenBy (ep_calls defaults start past) (state_told changing (fate_after defaults between))
+      → TakenBy (ep_calls defaults start (call ∷ past)) (state_told changing (fate_after defaults (call ∷ between)))
+  unfolding ep_calls
+  taken_more start past (Scanned scan) changing between same t = t
+  taken_more start past (SetUp bytes) changing between same t = absurd same
+  taken_more start past (Out packet answer) changing between same t = taken_out packet (keymap defaults (image_after start past)) answer (ep_calls defaults start past) (state_told changing (fate_after defaults between)) t
+  taken_more start past (In answer) changing between same t = record { length = t.length; begins = t.begins; taken = t.taken; command = t.command }
+  taken_more start past (Polled answer) changing between same t = t
+  taken_more start past (Worked Work.Idle image) changing between same t =
+      with_state (ep_calls defaults start past) (state_told changing (fate_after defaults between)) (state_told changing (ended_by defaults (Worked Work.Idle image) (fate_after defaults between))) (ap (state_told changing) (sym (ended_by-idle defaults image (fate_after defaults between)))) t
+  taken_more start past (Worked Work.Working image) changing between same t =
+      with_state (ep_calls defaults start past) (state_told changing (fate_after defaults between)) (state_told changing (ended_by defaults (Worked Work.Working image) (fate_after defaults between))) (ap (state_told changing) (sym (ended_by-working defaults image (fate_after defaults between)))) t
+  taken_more start past (Worked Work.Settled image) changing between same t =
+      record { length = t.length; begins = t.begins; taken = t.taken; command = ap (λ (x : CommandState). state_after x Settled) t.command ∙ settled_state changing (fate_after defaults between) image }
+  taken_more start past (Worked Work.Failed image) changing between same t =
+      record { length = t.length; begins = t.begins; taken = t.taken; command = ap (λ (x : CommandState). state_after x Failed) t.command ∙ failed_state changing (fate_after defaults between) image }
+  taken_more start past BusReset changing between same t = absurd same
+
+  taken_between : (start : List ℕ) (between before : List Call) (packet : List ℕ) (answer : EpAnswer) (asked : Command) → SameTransfer between → accepts before (Out packet answer) ≡ Some asked
+      → IsAnswered defaults start before (Out packet answer)
+      → TakenBy (ep_calls defaults start (between ++ Out packet answer ∷ before)) (state_told (changes defaults (keymap defaults (image_after start before)) asked) (fate_after defaults between))
+  taken_between start [] before packet answer asked same s a = taken_at_packet start before packet answer asked s a
+  taken_between start (call ∷ between) before packet answer asked same s a =
+      taken_more start (between ++ Out packet answer ∷ before) call (changes defaults (keymap defaults (image_after start before)) asked) between same
+      (taken_between start between before packet answer asked (same_later call between same) s a)
+
+  told_settled : (start : List ℕ) (between before : List Call) (packet : List ℕ) (answer : EpAnswer) (asked : Command) → SameTransfer between → accepts before (Out packet answer) ≡ Some asked
+      → IsAnswered defaults start before (Out packet answer) → Packet (record { items = [] }) ≡ in_answer (stage_after defaults start (between ++ Out packet answer ∷ before))
+      → fate defaults (keymap defaults (image_after start before)) asked between ≡ settled
+  told_settled start between before packet answer asked same s a e =
+      let changing : Bool = changes defaults (keymap defaults (image_after start before)) asked in
+      let calls : List EpCall = ep_calls defaults start (between ++ Out packet answer ∷ before) in
+      let state : CommandState = state_told changing (fate_after defaults between) in
+      let t : TakenBy calls state = taken_between start between before packet answer asked same s a in
+      let ended = ended_state (first_stall (calls_since calls)) state (list_any is_empty_in (calls_since calls)) (e ∙ ap in_answer (taken_stage calls state t)) in
+      settled_fate changing (fate_after defaults between) ended.0 ended.1
+
+  -- so it is stored
+  told_stored : (start : List ℕ) (between before past : List Call) (layer key code : ℕ) (asked : Command) → fate defaults (keymap defaults (image_after start before)) asked between ≡ settled
+      → Told start past before between layer key code asked → Stored start past layer key code
+  told_stored start between before past layer key code asked done (is_stored s) = s
+  told_stored start between before past layer key code asked done (waits f w) = absurd (settled_not_works (fate defaults (keymap defaults (image_after start before)) asked between) f done)
+  told_stored start between before past layer key code asked done (has_failed f) = absurd (settled_not_failed (fate defaults (keymap defaults (image_after start before)) asked between) f done)
+
+  NoneAcceptedWrites-later : (later earlier past : List Call) (layer key : ℕ) → NoneAcceptedWrites defaults (later ++ earlier) past layer key → NoneAcceptedWrites defaults earlier past layer key
+  NoneAcceptedWrites-later [] earlier past layer key n = n
+  NoneAcceptedWrites-later (call ∷ later) earlier past layer key n = NoneAcceptedWrites-later later earlier past layer key n.1
+
+  NoneAcceptedWrites-sooner : (later earlier past : List Call) (layer key : ℕ) → NoneAcceptedWrites defaults (later ++ earlier) past layer key → NoneAcceptedWrites defaults later (earlier ++ past) layer key
+  NoneAcceptedWrites-sooner [] earlier past layer key n = tt
+  NoneAcceptedWrites-sooner (call ∷ later) earlier past layer key n =
+      (subst (λ (xs : List Call). DoesNotWrite defaults layer key (accepts xs call)) (append_assoc later earlier past) n.0, NoneAcceptedWrites-sooner later earlier past layer key n.1)
+
+  -- the command was settled when the empty packet came
+  pub settled_here : (start : List ℕ) (between before : List Call) (call : Call) (asked : Command) → SameTransfer between → accepts before call ≡ Some asked → EachCall (IsAnswered defaults) start (between ++ call ∷ before)
+      → Packet (record { items = [] }) ≡ in_answer (stage_after defaults start (between ++ call ∷ before)) → fate defaults (keymap defaults (image_after start before)) asked between ≡ settled
+  settled_here start between before call asked same s h e =
+      let o : IsOut call = accepts_out before call asked s in
+      let here : EachCall (IsAnswered defaults) start (call ∷ before) = EachCall-later (IsAnswered defaults) start between (call ∷ before) h in
+      told_settled start between before o.packet o.answer asked same (subst (λ (c : Call). accepts before c ≡ Some asked) o.is s)
+      (subst (λ (c : Call). IsAnswered defaults start before c) o.is here.0)
+      (subst (λ (c : Call). Packet (record { items = [] }) ≡ in_answer (stage_after defaults start (between ++ c ∷ before))) o.is e)
+
+  -- what was acknowledged is what the flash says
+  pub acknowledged : (start : List ℕ) (past : List Call) → EachCall (IsAnswered defaults) start past → KeepsAcknowledged defaults start past
+  acknowledged start past h layer key code a =
+      let told : Call = In (Packet (record { items = [] })) in
+      let rest : List Call = a.between ++ a.packet ∷ a.before in
+      let is : past ≡ a.after ++ told ∷ rest = a.past_is ∙ append_assoc a.after (told ∷ a.between) (a.packet ∷ a.before) in
+      let all : EachCall (IsAnswered defaults) start (a.after ++ told ∷ rest) = subst (λ (xs : List Call). EachCall (IsAnswered defaults) start xs) is h in
+      let here : EachCall (IsAnswered defaults) start (told ∷ rest) = EachCall-later (IsAnswered defaults) start a.after (told ∷ rest) all in
+      let writes : NoneAcceptedWrites defaults (told ∷ a.between) (a.packet ∷ a.before) layer key = NoneAcceptedWrites-later a.after (told ∷ a.between) (a.packet ∷ a.before) layer key a.not_since in
+      let there : Stored start rest layer key code =
+      told_stored start a.between a.before rest layer key code a.command
+      (settled_here start a.between a.before a.packet a.command a.same_transfer a.accepted here.1 here.0)
+      (told_between start a.between a.before a.packet layer key code a.command a.in_layers a.in_keys a.writes here.1 writes.1 a.accepted) in
+      let now : Stored start (told ∷ rest) layer key code =
+      stored_more start rest told layer key code a.in_layers a.in_keys (orderly defaults start rest here.1) (effect defaults start rest told here.0) writes.0 there in
+      let after : Stored start (a.after ++ told ∷ rest) layer key code =
+      stored start a.after (told ∷ rest) layer key code a.in_layers a.in_keys all (NoneAcceptedWrites-sooner a.after (told ∷ a.between) (a.packet ∷ a.before) layer key a.not_since) now in
+      subst (λ (xs : List Call). keymap defaults (image_after start xs) layer key ≡ code) (sym is) after.entry_is

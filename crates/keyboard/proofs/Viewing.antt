@@ -3,6 +3,7 @@ use Rattle.std.proofs.Common.{◌≡◌, ℕ, ◌<◌, ◌%◌, ◌/◌, List, [
 use Rattle.reports.specs.declared.Protocol.{Protocol}
 use Rattle.reports.specs.declared.Input.TheVariants.{Boot, One, Two}
 use Rattle.reports.specs.Poll.{idle_value}
+use Rattle.layers.specs.Codes.{DefaultCodes}
 use Rattle.key_reports.specs.Past.{wanted_after, poller_calls}
 use Rattle.control_ep.specs.declared.answer.DeviceView.{DeviceView}
 use Rattle.keyboard.specs.Calls.{Call, image_after, keymap}
@@ -22,35 +23,36 @@ feature_is entry entries layer key code bytes l k c f e =
     let is : code ≡ entries entry.layer entry.key = c ∙ rw (l, k) refl in
     rw (low_byte code bytes e, high_byte code bytes f e, is, l, k) refl
 
--- each part of the view after a session
-pub view_protocol : (start : List ℕ) (past : List Call) (view : DeviceView) (x : Protocol) → view ≡ view_after start past → x ≡ protocol_after past → x ≡ view.protocol
-unfolding view_after
-view_protocol start past view x v e = e ∙ sym (ap (λ (d : DeviceView). d.protocol) v)
+module _ (defaults : DefaultCodes) where
+  -- each part of the view after a session
+  pub view_protocol : (start : List ℕ) (past : List Call) (view : DeviceView) (x : Protocol) → view ≡ view_after defaults start past → x ≡ protocol_after past → x ≡ view.protocol
+  unfolding view_after
+  view_protocol start past view x v e = e ∙ sym (ap (λ (d : DeviceView). d.protocol) v)
 
-pub view_idle_one : (start : List ℕ) (past : List Call) (view : DeviceView) (x : ℕ) → view ≡ view_after start past → x ≡ idle_value One (poller_calls (key_calls start past)) → x ≡ view.idle_one
-unfolding view_after
-view_idle_one start past view x v e = e ∙ sym (ap (λ (d : DeviceView). d.idle_one) v)
+  pub view_idle_one : (start : List ℕ) (past : List Call) (view : DeviceView) (x : ℕ) → view ≡ view_after defaults start past → x ≡ idle_value One (poller_calls (key_calls defaults start past)) → x ≡ view.idle_one
+  unfolding view_after
+  view_idle_one start past view x v e = e ∙ sym (ap (λ (d : DeviceView). d.idle_one) v)
 
-pub view_idle_two : (start : List ℕ) (past : List Call) (view : DeviceView) (x : ℕ) → view ≡ view_after start past → x ≡ idle_value Two (poller_calls (key_calls start past)) → x ≡ view.idle_two
-unfolding view_after
-view_idle_two start past view x v e = e ∙ sym (ap (λ (d : DeviceView). d.idle_two) v)
+  pub view_idle_two : (start : List ℕ) (past : List Call) (view : DeviceView) (x : ℕ) → view ≡ view_after defaults start past → x ≡ idle_value Two (poller_calls (key_calls defaults start past)) → x ≡ view.idle_two
+  unfolding view_after
+  view_idle_two start past view x v e = e ∙ sym (ap (λ (d : DeviceView). d.idle_two) v)
 
-pub view_leds : (start : List ℕ) (past : List Call) (view : DeviceView) (x : ℕ) → view ≡ view_after start past → x ≡ leds_after past → x ≡ view.leds
-unfolding view_after
-view_leds start past view x v e = e ∙ sym (ap (λ (d : DeviceView). d.leds) v)
+  pub view_leds : (start : List ℕ) (past : List Call) (view : DeviceView) (x : ℕ) → view ≡ view_after defaults start past → x ≡ leds_after past → x ≡ view.leds
+  unfolding view_after
+  view_leds start past view x v e = e ∙ sym (ap (λ (d : DeviceView). d.leds) v)
 
-pub view_feature : (start : List ℕ) (past : List Call) (view : DeviceView) (x : List ℕ) → view ≡ view_after start past → x ≡ feature_report (selected past) (keymap (image_after start past)) → x ≡ view.feature
-unfolding view_after
-view_feature start past view x v e = e ∙ sym (ap (λ (d : DeviceView). d.feature) v)
+  pub view_feature : (start : List ℕ) (past : List Call) (view : DeviceView) (x : List ℕ) → view ≡ view_after defaults start past → x ≡ feature_report (selected past) (keymap defaults (image_after start past)) → x ≡ view.feature
+  unfolding view_after
+  view_feature start past view x v e = e ∙ sym (ap (λ (d : DeviceView). d.feature) v)
 
-pub view_bitmap : (start : List ℕ) (past : List Call) (view : DeviceView) (x : List ℕ) → view ≡ view_after start past → x ≡ wanted_after (key_calls start past) One → x ≡ view.bitmap
-unfolding view_after
-view_bitmap start past view x v e = e ∙ sym (ap (λ (d : DeviceView). d.bitmap) v)
+  pub view_bitmap : (start : List ℕ) (past : List Call) (view : DeviceView) (x : List ℕ) → view ≡ view_after defaults start past → x ≡ wanted_after (key_calls defaults start past) One → x ≡ view.bitmap
+  unfolding view_after
+  view_bitmap start past view x v e = e ∙ sym (ap (λ (d : DeviceView). d.bitmap) v)
 
-pub view_consumer : (start : List ℕ) (past : List Call) (view : DeviceView) (x : List ℕ) → view ≡ view_after start past → x ≡ wanted_after (key_calls start past) Two → x ≡ view.consumer
-unfolding view_after
-view_consumer start past view x v e = e ∙ sym (ap (λ (d : DeviceView). d.consumer) v)
+  pub view_consumer : (start : List ℕ) (past : List Call) (view : DeviceView) (x : List ℕ) → view ≡ view_after defaults start past → x ≡ wanted_after (key_calls defaults start past) Two → x ≡ view.consumer
+  unfolding view_after
+  view_consumer start past view x v e = e ∙ sym (ap (λ (d : DeviceView). d.consumer) v)
 
-pub view_boot : (start : List ℕ) (past : List Call) (view : DeviceView) (x : List ℕ) → view ≡ view_after start past → x ≡ wanted_after (key_calls start past) Boot → x ≡ view.boot
-unfolding view_after
-view_boot start past view x v e = e ∙ sym (ap (λ (d : DeviceView). d.boot) v)
+  pub view_boot : (start : List ℕ) (past : List Call) (view : DeviceView) (x : List ℕ) → view ≡ view_after defaults start past → x ≡ wanted_after (key_calls defaults start past) Boot → x ≡ view.boot
+  unfolding view_after
+  view_boot start past view x v e = e ∙ sym (ap (λ (d : DeviceView). d.boot) v)

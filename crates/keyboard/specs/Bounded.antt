@@ -1,6 +1,7 @@
 -- Believed: how many steps of the flash work a command takes.
 use Rattle.shapes.specs.Shapes.{Bytes}
 use Rattle.std.specs.Prelude.{ℕ, suc, ◌≤◌, IsSome, Option, Some, None, List, [], ◌∷◌}
+use Rattle.layers.specs.Codes.{DefaultCodes}
 use Rattle.layers.specs.declared.command.Command.{Command}
 use Rattle.keyboard.specs.Calls.{Call, Worked, image_after}
 use Rattle.keyboard.specs.Commands.{accepts, working}
@@ -34,6 +35,7 @@ unfoldable pub accepted_image : Bytes → List Call → Bytes
 accepted_image start [] = start
 accepted_image start (call ∷ before) = image_if (accepts before call) (image_after start before) (accepted_image start before)
 
--- while a command works fewer steps than the most were made for it, so it is settled or failed by the last of them
-abbrev pub IsInTime : Bytes → List Call → Type 0
-IsInTime start past = IsSome (working start past) → suc (steps_since past) ≤ most_steps
+module _ (defaults : DefaultCodes) where
+  -- while a command works fewer steps than the most were made for it, so it is settled or failed by the last of them
+  abbrev pub IsInTime : Bytes → List Call → Type 0
+  IsInTime start past = IsSome (working defaults start past) → suc (steps_since past) ≤ most_steps

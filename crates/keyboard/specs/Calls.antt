@@ -3,6 +3,7 @@ use Rattle.shapes.specs.Shapes.{Bytes}
 use Rattle.std.specs.Prelude.{ℕ, Option, None, Some, List, [], ◌∷◌}
 use Rattle.debounce.specs.declared.Scan.{Scan}
 use Rattle.control_ep.specs.declared.answer.EpAnswer.{EpAnswer}
+use Rattle.layers.specs.Codes.{DefaultCodes}
 use Rattle.keymap_store.specs.declared.store.Work.{Work}
 use Rattle.keymap_store.specs.Keymap.{entries_of}
 
@@ -29,10 +30,11 @@ image_after start [] = start
 image_after start (Worked work image ∷ before) = image
 image_after start (_ ∷ before) = image_after start before
 
--- the keymap of an image: the commands among the words of the active page, read by its format; the last writer of an
--- entry decides
-abbrev pub keymap : Bytes → ℕ → ℕ → ℕ
-keymap image = entries_of image
+module _ (defaults : DefaultCodes) where
+  -- the keymap of an image: the commands among the words of the active page, read by its format; the last writer of an
+  -- entry decides
+  abbrev pub keymap : Bytes → ℕ → ℕ → ℕ
+  keymap image = entries_of defaults image
 
 -- the SETUP packet of the transfer under way; none before the first one, and after a bus reset
 abbrev pub setup_of : List Call → Option Bytes

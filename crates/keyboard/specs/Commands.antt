@@ -3,6 +3,7 @@ use Rattle.shapes.specs.Shapes.{Bytes}
 use Rattle.std.specs.Prelude.{ℕ, Option, None, Some, List, [], ◌∷◌, ◌++◌, drop, map}
 use Rattle.std.specs.Option.{option_or, option_and_then}
 use Rattle.std.specs.Result.{result_ok}
+use Rattle.layers.specs.Codes.{DefaultCodes}
 use Rattle.layers.specs.declared.command.Command.{Command}
 use Rattle.control_ep.specs.Transfers.{HostReport, FeatureData}
 use Rattle.keyboard.specs.Calls.{Call, image_after, keymap}
@@ -28,21 +29,22 @@ command_in_report taken = option_and_then (λ sent. command_of sent.report sent.
 unfoldable pub accepts : List Call → Call → Option Command
 accepts before call = command_in_report (report_taken before call)
 
--- a command that a call accepts, with what became of it by the calls after
-abbrev pub accepted_with : (ℕ → ℕ → ℕ) → List Call → Option Command → List Accepted
-accepted_with entries after (Some command) = record { command = command; fate = fate entries command after } ∷ []
-accepted_with entries after None = []
+module _ (defaults : DefaultCodes) where
+  -- a command that a call accepts, with what became of it by the calls after
+  abbrev pub accepted_with : (ℕ → ℕ → ℕ) → List Call → Option Command → List Accepted
+  accepted_with entries after (Some command) = record { command = command; fate = fate defaults entries command after } ∷ []
+  accepted_with entries after None = []
 
--- the commands accepted in these calls, in order, each with what became of it by the calls `after` them, newest first
-abbrev pub accepted_before : Bytes → List Call → List Call → List Accepted
-accepted_before start after [] = []
-accepted_before start after (call ∷ before) =
-    accepted_before start (after ++ call ∷ []) before
-    ++ accepted_with (keymap (image_after start before)) after (accepts before call)
+  -- the commands accepted in these calls, in order, each with what became of it by the calls `after` them, newest first
+  abbrev pub accepted_before : Bytes → List Call → List Call → List Accepted
+  accepted_before start after [] = []
+  accepted_before start after (call ∷ before) =
+      accepted_before start (after ++ call ∷ []) before
+      ++ accepted_with (keymap defaults (image_after start before)) after (accepts before call)
 
--- the commands accepted in a session, in order
-unfoldable pub accepted : Bytes → List Call → List Accepted
-accepted start past = accepted_before start [] past
+  -- the commands accepted in a session, in order
+  unfoldable pub accepted : Bytes → List Call → List Accepted
+  accepted start past = accepted_before start [] past
 
 -- a command, where this became of it: that it works
 abbrev pub if_works : Fate → Command → Option Command
@@ -64,9 +66,10 @@ abbrev pub working_of : List Accepted → Option Command
 working_of [] = None
 working_of (one ∷ later) = option_or (working_of later) (if_works one.fate one.command)
 
--- the command that works after these calls, if one does: the keyboard is busy then
-unfoldable pub working : Bytes → List Call → Option Command
-working start past = working_of (accepted start past)
+module _ (defaults : DefaultCodes) where
+  -- the command that works after these calls, if one does: the keyboard is busy then
+  unfoldable pub working : Bytes → List Call → Option Command
+  working start past = working_of (accepted defaults start past)
 
 -- those that are settled, in order
 abbrev pub settled_of : List Accepted → List Command

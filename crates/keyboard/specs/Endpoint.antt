@@ -3,6 +3,7 @@ use Rattle.shapes.specs.Shapes.{Bytes}
 use Rattle.std.specs.Prelude.{ℕ, ◌%◌, ◌/◌, Bool, if◌then◌else◌, List, [], ◌∷◌}
 use Rattle.reports.specs.declared.Input.TheVariants.{Boot, One, Two}
 use Rattle.reports.specs.Poll.{idle_value}
+use Rattle.layers.specs.Codes.{DefaultCodes}
 use Rattle.key_reports.specs.Past.{wanted_after, poller_calls}
 use Rattle.control_ep.specs.declared.answer.DeviceView.{DeviceView}
 use Rattle.control_ep.specs.declared.answer.EpAnswer.{EpAnswer}
@@ -27,18 +28,19 @@ abbrev pub feature_report : Entry → (ℕ → ℕ → ℕ) → Bytes
 feature_report entry entries =
     3 ∷ 0 ∷ entry.layer ∷ entry.key ∷ entries entry.layer entry.key % 256 ∷ entries entry.layer entry.key / 256 ∷ []
 
--- the keyboard as a SETUP packet finds it: what was set, the selected entry, and the bytes that each report has now
-unfoldable pub view_after : Bytes → List Call → DeviceView
-view_after start past = record {
-  protocol = protocol_after past;
-  idle_one = idle_value One (poller_calls (key_calls start past));
-  idle_two = idle_value Two (poller_calls (key_calls start past));
-  leds = leds_after past;
-  feature = feature_report (selected past) (keymap (image_after start past));
-  bitmap = wanted_after (key_calls start past) One;
-  consumer = wanted_after (key_calls start past) Two;
-  boot = wanted_after (key_calls start past) Boot;
-}
+module _ (defaults : DefaultCodes) where
+  -- the keyboard as a SETUP packet finds it: what was set, the selected entry, and the bytes that each report has now
+  unfoldable pub view_after : Bytes → List Call → DeviceView
+  view_after start past = record {
+    protocol = protocol_after past;
+    idle_one = idle_value One (poller_calls (key_calls defaults start past));
+    idle_two = idle_value Two (poller_calls (key_calls defaults start past));
+    leds = leds_after past;
+    feature = feature_report (selected past) (keymap defaults (image_after start past));
+    bitmap = wanted_after (key_calls defaults start past) One;
+    consumer = wanted_after (key_calls defaults start past) Two;
+    boot = wanted_after (key_calls defaults start past) Boot;
+  }
 
 -- the verdict on a feature report, by the answer that was given: an acknowledged command works where it changes
 -- something, and is done where it does not; NAK, the only other answer to an OUT packet, is for a keyboard whose
@@ -48,25 +50,26 @@ verdict_told changing Ack = if changing then Working else Done
 verdict_told changing (Stall why) = Refused why
 verdict_told changing _ = Busy
 
--- an OUT packet, with the verdict on it where it was offered
-abbrev pub with_out : OutStep → Bytes → (ℕ → ℕ → ℕ) → EpAnswer → List EpCall → List EpCall
-with_out (Offer bytes) packet entries answer calls =
-    Judged (verdict_told (changes_by entries (command_in bytes)) answer) answer ∷ EpOut packet (Offer bytes) ∷ calls
-with_out step packet entries answer calls = EpOut packet step ∷ calls
+module _ (defaults : DefaultCodes) where
+  -- an OUT packet, with the verdict on it where it was offered
+  abbrev pub with_out : OutStep → Bytes → (ℕ → ℕ → ℕ) → EpAnswer → List EpCall → List EpCall
+  with_out (Offer bytes) packet entries answer calls =
+      Judged (verdict_told (changes_by defaults entries (command_in bytes)) answer) answer ∷ EpOut packet (Offer bytes) ∷ calls
+  with_out step packet entries answer calls = EpOut packet step ∷ calls
 
--- the keyboard's calls as those of its control endpoint: a step of the flash work is one where it ends a command, and a
--- scan or a poll is none
-unfoldable pub ep_calls : Bytes → List Call → List EpCall
-ep_calls start [] = []
-ep_calls start (SetUp bytes ∷ before) = Setup bytes (view_after start before) ∷ ep_calls start before
-ep_calls start (Out packet answer ∷ before) =
-    with_out (out_step (stage (ep_calls start before)) packet) packet (keymap (image_after start before)) answer (ep_calls start before)
-ep_calls start (In answer ∷ before) = EpIn answer (effect_told before answer) ∷ ep_calls start before
-ep_calls start (Worked Settled image ∷ before) = Settle ∷ ep_calls start before
-ep_calls start (Worked Failed image ∷ before) = Fail ∷ ep_calls start before
-ep_calls start (BusReset ∷ before) = Reset ∷ ep_calls start before
-ep_calls start (_ ∷ before) = ep_calls start before
+  -- the keyboard's calls as those of its control endpoint: a step of the flash work is one where it ends a command, and a
+  -- scan or a poll is none
+  unfoldable pub ep_calls : Bytes → List Call → List EpCall
+  ep_calls start [] = []
+  ep_calls start (SetUp bytes ∷ before) = Setup bytes (view_after defaults start before) ∷ ep_calls start before
+  ep_calls start (Out packet answer ∷ before) =
+      with_out (out_step (stage (ep_calls start before)) packet) packet (keymap defaults (image_after start before)) answer (ep_calls start before)
+  ep_calls start (In answer ∷ before) = EpIn answer (effect_told before answer) ∷ ep_calls start before
+  ep_calls start (Worked Settled image ∷ before) = Settle ∷ ep_calls start before
+  ep_calls start (Worked Failed image ∷ before) = Fail ∷ ep_calls start before
+  ep_calls start (BusReset ∷ before) = Reset ∷ ep_calls start before
+  ep_calls start (_ ∷ before) = ep_calls start before
 
--- the stage of the transfer
-abbrev pub stage_after : Bytes → List Call → Stage
-stage_after start past = stage (ep_calls start past)
+  -- the stage of the transfer
+  abbrev pub stage_after : Bytes → List Call → Stage
+  stage_after start past = stage (ep_calls start past)

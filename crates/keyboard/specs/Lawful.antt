@@ -1,6 +1,7 @@
 -- Believed: what each call is answered, by the calls before it.
 use Rattle.shapes.specs.Shapes.{Bytes}
-use Rattle.std.specs.Prelude.{◌≡◌, ℕ, Bool, is_some, Option, None, Some, List}
+use Rattle.std.specs.Prelude.{◌≡◌, Bool, is_some, Option, None, Some, List}
+use Rattle.layers.specs.Codes.{DefaultCodes}
 use Rattle.layers.specs.declared.command.Command.{Command}
 use Rattle.page_turnover.specs.declared.operation.Operation.{Operation}
 use Rattle.key_reports.specs.Past.{answer_after}
@@ -19,36 +20,37 @@ use Rattle.keyboard.specs.Feature.{FeatureAnswer}
 use Rattle.keyboard.specs.Commands.{working}
 use Rattle.keyboard.specs.Operated.{Works}
 
--- the answer to an OUT packet, by what it comes to in its stage: the endpoint's own; that LEDs are taken; or the one that
--- the checks of a feature report give, by this image and by whether the keyboard is busy with a command
-abbrev pub OutAnswer : OutStep → Bytes → Bool → EpAnswer → Type 0
-OutAnswer (Answered answered) image busy answer = answer ≡ answered
-OutAnswer (Leds leds) image busy answer = answer ≡ Ack
-OutAnswer (Offer bytes) image busy answer = FeatureAnswer image busy bytes answer
+module _ (defaults : DefaultCodes) where
+  -- the answer to an OUT packet, by what it comes to in its stage: the endpoint's own; that LEDs are taken; or the one that
+  -- the checks of a feature report give, by this image and by whether the keyboard is busy with a command
+  abbrev pub OutAnswer : OutStep → Bytes → Bool → EpAnswer → Type 0
+  OutAnswer (Answered answered) image busy answer = answer ≡ answered
+  OutAnswer (Leds leds) image busy answer = answer ≡ Ack
+  OutAnswer (Offer bytes) image busy answer = FeatureAnswer defaults image busy bytes answer
 
--- a step of the flash work. Where no command works nothing is operated
-abbrev pub WorkedOn : Bytes → List Call → Option Command → WorkAnswer → Bytes → Type 0
-WorkedOn start before None work new = (work ≡ Idle) × (new ≡ image_after start before)
-WorkedOn start before (Some command) work new = Works start before command (image_after start before) work new
+  -- a step of the flash work. Where no command works nothing is operated
+  abbrev pub WorkedOn : Bytes → List Call → Option Command → WorkAnswer → Bytes → Type 0
+  WorkedOn start before None work new = (work ≡ Idle) × (new ≡ image_after start before)
+  WorkedOn start before (Some command) work new = Works defaults start before command (image_after start before) work new
 
--- the answer of a call
-abbrev pub IsAnswered : Bytes → List Call → Call → Type 0
-IsAnswered start before (Scanned scan) = Unit {0}
-IsAnswered start before (SetUp bytes) = Unit {0}
-IsAnswered start before (Out packet answer) =
-    OutAnswer (out_step (stage_after start before) packet) (image_after start before) (is_some (working start before)) answer
-IsAnswered start before (In answer) = answer ≡ in_answer (stage_after start before)
-IsAnswered start before (Polled answer) = answer ≡ answer_after (protocol_after before) (key_calls start before)
-IsAnswered start before (Worked work image) = WorkedOn start before (working start before) work image
-IsAnswered start before BusReset = Unit {0}
+  -- the answer of a call
+  abbrev pub IsAnswered : Bytes → List Call → Call → Type 0
+  IsAnswered start before (Scanned scan) = Unit {0}
+  IsAnswered start before (SetUp bytes) = Unit {0}
+  IsAnswered start before (Out packet answer) =
+      OutAnswer (out_step (stage_after defaults start before) packet) (image_after start before) (is_some (working defaults start before)) answer
+  IsAnswered start before (In answer) = answer ≡ in_answer (stage_after defaults start before)
+  IsAnswered start before (Polled answer) = answer ≡ answer_after (protocol_after before) (key_calls defaults start before)
+  IsAnswered start before (Worked work image) = WorkedOn start before (working defaults start before) work image
+  IsAnswered start before BusReset = Unit {0}
 
--- each call of a session was answered so
-abbrev pub IsLawful : Bytes → List Call → Type 0
-IsLawful start past = EachCall IsAnswered start past
+  -- each call of a session was answered so
+  abbrev pub IsLawful : Bytes → List Call → Type 0
+  IsLawful start past = EachCall IsAnswered start past
 
--- a step of the flash work while a command works, and this holds of the operation that it makes
-pub record MakesSuch (start : Bytes) (before : List Call) (work : WorkAnswer) (new : Bytes) (such : Operation → Type 0) : Type 0 where
-  pub command : Command
-  pub works_on : working start before ≡ Some command
-  pub step : Works start before command (image_after start before) work new
-  pub is_such : such step.operation
+  -- a step of the flash work while a command works, and this holds of the operation that it makes
+  pub record MakesSuch (start : Bytes) (before : List Call) (work : WorkAnswer) (new : Bytes) (such : Operation → Type 0) : Type 0 where
+    pub command : Command
+    pub works_on : working defaults start before ≡ Some command
+    pub step : Works defaults start before command (image_after start before) work new
+    pub is_such : such step.operation

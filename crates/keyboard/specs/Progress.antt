@@ -1,6 +1,7 @@
 -- Believed: how a command is served where nothing is in its way.
 use Rattle.shapes.specs.Shapes.{Bytes}
 use Rattle.std.specs.Prelude.{◌≡◌, ◌≢◌, ℕ, if◌then◌else◌, None, List, [], ◌∷◌, length}
+use Rattle.layers.specs.Codes.{DefaultCodes}
 use Rattle.layers.specs.declared.command.Command.{Command}
 use Rattle.page_turnover.specs.Usable.{IsUsable}
 use Rattle.control_ep.specs.declared.answer.EpAnswer.{EpAnswer}
@@ -16,11 +17,12 @@ use Rattle.keyboard.specs.Fate.{changes}
 abbrev pub set_feature : Bytes
 set_feature = 0x21 ∷ 0x09 ∷ 0x03 ∷ 0x03 ∷ 0 ∷ 0 ∷ 6 ∷ 0 ∷ []
 
--- nothing is in the way of a command: each slot 0 is sound, the flash is not worn, and no command works
-pub record IsReady (start : Bytes) (past : List Call) : Type 0 where
-  pub sound : IsUsable (image_after start past)
-  pub not_worn : IsWorn (image_after start past) → ⊥
-  pub rests : working start past ≡ None
+module _ (defaults : DefaultCodes) where
+  -- nothing is in the way of a command: each slot 0 is sound, the flash is not worn, and no command works
+  pub record IsReady (start : Bytes) (past : List Call) : Type 0 where
+    pub sound : IsUsable (image_after start past)
+    pub not_worn : IsWorn (image_after start past) → ⊥
+    pub rests : working defaults start past ≡ None
 
 -- steps of the flash work and nothing between them, none of which failed
 abbrev pub AreWhole : List Call → Type 0
@@ -28,9 +30,10 @@ AreWhole [] = Unit {0}
 AreWhole (Worked work image ∷ before) = (work ≢ Failed) × AreWhole before
 AreWhole (_ ∷ before) = ⊥
 
--- how many steps a command takes: one for each of its operations, and none where it changes nothing
-abbrev pub steps_for : Bytes → Command → ℕ
-steps_for image command = if changes (keymap image) command then length (operations_of image command) else 0
+module _ (defaults : DefaultCodes) where
+  -- how many steps a command takes: one for each of its operations, and none where it changes nothing
+  abbrev pub steps_for : Bytes → Command → ℕ
+  steps_for image command = if changes defaults (keymap defaults image) command then length (operations_of defaults image command) else 0
 
 -- each of these steps is answered Working
 abbrev pub AllWork : List Call → Type 0

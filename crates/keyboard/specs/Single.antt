@@ -1,6 +1,7 @@
 -- Believed: what a session is given by: its calls without their answers, and without the images of its flash work.
 use Rattle.shapes.specs.Shapes.{Bytes}
 use Rattle.std.specs.Prelude.{◌≡◌, ◌≢◌, None, Some, List, [], ◌∷◌, slice_get}
+use Rattle.layers.specs.Codes.{DefaultCodes}
 use Rattle.layers.specs.declared.command.Command.{Command}
 use Rattle.page_turnover.specs.declared.operation.Operation.{Operation}
 use Rattle.page_turnover.specs.Next.{MayMake}
@@ -30,11 +31,12 @@ NoneFails [] = Unit {0}
 NoneFails (Worked work image ∷ before) = (work ≢ Failed) × NoneFails before
 NoneFails (_ ∷ before) = NoneFails before
 
--- the next operation of the command at work, so many of whose operations were made as there were steps for it, may leave this
--- image where it is torn
-pub record MayBeTorn (start : Bytes) (before : List Call) (new : Bytes) : Type 0 where
-  pub command : Command
-  pub is_working : working start before ≡ Some command
-  pub operation : Operation
-  pub is_next : slice_get (operations_of (accepted_image start before) command) (steps_since before) ≡ Some operation
-  pub torn : MayMake (image_after start before) operation new
+module _ (defaults : DefaultCodes) where
+  -- the next operation of the command at work, so many of whose operations were made as there were steps for it, may leave this
+  -- image where it is torn
+  pub record MayBeTorn (start : Bytes) (before : List Call) (new : Bytes) : Type 0 where
+    pub command : Command
+    pub is_working : working defaults start before ≡ Some command
+    pub operation : Operation
+    pub is_next : slice_get (operations_of defaults (accepted_image start before) command) (steps_since before) ≡ Some operation
+    pub torn : MayMake (image_after start before) operation new

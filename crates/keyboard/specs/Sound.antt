@@ -1,6 +1,6 @@
 -- Believed: slot 0 of each page stays sound.
 use Rattle.shapes.specs.Shapes.{Bytes}
-use Rattle.std.specs.Prelude.{◌≡◌, ℕ, List, [], ◌∷◌}
+use Rattle.std.specs.Prelude.{◌≡◌, List, [], ◌∷◌}
 use Rattle.page_turnover.specs.Usable.{IsUsable}
 use Rattle.keymap_store.specs.declared.store.Work.TheVariants.{Idle}
 use Rattle.keyboard.specs.Calls.{Call, Worked, image_after}

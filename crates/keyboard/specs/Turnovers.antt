@@ -1,6 +1,7 @@
 -- Believed: how far apart the turnovers of a session are.
 use Rattle.shapes.specs.Shapes.{Bytes}
 use Rattle.std.specs.Prelude.{ℕ, suc, List, [], ◌∷◌, ◌++◌}
+use Rattle.layers.specs.Codes.{DefaultCodes}
 use Rattle.keymap_store.specs.declared.store.Work.{Work}
 use Rattle.keymap_store.specs.declared.store.Work.TheVariants.{Idle}
 use Rattle.keymap_store.specs.Turnovers.{TurnsOver}
@@ -17,9 +18,10 @@ operations [] = 0
 operations (Worked work image ∷ before) = with_step work (operations before)
 operations (_ ∷ before) = operations before
 
--- none of these calls, newest first, on top of a past made another page the active one
-abbrev pub NoneTurnsOver : Bytes → List Call → List Call → Type 0
-NoneTurnsOver start [] past = Unit {0}
-NoneTurnsOver start (Worked work image ∷ before) past =
-    (TurnsOver (image_after start (before ++ past)) image → ⊥) × NoneTurnsOver start before past
-NoneTurnsOver start (_ ∷ before) past = NoneTurnsOver start before past
+module _ (defaults : DefaultCodes) where
+  -- none of these calls, newest first, on top of a past made another page the active one
+  abbrev pub NoneTurnsOver : Bytes → List Call → List Call → Type 0
+  NoneTurnsOver start [] past = Unit {0}
+  NoneTurnsOver start (Worked work image ∷ before) past =
+      (TurnsOver defaults (image_after start (before ++ past)) image → ⊥) × NoneTurnsOver start before past
+  NoneTurnsOver start (_ ∷ before) past = NoneTurnsOver start before past

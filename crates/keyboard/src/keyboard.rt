@@ -1,6 +1,6 @@
 //! The keyboard and its calls.
 
-ghost use Rattle.std.specs.Prelude.{◌≡◌, ◌≢◌, ◌∷◌, [], ℕ, List, None, Ok, false, IfOk};
+ghost use Rattle.std.specs.Prelude.{◌≡◌, ◌≢◌, ◌∷◌, [], ℕ, List, None, Ok, false, IfOk, is_none};
 ghost use Rattle.std.specs.Option.{option_map};
 ghost use Rattle.layers.specs.Entries.{changed};
 ghost use Rattle.layers.specs.Keymaps.{HasEntries};
@@ -9,6 +9,7 @@ ghost use Rattle.control_ep.specs.Answers.{in_answer, judged_answer, IfNak, IfSt
 ghost use Rattle.control_ep.specs.Transfers.{Stalled};
 ghost use Rattle.control_ep.specs.declared.answer.EpAnswer.{EpAnswer};
 ghost use Rattle.key_reports.specs.Past.{keys_after, consumer_after, answer_after};
+ghost use Rattle.page_turnover.specs.Active.{format};
 ghost use Rattle.page_turnover.specs.Next.{on_flash};
 ghost use Rattle.keymap_store.specs.declared.store.Work.{Work};
 ghost use Rattle.page_turnover.specs.Steps.{CountsAs};
@@ -28,17 +29,17 @@ use crate::shown::Shown;
 use control_ep::{ControlEp, Effect, EpAnswer, OutStep, Verdict, Why};
 use flash_model::NorFlash;
 use key_reports::{KeyReports, Protocol, Report, Scan};
-use keymap_store::{Store, Work};
-use layers::{Command, KeyNo, Keymap, LayerNo, Usages};
+use keymap_store::{StoreOf, Work};
+use layers::{Command, Defaults, KeyNo, KeymapOf, LayerNo, Standard, Usages};
 use std::alloc::{AllocError, Global};
 use std::marker::Model;
 
-/// A keyboard of 96 keys on a NOR flash that keeps its keymap.
+/// A keyboard of 96 keys on a NOR flash that keeps its keymap, with these defaults.
 #[derive(Debug, Drop)]
-pub struct Keyboard {
+pub struct KeyboardOf<D: Defaults> {
     ep: ControlEp,
     keys: KeyReports,
-    store: Store,
+    store: StoreOf<D>,
     protocol: Protocol,
     leds: u8,
     /// The entry that GET_REPORT of the feature report shows.
@@ -46,7 +47,10 @@ pub struct Keyboard {
     key: KeyNo,
 }
 
-impl Model for Keyboard {
+/// A keyboard with the standard defaults.
+pub type Keyboard = KeyboardOf<Standard>;
+
+impl<D: Defaults> Model for KeyboardOf<D> {
     ghost use Rattle.keyboard.specs.ties.Value.{KeyboardValue};
 
     ghost Value = { KeyboardValue };
@@ -54,35 +58,35 @@ impl Model for Keyboard {
     ghost view = { λ k. record { ep = k.ep; keys = k.keys; store = k.store; protocol = k.protocol; leds = k.leds; layer = k.layer; key = k.key } };
 }
 
-impl Keyboard {
+impl<D: Defaults> KeyboardOf<D> {
     ghost use Rattle.keyboard.specs.ties.Value.{RunsOn, at_work};
     ghost use Rattle.keyboard.specs.ties.Stands.{StandsFor};
 
     /// A keyboard as it starts on a flash, whose keymap it reads: report protocol, no LED on, every key
     /// up, nothing sent, entry (0, 0) selected, and no transfer. `AllocError` where there was no room for
     /// the reports that wait (`Room::take`); no other call takes memory.
-    pub fn start<F: NorFlash>(alloc: Global, flash: &F) -> Result<Keyboard, AllocError>
+    pub fn start<F: NorFlash>(alloc: Global, flash: &F) -> Result<KeyboardOf<D>, AllocError>
         // it stands for no call, on this image
-        ensures stands { IfOk result (λ keyboard. StandsFor (F.image flash.now) [] keyboard) }
+        ensures stands { IfOk result (λ keyboard. StandsFor D.defaults (F.image flash.now) [] keyboard) }
         // it runs on this flash
-        ensures runs_on { IfOk result (λ keyboard. RunsOn (F.image flash.now) keyboard) }
+        ensures runs_on { IfOk result (λ keyboard. RunsOn D.defaults (F.image flash.now) keyboard) }
     {
         let room = Room::take(alloc)?;
-        Ok(Keyboard::start_in(room, flash))
+        Ok(KeyboardOf::start_in(room, flash))
     }
 
     /// A keyboard as `start` gives it, in room that was taken before. Takes no memory, and nothing
     /// refuses it.
-    pub fn start_in<F: NorFlash>(room: Room, flash: &F) -> Keyboard
+    pub fn start_in<F: NorFlash>(room: Room, flash: &F) -> KeyboardOf<D>
         // it stands for no call, on this image
-        ensures stands { StandsFor (F.image flash.now) [] result }
+        ensures stands { StandsFor D.defaults (F.image flash.now) [] result }
         // it runs on this flash
-        ensures runs_on { RunsOn (F.image flash.now) result }
+        ensures runs_on { RunsOn D.defaults (F.image flash.now) result }
     {
-        Keyboard {
+        KeyboardOf {
             ep: ControlEp::new(),
             keys: room.into_keys(),
-            store: Store::mount(flash),
+            store: StoreOf::mount(flash),
             protocol: Protocol::Report,
             leds: 0,
             layer: LayerNo::known(0),
@@ -93,9 +97,9 @@ impl Keyboard {
     /// Leaves what `start` gives on this flash. Takes no memory.
     pub fn restart<F: NorFlash>(&mut self, flash: &F)
         // it stands for no call, on this image
-        ensures stands { StandsFor (F.image flash.now) [] self.new }
+        ensures stands { StandsFor D.defaults (F.image flash.now) [] self.new }
         // it runs on this flash
-        ensures runs_on { RunsOn (F.image flash.now) self.new }
+        ensures runs_on { RunsOn D.defaults (F.image flash.now) self.new }
     {
         self.ep = ControlEp::new();
         self.keys.restart();
@@ -111,10 +115,10 @@ impl Keyboard {
     /// this changes wait for a poll.
     pub fn scan(&mut self, scan: Scan)
         // it stands for this call after those before it
-        ensures stands { (start : List ℕ) (past : List Call) → StandsFor start past self.old
-            → StandsFor start (Scanned scan ∷ past) self.new }
+        ensures stands { (start : List ℕ) (past : List Call) → StandsFor D.defaults start past self.old
+            → StandsFor D.defaults start (Scanned scan ∷ past) self.new }
         // it still runs on its flash
-        ensures runs_on { (image : List ℕ) → RunsOn image self.old → RunsOn image self.new }
+        ensures runs_on { (image : List ℕ) → RunsOn D.defaults image self.old → RunsOn D.defaults image self.new }
     {
         self.keys.scan(scan, self.store.keymap(), self.protocol);
     }
@@ -124,10 +128,10 @@ impl Keyboard {
     /// now; the flash work goes on.
     pub fn setup(&mut self, packet: [u8; 8])
         // it stands for this call after those before it
-        ensures stands { (start : List ℕ) (past : List Call) → StandsFor start past self.old
-            → StandsFor start (SetUp packet ∷ past) self.new }
+        ensures stands { (start : List ℕ) (past : List Call) → StandsFor D.defaults start past self.old
+            → StandsFor D.defaults start (SetUp packet ∷ past) self.new }
         // it still runs on its flash
-        ensures runs_on { (image : List ℕ) → RunsOn image self.old → RunsOn image self.new }
+        ensures runs_on { (image : List ℕ) → RunsOn D.defaults image self.old → RunsOn D.defaults image self.new }
     {
         let shown = Shown {
             keys: &self.keys,
@@ -147,18 +151,18 @@ impl Keyboard {
     /// works. Each other packet is answered by a `Stall`, and so is each further one of the transfer.
     pub fn out(&mut self, packet: &[u8]) -> EpAnswer
         // it stands for this call after those before it
-        ensures stands { (start : List ℕ) (past : List Call) → StandsFor start past self.old
-            → StandsFor start (Out packet.now result ∷ past) self.new }
+        ensures stands { (start : List ℕ) (past : List Call) → StandsFor D.defaults start past self.old
+            → StandsFor D.defaults start (Out packet.now result ∷ past) self.new }
         // the answer is that of the transfer's stage, and of the checks of a feature report
-        ensures answer { (start : List ℕ) (past : List Call) → StandsFor start past self.old
-            → IsAnswered start past (Out packet.now result) }
+        ensures answer { (start : List ℕ) (past : List Call) → StandsFor D.defaults start past self.old
+            → IsAnswered D.defaults start past (Out packet.now result) }
         // a NAK changes nothing, and a STALL the transfer alone
-        ensures nak { (start : List ℕ) (past : List Call) → StandsFor start past self.old
+        ensures nak { (start : List ℕ) (past : List Call) → StandsFor D.defaults start past self.old
             → IfNak result (self.new ≡ self.old) }
-        ensures stall { (start : List ℕ) (past : List Call) → StandsFor start past self.old
+        ensures stall { (start : List ℕ) (past : List Call) → StandsFor D.defaults start past self.old
             → IfStall result (λ why. self.new ≡ record self.old { ep = Stalled why }) }
         // it still runs on its flash
-        ensures runs_on { (image : List ℕ) → RunsOn image self.old → RunsOn image self.new }
+        ensures runs_on { (image : List ℕ) → RunsOn D.defaults image self.old → RunsOn D.defaults image self.new }
     {
         self.answer_out(packet)
     }
@@ -169,16 +173,16 @@ impl Keyboard {
     /// what was sent and drops what waits.
     pub fn in_packet(&mut self) -> EpAnswer
         // it stands for this call after those before it
-        ensures stands { (start : List ℕ) (past : List Call) → StandsFor start past self.old
-            → StandsFor start (In result ∷ past) self.new }
+        ensures stands { (start : List ℕ) (past : List Call) → StandsFor D.defaults start past self.old
+            → StandsFor D.defaults start (In result ∷ past) self.new }
         // the answer is that of the transfer's stage
-        ensures answer { (start : List ℕ) (past : List Call) → StandsFor start past self.old
-            → result ≡ in_answer (stage_after start past) }
+        ensures answer { (start : List ℕ) (past : List Call) → StandsFor D.defaults start past self.old
+            → result ≡ in_answer (stage_after D.defaults start past) }
         // a NAK changes nothing, and a STALL the transfer alone
         ensures nak { IfNak result (self.new ≡ self.old) }
         ensures stall { IfStall result (λ why. self.new ≡ record self.old { ep = Stalled why }) }
         // it still runs on its flash
-        ensures runs_on { (image : List ℕ) → RunsOn image self.old → RunsOn image self.new }
+        ensures runs_on { (image : List ℕ) → RunsOn D.defaults image self.old → RunsOn D.defaults image self.new }
     {
         let (answer, effect) = self.ep.in_packet();
         match effect {
@@ -197,13 +201,13 @@ impl Keyboard {
     /// since then, or `None`. It then counts as sent.
     pub fn poll(&mut self) -> Option<Report>
         // it stands for this call after those before it
-        ensures stands { (start : List ℕ) (past : List Call) → StandsFor start past self.old
-            → StandsFor start (Polled (option_map (λ r. r.items) result) ∷ past) self.new }
+        ensures stands { (start : List ℕ) (past : List Call) → StandsFor D.defaults start past self.old
+            → StandsFor D.defaults start (Polled (option_map (λ r. r.items) result) ∷ past) self.new }
         // the answer is the report that waits, else that of the poll rule
-        ensures answer { (start : List ℕ) (past : List Call) → StandsFor start past self.old
-            → option_map (λ r. r.items) result ≡ answer_after (protocol_after past) (key_calls start past) }
+        ensures answer { (start : List ℕ) (past : List Call) → StandsFor D.defaults start past self.old
+            → option_map (λ r. r.items) result ≡ answer_after (protocol_after past) (key_calls D.defaults start past) }
         // it still runs on its flash
-        ensures runs_on { (image : List ℕ) → RunsOn image self.old → RunsOn image self.new }
+        ensures runs_on { (image : List ℕ) → RunsOn D.defaults image self.old → RunsOn D.defaults image self.new }
     {
         self.keys.poll(self.protocol)
     }
@@ -213,23 +217,23 @@ impl Keyboard {
     /// the status stage of its transfer follow, and `Failed` stalls it, if the transfer still waits.
     /// The flash has to be the one that the keyboard started on.
     pub fn work<F: NorFlash>(&mut self, flash: &mut F) -> Work
-        requires { RunsOn (F.image flash.old) self.old }
+        requires { RunsOn D.defaults (F.image flash.old) self.old }
         // it stands for this call after those before it
-        ensures stands { (start : List ℕ) (past : List Call) → StandsFor start past self.old → image_after start past ≡ F.image flash.old
-            → StandsFor start (Worked result (F.image flash.new) ∷ past) self.new }
+        ensures stands { (start : List ℕ) (past : List Call) → StandsFor D.defaults start past self.old → image_after start past ≡ F.image flash.old
+            → StandsFor D.defaults start (Worked result (F.image flash.new) ∷ past) self.new }
         // the answer says what the operation did to the command, the log and the keymap
-        ensures answer { (start : List ℕ) (past : List Call) → StandsFor start past self.old → image_after start past ≡ F.image flash.old
-            → IsAnswered start past (Worked result (F.image flash.new)) }
+        ensures answer { (start : List ℕ) (past : List Call) → StandsFor D.defaults start past self.old → image_after start past ≡ F.image flash.old
+            → IsAnswered D.defaults start past (Worked result (F.image flash.new)) }
         // where the power is cut inside the operation, a restart finds a legal keymap
-        ensures cut { (start : List ℕ) (past : List Call) → StandsFor start past self.old → image_after start past ≡ F.image flash.old
-            → result ≢ Work.Idle → CutsLegally start past result (F.image flash.new) }
+        ensures cut { (start : List ℕ) (past : List Call) → StandsFor D.defaults start past self.old → image_after start past ≡ F.image flash.old
+            → result ≢ Work.Idle → CutsLegally D.defaults start past result (F.image flash.new) }
         // it still runs on its flash
-        ensures runs_on { RunsOn (F.image flash.new) self.new }
+        ensures runs_on { RunsOn D.defaults (F.image flash.new) self.new }
         // at most one operation is made, and none where the answer is Idle
         ensures counts { CountsAs (result ≡ Work.Idle) (result ≡ Work.Failed) (F.operations flash.old) (F.operations flash.new) (F.faults flash.old) (F.faults flash.new) }
         // the operation is made on this flash
-        ensures operated { (start : List ℕ) (past : List Call) → StandsFor start past self.old → image_after start past ≡ F.image flash.old
-            → result ≢ Work.Idle → MakesSuch start past result (F.image flash.new) (λ operation. F.operates flash.old (on_flash operation) flash.new) }
+        ensures operated { (start : List ℕ) (past : List Call) → StandsFor D.defaults start past self.old → image_after start past ≡ F.image flash.old
+            → result ≢ Work.Idle → MakesSuch D.defaults start past result (F.image flash.new) (λ operation. F.operates flash.old (on_flash operation) flash.new) }
         // without an operation the flash stays as it is
         ensures untouched { result ≡ Work.Idle → flash.new ≡ flash.old }
         // a flash that answers no fault lets no command fail
@@ -249,10 +253,10 @@ impl Keyboard {
     /// keymap, the flash work, the keys and the selected entry stay.
     pub fn bus_reset(&mut self)
         // it stands for this call after those before it
-        ensures stands { (start : List ℕ) (past : List Call) → StandsFor start past self.old
-            → StandsFor start (BusReset ∷ past) self.new }
+        ensures stands { (start : List ℕ) (past : List Call) → StandsFor D.defaults start past self.old
+            → StandsFor D.defaults start (BusReset ∷ past) self.new }
         // it still runs on its flash
-        ensures runs_on { (image : List ℕ) → RunsOn image self.old → RunsOn image self.new }
+        ensures runs_on { (image : List ℕ) → RunsOn D.defaults image self.old → RunsOn D.defaults image self.new }
     {
         self.ep.reset();
         self.keys.bus_reset();
@@ -261,31 +265,40 @@ impl Keyboard {
     }
 
     /// The keymap: that of the flash's image.
-    pub fn keymap(&self) -> &Keymap
-        ensures of_image { (start : List ℕ) (past : List Call) → StandsFor start past self.now
-            → HasEntries (keymap (image_after start past)) result.now }
+    pub fn keymap(&self) -> &KeymapOf<D>
+        ensures of_image { (start : List ℕ) (past : List Call) → StandsFor D.defaults start past self.now
+            → HasEntries (keymap D.defaults (image_after start past)) result.now }
         // and that of the start, changed by the settled commands in order
-        ensures settled { (start : List ℕ) (past : List Call) → StandsFor start past self.now
-            → HasEntries (changed (keymap start) (settled_of (accepted start past))) result.now }
+        ensures settled { (start : List ℕ) (past : List Call) → StandsFor D.defaults start past self.now
+            → HasEntries (changed D.defaults (keymap D.defaults start) (settled_of (accepted D.defaults start past))) result.now }
     {
         self.store.keymap()
+    }
+
+    /// Whether no page of the flash has a header yet: nothing was stored on it since it was erased.
+    /// A firmware that has settings of its own to store does so where this holds at its start.
+    pub fn is_first_start(&self) -> bool
+        ensures { (start : List ℕ) (past : List Call) → StandsFor D.defaults start past self.now
+            → result ≡ is_none (format (image_after start past)) }
+    {
+        self.store.is_first_start()
     }
 
     /// The usages that the codes of the held keys name.
     pub fn usages(&self) -> Usages
         // the usages of page 07h
-        ensures keys { (start : List ℕ) (past : List Call) (usage : ℕ) → StandsFor start past self.now
-            → has_key result usage ≡ keys_after (key_calls start past) usage }
+        ensures keys { (start : List ℕ) (past : List Call) (usage : ℕ) → StandsFor D.defaults start past self.now
+            → has_key result usage ≡ keys_after (key_calls D.defaults start past) usage }
         // the usages of page 0Ch
-        ensures consumer { (start : List ℕ) (past : List Call) (usage : ℕ) → StandsFor start past self.now
-            → has_consumer result usage ≡ consumer_after (key_calls start past) usage }
+        ensures consumer { (start : List ℕ) (past : List Call) (usage : ℕ) → StandsFor D.defaults start past self.now
+            → has_consumer result usage ≡ consumer_after (key_calls D.defaults start past) usage }
     {
         self.keys.usages()
     }
 
     /// The protocol in force (HID 1.11 section 7.2.5).
     pub fn protocol(&self) -> Protocol
-        ensures { (start : List ℕ) (past : List Call) → StandsFor start past self.now
+        ensures { (start : List ℕ) (past : List Call) → StandsFor D.defaults start past self.now
             → result ≡ protocol_after past }
     {
         self.protocol
@@ -293,7 +306,7 @@ impl Keyboard {
 
     /// The LEDs: usages 01h to 05h of page 08h in bits 0 to 4.
     pub fn leds(&self) -> u8
-        ensures { (start : List ℕ) (past : List Call) → StandsFor start past self.now
+        ensures { (start : List ℕ) (past : List Call) → StandsFor D.defaults start past self.now
             → result ≡ leds_after past }
     {
         self.leds
@@ -302,15 +315,15 @@ impl Keyboard {
     /// Takes an OUT packet and answers it. It stands apart since the folder of a proof of `out` would have
     /// the name of what the toolchain makes.
     fn answer_out(&mut self, packet: &[u8]) -> EpAnswer
-        ensures stands { (start : List ℕ) (past : List Call) → StandsFor start past self.old
-            → StandsFor start (Out packet.now result ∷ past) self.new }
-        ensures answer { (start : List ℕ) (past : List Call) → StandsFor start past self.old
-            → IsAnswered start past (Out packet.now result) }
-        ensures nak { (start : List ℕ) (past : List Call) → StandsFor start past self.old
+        ensures stands { (start : List ℕ) (past : List Call) → StandsFor D.defaults start past self.old
+            → StandsFor D.defaults start (Out packet.now result ∷ past) self.new }
+        ensures answer { (start : List ℕ) (past : List Call) → StandsFor D.defaults start past self.old
+            → IsAnswered D.defaults start past (Out packet.now result) }
+        ensures nak { (start : List ℕ) (past : List Call) → StandsFor D.defaults start past self.old
             → IfNak result (self.new ≡ self.old) }
-        ensures stall { (start : List ℕ) (past : List Call) → StandsFor start past self.old
+        ensures stall { (start : List ℕ) (past : List Call) → StandsFor D.defaults start past self.old
             → IfStall result (λ why. self.new ≡ record self.old { ep = Stalled why }) }
-        ensures runs_on { (image : List ℕ) → RunsOn image self.old → RunsOn image self.new }
+        ensures runs_on { (image : List ℕ) → RunsOn D.defaults image self.old → RunsOn D.defaults image self.new }
     {
         match self.ep.out(packet) {
             OutStep::Answered(answer) => answer,
@@ -327,7 +340,7 @@ impl Keyboard {
 
     /// The verdict on a feature report, by its bytes after the ID.
     fn judge(&mut self, bytes: [u8; 5]) -> Verdict
-        ensures { (image : List ℕ) → RunsOn image self.old → Judges image bytes result self.old self.new }
+        ensures { (image : List ℕ) → RunsOn D.defaults image self.old → Judges D.defaults image bytes result self.old self.new }
     {
         if self.store.busy() {
             return Verdict::Busy;
@@ -364,8 +377,8 @@ impl Keyboard {
 
     /// Hands a command to the store while none works.
     fn submit(&mut self, command: &Command) -> Verdict
-        ensures { (image bytes : List ℕ) → RunsOn image self.old → at_work self.old ≡ None → command_in bytes ≡ Ok command.now
-            → Judges image bytes result self.old self.new }
+        ensures { (image bytes : List ℕ) → RunsOn D.defaults image self.old → at_work self.old ≡ None → command_in bytes ≡ Ok command.now
+            → Judges D.defaults image bytes result self.old self.new }
     {
         verdict_of(self.store.submit(*command))
     }

@@ -24,6 +24,6 @@ mod shown;
 pub use control_ep::{EpAnswer, Why};
 pub use flash_model::NorFlash;
 pub use key_reports::{Protocol, Report, Scan};
-pub use keyboard::Keyboard;
+pub use keyboard::{Keyboard, KeyboardOf};
 pub use keymap_store::Work;
 pub use room::Room;

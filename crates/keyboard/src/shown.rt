@@ -4,22 +4,22 @@ ghost use Rattle.keyboard.specs.ties.Shown.{Shows};
 
 use control_ep::DeviceReports;
 use key_reports::{IdleId, KeyReports, Protocol};
-use keymap_store::Store;
-use layers::{KeyNo, LayerNo};
+use keymap_store::StoreOf;
+use layers::{Defaults, KeyNo, LayerNo};
 
 /// The parts of a keyboard that a SETUP packet is answered from.
 #[derive(Drop)]
-pub(crate) struct Shown<'a> {
+pub(crate) struct Shown<'a, D: Defaults> {
     pub(crate) keys: &'a KeyReports,
-    pub(crate) store: &'a Store,
+    pub(crate) store: &'a StoreOf<D>,
     pub(crate) protocol: Protocol,
     pub(crate) leds: u8,
     pub(crate) layer: LayerNo,
     pub(crate) key: KeyNo,
 }
 
-impl<'a> DeviceReports for Shown<'a> {
-    ghost shows = { Shows };
+impl<'a, D: Defaults> DeviceReports for Shown<'a, D> {
+    ghost shows = { Shows D.defaults };
 
     fn protocol(&self) -> Protocol {
         self.protocol

@@ -5,6 +5,7 @@ use Rattle.records.specs.declared.Slot.{Slot}
 use Rattle.records.specs.declared.Slot.TheVariants.{Free, Good, Spoiled}
 use Rattle.records.specs.Slots.{slot_of}
 use Rattle.flash_model.specs.Image.{slot_at}
+use Rattle.layers.specs.Codes.{DefaultCodes}
 use Rattle.page_turnover.specs.Active.{active, format}
 use Rattle.page_turnover.specs.Words.{IsTail, FreeFrom}
 use Rattle.page_turnover.specs.Turn.{target_page, next_seq}
@@ -73,10 +74,11 @@ follows old (suc n) new page seq from (fill m image last before f) h =
     let e : from + suc n + 1 ≡ from + n + 1 + 1 = omega arith in
     rw e (filled image new page seq (from + n) f (follows old n image page seq from before h))
 
-pub between : (first old new last : List ℕ) (n : ℕ) → TurnsOver first old → Follows old n new → TurnsOver new last → 127 ≤ n
-between first old new last n a f b =
-    let h = follows old n new (target_page first) (next_seq first) 384 f (record { is_active = a.active_is; current = a.format_is; free = a.free }) in
-    elim (cases_lt n 127) [
-      | inl l ↦ absurd (b.no_room (record { page = target_page first; seq = next_seq first; is_active = h.is_active; current = h.current; free = h.free 511 (omega arith) (omega arith) }))
-      | inr m ↦ m
-    ]
+module _ (defaults : DefaultCodes) where
+  pub between : (first old new last : List ℕ) (n : ℕ) → TurnsOver defaults first old → Follows old n new → TurnsOver defaults new last → 127 ≤ n
+  between first old new last n a f b =
+      let h = follows old n new (target_page first) (next_seq first) 384 f (record { is_active = a.active_is; current = a.format_is; free = a.free }) in
+      elim (cases_lt n 127) [
+        | inl l ↦ absurd (b.no_room (record { page = target_page first; seq = next_seq first; is_active = h.is_active; current = h.current; free = h.free 511 (omega arith) (omega arith) }))
+        | inr m ↦ m
+      ]

@@ -4,7 +4,7 @@ use Rattle.std.proofs.lemmas.Bool.{cases_eq, cases_lt, lt-ltb, le-ltb}
 use Rattle.std.proofs.lemmas.List.{append-nil, get_or_append_left}
 use Rattle.std.proofs.Math.Seq.{get_or-append_seam, get_or-append_right}
 use Rattle.layers.specs.declared.command.Command.{Command}
-use Rattle.layers.specs.Codes.{keys, is_code, default_at}
+use Rattle.layers.specs.Codes.{keys, is_code, default_at, DefaultCodes}
 use Rattle.layers.specs.Commands.{word_of, word_with}
 use Rattle.layers.specs.Copies.{places, entry_at, set_key_at, copies_below, AreCopies, IsNextChanged, IsDefaultFrom}
 use Rattle.layers.proofs.CommandWords.{is_code-lt}
@@ -18,24 +18,6 @@ pub record ComesFirst (xs ys : List ℕ) : Type 0 where
   pub rest : List ℕ
   pub is : ys ≡ xs ++ rest
 
-comes_first : (entries : ℕ → ℕ → ℕ) (from n : ℕ) → ComesFirst (copies_below entries from) (copies_below entries (from + n))
-comes_first entries from zero = let e : from + 0 ≡ from = omega arith in record { rest = []; is = rw e (sym (append-nil (copies_below entries from))) }
-comes_first entries from (suc n) =
-    let e : from + suc n ≡ suc (from + n) = omega arith in
-    let h = comes_first entries from n in
-    elim (cases_eq (entry_at entries (from + n)) (default_at (from + n))) [
-      | inl s ↦ record { rest = h.rest; is = rw (e, copies_below-same entries (from + n) s) h.is }
-      | inr d ↦ record {
-        rest = h.rest ++ word_of (set_key_at entries (from + n)) ∷ [];
-        is = rw (e, copies_below-other entries (from + n) d, h.is) (append_assoc (copies_below entries from) h.rest (word_of (set_key_at entries (from + n)) ∷ []));
-      }
-    ]
-
-pub first_of_all : (entries : ℕ → ℕ → ℕ) (from : ℕ) → from ≤ places → ComesFirst (copies_below entries from) (all_copies entries)
-first_of_all entries from l =
-    let e : from + (places - from) ≡ places = omega arith in
-    rw e at (comes_first entries from (places - from))
-
 -- the word after some that come first
 pub record IsAfter (xs ys : List ℕ) (word : ℕ) : Type 0 where
   pub more : length xs < length ys
@@ -48,24 +30,6 @@ after_first xs ys word f =
       more = rw s (simp length-append (omega arith));
       is = rw s (get_or-append_seam xs word f.rest 0);
     }
-
-pub copy_after : (entries : ℕ → ℕ → ℕ) (from place : ℕ) (command : Command) (copies : List ℕ) → AreCopies entries from copies → IsNextChanged entries from place command → IsAfter copies (all_copies entries) (word_of command)
-copy_after entries from place command copies a n =
-    let f : ComesFirst (copies_below entries (place + 1)) (all_copies entries) = first_of_all entries (place + 1) (omega (arith, n.within)) in
-    let g : ComesFirst (copies ++ word_of command ∷ []) (all_copies entries) = rw (copies_below-next entries from place command n, ← a.listed) at f in
-    after_first copies (all_copies entries) (word_of command) g
-
-pub no_copy_after : (entries : ℕ → ℕ → ℕ) (from : ℕ) (copies : List ℕ) → from ≤ places → AreCopies entries from copies → IsDefaultFrom entries from → all_copies entries ≡ copies
-no_copy_after entries from copies l a d = copies_below-default entries from places l d.each ∙ sym a.listed
-
-pub next_task-copy : (entries : ℕ → ℕ → ℕ) (target : Target) (copies : List ℕ) (word : ℕ) → length copies ≡ copied target → IsAfter copies (all_copies entries) word → next_task entries (Wait target) ≡ Copy target word
-next_task-copy entries target copies word n a =
-    let l : copied target < length (all_copies entries) = rw (← n) a.more in
-    let i : get_or (all_copies entries) (copied target) 0 ≡ word = rw (← n) a.is in
-    rw (lt-ltb (copied target) (length (all_copies entries)) l, i) refl
-
-pub next_task-seal : (entries : ℕ → ℕ → ℕ) (target : Target) → length (all_copies entries) ≤ copied target → next_task entries (Wait target) ≡ Seal target
-next_task-seal entries target l = rw (le-ltb (copied target) (length (all_copies entries)) l) refl
 
 -- the words that set entries have 32 bits
 set_key-small : (layer key code : ℕ) → layer < 4 → key < keys → is_code code ≡ true → word_with 1 layer key code < 2 ^ 32
@@ -82,26 +46,63 @@ with_last xs x k h l =
       | inr b ↦ rw (get_or-append_right xs (x ∷ []) k 0 b) (past_end x (k - length xs) l)
     ]
 
-pub copies_small : (entries : ℕ → ℕ → ℕ) (place k : ℕ) → place ≤ places → ((other : ℕ) → other < place → is_code (entry_at entries other) ≡ true) → get_or (copies_below entries place) k 0 < 2 ^ 32
-copies_small entries zero k l c = rw (copies_below-zero entries) (omega arith)
-copies_small entries (suc place) k l c =
-    let h = copies_small entries place k (omega arith) (λ other b. c other (omega arith)) in
-    elim (cases_eq (entry_at entries place) (default_at place)) [
-      | inl e ↦ rw (copies_below-same entries place e) h
-      | inr d ↦ rw (copies_below-other entries place d) (with_last (copies_below entries place) (word_of (set_key_at entries place)) k h (set_key-small (place / keys) (place % keys) (entry_at entries place) (omega arith) (omega arith) (c place (omega arith))))
-    ]
-
 -- as many as all are all
 nil_of : (xs rest : List ℕ) → length (xs ++ rest) ≤ length xs → rest ≡ []
 nil_of xs [] l = refl
 nil_of xs (x ∷ rest) l = let m : length xs + length (x ∷ rest) ≤ length xs = simp length-append at l in absurd (omega arith)
 
-pub all_of : (entries : ℕ → ℕ → ℕ) (from : ℕ) (copies : List ℕ) → from ≤ places → AreCopies entries from copies → length (all_copies entries) ≤ length copies → copies ≡ all_copies entries
-all_of entries from copies l a n =
-    let f : ComesFirst copies (all_copies entries) = rw (← a.listed) at (first_of_all entries from l) in
-    let m : length (copies ++ f.rest) ≤ length copies = rw (← f.is) n in
-    sym (f.is ∙ rw (nil_of copies f.rest m) (append-nil copies))
+module _ (defaults : DefaultCodes) where
+  comes_first : (entries : ℕ → ℕ → ℕ) (from n : ℕ) → ComesFirst (copies_below defaults entries from) (copies_below defaults entries (from + n))
+  comes_first entries from zero = let e : from + 0 ≡ from = omega arith in record { rest = []; is = rw e (sym (append-nil (copies_below defaults entries from))) }
+  comes_first entries from (suc n) =
+      let e : from + suc n ≡ suc (from + n) = omega arith in
+      let h = comes_first entries from n in
+      elim (cases_eq (entry_at entries (from + n)) (default_at defaults (from + n))) [
+        | inl s ↦ record { rest = h.rest; is = rw (e, copies_below-same defaults entries (from + n) s) h.is }
+        | inr d ↦ record {
+          rest = h.rest ++ word_of (set_key_at entries (from + n)) ∷ [];
+          is = rw (e, copies_below-other defaults entries (from + n) d, h.is) (append_assoc (copies_below defaults entries from) h.rest (word_of (set_key_at entries (from + n)) ∷ []));
+        }
+      ]
 
--- copies made of all
-pub copies_of_all : (entries : ℕ → ℕ → ℕ) (from : ℕ) (copies : List ℕ) → from ≤ places → ((other : ℕ) → other < places → is_code (entry_at entries other) ≡ true) → AreCopies entries from copies → length (all_copies entries) ≤ length copies → AreCopies entries places copies
-copies_of_all entries from copies l c a n = record { listed = all_of entries from copies l a n; codes = c }
+  pub first_of_all : (entries : ℕ → ℕ → ℕ) (from : ℕ) → from ≤ places → ComesFirst (copies_below defaults entries from) (all_copies defaults entries)
+  first_of_all entries from l =
+      let e : from + (places - from) ≡ places = omega arith in
+      rw e at (comes_first entries from (places - from))
+
+  pub copy_after : (entries : ℕ → ℕ → ℕ) (from place : ℕ) (command : Command) (copies : List ℕ) → AreCopies defaults entries from copies → IsNextChanged defaults entries from place command → IsAfter copies (all_copies defaults entries) (word_of command)
+  copy_after entries from place command copies a n =
+      let f : ComesFirst (copies_below defaults entries (place + 1)) (all_copies defaults entries) = first_of_all entries (place + 1) (omega (arith, n.within)) in
+      let g : ComesFirst (copies ++ word_of command ∷ []) (all_copies defaults entries) = rw (copies_below-next defaults entries from place command n, ← a.listed) at f in
+      after_first copies (all_copies defaults entries) (word_of command) g
+
+  pub no_copy_after : (entries : ℕ → ℕ → ℕ) (from : ℕ) (copies : List ℕ) → from ≤ places → AreCopies defaults entries from copies → IsDefaultFrom defaults entries from → all_copies defaults entries ≡ copies
+  no_copy_after entries from copies l a d = copies_below-default defaults entries from places l d.each ∙ sym a.listed
+
+  pub next_task-copy : (entries : ℕ → ℕ → ℕ) (target : Target) (copies : List ℕ) (word : ℕ) → length copies ≡ copied target → IsAfter copies (all_copies defaults entries) word → next_task defaults entries (Wait target) ≡ Copy target word
+  next_task-copy entries target copies word n a =
+      let l : copied target < length (all_copies defaults entries) = rw (← n) a.more in
+      let i : get_or (all_copies defaults entries) (copied target) 0 ≡ word = rw (← n) a.is in
+      rw (lt-ltb (copied target) (length (all_copies defaults entries)) l, i) refl
+
+  pub next_task-seal : (entries : ℕ → ℕ → ℕ) (target : Target) → length (all_copies defaults entries) ≤ copied target → next_task defaults entries (Wait target) ≡ Seal target
+  next_task-seal entries target l = rw (le-ltb (copied target) (length (all_copies defaults entries)) l) refl
+
+  pub copies_small : (entries : ℕ → ℕ → ℕ) (place k : ℕ) → place ≤ places → ((other : ℕ) → other < place → is_code (entry_at entries other) ≡ true) → get_or (copies_below defaults entries place) k 0 < 2 ^ 32
+  copies_small entries zero k l c = rw (copies_below-zero defaults entries) (omega arith)
+  copies_small entries (suc place) k l c =
+      let h = copies_small entries place k (omega arith) (λ other b. c other (omega arith)) in
+      elim (cases_eq (entry_at entries place) (default_at defaults place)) [
+        | inl e ↦ rw (copies_below-same defaults entries place e) h
+        | inr d ↦ rw (copies_below-other defaults entries place d) (with_last (copies_below defaults entries place) (word_of (set_key_at entries place)) k h (set_key-small (place / keys) (place % keys) (entry_at entries place) (omega arith) (omega arith) (c place (omega arith))))
+      ]
+
+  pub all_of : (entries : ℕ → ℕ → ℕ) (from : ℕ) (copies : List ℕ) → from ≤ places → AreCopies defaults entries from copies → length (all_copies defaults entries) ≤ length copies → copies ≡ all_copies defaults entries
+  all_of entries from copies l a n =
+      let f : ComesFirst copies (all_copies defaults entries) = rw (← a.listed) at (first_of_all entries from l) in
+      let m : length (copies ++ f.rest) ≤ length copies = rw (← f.is) n in
+      sym (f.is ∙ rw (nil_of copies f.rest m) (append-nil copies))
+
+  -- copies made of all
+  pub copies_of_all : (entries : ℕ → ℕ → ℕ) (from : ℕ) (copies : List ℕ) → from ≤ places → ((other : ℕ) → other < places → is_code (entry_at entries other) ≡ true) → AreCopies defaults entries from copies → length (all_copies defaults entries) ≤ length copies → AreCopies defaults entries places copies
+  copies_of_all entries from copies l c a n = record { listed = all_of entries from copies l a n; codes = c }

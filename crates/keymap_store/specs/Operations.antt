@@ -4,6 +4,7 @@ use Rattle.std.specs.Prelude.{ℕ, zero, suc, ◌+◌, ◌==◌, ◌&&◌, if◌
 use Rattle.records.specs.Blocks.{is_free}
 use Rattle.records.specs.Slots.{slot_of}
 use Rattle.flash_model.specs.Image.{slot_at}
+use Rattle.layers.specs.Codes.{DefaultCodes}
 use Rattle.layers.specs.Commands.{word_of}
 use Rattle.layers.specs.declared.command.Command.{Command}
 use Rattle.page_turnover.specs.declared.operation.Operation.{Operation}
@@ -54,8 +55,9 @@ abbrev pub turn_and_record : Bytes → SlotWords → ℕ → List Operation
 turn_and_record image copies word =
     erase_if_used image (target_page image) ++ (programs_from (target_page image) 1 copies ++ header_and_record image (length copies) word)
 
--- with room the record alone; else a turn before it
-unfoldable pub operations_of : Bytes → Command → List Operation
-operations_of image command =
-    if has_room image then record_on image (active image) (word_of command)
-    else turn_and_record image (all_copies (entries_of image)) (word_of command)
+module _ (defaults : DefaultCodes) where
+  -- with room the record alone; else a turn before it
+  unfoldable pub operations_of : Bytes → Command → List Operation
+  operations_of image command =
+      if has_room image then record_on image (active image) (word_of command)
+      else turn_and_record image (all_copies defaults (entries_of defaults image)) (word_of command)

@@ -1,6 +1,7 @@
 -- Believed: when a command is taken, and why it is refused.
 use Rattle.shapes.specs.Shapes.{Bytes}
 use Rattle.std.specs.Prelude.{◌≡◌, ◌-◌, ◌^◌, ◌⊎◌, ℕ, None, Some, Result, Ok, Err, IsSome}
+use Rattle.layers.specs.Codes.{DefaultCodes}
 use Rattle.layers.specs.declared.command.Command.{Command}
 use Rattle.layers.specs.Entries.{ChangesSome, ChangesNothing}
 use Rattle.page_turnover.specs.Active.{active}
@@ -30,10 +31,11 @@ pub record IsWorn (image : Bytes) : Type 0 where
 abbrev pub HasPlace : Bytes → Type 0
 HasPlace image = HasRoom image ⊎ ((HasRoom image → ⊥) × CanTurn image)
 
--- when each answer to a command comes
-abbrev pub Submits : Bytes → Job → Command → Result Taken SubmitRefusal → Type 0
-Submits image job command (Err Busy) = IsSome (working job)
-Submits image job command (Err Unsound) = (working job ≡ None) × (IsUsable image → ⊥)
-Submits image job command (Ok Settled) = MayWrite image job × ChangesNothing (entries_of image) command
-Submits image job command (Err Worn) = MayWrite image job × ChangesSome (entries_of image) command × IsWorn image
-Submits image job command (Ok Working) = MayWrite image job × ChangesSome (entries_of image) command × HasPlace image
+module _ (defaults : DefaultCodes) where
+  -- when each answer to a command comes
+  abbrev pub Submits : Bytes → Job → Command → Result Taken SubmitRefusal → Type 0
+  Submits image job command (Err Busy) = IsSome (working job)
+  Submits image job command (Err Unsound) = (working job ≡ None) × (IsUsable image → ⊥)
+  Submits image job command (Ok Settled) = MayWrite image job × ChangesNothing defaults (entries_of defaults image) command
+  Submits image job command (Err Worn) = MayWrite image job × ChangesSome defaults (entries_of defaults image) command × IsWorn image
+  Submits image job command (Ok Working) = MayWrite image job × ChangesSome defaults (entries_of defaults image) command × HasPlace image

@@ -1,6 +1,7 @@
 -- Believed: what the operations of a store do to the active page.
 use Rattle.shapes.specs.Shapes.{Bytes}
 use Rattle.std.specs.Prelude.{◌≡◌, ℕ, suc, ◌<◌, Some}
+use Rattle.layers.specs.Codes.{DefaultCodes}
 use Rattle.layers.specs.Copies.{AreCopies, places}
 use Rattle.flash_model.specs.declared.TheConstants.{PAGE_SLOTS}
 use Rattle.flash_model.specs.Image.{slot_at}
@@ -16,20 +17,21 @@ pub record Prepares (old new : Bytes) : Type 0 where
   pub keeps : Keeps old new
   pub elsewhere : OnePage old (target_page old) new
 
--- where there was no room, the page after the active one becomes the active one, with the next sequence number and in
--- format 2; its words are those of the entries that differ from the default, by rising place, and there is room for 127 more
-pub record TurnsOver (old new : Bytes) : Type 0 where
-  pub no_room : HasRoom old → ⊥
-  pub active_is : active new ≡ Some (target_page old, next_seq old)
-  pub format_is : format new ≡ Some 2
-  pub copies : AreCopies (entries_of old) places (words new)
-  pub free : FreeFrom new (target_page old) 385
-  pub elsewhere : OnePage old (target_page old) new
+module _ (defaults : DefaultCodes) where
+  -- where there was no room, the page after the active one becomes the active one, with the next sequence number and in
+  -- format 2; its words are those of the entries that differ from the default, by rising place, and there is room for 127 more
+  pub record TurnsOver (old new : Bytes) : Type 0 where
+    pub no_room : HasRoom old → ⊥
+    pub active_is : active new ≡ Some (target_page old, next_seq old)
+    pub format_is : format new ≡ Some 2
+    pub copies : AreCopies defaults (entries_of defaults old) places (words new)
+    pub free : FreeFrom new (target_page old) 385
+    pub elsewhere : OnePage old (target_page old) new
 
--- a step of a turn
-pub data Turns (old new : Bytes) : Type 0 where
-  stays : Prepares old new → Turns old new
-  turns : TurnsOver old new → Turns old new
+  -- a step of a turn
+  pub data Turns (old new : Bytes) : Type 0 where
+    stays : Prepares old new → Turns old new
+    turns : TurnsOver old new → Turns old new
 
 -- no slot of the active page is touched, which stays the active one
 pub record Spares (old new : Bytes) : Type 0 where
@@ -43,11 +45,12 @@ pub record Fills (old new : Bytes) : Type 0 where
   pub format_is : format new ≡ format old
   pub same : (page tail s : ℕ) → IsActiveTail old page tail → s < PAGE_SLOTS → (s ≡ tail → ⊥) → slot_at new page s ≡ slot_at old page s
 
--- what an operation of a store, whole or torn, does to the active page
-pub data Wears (old new : Bytes) : Type 0 where
-  over : TurnsOver old new → Wears old new
-  spares : Spares old new → Wears old new
-  fills : Fills old new → Wears old new
+module _ (defaults : DefaultCodes) where
+  -- what an operation of a store, whole or torn, does to the active page
+  pub data Wears (old new : Bytes) : Type 0 where
+    over : TurnsOver defaults old new → Wears old new
+    spares : Spares old new → Wears old new
+    fills : Fills old new → Wears old new
 
 -- operations one after another, none of which turns over, and how many of them may touch the tail of the active page
 pub data Follows (old : Bytes) : ℕ → Bytes → Type 0 where

@@ -1,6 +1,7 @@
 -- Believed: what the answers of `work` mean.
 use Rattle.shapes.specs.Shapes.{Bytes}
 use Rattle.std.specs.Prelude.{◌≡◌, ◌≢◌, ◌+◌, ◌≤◌, ◌↔◌, ℕ, [], ◌∷◌, ◌++◌, Option, None, Some, IsSome}
+use Rattle.layers.specs.Codes.{DefaultCodes}
 use Rattle.layers.specs.declared.command.Command.{Command}
 use Rattle.layers.specs.Commands.{word_of}
 use Rattle.layers.specs.Entries.{changed}
@@ -30,13 +31,6 @@ pub record WorksOn (before after : StoreValue) : Type 0 where
   pub same_command : working after.job ≡ working before.job
   pub same_keymap : after.keymap ≡ before.keymap
 
--- the keymap is changed by the command that worked
-pub record Settles (before after : StoreValue) : Type 0 where
-  pub command : Command
-  pub was : working before.job ≡ Some command
-  pub done : working after.job ≡ None
-  pub changes : (entries : ℕ → ℕ → ℕ) → HasEntries entries before.keymap → HasEntries (changed entries (command ∷ [])) after.keymap
-
 -- the command that worked is gone, and the keymap is as before
 pub record Fails (before after : StoreValue) : Type 0 where
   pub some : IsSome (working before.job)
@@ -48,13 +42,6 @@ pub record Idles (old : Bytes) (before : StoreValue) (new : Bytes) (after : Stor
   pub none : working before.job ≡ None
   pub same_image : new ≡ old
   pub same_store : after ≡ before
-
--- what each answer means for the command and the keymap
-abbrev pub WorksAs : Bytes → StoreValue → Work → Bytes → StoreValue → Type 0
-WorksAs old before Idle new after = Idles old before new after
-WorksAs old before Working new after = WorksOn before after
-WorksAs old before Settled new after = Settles before after
-WorksAs old before Failed new after = Fails before after
 
 -- the record of the command that worked is the last word
 abbrev pub IsAppendedFor : Bytes → Option Command → Bytes → Type 0
@@ -95,34 +82,49 @@ FailsFor old Resting new = ⊥
 FailsFor old (Appending command) new = IsTornAt old command new
 FailsFor old (Turning command from) new = OnePage old (target_page old) new
 
--- what each answer says of the flash: a step of a turn, the record as the last word in the tail slot, or a fault after which
--- words, format and active page are as before; and what the operation does to the active page
-pub record WritesAs (old : Bytes) (job : Job) (work : Work) (new : Bytes) : Type 0 where
-  pub turns : work ≡ Working → Turns old new
-  pub appended : work ≡ Settled → IsAppended old job new
-  pub placed : work ≡ Settled → IsPlaced old job new
-  pub kept : work ≡ Failed → Keeps old new
-  pub fails : work ≡ Failed → FailsFor old job new
-  pub wears : work ≢ Idle → Wears old new
-
--- what a call of `work` leaves of the flash and of the store
-pub record WorkLeaves (old : Bytes) (before : StoreValue) (work : Work) (new : Bytes) (after : StoreValue) : Type 0 where
-  -- the keymap is that of the flash's image again
-  pub mirrors : Mirrors new after
-  -- what the answer means for the command and the keymap
-  pub works : WorksAs old before work new after
-  -- the operation that was next is made; Failed exactly where it does not read as intended
-  pub attempts : AttemptsNext (next_operation_of old before) old (work ≡ Idle) (work ≡ Failed) new
-  -- what the answer says of the flash
-  pub writes : WritesAs old before.job work new
-  pub operates : work ≢ Idle → work ≢ Failed → Operates old new
-  pub torn : work ≡ Failed → MayOperate old new
-  -- no slot 0 becomes unsound
-  pub sound : IsUsable old → IsUsable new
-
 -- a call that answers Working leaves one operation less to do, Settled is the answer to the last one, and Idle to none
 pub record CountsDown (work : Work) (before after : ℕ) : Type 0 where
   pub none : (work ≡ Idle) ↔ (before ≡ 0)
   pub fewer : work ≡ Working → after + 1 ≡ before
   pub last : work ≡ Settled → before ≡ 1
   pub few : before ≤ 387
+
+module _ (defaults : DefaultCodes) where
+  -- the keymap is changed by the command that worked
+  pub record Settles (before after : StoreValue) : Type 0 where
+    pub command : Command
+    pub was : working before.job ≡ Some command
+    pub done : working after.job ≡ None
+    pub changes : (entries : ℕ → ℕ → ℕ) → HasEntries entries before.keymap → HasEntries (changed defaults entries (command ∷ [])) after.keymap
+
+  -- what each answer means for the command and the keymap
+  abbrev pub WorksAs : Bytes → StoreValue → Work → Bytes → StoreValue → Type 0
+  WorksAs old before Idle new after = Idles old before new after
+  WorksAs old before Working new after = WorksOn before after
+  WorksAs old before Settled new after = Settles before after
+  WorksAs old before Failed new after = Fails before after
+
+  -- what each answer says of the flash: a step of a turn, the record as the last word in the tail slot, or a fault after which
+  -- words, format and active page are as before; and what the operation does to the active page
+  pub record WritesAs (old : Bytes) (job : Job) (work : Work) (new : Bytes) : Type 0 where
+    pub turns : work ≡ Working → Turns defaults old new
+    pub appended : work ≡ Settled → IsAppended old job new
+    pub placed : work ≡ Settled → IsPlaced old job new
+    pub kept : work ≡ Failed → Keeps old new
+    pub fails : work ≡ Failed → FailsFor old job new
+    pub wears : work ≢ Idle → Wears defaults old new
+
+  -- what a call of `work` leaves of the flash and of the store
+  pub record WorkLeaves (old : Bytes) (before : StoreValue) (work : Work) (new : Bytes) (after : StoreValue) : Type 0 where
+    -- the keymap is that of the flash's image again
+    pub mirrors : Mirrors defaults new after
+    -- what the answer means for the command and the keymap
+    pub works : WorksAs old before work new after
+    -- the operation that was next is made; Failed exactly where it does not read as intended
+    pub attempts : AttemptsNext (next_operation_of defaults old before) old (work ≡ Idle) (work ≡ Failed) new
+    -- what the answer says of the flash
+    pub writes : WritesAs old before.job work new
+    pub operates : work ≢ Idle → work ≢ Failed → Operates old new
+    pub torn : work ≡ Failed → MayOperate old new
+    -- no slot 0 becomes unsound
+    pub sound : IsUsable old → IsUsable new

@@ -10,4 +10,4 @@
 pub mod laws;
 mod store;
 
-pub use store::{Store, SubmitRefusal, Taken, Work};
+pub use store::{Store, StoreOf, SubmitRefusal, Taken, Work};

@@ -1,12 +1,13 @@
 //! The keymap in RAM and in flash.
 
-ghost use Rattle.std.specs.Prelude.{◌≡◌, ◌≢◌, ◌+◌, ◌%◌, ◌^◌, ◌≤◌, ◌↔◌, ℕ, List, [], Option, None, Some, Ok, false, unwrap_or};
+ghost use Rattle.std.specs.Prelude.{◌≡◌, ◌≢◌, ◌+◌, ◌%◌, ◌^◌, ◌≤◌, ◌↔◌, ℕ, List, [], Option, None, Some, Ok, false, unwrap_or, is_none};
 ghost use Rattle.flash_model.specs.Image.{page_count};
 ghost use Rattle.layers.specs.declared.code.TheConstants.{ENTRIES};
 ghost use Rattle.layers.specs.Commands.{IsCommand};
 ghost use Rattle.layers.specs.declared.command.Command.{Command};
 ghost use Rattle.layers.specs.Formats.{command_in};
 ghost use Rattle.layers.specs.Keymaps.{HasEntries, StandsFor};
+ghost use Rattle.page_turnover.specs.Active.{format};
 ghost use Rattle.page_turnover.specs.Turn.{IsPending};
 ghost use Rattle.page_turnover.specs.Usable.{IsUsable};
 ghost use Rattle.page_turnover.specs.ties.Log.{Describes};
@@ -19,7 +20,7 @@ ghost use Rattle.keymap_store.specs.declared.store.Taken.{Taken};
 ghost use Rattle.keymap_store.specs.declared.store.Work.{Work};
 
 use flash_model::NorFlash;
-use layers::{Command, Keymap};
+use layers::{Command, Defaults, KeymapOf, Standard};
 use page_turnover::{Log, Step};
 use std::marker::Model;
 
@@ -71,15 +72,18 @@ pub enum Job {
     Turning { command: Command, from: u16 },
 }
 
-/// A keymap in RAM, kept equal to that of a flash's image.
+/// A keymap in RAM, kept equal to that of a flash's image, with these defaults.
 #[derive(Debug, Drop)]
-pub struct Store {
+pub struct StoreOf<D: Defaults> {
     log: Log,
-    keymap: Keymap,
+    keymap: KeymapOf<D>,
     job: Job,
 }
 
-impl Model for Store {
+/// A store with the standard defaults.
+pub type Store = StoreOf<Standard>;
+
+impl<D: Defaults> Model for StoreOf<D> {
     ghost use Rattle.keymap_store.specs.Value.{StoreValue};
 
     ghost Value = { StoreValue };
@@ -87,7 +91,7 @@ impl Model for Store {
     ghost view = { λ s. record { log = s.log; keymap = s.keymap; job = s.job } };
 }
 
-impl Store {
+impl<D: Defaults> StoreOf<D> {
     ghost use Rattle.keymap_store.specs.Store.{working};
     ghost use Rattle.keymap_store.specs.ties.Store.{Mirrors};
     ghost use Rattle.keymap_store.specs.Submits.{Submits};
@@ -101,14 +105,14 @@ impl Store {
     ghost use Rattle.page_turnover.specs.Steps.{CountsAs};
 
     /// Reads log and keymap of a flash, and changes nothing.
-    pub fn mount<F: NorFlash>(flash: &F) -> Store
-        ensures mirrors { Mirrors (F.image flash.now) result }
+    pub fn mount<F: NorFlash>(flash: &F) -> StoreOf<D>
+        ensures mirrors { Mirrors D.defaults (F.image flash.now) result }
         ensures rests { working result.job ≡ None }
     {
         let log = Log::mount(flash);
-        let mut keymap = Keymap::standard();
+        let mut keymap = KeymapOf::standard();
         take_words(&mut keymap, &log, flash);
-        Store {
+        StoreOf {
             log,
             keymap,
             job: Job::Resting,
@@ -117,7 +121,7 @@ impl Store {
 
     /// Leaves what `mount` gives on this flash, where the store lies: nothing of it is moved.
     pub fn remount<F: NorFlash>(&mut self, flash: &F)
-        ensures mirrors { Mirrors (F.image flash.now) self.new }
+        ensures mirrors { Mirrors D.defaults (F.image flash.now) self.new }
         ensures rests { working self.new.job ≡ None }
     {
         self.log = Log::mount(flash);
@@ -127,16 +131,23 @@ impl Store {
     }
 
     /// The keymap: that of the flash's image.
-    pub fn keymap(&self) -> &Keymap
+    pub fn keymap(&self) -> &KeymapOf<D>
         ensures held { result.now ≡ self.now.keymap }
-        ensures stands { (image : List ℕ) → Mirrors image self.now → HasEntries (entries_of image) result.now }
+        ensures stands { (image : List ℕ) → Mirrors D.defaults image self.now → HasEntries (entries_of D.defaults image) result.now }
     {
         &self.keymap
     }
 
+    /// Whether no page of the flash has a header yet: nothing was stored on it since it was erased.
+    pub fn is_first_start(&self) -> bool
+        ensures { (image : List ℕ) → Mirrors D.defaults image self.now → result ≡ is_none (format image) }
+    {
+        self.log.format().is_none()
+    }
+
     /// Whether a command works.
     pub fn busy(&self) -> bool
-        ensures { (image : List ℕ) → Mirrors image self.now → ((result ≡ false) ↔ (working self.now.job ≡ None)) }
+        ensures { (image : List ℕ) → Mirrors D.defaults image self.now → ((result ≡ false) ↔ (working self.now.job ≡ None)) }
     {
         self.log.busy()
     }
@@ -152,18 +163,18 @@ impl Store {
     #[tactic(auto, using(crate::proofs::Counting::few_left))]
     pub fn submit(&mut self, command: Command) -> Result<Taken, SubmitRefusal>
         // when each answer comes
-        ensures submits { (image : List ℕ) → Mirrors image self.old → Submits image self.old.job command result }
+        ensures submits { (image : List ℕ) → Mirrors D.defaults image self.old → Submits D.defaults image self.old.job command result }
         // the keymap is still that of the flash's image
-        ensures mirrors { (image : List ℕ) → Mirrors image self.old → Mirrors image self.new }
+        ensures mirrors { (image : List ℕ) → Mirrors D.defaults image self.old → Mirrors D.defaults image self.new }
         // a command that works is this one, and changes the keymap only once it is settled
         ensures taken { result ≡ Ok Taken.Working → (working self.new.job ≡ Some command) × (self.new.keymap ≡ self.old.keymap) }
         // every other answer changes nothing
         ensures unchanged { result ≢ Ok Taken.Working → self.new ≡ self.old }
         // how many flash operations it needs
-        ensures needs { (image : List ℕ) → Mirrors image self.old → result ≡ Ok Taken.Working → Needs image (left image self.new) }
-        ensures few { (image : List ℕ) → left image self.new ≤ 387 }
+        ensures needs { (image : List ℕ) → Mirrors D.defaults image self.old → result ≡ Ok Taken.Working → Needs D.defaults image (left D.defaults image self.new) }
+        ensures few { (image : List ℕ) → left D.defaults image self.new ≤ 387 }
         // which ones, in their order
-        ensures operations { (image : List ℕ) → Mirrors image self.old → result ≡ Ok Taken.Working → rest_of image self.new ≡ operations_of image command }
+        ensures operations { (image : List ℕ) → Mirrors D.defaults image self.old → result ≡ Ok Taken.Working → rest_of D.defaults image self.new ≡ operations_of D.defaults image command }
     {
         if self.log.busy() {
             return Err(SubmitRefusal::Busy);
@@ -203,19 +214,19 @@ impl Store {
     /// answer to the last one: a command is settled or fails by the 387th call.
     #[tactic(auto, using(crate::proofs::Counting::few_left, crate::proofs::Working::rests_if_unusable, crate::proofs::Ordering::idle_order))]
     pub fn work<F: NorFlash>(&mut self, flash: &mut F) -> Work
-        requires { Mirrors (F.image flash.old) self.old }
+        requires { Mirrors D.defaults (F.image flash.old) self.old }
         // what the answer means for the command, the keymap and the flash
-        ensures leaves { WorkLeaves (F.image flash.old) self.old result (F.image flash.new) self.new }
+        ensures leaves { WorkLeaves D.defaults (F.image flash.old) self.old result (F.image flash.new) self.new }
         // a flash with an unsound slot 0 is never written
         ensures unusable { (IsUsable (F.image flash.old) → ⊥) → result ≡ Work.Idle }
         // what the flash says of that operation
-        ensures operated { (operation : Operation) → next_operation_of (F.image flash.old) self.old ≡ Some operation → F.operates flash.old (on_flash operation) flash.new }
+        ensures operated { (operation : Operation) → next_operation_of D.defaults (F.image flash.old) self.old ≡ Some operation → F.operates flash.old (on_flash operation) flash.new }
         ensures untouched { result ≡ Work.Idle → flash.new ≡ flash.old }
         // how many operations are made, and are left to make
         ensures counts { CountsAs (result ≡ Work.Idle) (result ≡ Work.Failed) (F.operations flash.old) (F.operations flash.new) (F.faults flash.old) (F.faults flash.new) }
-        ensures down { CountsDown result (left (F.image flash.old) self.old) (left (F.image flash.new) self.new) }
+        ensures down { CountsDown result (left D.defaults (F.image flash.old) self.old) (left D.defaults (F.image flash.new) self.new) }
         // and which are left
-        ensures order { TakesFirst result (rest_of (F.image flash.old) self.old) (rest_of (F.image flash.new) self.new) }
+        ensures order { TakesFirst result (rest_of D.defaults (F.image flash.old) self.old) (rest_of D.defaults (F.image flash.new) self.new) }
         ensures faultless { F.is_faultless flash.old → F.is_faultless flash.new × (result ≢ Work.Failed) }
     {
         match self.job {
@@ -227,14 +238,14 @@ impl Store {
 
     /// Appends the record of a command.
     fn append<F: NorFlash>(&mut self, flash: &mut F, command: Command) -> Work
-        requires mirrors { Mirrors (F.image flash.old) self.old }
+        requires mirrors { Mirrors D.defaults (F.image flash.old) self.old }
         requires job { self.old.job ≡ Job.Appending command }
-        ensures leaves { WorkLeaves (F.image flash.old) self.old result (F.image flash.new) self.new }
-        ensures operated { (operation : Operation) → next_operation_of (F.image flash.old) self.old ≡ Some operation → F.operates flash.old (on_flash operation) flash.new }
+        ensures leaves { WorkLeaves D.defaults (F.image flash.old) self.old result (F.image flash.new) self.new }
+        ensures operated { (operation : Operation) → next_operation_of D.defaults (F.image flash.old) self.old ≡ Some operation → F.operates flash.old (on_flash operation) flash.new }
         ensures counts { CountsAs (result ≡ Work.Idle) (result ≡ Work.Failed) (F.operations flash.old) (F.operations flash.new) (F.faults flash.old) (F.faults flash.new) }
         ensures faultless { F.is_faultless flash.old → F.is_faultless flash.new × (result ≢ Work.Failed) }
         ensures some { (result ≢ Work.Idle) × (result ≢ Work.Working) }
-        ensures order { TakesFirst result (rest_of (F.image flash.old) self.old) (rest_of (F.image flash.new) self.new) }
+        ensures order { TakesFirst result (rest_of D.defaults (F.image flash.old) self.old) (rest_of D.defaults (F.image flash.new) self.new) }
     {
         match self.log.step(flash) {
             Step::Committed => {
@@ -252,15 +263,15 @@ impl Store {
 
     /// Goes on with a turn; its commit makes room for the command.
     fn turn<F: NorFlash>(&mut self, flash: &mut F, command: Command, from: u16) -> Work
-        requires mirrors { Mirrors (F.image flash.old) self.old }
+        requires mirrors { Mirrors D.defaults (F.image flash.old) self.old }
         requires job { self.old.job ≡ Job.Turning command from }
-        ensures leaves { WorkLeaves (F.image flash.old) self.old result (F.image flash.new) self.new }
-        ensures operated { (operation : Operation) → next_operation_of (F.image flash.old) self.old ≡ Some operation → F.operates flash.old (on_flash operation) flash.new }
+        ensures leaves { WorkLeaves D.defaults (F.image flash.old) self.old result (F.image flash.new) self.new }
+        ensures operated { (operation : Operation) → next_operation_of D.defaults (F.image flash.old) self.old ≡ Some operation → F.operates flash.old (on_flash operation) flash.new }
         ensures counts { CountsAs (result ≡ Work.Idle) (result ≡ Work.Failed) (F.operations flash.old) (F.operations flash.new) (F.faults flash.old) (F.faults flash.new) }
         ensures faultless { F.is_faultless flash.old → F.is_faultless flash.new × (result ≢ Work.Failed) }
         ensures some { (result ≢ Work.Idle) × (result ≢ Work.Settled) }
-        ensures fewer { result ≡ Work.Working → left (F.image flash.new) self.new + 1 ≡ left (F.image flash.old) self.old }
-        ensures order { TakesFirst result (rest_of (F.image flash.old) self.old) (rest_of (F.image flash.new) self.new) }
+        ensures fewer { result ≡ Work.Working → left D.defaults (F.image flash.new) self.new + 1 ≡ left D.defaults (F.image flash.old) self.old }
+        ensures order { TakesFirst result (rest_of D.defaults (F.image flash.old) self.old) (rest_of D.defaults (F.image flash.new) self.new) }
     {
         // By reference, since more than one way takes it.
         let command = &command;
@@ -296,11 +307,11 @@ fn go_on(job: &mut Job, from: u16)
 
 /// Offers a waiting turn the next entry at or after a place that differs from the default, or its
 /// seal where there is none, and says from which place on the next one is looked for.
-fn offer_next(log: &mut Log, keymap: &Keymap, from: u16) -> u16
+fn offer_next<D: Defaults>(log: &mut Log, keymap: &KeymapOf<D>, from: u16) -> u16
     requires few { CanOfferIfWaiting log.old.task }
     requires within { from ≤ ENTRIES }
-    ensures stands { (image : List ℕ) (entries : ℕ → ℕ → ℕ) → HasEntries entries keymap.now → Describes image log.old → OffersBelow entries from image log.old.task
-        → IsOffered entries image log.old log.new result }
+    ensures stands { (image : List ℕ) (entries : ℕ → ℕ → ℕ) → HasEntries entries keymap.now → Describes image log.old → OffersBelow D.defaults entries from image log.old.task
+        → IsOffered D.defaults entries image log.old log.new result }
     ensures within { result ≤ ENTRIES }
     ensures target { target_of log.new.task ≡ target_of log.old.task }
 {
@@ -321,10 +332,10 @@ fn offer_next(log: &mut Log, keymap: &Keymap, from: u16) -> u16
 }
 
 /// Takes the words of a log into the default keymap: it is then that of the flash's image.
-fn take_words<F: NorFlash>(keymap: &mut Keymap, log: &Log, flash: &F)
+fn take_words<D: Defaults, F: NorFlash>(keymap: &mut KeymapOf<D>, log: &Log, flash: &F)
     requires describes { Describes (F.image flash.now) log.now }
-    requires standard { (format : ℕ) → StandsFor format [] keymap.old }
-    ensures { HasEntries (entries_of (F.image flash.now)) keymap.new }
+    requires standard { (format : ℕ) → StandsFor D.defaults format [] keymap.old }
+    ensures { HasEntries (entries_of D.defaults (F.image flash.now)) keymap.new }
 {
     let format = log.format();
     for word in log.words(flash) {

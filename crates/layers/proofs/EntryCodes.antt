@@ -2,7 +2,7 @@
 use Rattle.std.specs.Option.{option_or}
 use Rattle.std.proofs.Common.{◌≡◌, ◌∙◌, ℕ, ◌<◌, ◌==◌, ◌&&◌, Bool, true, false, if◌then◌else◌, Option, Some, None, unwrap_or, List, [], ◌∷◌, refl, sym}
 use Rattle.std.specs.Option.{option_and_then}
-use Rattle.layers.specs.Codes.{keys, is_code, default_code}
+use Rattle.layers.specs.Codes.{keys, is_code, default_code, DefaultCodes}
 use Rattle.layers.specs.Commands.{IsCommand, command_of}
 use Rattle.layers.specs.Formats.{word_of_format_1, command_of_format_1, command_in}
 use Rattle.layers.specs.Entries.{written, last_written, changed, commands_in, entry_in, written_by_word}
@@ -35,33 +35,34 @@ if_code : (b : Bool) (x y : ℕ) → (if b then Some x else None) ≡ Some y →
 if_code true x y e c = some_code x y e c
 if_code false x y e c = cc
 
-written-is_code : (command : Command) (layer key code : ℕ) → key < keys → IsCommand command → written command layer key ≡ Some code → is_code code ≡ true
-written-is_code (SetKey l k c) layer key code w is e = if_code ((l == layer) && (k == key)) c code e is.2
-written-is_code (ResetLayer l) layer key code w is e = if_code (l == layer) (default_code layer key) code e (default_code-is_code layer key w)
-written-is_code ResetAll layer key code w is e = some_code (default_code layer key) code e (default_code-is_code layer key w)
-
-by_command : (command : Option Command) (layer key code : ℕ) → key < keys → ((c : Command) → command ≡ Some c → IsCommand c) → option_and_then (λ c. written c layer key) command ≡ Some code → is_code code ≡ true
-by_command None layer key code w is e = cc
-by_command (Some c) layer key code w is e = written-is_code c layer key code w (is c refl) e
-
 by_either : (later before : Option ℕ) (code : ℕ) → ((c : ℕ) → later ≡ Some c → is_code c ≡ true) → ((c : ℕ) → before ≡ Some c → is_code c ≡ true) → option_or later before ≡ Some code → is_code code ≡ true
 by_either None before code l b e = b code e
 by_either (Some x) before code l b e = l code e
 
-last_written-is_code : (format : ℕ) (words : List ℕ) (layer key code : ℕ) → key < keys → last_written (commands_in format words) layer key ≡ Some code → is_code code ≡ true
-unfolding last_written
-last_written-is_code format [] layer key code w e = let f : last_written (commands_in format []) layer key ≡ None = rw (commands_in-nil format) refl in cc
-last_written-is_code format (word ∷ later) layer key code w e =
-    by_either (last_written (commands_in format later) layer key) (written_by_word format word layer key) code
-    (λ c f. last_written-is_code format later layer key c w f)
-    (λ c f. by_command (command_in format word) layer key c w (λ command g. command_in-is_command format word command g) f)
-    (sym (last_written-word format word later layer key) ∙ e)
+module _ (defaults : DefaultCodes) where
+  written-is_code : (command : Command) (layer key code : ℕ) → key < keys → IsCommand command → written defaults command layer key ≡ Some code → is_code code ≡ true
+  written-is_code (SetKey l k c) layer key code w is e = if_code ((l == layer) && (k == key)) c code e is.2
+  written-is_code (ResetLayer l) layer key code w is e = if_code (l == layer) (default_code defaults layer key) code e (default_code-is_code defaults layer key w)
+  written-is_code ResetAll layer key code w is e = some_code (default_code defaults layer key) code e (default_code-is_code defaults layer key w)
 
-default_or : (o : Option ℕ) (layer key : ℕ) → key < keys → ((c : ℕ) → o ≡ Some c → is_code c ≡ true) → is_code (unwrap_or o (default_code layer key)) ≡ true
-default_or None layer key w h = default_code-is_code layer key w
-default_or (Some c) layer key w h = h c refl
+  by_command : (command : Option Command) (layer key code : ℕ) → key < keys → ((c : Command) → command ≡ Some c → IsCommand c) → option_and_then (λ c. written defaults c layer key) command ≡ Some code → is_code code ≡ true
+  by_command None layer key code w is e = cc
+  by_command (Some c) layer key code w is e = written-is_code c layer key code w (is c refl) e
 
-pub entry_in-is_code : (format : ℕ) (words : List ℕ) (layer key : ℕ) → key < keys → is_code (entry_in format words layer key) ≡ true
-unfolding entry_in changed
-entry_in-is_code format words layer key w =
-    default_or (last_written (commands_in format words) layer key) layer key w (λ c e. last_written-is_code format words layer key c w e)
+  last_written-is_code : (format : ℕ) (words : List ℕ) (layer key code : ℕ) → key < keys → last_written defaults (commands_in format words) layer key ≡ Some code → is_code code ≡ true
+  unfolding last_written
+  last_written-is_code format [] layer key code w e = let f : last_written defaults (commands_in format []) layer key ≡ None = rw (commands_in-nil format) refl in cc
+  last_written-is_code format (word ∷ later) layer key code w e =
+      by_either (last_written defaults (commands_in format later) layer key) (written_by_word defaults format word layer key) code
+      (λ c f. last_written-is_code format later layer key c w f)
+      (λ c f. by_command (command_in format word) layer key c w (λ command g. command_in-is_command format word command g) f)
+      (sym (last_written-word defaults format word later layer key) ∙ e)
+
+  default_or : (o : Option ℕ) (layer key : ℕ) → key < keys → ((c : ℕ) → o ≡ Some c → is_code c ≡ true) → is_code (unwrap_or o (default_code defaults layer key)) ≡ true
+  default_or None layer key w h = default_code-is_code defaults layer key w
+  default_or (Some c) layer key w h = h c refl
+
+  pub entry_in-is_code : (format : ℕ) (words : List ℕ) (layer key : ℕ) → key < keys → is_code (entry_in defaults format words layer key) ≡ true
+  unfolding entry_in changed
+  entry_in-is_code format words layer key w =
+      default_or (last_written defaults (commands_in format words) layer key) layer key w (λ c e. last_written-is_code format words layer key c w e)

@@ -1,5 +1,5 @@
 -- Believed: the codes of a keymap, and the code that each key has at first.
-use Rattle.std.specs.Prelude.{ℕ, ◌+◌, ◌-◌, ◌/◌, ◌%◌, ◌==◌, ◌&&◌, ◌||◌, Bool, nat_le, nat_lt, if◌then◌else◌}
+use Rattle.std.specs.Prelude.{◌≡◌, ℕ, zero, suc, true, ◌+◌, ◌/◌, ◌%◌, ◌==◌, ◌&&◌, ◌||◌, Bool, nat_le}
 
 -- how many layers there are
 abbrev pub layers : ℕ
@@ -54,11 +54,21 @@ names_consumer usage code = is_consumer code && (code == 0x4000 + usage)
 abbrev pub activates : ℕ → ℕ → Bool
 activates layer code = is_momentary code && (code == 0x5000 + layer)
 
--- layer 0 has the usages from 04h on and, from key 88 on, the modifiers; the others are transparent
-abbrev pub default_code : ℕ → ℕ → ℕ
-default_code layer key =
-    if layer == 0 then (if nat_lt key 88 then 0x04 + key else 0xE0 + (key - 88)) else transparent
+-- all numbers below one pass
+unfoldable pub all_below : (ℕ → Bool) → ℕ → Bool
+all_below test zero = true
+all_below test (suc n) = test n && all_below test n
 
--- the default code of the entry at a place
-abbrev pub default_at : ℕ → ℕ
-default_at place = default_code (place / keys) (place % keys)
+-- the codes that the entries have at first, and after a reset: one for each key on each layer
+pub record DefaultCodes : Type 0 where
+  pub at_first : ℕ → ℕ → ℕ
+  pub are_codes : (layer : ℕ) → all_below (λ key. is_code (at_first layer key)) keys ≡ true
+
+module _ (defaults : DefaultCodes) where
+  -- the default code of a key on a layer
+  abbrev pub default_code : ℕ → ℕ → ℕ
+  default_code layer key = defaults.at_first layer key
+
+  -- the default code of the entry at a place
+  abbrev pub default_at : ℕ → ℕ
+  default_at place = default_code (place / keys) (place % keys)

@@ -1,7 +1,7 @@
 -- Believed: a keymap as the list of its codes, layer by layer.
 use Rattle.shapes.specs.Shapes.{SlotWords, KeyCodes}
 use Rattle.std.specs.Prelude.{◌≡◌, ℕ, ◌+◌, ◌*◌, ◌<◌, length, slice_index}
-use Rattle.layers.specs.Codes.{layers, keys}
+use Rattle.layers.specs.Codes.{layers, keys, DefaultCodes}
 use Rattle.layers.specs.Entries.{entry_in}
 
 -- the place of a key on a layer
@@ -17,6 +17,7 @@ pub record HasEntries (entries : ℕ → ℕ → ℕ) (keymap : KeyCodes) : Type
   pub whole : length keymap ≡ layers * keys
   pub each : (layer key : ℕ) → layer < layers → key < keys → code_at keymap layer key ≡ entries layer key
 
--- a keymap stands for the words of a page of this format
-abbrev pub StandsFor : ℕ → SlotWords → KeyCodes → Type 0
-StandsFor format words keymap = HasEntries (entry_in format words) keymap
+module _ (defaults : DefaultCodes) where
+  -- a keymap stands for the words of a page of this format
+  abbrev pub StandsFor : ℕ → SlotWords → KeyCodes → Type 0
+  StandsFor format words keymap = HasEntries (entry_in defaults format words) keymap

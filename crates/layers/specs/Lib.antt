@@ -1,4 +1,5 @@
 pub mod Codes
+pub mod Standard
 pub mod Commands
 pub mod Formats
 pub mod Entries

@@ -2,6 +2,7 @@
 
 ghost use Rattle.std.specs.Prelude.{◌≡◌, ◌/◌, ◌%◌, ◌<◌, ◌==◌, ℕ, false, MatchOption, IfSome, IsTrue, if◌then◌else◌, nat_lt, Ok, Err};
 ghost use Rattle.layers.specs.Codes.{activates, names_key_usage, names_consumer, is_code, layers, keys, default_at};
+ghost use Rattle.layers.specs.Standard.{standard};
 
 use std::marker::Model;
 
@@ -117,7 +118,7 @@ impl Code {
     pub const TRANSPARENT: Code = Code { bits: 0x0001 };
 
     /// The code with these bits; `BadCode` where they are none.
-    pub fn read(bits: u16) -> Result<Code, KeymapError>
+    pub const fn read(bits: u16) -> Result<Code, KeymapError>
         ensures { result ≡ (if is_code bits then Ok bits else Err KeymapError.BadCode) }
     {
         match bits {
@@ -131,10 +132,10 @@ impl Code {
         }
     }
 
-    /// The default code of the entry at a place, 96 times the layer plus the key.
-    pub(crate) fn default_at(place: usize) -> Code
+    /// The standard default code of the entry at a place, 96 times the layer plus the key.
+    pub(crate) fn standard_at(place: usize) -> Code
         requires { place < ENTRIES }
-        ensures { result ≡ default_at place }
+        ensures { result ≡ default_at standard place }
     {
         match place {
             0..88 => Code {

@@ -9,7 +9,7 @@ ghost use Rattle.layers.specs.Usages.{has_key, has_consumer, key_usages, consume
 
 use crate::bits::{contains, insert, next_member, remove};
 use crate::code::{KEYS, LAYERS};
-use crate::{Code, KeyNo, Keymap, LayerNo, Usages};
+use crate::{Code, Defaults, KeyNo, KeymapOf, LayerNo, Usages};
 use std::marker::Model;
 
 /// How many words of 32 bits hold the keys.
@@ -71,7 +71,7 @@ impl Held {
     /// Presses a key: its code is that of the keymap on the highest active layer where it is not
     /// transparent, with the layers that were active before; `Code::NONE` where it is transparent
     /// on each. A key that is held stays as it is.
-    pub fn press(&mut self, keymap: &Keymap, key: KeyNo)
+    pub fn press<D: Defaults>(&mut self, keymap: &KeymapOf<D>, key: KeyNo)
         ensures { (past : List HeldCall) → HeldStandsFor past self.old → HeldStandsFor (Press keymap.now key ∷ past) self.new }
     {
         if !self.holds(key) {
@@ -89,7 +89,7 @@ impl Held {
     }
 
     /// Gives a key that is not held the code that it has now.
-    fn put(&mut self, keymap: &Keymap, key: KeyNo)
+    fn put<D: Defaults>(&mut self, keymap: &KeymapOf<D>, key: KeyNo)
         requires named { self.old.named ≡ true }
         requires free { is_some (kept self.old.codes self.old.held key) ≡ false }
         ensures { Puts self.old self.new key (resolved (code_at keymap.now) (kept self.old.codes self.old.held) key) }
@@ -184,7 +184,7 @@ fn no_layers() -> [bool; LAYERS]
 }
 
 /// The code of a key on the highest active layer where it is not transparent.
-fn resolve(active: &[bool; LAYERS], keymap: &Keymap, key: KeyNo) -> Code
+fn resolve<D: Defaults>(active: &[bool; LAYERS], keymap: &KeymapOf<D>, key: KeyNo) -> Code
     ensures { (codes : ℕ → Option ℕ) → AreActive codes active.now → result ≡ resolved (code_at keymap.now) codes key }
 {
     for number in (0..layers_to_ask(active)).rev() {
@@ -210,7 +210,12 @@ fn layers_to_ask(active: &[bool; LAYERS]) -> u8
 }
 
 /// The code of a key on a layer that is active, transparent on another.
-fn code_where_active(active: &[bool; LAYERS], keymap: &Keymap, layer: LayerNo, key: KeyNo) -> Code
+fn code_where_active<D: Defaults>(
+    active: &[bool; LAYERS],
+    keymap: &KeymapOf<D>,
+    layer: LayerNo,
+    key: KeyNo,
+) -> Code
     ensures { (codes : ℕ → Option ℕ) → AreActive codes active.now
         → result ≡ (if is_active codes layer then code_at keymap.now layer key else transparent) }
 {

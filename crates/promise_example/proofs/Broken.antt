@@ -1,5 +1,6 @@
 -- The host is told what was not stored: the history breaks its fields, computed from the definitions.
 use Rattle.std.proofs.Common.{◌≡◌, ℕ, List, [], ◌∷◌, ◌++◌, refl, sym, ◌∙◌, ap, arith}
+use Rattle.layers.specs.Standard.{standard}
 use Rattle.layers.specs.Entries.{last_written, changed, commands_in, entry_in}
 use Rattle.layers.specs.declared.command.Command.{Command}
 use Rattle.layers.specs.declared.command.Command.TheVariants.{SetKey}
@@ -19,7 +20,7 @@ use Rattle.world.specs.Acknowledged.{IsAcknowledged, KeepsAcknowledged}
 use Rattle.world.specs.Restart.{ConfirmsSettled}
 use Rattle.promise_example.specs.Histories.{blank, told_but_not_stored, set_feature, set_report, step}
 
-pub default_code : keymap [] 0 0 ≡ 4
+pub default_code : keymap standard [] 0 0 ≡ 4
 unfolding last_written changed commands_in entry_in newer newest active format words entries_of
 default_code = refl
 
@@ -29,7 +30,7 @@ four_not n e f = omega (arith, e, f)
 abbrev pub set_key : Command
 set_key = SetKey 0 0 5
 
-acknowledges : IsAcknowledged blank told_but_not_stored 0 0 5
+acknowledges : IsAcknowledged standard blank told_but_not_stored 0 0 5
 unfolding accepts report_named
 acknowledges = record {
   in_layers = omega arith;
@@ -48,8 +49,8 @@ acknowledges = record {
   not_since = (tt, tt);
 }
 
-pub not_acknowledged : KeepsAcknowledged blank told_but_not_stored → ⊥
-not_acknowledged h = four_not (keymap [] 0 0) default_code (h 0 0 5 acknowledges)
+pub not_acknowledged : KeepsAcknowledged standard blank told_but_not_stored → ⊥
+not_acknowledged h = four_not (keymap standard [] 0 0) default_code (h 0 0 5 acknowledges)
 
 -- the same history as the keyboard sees it, without its last call, and without its last two
 abbrev pub asked : List Call
@@ -68,7 +69,7 @@ at_work = record { command = set_key; fate = works }
 abbrev pub done : Accepted
 done = record { command = set_key; fate = settled }
 
-still_works : accepted [] told ≡ at_work ∷ []
+still_works : accepted standard [] told ≡ at_work ∷ []
 unfolding accepted accepts report_named changes any_below last_written changed commands_in entry_in newer newest active format words entries_of
 still_works = refl
 
@@ -81,7 +82,7 @@ none_settled [] later e = (let same : works ≡ settled = ap first_fate e in cc)
 none_settled (one ∷ []) later e = cc
 none_settled (one ∷ two ∷ earlier) later e = cc
 
-pub not_confirmed : ConfirmsSettled blank told_but_not_stored → ⊥
+pub not_confirmed : ConfirmsSettled standard blank told_but_not_stored → ⊥
 not_confirmed h =
-    let s : IsSettled [] told asked set_key = h asked set_key confirms in
-    none_settled (accepted_before [] s.since asked) s.settled_at.later (sym still_works ∙ s.settled_at.all_are)
+    let s : IsSettled standard [] told asked set_key = h asked set_key confirms in
+    none_settled (accepted_before standard [] s.since asked) s.settled_at.later (sym still_works ∙ s.settled_at.all_are)

@@ -1,5 +1,6 @@
 -- A command that is settled, and that a restart loses.
 use Rattle.std.proofs.Common.{◌≡◌, List, [], ◌∷◌, ◌++◌, refl, ◌∙◌, ap, subst, arith}
+use Rattle.layers.specs.Standard.{standard}
 use Rattle.layers.specs.Entries.{last_written, changed, commands_in, entry_in}
 use Rattle.layers.specs.Held.{any_below}
 use Rattle.page_turnover.specs.Active.{newer, newest, active, format}
@@ -24,11 +25,11 @@ use Rattle.promise_example.specs.Histories.{blank, set_report, settled_and_lost}
 abbrev ended : List Call
 ended = KeyboardWorked Settled [] ∷ Out set_report EpAck ∷ asked
 
-is_settled : accepted [] ended ≡ done ∷ []
+is_settled : accepted standard [] ended ≡ done ∷ []
 unfolding accepted accepts report_named changes any_below last_written changed commands_in entry_in newer newest active format words entries_of
 is_settled = refl
 
-sets_five : changed (keymap []) (set_key ∷ []) 0 0 ≡ 5
+sets_five : changed standard (keymap standard []) (set_key ∷ []) 0 0 ≡ 5
 unfolding last_written changed
 sets_five = refl
 
@@ -37,28 +38,28 @@ first_of [] = done
 first_of (one ∷ later) = one
 
 -- the prefix has to hold the command, and with it the entry is another
-lost_by : (kept lost : List Accepted) → kept ++ lost ≡ done ∷ [] → settled_of lost ≡ [] → keymap [] 0 0 ≡ changed (keymap []) (commands_of kept) 0 0 → ⊥
+lost_by : (kept lost : List Accepted) → kept ++ lost ≡ done ∷ [] → settled_of lost ≡ [] → keymap standard [] 0 0 ≡ changed standard (keymap standard []) (commands_of kept) 0 0 → ⊥
 lost_by [] lost p s c = (let e : settled_of lost ≡ set_key ∷ [] = ap settled_of p in cc)
 lost_by (one ∷ []) lost p s c =
     let same : one ≡ done = ap first_of p in
-    let five = subst (λ (a : Accepted). keymap [] 0 0 ≡ changed (keymap []) (a.command ∷ []) 0 0) same c in
-    four_not (keymap [] 0 0) default_code (five ∙ sets_five)
+    let five = subst (λ (a : Accepted). keymap standard [] 0 0 ≡ changed standard (keymap standard []) (a.command ∷ []) 0 0) same c in
+    four_not (keymap standard [] 0 0) default_code (five ∙ sets_five)
 lost_by (one ∷ two ∷ kept) lost p s c = cc
 
-lost_one : LegalRestart (keymap []) (done ∷ []) (keymap []) → ⊥
+lost_one : LegalRestart standard (keymap standard []) (done ∷ []) (keymap standard []) → ⊥
 lost_one r = lost_by r.kept r.lost r.prefix r.holds_settled (r.changed_by 0 0 (omega arith) (omega arith))
 
-pub not_legal : EachStep StartsLegally blank settled_and_lost → ⊥
-not_legal h = lost_one (subst (λ (session : List Accepted). LegalRestart (keymap []) session (keymap [])) is_settled (h.0 refl))
+pub not_legal : EachStep (StartsLegally standard) blank settled_and_lost → ⊥
+not_legal h = lost_one (subst (λ (session : List Accepted). LegalRestart standard (keymap standard []) session (keymap standard [])) is_settled (h.0 refl))
 
 -- nothing is looked at, read or gathered
-pub looks : EachStep ShowsSettled blank settled_and_lost
+pub looks : EachStep (ShowsSettled standard) blank settled_and_lost
 looks = ((λ layer key l k e. cc), ((λ layer key l k e. cc), ((λ layer key l k e. cc), ((λ layer key l k e. cc), tt))))
 
-pub reads : EachStep ReadsWanted blank settled_and_lost
+pub reads : EachStep (ReadsWanted standard) blank settled_and_lost
 reads = ((λ bytes reading e. cc), ((λ bytes reading e. cc), ((λ bytes reading e. cc), ((λ bytes reading e. cc), tt))))
 
-pub moments : EachStep MovesOn blank settled_and_lost
+pub moments : EachStep (MovesOn standard) blank settled_and_lost
 moments = ((λ bytes reading e. cc), ((λ bytes reading e. cc), ((λ bytes reading e. cc), ((λ bytes reading e. cc), tt))))
 
 pub gathers : EachPoint GathersServed blank settled_and_lost

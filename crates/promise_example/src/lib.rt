@@ -6,6 +6,7 @@
 #![tactic(auto)]
 
 ghost use Rattle.promise_example.specs.Histories.{blank, told_but_not_stored, settled_and_lost};
+ghost use Rattle.layers.specs.Standard.{standard};
 ghost use Rattle.world.specs.Acknowledged.{KeepsAcknowledged};
 ghost use Rattle.world.specs.History.{EachStep, EachPoint};
 ghost use Rattle.world.specs.Moments.{MovesOn};
@@ -15,18 +16,18 @@ ghost use Rattle.world.specs.Restart.{StartsLegally, ConfirmsSettled, ShowsSettl
 
 /// The host is told that a command is stored, and no flash work was made for it.
 pub fn told_without_being_stored()
-    ensures acknowledged { KeepsAcknowledged blank told_but_not_stored → ⊥ }
-    ensures confirmed { ConfirmsSettled blank told_but_not_stored → ⊥ }
-    ensures broken { Promise blank told_but_not_stored → ⊥ }
+    ensures acknowledged { KeepsAcknowledged standard blank told_but_not_stored → ⊥ }
+    ensures confirmed { ConfirmsSettled standard blank told_but_not_stored → ⊥ }
+    ensures broken { Promise standard blank told_but_not_stored → ⊥ }
 {}
 
 /// A command is settled, and after a cut the flash has no record of it.
 pub fn a_settled_command_is_lost()
-    ensures restarts { EachStep StartsLegally blank settled_and_lost → ⊥ }
-    ensures broken { Promise blank settled_and_lost → ⊥ }
+    ensures restarts { EachStep (StartsLegally standard) blank settled_and_lost → ⊥ }
+    ensures broken { Promise standard blank settled_and_lost → ⊥ }
     // nothing is looked at, read or gathered
-    ensures looks { EachStep ShowsSettled blank settled_and_lost }
-    ensures reads { EachStep ReadsWanted blank settled_and_lost }
-    ensures moments { EachStep MovesOn blank settled_and_lost }
+    ensures looks { EachStep (ShowsSettled standard) blank settled_and_lost }
+    ensures reads { EachStep (ReadsWanted standard) blank settled_and_lost }
+    ensures moments { EachStep (MovesOn standard) blank settled_and_lost }
     ensures gathered { EachPoint GathersServed blank settled_and_lost }
 {}

@@ -3,3 +3,5 @@ pub mod Lists
 pub mod Refused
 pub mod Rows
 pub mod Bytes
+pub mod Kept
+pub mod Compared

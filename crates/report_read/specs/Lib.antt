@@ -1,3 +1,4 @@
 pub mod Values
 pub mod Refusals
 pub mod ties
+pub mod Changes

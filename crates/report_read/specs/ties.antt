@@ -1,3 +1,4 @@
 -- Only ties code to its definitions: the files of this folder.
 pub mod Lanes
+pub mod Listed
 pub mod Plans

@@ -15,6 +15,9 @@ pub enum ReadingError {
     /// It is shorter than the descriptor declares.
     #[error("the report is too short")]
     Short,
+    /// Two reports that are compared have different IDs.
+    #[error("the two reports have different IDs")]
+    OtherId,
     /// It has no such field, or the field is not of Buffered Bytes.
     #[error("the report has no such field of Buffered Bytes")]
     NoSuchField,

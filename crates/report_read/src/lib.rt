@@ -12,15 +12,18 @@
 //! }
 //! ```
 //!
-//! A reading takes no memory.
+//! [`pressed`] gives the usages that are on in a report, and [`changes`] those in which two reports differ. A reading takes no
+//! memory; these two take that of what they give.
 #![tactic(auto)]
 
+mod difference;
 mod error;
 mod lane;
 mod reader;
 mod reading;
 mod value;
 
+pub use difference::{Changed, changes, pressed};
 pub use error::ReadingError;
 pub use lane::Lane;
 pub use reader::ReportReader;

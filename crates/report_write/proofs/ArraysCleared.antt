@@ -11,7 +11,7 @@ use Rattle.field_values.specs.Values.{usage_read}
 use Rattle.field_values.proofs.Reading.{others_stay, same_number, apart, later_place}
 use Rattle.report_write.specs.ties.Fits.{FitsRoom}
 use Rattle.report_write.specs.Controls.{is_usage}
-use Rattle.report_write.specs.Puts.{IsPut, IsMarked, ArePut, AreMarked}
+use Rattle.report_write.specs.Puts.{IsPut, ArePut}
 use Rattle.report_write.specs.Arrays.{names}
 use Rattle.report_write.proofs.Firsts.{not_both}
 
@@ -30,18 +30,8 @@ pub record ArePutTo (field : Field) (test : ℕ → Bool) (value : ℤ) (old : L
   pub others : (bit : ℕ) → ((place : ℕ) → place < count → test place ≡ true → IsOutside (place_bit field place) field.size bit)
       → report_bit now bit ≡ report_bit old bit
 
--- and they are marked
-pub record AreMarkedTo (field : Field) (test : ℕ → Bool) (old : List ℕ) (count : ℕ) (now : List ℕ) : Type 0 where
-  pub long : length now ≡ length old
-  pub there : (place : ℕ) → place < count → test place ≡ true → report_bit now (place_bit field place) ≡ 1
-  pub others : (bit : ℕ) → ((place : ℕ) → place < count → test place ≡ true → bit ≢ place_bit field place)
-      → report_bit now bit ≡ report_bit old bit
-
 pub none_put : (field : Field) (test : ℕ → Bool) (value : ℤ) (old : List ℕ) → ArePutTo field test value old 0 old
 none_put field test value old = record { long = refl; there = λ p l t. absurd (omega arith); others = λ bit o. refl }
-
-pub none_marked : (field : Field) (test : ℕ → Bool) (old : List ℕ) → AreMarkedTo field test old 0 old
-none_marked field test old = record { long = refl; there = λ p l t. absurd (omega arith); others = λ bit o. refl }
 
 -- the places from there on hold what they held
 pub ahead : (field : Field) (test : ℕ → Bool) (value : ℤ) (old : List ℕ) (count : ℕ) (now : List ℕ) (place : ℕ) → ArePutTo field test value old count now
@@ -76,34 +66,5 @@ one_left field test value old count now w fails = record {
   others = λ bit out. w.others bit (λ p b t. out p (omega arith) t);
 }
 
--- the first bits of two places differ
-apart_firsts : (field : Field) (place other : ℕ) → 0 < field.size → place < other → place_bit field place ≢ place_bit field other
-apart_firsts field place other some l e = absurd (omega (arith, later_place field.size place other l))
-
-pub one_marked : (field : Field) (test : ℕ → Bool) (old : List ℕ) (count : ℕ) (now then : List ℕ) → 0 < field.size → AreMarkedTo field test old count now
-    → test count ≡ true → IsMarked field count now then → AreMarkedTo field test old (count + 1) then
-one_marked field test old count now then some w passed mark = record {
-  long = mark.long ∙ w.long;
-  there = λ place below passes. (elim (cases_lt place count) [
-    | inl low ↦ mark.others (place_bit field place) (apart_firsts field place count some low) ∙ w.there place low passes
-    | inr high ↦ (let same : place ≡ count = omega arith in rw same mark.there)
-  ]);
-  others = λ bit out. mark.others bit (out count (omega arith) passed) ∙ w.others bit (λ p b t. out p (omega arith) t);
-}
-
-pub one_unmarked : (field : Field) (test : ℕ → Bool) (old : List ℕ) (count : ℕ) (now : List ℕ) → AreMarkedTo field test old count now
-    → test count ≡ false → AreMarkedTo field test old (count + 1) now
-one_unmarked field test old count now w fails = record {
-  long = w.long;
-  there = λ place below passes. (elim (cases_lt place count) [
-    | inl low ↦ w.there place low passes
-    | inr high ↦ (let same : place ≡ count = omega arith in not_both (test count) (rw same at passes) fails)
-  ]);
-  others = λ bit out. w.others bit (λ p b t. out p (omega arith) t);
-}
-
 pub all_put : (field : Field) (test : ℕ → Bool) (value : ℤ) (old now : List ℕ) → ArePutTo field test value old field.count now → ArePut field test value old now
 all_put field test value old now w = record { long = w.long; there = w.there; others = w.others }
-
-pub all_marked : (field : Field) (test : ℕ → Bool) (old now : List ℕ) → AreMarkedTo field test old field.count now → AreMarked field test old now
-all_marked field test old now w = record { long = w.long; there = w.there; others = w.others }

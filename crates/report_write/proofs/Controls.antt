@@ -1,6 +1,6 @@
 -- Controls that have a usage, counted.
 use Rattle.std.proofs.Common.{◌≡◌, ◌≢◌, ℕ, zero, suc, ◌+◌, ◌-◌, ◌<◌, ◌≤◌, Bool, true, false, List, [], ◌∷◌, ◌++◌, length, length-append, take, drop, get_or, drop-cons, arith, refl, sym, ◌∙◌, ap, inl, inr, Some, None}
-use Rattle.std.specs.Prelude.{Option, MatchOption, ◌==◌, if◌then◌else◌, slice_get, find, flat_map, is_some}
+use Rattle.std.specs.Prelude.{Option, MatchOption, ◌==◌, if◌then◌else◌, slice_get, find, flat_map, map, is_some}
 use Rattle.std.proofs.lemmas.Bool.{eq-eqb, ne_eqb, lt-ltb, le-ltb}
 use Rattle.std.proofs.lemmas.Option.{slice_get_cases, slice_get_past, slice_get_within, slice_get-get_or, get_or_from_slice_get}
 use Rattle.std.proofs.lemmas.List.{append-nil, take_all, take_more, take-append-drop}
@@ -12,6 +12,7 @@ use Rattle.descriptor_parse.specs.declared.field.Field.{Field}
 use Rattle.descriptor_parse.specs.Descriptor.{DescriptorValue, ranges_at, usage_list, usage_of_place}
 use Rattle.field_values.specs.Lists.{IsFirst, IsUnlisted}
 use Rattle.report_write.specs.declared.kept.Kept.{Kept}
+use Rattle.report_write.specs.declared.control.Control.TheVariants.{Place, Usage}
 use Rattle.report_write.specs.Controls.{is_usage, number_of, places_with, controls_in, controls}
 
 -- ---- a usage in a list
@@ -93,19 +94,24 @@ place_found field usages usage place count number l e n =
     let stays = places_stay field usages usage (place + 1) (count - (place + 1)) number (omega arith) in
     rw rest at stays.0 ∙ rw one (at_seam (places_with field usages usage place) place number n)
 
-pub place_past : (field : Field) (usages : List ℕ) (usage place count number left : ℕ) → place ≡ count
-    → length (places_with field usages usage place) + left ≡ number → slice_get (places_with field usages usage count) number ≡ None
-place_past field usages usage place count number left e n = rw (sym e) (slice_get_past (places_with field usages usage place) number (omega arith))
-
 -- ---- what in a field has a usage
 
 pub one_usage : (kept : Kept) (usages : List ℕ) (usage : ℕ) → kept.field.array ≡ true → is_some (number_of usages usage) ≡ true
-    → length (controls_in usages usage kept) ≡ 1
+    → controls_in usages usage kept ≡ Usage kept usage ∷ []
 one_usage kept usages usage a e = rw (a, e) refl
 
 pub no_usage : (kept : Kept) (usages : List ℕ) (usage : ℕ) → kept.field.array ≡ true → is_some (number_of usages usage) ≡ false
-    → length (controls_in usages usage kept) ≡ 0
+    → controls_in usages usage kept ≡ []
 no_usage kept usages usage a e = rw (a, e) refl
+
+pub its_places : (kept : Kept) (usages : List ℕ) (usage : ℕ) → kept.field.array ≡ false
+    → controls_in usages usage kept ≡ map (λ place. Place kept place) (places_with kept.field usages usage kept.field.count)
+its_places kept usages usage a = rw a refl
+
+pub mapped_at : {X A : Type 0} (f : X → A) (xs : List X) (i : ℕ) (x : X) → slice_get xs i ≡ Some x → slice_get (map f xs) i ≡ Some (f x)
+mapped_at f [] i x e = cc
+mapped_at f (y ∷ ys) zero x e = ap (λ z. Some (f z)) (some_same e)
+mapped_at f (y ∷ ys) (suc i) x e = mapped_at f ys i x e
 
 pub controls_are : (d : DescriptorValue) (usage : ℕ) (kept : List Kept)
     → controls d usage kept ≡ flat_map (λ k. controls_in (usage_list (ranges_at d k.number)) usage k) kept

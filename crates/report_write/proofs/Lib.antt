@@ -6,6 +6,7 @@ mod SettingsSet
 mod Firsts
 mod UnusedLemmas
 mod UnusedNone
+mod Walked
 mod ArraysCleared
 mod ArraysRefused
 mod FilledHeld

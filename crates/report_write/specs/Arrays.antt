@@ -15,7 +15,7 @@ use Rattle.report_write.specs.declared.setting.WriteError.TheVariants.{Unknown, 
 use Rattle.report_write.specs.Firsts.{first}
 use Rattle.report_write.specs.Controls.{is_usage, number_of}
 use Rattle.report_write.specs.Unused.{unused}
-use Rattle.report_write.specs.Puts.{IsPut, IsMarked, ArePut, AreMarked, is_set}
+use Rattle.report_write.specs.Puts.{IsPut, IsMarked, ArePut, is_set}
 
 -- a place names a usage
 abbrev pub names : Field → UsageList → Bytes → ℕ → ℕ → Bool
@@ -64,9 +64,9 @@ pub record IsOn (field : Field) (usages : UsageList) (usage : ℕ) (old new mark
   pub put : IsPut field place (field.min +ℤ pos listed) old new
   pub marked : IsMarked field place marks_old marks_new
 
--- it was taken out: each place that named it says that there is none
+-- it was taken out: each place that named it says that there is none, and may be set again
 pub record IsOff (field : Field) (usages : UsageList) (usage : ℕ) (old new marks_old marks_new : Bytes) : Type 0 where
   pub value : ℤ
   pub none : unused field usages ≡ Some value
   pub put : ArePut field (names field usages old usage) value old new
-  pub marked : AreMarked field (names field usages old usage) marks_old marks_new
+  pub marks : marks_new ≡ marks_old

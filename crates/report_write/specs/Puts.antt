@@ -30,10 +30,3 @@ pub record ArePut (field : Field) (test : ℕ → Bool) (value : ℤ) (old new :
   pub there : (place : ℕ) → place < field.count → test place ≡ true → value_at field new place ≡ value
   pub others : (bit : ℕ) → ((place : ℕ) → place < field.count → test place ≡ true → IsOutside (place_bit field place) field.size bit)
       → report_bit new bit ≡ report_bit old bit
-
--- they are set
-pub record AreMarked (field : Field) (test : ℕ → Bool) (old new : Bytes) : Type 0 where
-  pub long : length new ≡ length old
-  pub there : (place : ℕ) → place < field.count → test place ≡ true → report_bit new (place_bit field place) ≡ 1
-  pub others : (bit : ℕ) → ((place : ℕ) → place < field.count → test place ≡ true → bit ≢ place_bit field place)
-      → report_bit new bit ≡ report_bit old bit

@@ -9,13 +9,13 @@ ghost use Rattle.report_write.specs.ties.Fits.{FitsKept, FitsRoom};
 ghost use Rattle.report_write.specs.Firsts.{first};
 ghost use Rattle.report_write.specs.Controls.{number_of};
 ghost use Rattle.report_write.specs.Unused.{unused};
-ghost use Rattle.report_write.specs.Puts.{is_set, ArePut, AreMarked};
+ghost use Rattle.report_write.specs.Puts.{is_set, ArePut};
 ghost use Rattle.report_write.specs.Arrays.{names, is_free, place_for, on_refusal, off_refusal, usage_refusal, IsOn, IsOff};
 ghost use Rattle.report_write.specs.Settings.{IsUsageSet};
 
 use crate::control::is_usage;
 use crate::kept::{Kept, usages_of};
-use crate::place::{is_set, put_one};
+use crate::place::{is_set, mark, put_one};
 use crate::setting::WriteError;
 use crate::unused::unused;
 use descriptor_parse::{Descriptor, FieldUsages};
@@ -87,7 +87,8 @@ fn put_in(
     if is_set(&declared.field, marks, place) {
         return Err(WriteError::Twice(number));
     }
-    put_one(&declared.field, place, value, bytes, marks);
+    put_one(&declared.field, place, value, bytes);
+    mark(&declared.field, marks, place);
     Ok(())
 }
 
@@ -158,7 +159,6 @@ fn take_out(
     marks: &mut [u8],
 ) -> Result<(), WriteError>
     requires fits { FitsRoom (8 * length bytes.old) declared.now.field declared.now.ranges.now }
-    requires beside { length marks.old ≡ length bytes.old }
     requires array { declared.now.field.array ≡ true }
     ensures taken { IfOk result (λ _. off_refusal declared.now.field (usage_list declared.now.ranges.now) bytes.old marks.old usage number (unused declared.now.field (usage_list declared.now.ranges.now)) ≡ None) }
     ensures refused { IfErr result (λ e. off_refusal declared.now.field (usage_list declared.now.ranges.now) bytes.old marks.old usage number (unused declared.now.field (usage_list declared.now.ranges.now)) ≡ Some e) }
@@ -171,7 +171,7 @@ fn take_out(
     if is_set_already(declared, usage, bytes, marks) {
         return Err(WriteError::Twice(number));
     }
-    put_all(declared, usage, value, bytes, marks);
+    put_all(declared, usage, value, bytes);
     Ok(())
 }
 
@@ -188,17 +188,15 @@ fn is_set_already(declared: &FieldUsages<'_>, usage: u32, bytes: &[u8], marks: &
     false
 }
 
-/// Writes a value into each place that names a usage, and marks it.
-fn put_all(declared: &FieldUsages<'_>, usage: u32, value: i64, bytes: &mut [u8], marks: &mut [u8])
+/// Writes a value into each place that names a usage.
+fn put_all(declared: &FieldUsages<'_>, usage: u32, value: i64, bytes: &mut [u8])
     requires fits { FitsRoom (8 * length bytes.old) declared.now.field declared.now.ranges.now }
-    requires beside { length marks.old ≡ length bytes.old }
     requires held { is_held declared.now.field.min declared.now.field.size value ≡ true }
-    ensures put { ArePut declared.now.field (names declared.now.field (usage_list declared.now.ranges.now) bytes.old usage) value bytes.old bytes.new }
-    ensures marked { AreMarked declared.now.field (names declared.now.field (usage_list declared.now.ranges.now) bytes.old usage) marks.old marks.new }
+    ensures { ArePut declared.now.field (names declared.now.field (usage_list declared.now.ranges.now) bytes.old usage) value bytes.old bytes.new }
 {
     for place in 0..declared.field.count {
         if is_named(declared, bytes, usage, place) {
-            put_one(&declared.field, place, value, bytes, marks);
+            put_one(&declared.field, place, value, bytes);
         }
     }
 }

@@ -1,12 +1,14 @@
 //! The control that a setting means.
 
-ghost use Rattle.std.specs.Prelude.{ℕ, ◌≡◌, ◌==◌, ◌<◌, All, IfSome, length, slice_get, find, Some};
+ghost use Rattle.std.specs.Prelude.{ℕ, ◌≡◌, ◌==◌, ◌+◌, ◌<◌, false, All, IfSome, IfOk, IfErr, length, slice_get, find, Some};
 ghost use Rattle.descriptor_parse.specs.Descriptor.{usage_list};
 ghost use Rattle.report_write.specs.Controls.{is_usage, places_with, controls_in, controls, control_of, place_in};
 ghost use Rattle.report_write.specs.ties.Fits.{FitsKept, FitsControl};
+ghost use Rattle.report_write.specs.ties.Walks.{IsPlaceOf, AreServed};
 
 use crate::kept::{Kept, usages_of};
 use crate::setting::Target;
+use crate::unused::start_of;
 use descriptor_parse::{Descriptor, FieldUsages};
 use field_values::number_of_usage;
 
@@ -20,7 +22,7 @@ pub enum Control {
 }
 
 /// The control that is meant; `None` where the report does not have it.
-pub(crate) fn control_of(descriptor: &Descriptor, kept: &[Kept], target: Target) -> Option<Control>
+pub fn control_of(descriptor: &Descriptor, kept: &[Kept], target: Target) -> Option<Control>
     ensures control { result ≡ control_of descriptor.now kept.now target }
     ensures fits { (room : ℕ) → All (FitsKept descriptor.now room) kept.now → IfSome result (λ c. FitsControl descriptor.now room c) }
 {
@@ -37,72 +39,92 @@ fn control_with(descriptor: &Descriptor, kept: &[Kept], usage: u32, place: usize
     let mut left = place;
     for number in 0..kept.len() {
         let declared = usages_of(descriptor, &kept[number]);
-        let count = count_in(&kept[number], &declared, usage);
-        if left < count {
-            return control_in(&kept[number], &declared, usage, left);
+        match control_in(&kept[number], &declared, usage, left) {
+            Ok(control) => return Some(control),
+            Err(past) => left = past,
         }
-        left -= count;
     }
     None
 }
 
-/// How many controls of a field have a usage.
-fn count_in(kept: &Kept, declared: &FieldUsages<'_>, usage: u32) -> usize
+/// The control of a field with this number among those that have a usage, or else the number without them.
+fn control_in(
+    kept: &Kept,
+    declared: &FieldUsages<'_>,
+    usage: u32,
+    number: usize,
+) -> Result<Control, usize>
     requires { declared.now.field ≡ kept.now.field }
-    ensures { result ≡ length (controls_in (usage_list declared.now.ranges.now) usage kept.now) }
+    ensures here { IfOk result (λ control. slice_get (controls_in (usage_list declared.now.ranges.now) usage kept.now) number ≡ Some control) }
+    ensures past { IfErr result (λ left. length (controls_in (usage_list declared.now.ranges.now) usage kept.now) + left ≡ number) }
 {
     if declared.field.array {
-        if number_of_usage(declared, usage).is_some() {
-            1
+        if !number_of_usage(declared, usage).is_some() {
+            Err(number)
+        } else if number == 0 {
+            Ok(Control::Usage(*kept, usage))
         } else {
-            0
+            Err(number - 1)
         }
     } else {
-        count_with(declared, usage)
-    }
-}
-
-/// The control of a field with this number among those that have a usage.
-fn control_in(kept: &Kept, declared: &FieldUsages<'_>, usage: u32, number: usize) -> Option<Control>
-    requires field { declared.now.field ≡ kept.now.field }
-    requires within { number < length (controls_in (usage_list declared.now.ranges.now) usage kept.now) }
-    ensures { result ≡ slice_get (controls_in (usage_list declared.now.ranges.now) usage kept.now) number }
-{
-    if declared.field.array {
-        Some(Control::Usage(*kept, usage))
-    } else {
-        let place = place_with(declared, usage, number)?;
-        Some(Control::Place(*kept, place))
-    }
-}
-
-/// How many places of a Variable field have a usage.
-fn count_with(declared: &FieldUsages<'_>, usage: u32) -> usize
-    ensures { result ≡ length (places_with declared.now.field (usage_list declared.now.ranges.now) usage declared.now.field.count) }
-{
-    let mut count = 0;
-    for place in 0..declared.field.count {
-        if is_usage(declared.usage(place as usize), usage) {
-            count += 1;
+        match place_with(declared, usage, number) {
+            Ok(place) => Ok(Control::Place(*kept, place)),
+            Err(left) => Err(left),
         }
     }
-    count
 }
 
-/// The place of a Variable field with this number among those that have a usage.
-fn place_with(declared: &FieldUsages<'_>, usage: u32, number: usize) -> Option<u16>
-    ensures { result ≡ slice_get (places_with declared.now.field (usage_list declared.now.ranges.now) usage declared.now.field.count) number }
+/// The place of a Variable field with this number among those that have a usage, or else the number without them.
+fn place_with(declared: &FieldUsages<'_>, usage: u32, number: usize) -> Result<u16, usize>
+    requires { declared.now.field.array ≡ false }
+    ensures here { IfOk result (λ place. slice_get (places_with declared.now.field (usage_list declared.now.ranges.now) usage declared.now.field.count) number ≡ Some place) }
+    ensures past { IfErr result (λ left. length (places_with declared.now.field (usage_list declared.now.ranges.now) usage declared.now.field.count) + left ≡ number) }
 {
     let mut left = number;
-    for place in 0..declared.field.count {
-        if is_usage(declared.usage(place as usize), usage) {
+    for range in 0..declared.ranges.len() {
+        if let Some(place) = place_in_range(declared, range, usage) {
             if left == 0 {
-                return Some(place);
+                return Ok(place);
             }
             left -= 1;
         }
     }
-    None
+    let served = served_by_last(declared, usage);
+    if left < served as usize {
+        Ok(declared.field.count - (served - left as u16))
+    } else {
+        Err(left - served as usize)
+    }
+}
+
+/// The place to which a range gives a usage.
+fn place_in_range(declared: &FieldUsages<'_>, range: usize, usage: u32) -> Option<u16>
+    requires { range < length declared.now.ranges.now }
+    ensures { IsPlaceOf declared.now.field declared.now.ranges.now range usage result }
+{
+    let (first, last) = declared.ranges[range];
+    if usage < first || last < usage {
+        return None;
+    }
+    let place = start_of(declared, range) as u64 + (usage - first) as u64;
+    if place < declared.field.count as u64 {
+        Some(place as u16)
+    } else {
+        None
+    }
+}
+
+/// How many places past the list have a usage by its last one: all or none.
+fn served_by_last(declared: &FieldUsages<'_>, usage: u32) -> u16
+    requires { declared.now.field.array ≡ false }
+    ensures { AreServed declared.now.field (usage_list declared.now.ranges.now) usage result }
+{
+    let listed = start_of(declared, declared.ranges.len());
+    if listed < declared.field.count as u32 && is_usage(declared.usage(listed as usize), usage) {
+        declared.field.count - listed as u16
+    } else {
+        0
+    }
 }
 
 /// Whether something is this usage.

@@ -20,6 +20,7 @@ mod setting;
 mod unused;
 mod writing;
 
+pub use control::{Control, control_of};
 pub use kept::{Kept, kept_fields, usages_of};
 pub use setting::{Setting, Target, WriteError};
 pub use writing::write;

@@ -81,17 +81,13 @@ pub(crate) fn mark(field: &Field, marks: &mut [u8], place: u16)
     put_number(marks, first_bit(field, place), 1, 1);
 }
 
-/// Puts a value that the bits hold into a place, and marks it.
-pub(crate) fn put_one(field: &Field, place: u16, value: i64, bytes: &mut [u8], marks: &mut [u8])
+/// Puts a value that the bits hold into a place.
+pub(crate) fn put_one(field: &Field, place: u16, value: i64, bytes: &mut [u8])
     requires fits { FitsReading field.now }
-    requires size { 0 < field.now.size }
     requires within { place < field.now.count }
     requires held { is_held field.now.min field.now.size value ≡ true }
     requires bits { has_bits field.now bytes.old place ≡ true }
-    requires beside { length marks.old ≡ length bytes.old }
-    ensures put { IsPut field.now place value bytes.old bytes.new }
-    ensures marked { IsMarked field.now place marks.old marks.new }
+    ensures { IsPut field.now place value bytes.old bytes.new }
 {
     put_value(bytes, first_bit(field, place), field.size, field.min, value);
-    mark(field, marks, place);
 }

@@ -56,8 +56,7 @@ pub enum WriteError {
     /// The report does not have the usage, so many times, or the field or place.
     #[error("setting {0}: the report has no such usage, field or place")]
     Unknown(usize),
-    /// The place is set twice; or, of a usage that is put into an Array, the first place that is free is one that a setting
-    /// before it freed.
+    /// The place is set twice. One that a usage was taken out of is free, and may be set again.
     #[error("setting {0}: the place is set twice")]
     Twice(usize),
     /// A null, and the field has no Null State, or no value for it.

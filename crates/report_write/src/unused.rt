@@ -54,7 +54,7 @@ fn id_zero(declared: &FieldUsages<'_>) -> Option<i64>
 }
 
 /// How many usages stand before a range.
-fn start_of(declared: &FieldUsages<'_>, range: usize) -> u32
+pub(crate) fn start_of(declared: &FieldUsages<'_>, range: usize) -> u32
     requires { range ≤ length declared.now.ranges.now }
     ensures { result ≡ length (usage_list (take range declared.now.ranges.now)) }
 {

@@ -16,6 +16,7 @@ use Rattle.control_ep.proofs.Joined.{joined-is}
 use Rattle.host.specs.Calls.{HostCall, was_set_up, got_packet, lost}
 use Rattle.host.specs.Faultless.{is_faultless}
 use Rattle.host.specs.Kept.{Fetch, asks_for_report, wanted_length, with_packet, is_end, gathering, is_kept, kept_with, kept}
+use Rattle.layers.specs.Codes.{DefaultCodes}
 use Rattle.keyboard.specs.Calls.{Call, EachCall}
 use Rattle.keyboard.specs.Endpoint.{ep_calls, stage_after}
 use Rattle.keyboard.specs.Lawful.{IsAnswered}
@@ -94,15 +95,6 @@ next_by start told host calls wanted k bytes enough few g (gives packet none p e
     let adds = next_bytes report_bytes calls wanted k bytes served_size enough few g none (p ∙ same) in
     record { adds = adds; size = next_size report_bytes k bytes served_size few adds }
 
-next : (start : List ℕ) (told host : List HostCall) (past : List Call) (wanted k : ℕ) (bytes : List ℕ) → 99 ≤ wanted → k ≤ 12 → Fetches told (ep_calls start past) host
-    → gathering host ≡ Some (record { wanted = wanted; bytes = take (8 * k) report_bytes })
-    → Packet (record { items = bytes }) ≡ in_answer (stage_after start past) → Next start told host wanted k bytes
-next start told host past wanted k bytes enough few f g e =
-    let calls = ep_calls start past in
-    let now : Gathers report_bytes calls (record { wanted = wanted; bytes = take (8 * k) report_bytes }) = rw g at f.gathers in
-    next_by start told host calls wanted k bytes enough few now
-    (given report_bytes wanted (first_stall (calls_since calls)) (last_setup calls) (progress_of (calls_since calls)) (Packet (record { items = bytes })) now.begins (e ∙ ap in_answer (stage-is calls)))
-
 pub goes_next : (start : List ℕ) (told host : List HostCall) (wanted k : ℕ) (bytes : List ℕ) → 99 ≤ wanted → k ≤ 11
     → gathering host ≡ Some (record { wanted = wanted; bytes = take (8 * k) report_bytes }) → Next start told host wanted k bytes
     → gathering (got_packet bytes true ∷ host) ≡ Some (record { wanted = wanted; bytes = take (8 * suc k) report_bytes })
@@ -130,41 +122,6 @@ keeps_last start told host wanted bytes g n =
 longer : (xs ys zs : List HostCall) → length zs ≤ length (xs ++ (ys ++ zs))
 longer xs ys zs = omega (arith, length-append xs (ys ++ zs), length-append ys zs)
 
--- so many packets, each taken, after a SETUP packet that asks for enough
-reaches : (start : List ℕ) (told : List HostCall) (setup : List ℕ) (before packets : List HostCall) (past : List Call) → asks_for_report setup ≡ true → 99 ≤ wanted_length setup
-    → Fetches told [] told → AreTaken packets → length packets ≤ 12 → Hears told past (packets ++ (was_set_up setup ∷ before ++ told)) → EachCall IsAnswered start past
-    → gathering (packets ++ (was_set_up setup ∷ before ++ told)) ≡ Some (record { wanted = wanted_length setup; bytes = take (8 * length packets) report_bytes })
-unfolding gathering
-reaches start told setup before [] past asks enough f taken few h a = rw asks refl
-reaches start told setup before (got_packet bytes memory ∷ packets) past asks enough f (on, taken) few h a =
-    let host = packets ++ (was_set_up setup ∷ before ++ told) in
-    let b : Before start told (got_packet bytes memory) host = unheard start told past (got_packet bytes memory ∷ host) (got_packet bytes memory) host h refl (longer packets (was_set_up setup ∷ before) told) a in
-    let short : length packets ≤ 11 = omega (arith, few) in
-    let here = reaches start told setup before packets b.past asks enough f taken (omega (arith, short)) b.hears b.answered in
-    let now = fetches start told b.past host served_size b.hears b.answered f in
-    rw on (goes_next start told host (wanted_length setup) (length packets) bytes enough short here
-    (next start told host b.past (wanted_length setup) (length packets) bytes enough (omega (arith, short)) now here b.given))
-reaches start told setup before (was_set_up other ∷ packets) past asks enough f taken few h a = absurd taken
-reaches start told setup before (lost ∷ packets) past asks enough f taken few h a = absurd taken
-
-completes : (start : List ℕ) (told : List HostCall) (setup : List ℕ) (before packets : List HostCall) (past : List Call) → asks_for_report setup ≡ true → 99 ≤ wanted_length setup
-    → Fetches told [] told → AreTaken packets → length packets ≡ 13 → Hears told past (packets ++ (was_set_up setup ∷ before ++ told)) → EachCall IsAnswered start past
-    → kept (packets ++ (was_set_up setup ∷ before ++ told)) ≡ Some report_bytes
-completes start told setup before [] past asks enough f taken count h a = absurd (omega (arith, count))
-completes start told setup before (got_packet bytes memory ∷ packets) past asks enough f (on, taken) count h a =
-    let host = packets ++ (was_set_up setup ∷ before ++ told) in
-    let twelve : length packets ≡ 12 = omega (arith, count) in
-    let size : length told ≤ length host = longer packets (was_set_up setup ∷ before) told in
-    let b : Before start told (got_packet bytes memory) host = unheard start told past (got_packet bytes memory ∷ host) (got_packet bytes memory) host h refl size a in
-    let reached = reaches start told setup before packets b.past asks enough f taken (omega (arith, twelve)) b.hears b.answered in
-    let here : gathering host ≡ Some (record { wanted = wanted_length setup; bytes = take (8 * 12) report_bytes }) = rw twelve at reached in
-    let now = fetches start told b.past host served_size b.hears b.answered f in
-    rw on (keeps_last start told host (wanted_length setup) bytes here (next start told host b.past (wanted_length setup) 12 bytes enough (omega arith) now here b.given))
-completes start told setup before (was_set_up other ∷ packets) past asks enough f taken count h a = absurd taken
-completes start told setup before (lost ∷ packets) past asks enough f taken count h a = absurd taken
-
--- ---- and later
-
 keeps_some : (go : Bool) (text : List ℕ) (before : Option (List ℕ)) → is_some before ≡ true → is_some (if go then Some text else before) ≡ true
 keeps_some true text before e = refl
 keeps_some false text before e = e
@@ -181,24 +138,69 @@ stays_kept (was_set_up setup ∷ later) host e = stays_kept later host e
 stays_kept (got_packet bytes memory ∷ later) host e = packet_keeps (gathering (later ++ host)) bytes memory (kept (later ++ host)) (stays_kept later host e)
 stays_kept (lost ∷ later) host e = stays_kept later host e
 
--- the session up to what a host heard then
-record Upto (start : List ℕ) (told host : List HostCall) : Type 0 where
-  past : List Call
-  hears : Hears told past host
-  answered : EachCall IsAnswered start past
+module _ (defaults : DefaultCodes) where
+  next : (start : List ℕ) (told host : List HostCall) (past : List Call) (wanted k : ℕ) (bytes : List ℕ) → 99 ≤ wanted → k ≤ 12 → Fetches told (ep_calls defaults start past) host
+      → gathering host ≡ Some (record { wanted = wanted; bytes = take (8 * k) report_bytes })
+      → Packet (record { items = bytes }) ≡ in_answer (stage_after defaults start past) → Next start told host wanted k bytes
+  next start told host past wanted k bytes enough few f g e =
+      let calls = ep_calls defaults start past in
+      let now : Gathers report_bytes calls (record { wanted = wanted; bytes = take (8 * k) report_bytes }) = rw g at f.gathers in
+      next_by start told host calls wanted k bytes enough few now
+      (given report_bytes wanted (first_stall (calls_since calls)) (last_setup calls) (progress_of (calls_since calls)) (Packet (record { items = bytes })) now.begins (e ∙ ap in_answer (stage-is calls)))
 
-upto : (start : List ℕ) (told later host : List HostCall) (past : List Call) → length told ≤ length host → Hears told past (later ++ host) → EachCall IsAnswered start past → Upto start told host
-upto start told [] host past l h a = record { past = past; hears = h; answered = a }
-upto start told (call ∷ later) host past l h a =
-    let b : Before start told call (later ++ host) = unheard start told past (call ∷ later ++ host) call (later ++ host) h refl (omega (arith, l, length-append later host)) a in
-    upto start told later host b.past l b.hears b.answered
+  -- so many packets, each taken, after a SETUP packet that asks for enough
+  reaches : (start : List ℕ) (told : List HostCall) (setup : List ℕ) (before packets : List HostCall) (past : List Call) → asks_for_report setup ≡ true → 99 ≤ wanted_length setup
+      → Fetches told [] told → AreTaken packets → length packets ≤ 12 → Hears told past (packets ++ (was_set_up setup ∷ before ++ told)) → EachCall (IsAnswered defaults) start past
+      → gathering (packets ++ (was_set_up setup ∷ before ++ told)) ≡ Some (record { wanted = wanted_length setup; bytes = take (8 * length packets) report_bytes })
+  unfolding gathering
+  reaches start told setup before [] past asks enough f taken few h a = rw asks refl
+  reaches start told setup before (got_packet bytes memory ∷ packets) past asks enough f (on, taken) few h a =
+      let host = packets ++ (was_set_up setup ∷ before ++ told) in
+      let b : Before defaults start told (got_packet bytes memory) host = unheard defaults start told past (got_packet bytes memory ∷ host) (got_packet bytes memory) host h refl (longer packets (was_set_up setup ∷ before) told) a in
+      let short : length packets ≤ 11 = omega (arith, few) in
+      let here = reaches start told setup before packets b.past asks enough f taken (omega (arith, short)) b.hears b.answered in
+      let now = fetches defaults start told b.past host served_size b.hears b.answered f in
+      rw on (goes_next start told host (wanted_length setup) (length packets) bytes enough short here
+      (next start told host b.past (wanted_length setup) (length packets) bytes enough (omega (arith, short)) now here b.given))
+  reaches start told setup before (was_set_up other ∷ packets) past asks enough f taken few h a = absurd taken
+  reaches start told setup before (lost ∷ packets) past asks enough f taken few h a = absurd taken
 
-pub fetched_keeps : (start : List ℕ) (told host : List HostCall) (past : List Call) → Fetches told [] told → Hears told past host → EachCall IsAnswered start past → IsFetched told host
-    → is_some (kept host) ≡ true
-fetched_keeps start told host past f h a fetched =
-    let last = fetched.packets ++ (was_set_up fetched.setup ∷ fetched.before ++ told) in
-    let size : length told ≤ length last = longer fetched.packets (was_set_up fetched.setup ∷ fetched.before) told in
-    let u = upto start told fetched.later last past size (subst (λ (x : List HostCall). Hears told past x) fetched.split h) a in
-    let kept_last = completes start told fetched.setup fetched.before fetched.packets u.past fetched.asks fetched.enough f fetched.taken fetched.count u.hears u.answered in
-    let some : is_some (kept last) ≡ true = ap is_some kept_last in
-    rw fetched.split (stays_kept fetched.later last some)
+  completes : (start : List ℕ) (told : List HostCall) (setup : List ℕ) (before packets : List HostCall) (past : List Call) → asks_for_report setup ≡ true → 99 ≤ wanted_length setup
+      → Fetches told [] told → AreTaken packets → length packets ≡ 13 → Hears told past (packets ++ (was_set_up setup ∷ before ++ told)) → EachCall (IsAnswered defaults) start past
+      → kept (packets ++ (was_set_up setup ∷ before ++ told)) ≡ Some report_bytes
+  completes start told setup before [] past asks enough f taken count h a = absurd (omega (arith, count))
+  completes start told setup before (got_packet bytes memory ∷ packets) past asks enough f (on, taken) count h a =
+      let host = packets ++ (was_set_up setup ∷ before ++ told) in
+      let twelve : length packets ≡ 12 = omega (arith, count) in
+      let size : length told ≤ length host = longer packets (was_set_up setup ∷ before) told in
+      let b : Before defaults start told (got_packet bytes memory) host = unheard defaults start told past (got_packet bytes memory ∷ host) (got_packet bytes memory) host h refl size a in
+      let reached = reaches start told setup before packets b.past asks enough f taken (omega (arith, twelve)) b.hears b.answered in
+      let here : gathering host ≡ Some (record { wanted = wanted_length setup; bytes = take (8 * 12) report_bytes }) = rw twelve at reached in
+      let now = fetches defaults start told b.past host served_size b.hears b.answered f in
+      rw on (keeps_last start told host (wanted_length setup) bytes here (next start told host b.past (wanted_length setup) 12 bytes enough (omega arith) now here b.given))
+  completes start told setup before (was_set_up other ∷ packets) past asks enough f taken count h a = absurd taken
+  completes start told setup before (lost ∷ packets) past asks enough f taken count h a = absurd taken
+
+  -- ---- and later
+
+  -- the session up to what a host heard then
+  record Upto (start : List ℕ) (told host : List HostCall) : Type 0 where
+    past : List Call
+    hears : Hears told past host
+    answered : EachCall (IsAnswered defaults) start past
+
+  upto : (start : List ℕ) (told later host : List HostCall) (past : List Call) → length told ≤ length host → Hears told past (later ++ host) → EachCall (IsAnswered defaults) start past → Upto start told host
+  upto start told [] host past l h a = record { past = past; hears = h; answered = a }
+  upto start told (call ∷ later) host past l h a =
+      let b : Before defaults start told call (later ++ host) = unheard defaults start told past (call ∷ later ++ host) call (later ++ host) h refl (omega (arith, l, length-append later host)) a in
+      upto start told later host b.past l b.hears b.answered
+
+  pub fetched_keeps : (start : List ℕ) (told host : List HostCall) (past : List Call) → Fetches told [] told → Hears told past host → EachCall (IsAnswered defaults) start past → IsFetched told host
+      → is_some (kept host) ≡ true
+  fetched_keeps start told host past f h a fetched =
+      let last = fetched.packets ++ (was_set_up fetched.setup ∷ fetched.before ++ told) in
+      let size : length told ≤ length last = longer fetched.packets (was_set_up fetched.setup ∷ fetched.before) told in
+      let u = upto start told fetched.later last past size (subst (λ (x : List HostCall). Hears told past x) fetched.split h) a in
+      let kept_last = completes start told fetched.setup fetched.before fetched.packets u.past fetched.asks fetched.enough f fetched.taken fetched.count u.hears u.answered in
+      let some : is_some (kept last) ≡ true = ap is_some kept_last in
+      rw fetched.split (stays_kept fetched.later last some)

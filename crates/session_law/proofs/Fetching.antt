@@ -12,6 +12,7 @@ use Rattle.control_ep.specs.Answers.{in_answer, out_step}
 use Rattle.control_ep.proofs.Stages.{stage-is}
 use Rattle.host.specs.Calls.{HostCall, was_set_up, got_packet, lost}
 use Rattle.host.specs.Kept.{Fetch, asks_for_report, wanted_length, gathering, kept}
+use Rattle.layers.specs.Codes.{DefaultCodes}
 use Rattle.keymap_store.specs.declared.store.Work.{Work as WorkAnswer}
 use Rattle.keymap_store.specs.declared.store.Work.TheVariants as Work
 use Rattle.keyboard.specs.Calls.{Call, Scanned, SetUp, Out, In, Polled, Worked, BusReset, image_after, keymap, EachCall}
@@ -34,20 +35,6 @@ same : (told : List HostCall) (old new : List EpCall) (host : List HostCall) →
 same told old new host s h = record { gathers = same_read report_bytes old new (gathering host) s h.gathers; keeps = h.keeps; traces = h.traces }
 
 -- ---- a SETUP packet
-
-begins_by : (calls : List EpCall) (start : List ℕ) (before : List Call) (setup : List ℕ) (asks : Bool) → asks_for_report setup ≡ asks
-    → IfGathers report_bytes (Setup setup (view_after start before) ∷ calls) (if asks then Some (record { wanted = wanted_length setup; bytes = [] }) else None)
-begins_by calls start before setup false e = tt
-begins_by calls start before setup true e = record { begins = rw (reads_report setup (view_after start before) e) refl; bytes_are = λ f. refl; so_far = refl }
-
-set_up : (told : List HostCall) (calls : List EpCall) (start : List ℕ) (before : List Call) (setup : List ℕ) (host : List HostCall) → Fetches told calls host
-    → Fetches told (Setup setup (view_after start before) ∷ calls) (was_set_up setup ∷ host)
-unfolding gathering kept
-set_up told calls start before setup host h = record {
-  gathers = begins_by calls start before setup (asks_for_report setup) refl;
-  keeps = h.keeps;
-  traces = traces_setup told host setup h.traces;
-}
 
 was_lost : (told : List HostCall) (calls : List EpCall) (host : List HostCall) → Fetches told calls host → Fetches told (Reset ∷ calls) (lost ∷ host)
 unfolding gathering kept
@@ -96,34 +83,6 @@ by_gathering told calls answer effect memory host (Some fetch) size g h a =
 
 -- ---- any call
 
-worked : (told : List HostCall) (start : List ℕ) (before : List Call) (work : WorkAnswer) (image : List ℕ) (host : List HostCall) → Fetches told (ep_calls start before) host → Fetches told (ep_calls start (Worked work image ∷ before)) host
-unfolding ep_calls
-worked told start before Work.Idle image host h = h
-worked told start before Work.Working image host h = h
-worked told start before Work.Settled image host h = same told (ep_calls start before) (ep_calls start (Worked Work.Settled image ∷ before)) host (same_settle (ep_calls start before)) h
-worked told start before Work.Failed image host h = same told (ep_calls start before) (ep_calls start (Worked Work.Failed image ∷ before)) host (same_fail (ep_calls start before)) h
-
-step : (told : List HostCall) (start : List ℕ) (before : List Call) (call : Call) (memory : Bool) (host : List HostCall) → length report_bytes ≡ 99 → IsAnswered start before call → Fetches told (ep_calls start before) host
-    → Fetches told (ep_calls start (call ∷ before)) (with_heard (heard call memory) host)
-unfolding ep_calls
-step told start before (Scanned scan) memory host size a h = h
-step told start before (SetUp bytes) memory host size a h = set_up told (ep_calls start before) start before bytes host h
-step told start before (Out packet answer) memory host size a h =
-    same told (ep_calls start before) (ep_calls start (Out packet answer ∷ before)) host
-    (same_out (out_step (stage (ep_calls start before)) packet) packet (keymap (image_after start before)) answer (ep_calls start before)) h
-step told start before (In answer) memory host size a h =
-    by_gathering told (ep_calls start before) answer (effect_told before answer) memory host (gathering host) size refl h a
-step told start before (Polled answer) memory host size a h = h
-step told start before (Worked work image) memory host size a h = worked told start before work image host h
-step told start before BusReset memory host size a h = was_lost told (ep_calls start before) host h
-
-pub fetches : (start : List ℕ) (told : List HostCall) (past : List Call) (host : List HostCall) → length report_bytes ≡ 99 → Hears told past host → EachCall IsAnswered start past
-    → Fetches told [] told → Fetches told (ep_calls start past) host
-unfolding ep_calls
-fetches start told past host size at_start answered h = h
-fetches start told past host size (one_more call memory before earlier heard_before) answered h =
-    step told start before call memory earlier size answered.0 (fetches start told before earlier size heard_before answered.1 h)
-
 pub as_sum : (text : Option (List ℕ)) → NoneOrServed text → NoneOr report_bytes text
 as_sum text (none_kept e) = inl e
 as_sum text (served_kept e) = inr e
@@ -138,16 +97,59 @@ fetches_start told none k = record { gathers = rw none tt; keeps = as_sum (kept 
 pub served_size : length report_bytes ≡ 99
 served_size = refl
 
-pub fetched_is_served : (start : List ℕ) (past : List Call) (told host : List HostCall) → EachCall IsAnswered start past → Hears told past host → gathering told ≡ None → NoneOrServed (kept told)
-    → NoneOrServed (kept host)
-fetched_is_served start past told host answered hears none k =
-    from_sum (kept host) (fetches start told past host served_size hears answered (fetches_start told none k)).keeps
-
 gathered_of : (calls : List EpCall) (o : Option Fetch) (fetch : Fetch) → IfGathers report_bytes calls o → o ≡ Some fetch → fetch.bytes ≡ take (length fetch.bytes) report_bytes
 gathered_of calls None fetch h e = cc
 gathered_of calls (Some f) fetch h e = (let same : f ≡ fetch = cc in subst (λ (x : Fetch). x.bytes ≡ take (length x.bytes) report_bytes) same h.so_far)
 
-pub gathered_is_served : (start : List ℕ) (past : List Call) (told host : List HostCall) (fetch : Fetch) → EachCall IsAnswered start past → Hears told past host → gathering told ≡ None
-    → NoneOrServed (kept told) → gathering host ≡ Some fetch → fetch.bytes ≡ take (length fetch.bytes) report_bytes
-gathered_is_served start past told host fetch answered hears none k e =
-    gathered_of (ep_calls start past) (gathering host) fetch (fetches start told past host served_size hears answered (fetches_start told none k)).gathers e
+module _ (defaults : DefaultCodes) where
+  begins_by : (calls : List EpCall) (start : List ℕ) (before : List Call) (setup : List ℕ) (asks : Bool) → asks_for_report setup ≡ asks
+      → IfGathers report_bytes (Setup setup (view_after defaults start before) ∷ calls) (if asks then Some (record { wanted = wanted_length setup; bytes = [] }) else None)
+  begins_by calls start before setup false e = tt
+  begins_by calls start before setup true e = record { begins = rw (reads_report setup (view_after defaults start before) e) refl; bytes_are = λ f. refl; so_far = refl }
+
+  set_up : (told : List HostCall) (calls : List EpCall) (start : List ℕ) (before : List Call) (setup : List ℕ) (host : List HostCall) → Fetches told calls host
+      → Fetches told (Setup setup (view_after defaults start before) ∷ calls) (was_set_up setup ∷ host)
+  unfolding gathering kept
+  set_up told calls start before setup host h = record {
+    gathers = begins_by calls start before setup (asks_for_report setup) refl;
+    keeps = h.keeps;
+    traces = traces_setup told host setup h.traces;
+  }
+
+  worked : (told : List HostCall) (start : List ℕ) (before : List Call) (work : WorkAnswer) (image : List ℕ) (host : List HostCall) → Fetches told (ep_calls defaults start before) host → Fetches told (ep_calls defaults start (Worked work image ∷ before)) host
+  unfolding ep_calls
+  worked told start before Work.Idle image host h = h
+  worked told start before Work.Working image host h = h
+  worked told start before Work.Settled image host h = same told (ep_calls defaults start before) (ep_calls defaults start (Worked Work.Settled image ∷ before)) host (same_settle (ep_calls defaults start before)) h
+  worked told start before Work.Failed image host h = same told (ep_calls defaults start before) (ep_calls defaults start (Worked Work.Failed image ∷ before)) host (same_fail (ep_calls defaults start before)) h
+
+  step : (told : List HostCall) (start : List ℕ) (before : List Call) (call : Call) (memory : Bool) (host : List HostCall) → length report_bytes ≡ 99 → IsAnswered defaults start before call → Fetches told (ep_calls defaults start before) host
+      → Fetches told (ep_calls defaults start (call ∷ before)) (with_heard (heard call memory) host)
+  unfolding ep_calls
+  step told start before (Scanned scan) memory host size a h = h
+  step told start before (SetUp bytes) memory host size a h = set_up told (ep_calls defaults start before) start before bytes host h
+  step told start before (Out packet answer) memory host size a h =
+      same told (ep_calls defaults start before) (ep_calls defaults start (Out packet answer ∷ before)) host
+      (same_out defaults (out_step (stage (ep_calls defaults start before)) packet) packet (keymap defaults (image_after start before)) answer (ep_calls defaults start before)) h
+  step told start before (In answer) memory host size a h =
+      by_gathering told (ep_calls defaults start before) answer (effect_told before answer) memory host (gathering host) size refl h a
+  step told start before (Polled answer) memory host size a h = h
+  step told start before (Worked work image) memory host size a h = worked told start before work image host h
+  step told start before BusReset memory host size a h = was_lost told (ep_calls defaults start before) host h
+
+  pub fetches : (start : List ℕ) (told : List HostCall) (past : List Call) (host : List HostCall) → length report_bytes ≡ 99 → Hears told past host → EachCall (IsAnswered defaults) start past
+      → Fetches told [] told → Fetches told (ep_calls defaults start past) host
+  unfolding ep_calls
+  fetches start told past host size at_start answered h = h
+  fetches start told past host size (one_more call memory before earlier heard_before) answered h =
+      step told start before call memory earlier size answered.0 (fetches start told before earlier size heard_before answered.1 h)
+
+  pub fetched_is_served : (start : List ℕ) (past : List Call) (told host : List HostCall) → EachCall (IsAnswered defaults) start past → Hears told past host → gathering told ≡ None → NoneOrServed (kept told)
+      → NoneOrServed (kept host)
+  fetched_is_served start past told host answered hears none k =
+      from_sum (kept host) (fetches start told past host served_size hears answered (fetches_start told none k)).keeps
+
+  pub gathered_is_served : (start : List ℕ) (past : List Call) (told host : List HostCall) (fetch : Fetch) → EachCall (IsAnswered defaults) start past → Hears told past host → gathering told ≡ None
+      → NoneOrServed (kept told) → gathering host ≡ Some fetch → fetch.bytes ≡ take (length fetch.bytes) report_bytes
+  gathered_is_served start past told host fetch answered hears none k e =
+      gathered_of (ep_calls defaults start past) (gathering host) fetch (fetches start told past host served_size hears answered (fetches_start told none k)).gathers e

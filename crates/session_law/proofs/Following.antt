@@ -16,6 +16,7 @@ use Rattle.reports.specs.Calls.{ticked}
 use Rattle.reports.specs.Poll.{chosen}
 use Rattle.reports.specs.Queue.{reports_of, pushed_by, pushed, waiting}
 use Rattle.reports.proofs.Waiting.{keep_last-append, waiting-le, waiting-le8}
+use Rattle.layers.specs.Codes.{DefaultCodes}
 use Rattle.key_reports.specs.Calls.{KeyCall}
 use Rattle.key_reports.specs.Past.{wanted_after, poller_calls}
 use Rattle.control_ep.specs.declared.answer.Effect.{Effect}
@@ -28,29 +29,12 @@ use Rattle.session_law.proofs.Waiting.{pushed_put, all_pushed}
 
 -- ---- what waits is a queue
 
-waiting_put : (start : List ℕ) (past : List Call) → waiting (poller_calls (key_calls start past)) ≤ length (put start past)
-waiting_put start past =
-    let size : length (pushed (poller_calls (key_calls start past))) ≡ length (put start past) = ap length (all_pushed start past) ∙ length-map (put start past) (due_bytes start) in
-    omega (arith, waiting-le (poller_calls (key_calls start past)))
-
-waits-scan : (start : List ℕ) (before : List Call) (scan : Scan) → waits start (Scanned scan ∷ before) ≡ keep_last 8 (waits start before ++ put_by start before scan)
-unfolding waits put key_calls poller_calls waiting
-waits-scan start before scan =
-    let size : length (pushed_by (ticked (protocol_after before) (wanted_after (key_calls start before)) (wanted_after (key_calls start (Scanned scan ∷ before))))) ≡ length (put_by start before scan)
-    = ap length (pushed_put start before scan) ∙ length-map (put_by start before scan) (due_bytes start) in
-    ap (λ (k : ℕ). keep_last (min 8 (waiting (poller_calls (key_calls start before)) + k)) (put start before ++ put_by start before scan)) size
-    ∙ sym (keep_last-append 8 (waiting (poller_calls (key_calls start before))) (put start before) (put_by start before scan) (waiting_put start before))
-
 keep_last-less : (n : ℕ) (xs : List Due) → n ≤ length xs → keep_last (n - 1) xs ≡ drop 1 (keep_last n xs)
 keep_last-less zero xs l =
     let none : length xs - (zero - 1) ≡ length xs - zero = omega arith in
     let all : drop (length xs - zero) xs ≡ [] = drop_all (length xs - zero) xs (omega arith) in
     rw (none, all) refl
 keep_last-less (suc n) xs l = let e : length xs - suc n + 1 ≡ length xs - (suc n - 1) = omega arith in sym (drop-drop 1 (length xs - suc n) xs ∙ rw e refl)
-
-pub waits-poll : (start : List ℕ) (before : List Call) (answer : Option (List ℕ)) → waits start (Polled answer ∷ before) ≡ drop 1 (waits start before)
-unfolding waits put key_calls poller_calls waiting
-waits-poll start before answer = keep_last-less (waiting (poller_calls (key_calls start before))) (put start before) (waiting_put start before)
 
 waits_told : (effect : Effect) (calls : List KeyCall) (dues : List Due) → keep_last (waiting (poller_calls (with_effect effect calls))) (if is_choice effect then [] else dues)
     ≡ (if is_choice effect then [] else keep_last (waiting (poller_calls calls)) dues)
@@ -61,47 +45,9 @@ waits_told (Idle id duration) calls dues =
     ap (λ (k : ℕ). keep_last k dues) same
 waits_told (SetProtocol p) calls dues = refl
 
-waits-in : (start : List ℕ) (before : List Call) (effect : Effect) → keep_last (waiting (poller_calls (with_effect effect (key_calls start before)))) (if is_choice effect then [] else put start before)
-    ≡ (if is_choice effect then [] else waits start before)
-unfolding waits
-waits-in start before effect = waits_told effect (key_calls start before) (put start before)
-
--- ---- what is true of what waits, whatever the calls
-
--- a property of a list of reports after some calls: an empty list has it, and where a list has it, so has the list without
--- its first reports, the list after one call more, and, after a scan, the list with what that put
-record IsKept (start : List ℕ) (before : List Call) (Q : List Call → List Due → Type 0) : Type 0 where
-  none : (past : List Call) → Q past []
-  fewer : (past : List Call) (n : ℕ) (dues : List Due) → Q past dues → Q past (drop n dues)
-  longer : (call : Call) (past : List Call) (dues : List Due) → Q past dues → Q (call ∷ past) dues
-  more : (since : List Call) (scan : Scan) (dues : List Due) → Q (since ++ before) dues → Q (Scanned scan ∷ (since ++ before)) (dues ++ put_by start (since ++ before) scan)
-
 kept_told : (b : Bool) (Q : List Due → Type 0) (dues : List Due) → Q [] → Q dues → Q (if b then [] else dues)
 kept_told true Q dues none all = none
 kept_told false Q dues none all = all
-
-kept : (start : List ℕ) (before : List Call) (Q : List Call → List Due → Type 0) → IsKept start before Q → Q before (waits start before)
-    → (since : List Call) → Q (since ++ before) (waits start (since ++ before))
-unfolding waits put key_calls poller_calls waiting
-kept start before Q k now [] = now
-kept start before Q k now (Scanned scan ∷ since) =
-    let all = waits start (since ++ before) ++ put_by start (since ++ before) scan in
-    subst (λ (dues : List Due). Q (Scanned scan ∷ (since ++ before)) dues) (sym (waits-scan start (since ++ before) scan))
-    (k.fewer (Scanned scan ∷ (since ++ before)) (length all - 8) all (k.more since scan (waits start (since ++ before)) (kept start before Q k now since)))
-kept start before Q k now (SetUp bytes ∷ since) = k.longer (SetUp bytes) (since ++ before) (waits start (since ++ before)) (kept start before Q k now since)
-kept start before Q k now (Out packet answer ∷ since) = k.longer (Out packet answer) (since ++ before) (waits start (since ++ before)) (kept start before Q k now since)
-kept start before Q k now (In answer ∷ since) =
-    let effect = effect_told (since ++ before) answer in
-    subst (λ (dues : List Due). Q (In answer ∷ (since ++ before)) dues) (sym (waits-in start (since ++ before) effect))
-    (kept_told (is_choice effect) (Q (In answer ∷ (since ++ before))) (waits start (since ++ before)) (k.none (In answer ∷ (since ++ before)))
-    (k.longer (In answer) (since ++ before) (waits start (since ++ before)) (kept start before Q k now since)))
-kept start before Q k now (Polled answer ∷ since) =
-    subst (λ (dues : List Due). Q (Polled answer ∷ (since ++ before)) dues) (sym (waits-poll start (since ++ before) answer))
-    (k.fewer (Polled answer ∷ (since ++ before)) 1 (waits start (since ++ before)) (k.longer (Polled answer) (since ++ before) (waits start (since ++ before)) (kept start before Q k now since)))
-kept start before Q k now (Worked work image ∷ since) = k.longer (Worked work image) (since ++ before) (waits start (since ++ before)) (kept start before Q k now since)
-kept start before Q k now (BusReset ∷ since) = k.none (BusReset ∷ (since ++ before))
-
--- ---- the order of what waits
 
 -- the calls go on from a moment
 abbrev GoesOn : (moment past : List Call) → Type 0
@@ -150,14 +96,6 @@ all_in_order : (moment : List Call) (test : Input → Bool) (p : Protocol) → I
 all_in_order moment test protocol.Boot = one_put moment Boot (test Boot)
 all_in_order moment test protocol.Report = two_put moment (test One) (test Two)
 
-all_put : (P : Due → Type 0) (start : List ℕ) (before : List Call) (scan : Scan) → ((input : Input) → P (record { moment = Scanned scan ∷ before; input = input }))
-    → All P (put_by start before scan)
-all_put P start before scan h =
-    let inputs = filter (changes start before scan) (reports_of (protocol_after before)) in
-    All-map P (λ input. record { moment = Scanned scan ∷ before; input = input }) inputs (All-weaker (λ (_ : Input). Unit {0}) (λ input. P (record { moment = Scanned scan ∷ before; input = input })) (λ input u. h input) inputs (λ k d l. tt))
-
--- ---- a moment and what comes after it
-
 goes_further : (moment past since : List Call) → GoesOn moment past → GoesOn moment (since ++ past)
 goes_further moment past since g = (since ++ g.0, ap (λ (l : List Call). since ++ l) g.1 ∙ sym (append_assoc since g.0 moment))
 
@@ -175,58 +113,12 @@ record IsQueue (past : List Call) (dues : List Due) : Type 0 where
   in_order : InOrder dues
   of_past : All (λ one. GoesOn one.moment past) dues
 
-put_after : (start : List ℕ) (before : List Call) (scan : Scan) (dues : List Due) → IsQueue before dues → IsQueue (Scanned scan ∷ before) (dues ++ put_by start before scan)
-put_after start before scan dues q =
-    let new = put_by start before scan in
-    record {
-      in_order = in_order-append dues new q.in_order (all_in_order (Scanned scan ∷ before) (changes start before scan) (protocol_after before))
-          (All-weaker (λ one. GoesOn one.moment before) (λ one. All (Precedes one) new) (λ one g. all_put (Precedes one) start before scan (λ input. later_still one before [] (Scanned scan) input g)) dues q.of_past);
-      of_past = All-append (λ one. GoesOn one.moment (Scanned scan ∷ before)) dues new
-          (All-weaker (λ one. GoesOn one.moment before) (λ one. GoesOn one.moment (Scanned scan ∷ before)) (λ one g. goes_further one.moment before (Scanned scan ∷ []) g) dues q.of_past)
-          (all_put (λ one. GoesOn one.moment (Scanned scan ∷ before)) start before scan (λ input. ([], refl)));
-    }
-
-queue_kept : (start : List ℕ) → IsKept start [] IsQueue
-queue_kept start = record {
-  none = λ past. record { in_order = tt; of_past = All-nil (λ one. GoesOn one.moment past) };
-  fewer = λ past n dues q. record { in_order = in_order-drop n dues q.in_order; of_past = All-drop (λ one. GoesOn one.moment past) n dues q.of_past };
-  longer = λ call past dues q. record {
-    in_order = q.in_order;
-    of_past = All-weaker (λ one. GoesOn one.moment past) (λ one. GoesOn one.moment (call ∷ past)) (λ one g. goes_further one.moment past (call ∷ []) g) dues q.of_past;
-  };
-  more = λ since scan dues q. put_after start (since ++ []) scan dues q;
-}
-
-none_at_start : (start : List ℕ) → IsQueue [] (waits start [])
-unfolding waits put key_calls poller_calls waiting
-none_at_start start = record { in_order = tt; of_past = All-nil (λ one. GoesOn one.moment []) }
-
-queue_waits : (start : List ℕ) (past : List Call) → IsQueue past (waits start past)
-queue_waits start past = subst (λ (l : List Call). IsQueue l (waits start l)) (append-nil past) (kept start [] IsQueue (queue_kept start) (none_at_start start) past)
-
--- ---- what is due
-
 -- of what waits, or of now
 due_of_those : (P : Due → Type 0) (past : List Call) (dues : List Due) (o : Option Input) (report : Due) → All P dues
     → ((input : Input) → P (record { moment = past; input = input })) → option_or (slice_get dues 0) (option_map (λ input. record { moment = past; input = input }) o) ≡ Some report → P report
 due_of_those P past [] None report all now e = cc
 due_of_those P past [] (Some input) report all now e = (let f : record { moment = past; input = input } ≡ report = cc in subst P f (now input))
 due_of_those P past (one ∷ later) o report all now e = (let f : one ≡ report = cc in subst P f (All-head P one later all))
-
--- what holds of the reports of any moment from now on, and of those that wait, holds of the one that is due later
-later_due : (P : Due → Type 0) (start : List ℕ) (before : List Call) → ((since : List Call) (input : Input) → P (record { moment = since ++ before; input = input }))
-    → All P (waits start before) → (since : List Call) (report : Due) → due start (since ++ before) ≡ Some report → P report
-unfolding due ruled
-later_due P start before new all since report e =
-    let past = since ++ before in
-    let k : IsKept start before (λ _ dues. All P dues) = record {
-      none = λ past. All-nil P;
-      fewer = λ past n dues h. All-drop P n dues h;
-      longer = λ call past dues h. h;
-      more = λ since scan dues h. All-append P dues (put_by start (since ++ before) scan) h (all_put P start (since ++ before) scan (λ input. new (Scanned scan ∷ since) input));
-    } in
-    due_of_those P past (waits start past) (chosen (protocol_after past) (wanted_after (key_calls start past)) (poller_calls (key_calls start past))) report
-    (kept start before (λ _ dues. All P dues) k all since) (λ input. new since input) e
 
 -- the report that is due: all that waits is of its moment or a later one, and without the first that waits none is this one
 record IsFirst (past : List Call) (dues : List Due) (report : Due) : Type 0 where
@@ -248,22 +140,132 @@ first_due past (one ∷ later) o report q e =
       others = q.in_order.0;
     })
 
-is_first : (start : List ℕ) (past : List Call) (report : Due) → due start past ≡ Some report → IsFirst past (waits start past) report
-unfolding due ruled
-is_first start past report e =
-    first_due past (waits start past) (chosen (protocol_after past) (wanted_after (key_calls start past)) (poller_calls (key_calls start past))) report (queue_waits start past) e
+module _ (defaults : DefaultCodes) where
+  waiting_put : (start : List ℕ) (past : List Call) → waiting (poller_calls (key_calls defaults start past)) ≤ length (put defaults start past)
+  waiting_put start past =
+      let size : length (pushed (poller_calls (key_calls defaults start past))) ≡ length (put defaults start past) = ap length (all_pushed defaults start past) ∙ length-map (put defaults start past) (due_bytes defaults start) in
+      omega (arith, waiting-le (poller_calls (key_calls defaults start past)))
 
--- ---- moments go on
+  waits-scan : (start : List ℕ) (before : List Call) (scan : Scan) → waits defaults start (Scanned scan ∷ before) ≡ keep_last 8 (waits defaults start before ++ put_by defaults start before scan)
+  unfolding waits put key_calls poller_calls waiting
+  waits-scan start before scan =
+      let size : length (pushed_by (ticked (protocol_after before) (wanted_after (key_calls defaults start before)) (wanted_after (key_calls defaults start (Scanned scan ∷ before))))) ≡ length (put_by defaults start before scan)
+      = ap length (pushed_put defaults start before scan) ∙ length-map (put_by defaults start before scan) (due_bytes defaults start) in
+      ap (λ (k : ℕ). keep_last (min 8 (waiting (poller_calls (key_calls defaults start before)) + k)) (put defaults start before ++ put_by defaults start before scan)) size
+      ∙ sym (keep_last-append 8 (waiting (poller_calls (key_calls defaults start before))) (put defaults start before) (put_by defaults start before scan) (waiting_put start before))
 
-pub goes_on : (start : List ℕ) (before since : List Call) (first last : Due) → due start before ≡ Some first → due start (since ++ before) ≡ Some last
-    → (between : List Call) × (last.moment ≡ between ++ first.moment)
-goes_on start before since first last e f =
-    let i = is_first start before first e in
-    later_due (λ d. GoesOn first.moment d.moment) start before (λ s input. goes_further first.moment before s i.of_past) i.not_earlier since last f
+  pub waits-poll : (start : List ℕ) (before : List Call) (answer : Option (List ℕ)) → waits defaults start (Polled answer ∷ before) ≡ drop 1 (waits defaults start before)
+  unfolding waits put key_calls poller_calls waiting
+  waits-poll start before answer = keep_last-less (waiting (poller_calls (key_calls defaults start before))) (put defaults start before) (waiting_put start before)
 
-pub not_again : (start : List ℕ) (before since : List Call) (answer : Option (List ℕ)) (report : Due) → due start before ≡ Some report
-    → due start (since ++ Polled answer ∷ before) ≢ Some report
-not_again start before since answer report e f =
-    let i = is_first start before report e in
-    let at_poll : All (Precedes report) (waits start (Polled answer ∷ before)) = subst (All (Precedes report)) (sym (waits-poll start before answer)) i.others in
-    (later_due (Precedes report) start (Polled answer ∷ before) (λ s input. later_still report before s (Polled answer) input i.of_past) at_poll since report f).1 refl
+  waits-in : (start : List ℕ) (before : List Call) (effect : Effect) → keep_last (waiting (poller_calls (with_effect effect (key_calls defaults start before)))) (if is_choice effect then [] else put defaults start before)
+      ≡ (if is_choice effect then [] else waits defaults start before)
+  unfolding waits
+  waits-in start before effect = waits_told effect (key_calls defaults start before) (put defaults start before)
+
+  -- ---- what is true of what waits, whatever the calls
+
+  -- a property of a list of reports after some calls: an empty list has it, and where a list has it, so has the list without
+  -- its first reports, the list after one call more, and, after a scan, the list with what that put
+  record IsKept (start : List ℕ) (before : List Call) (Q : List Call → List Due → Type 0) : Type 0 where
+    none : (past : List Call) → Q past []
+    fewer : (past : List Call) (n : ℕ) (dues : List Due) → Q past dues → Q past (drop n dues)
+    longer : (call : Call) (past : List Call) (dues : List Due) → Q past dues → Q (call ∷ past) dues
+    more : (since : List Call) (scan : Scan) (dues : List Due) → Q (since ++ before) dues → Q (Scanned scan ∷ (since ++ before)) (dues ++ put_by defaults start (since ++ before) scan)
+
+  kept : (start : List ℕ) (before : List Call) (Q : List Call → List Due → Type 0) → IsKept start before Q → Q before (waits defaults start before)
+      → (since : List Call) → Q (since ++ before) (waits defaults start (since ++ before))
+  unfolding waits put key_calls poller_calls waiting
+  kept start before Q k now [] = now
+  kept start before Q k now (Scanned scan ∷ since) =
+      let all = waits defaults start (since ++ before) ++ put_by defaults start (since ++ before) scan in
+      subst (λ (dues : List Due). Q (Scanned scan ∷ (since ++ before)) dues) (sym (waits-scan start (since ++ before) scan))
+      (k.fewer (Scanned scan ∷ (since ++ before)) (length all - 8) all (k.more since scan (waits defaults start (since ++ before)) (kept start before Q k now since)))
+  kept start before Q k now (SetUp bytes ∷ since) = k.longer (SetUp bytes) (since ++ before) (waits defaults start (since ++ before)) (kept start before Q k now since)
+  kept start before Q k now (Out packet answer ∷ since) = k.longer (Out packet answer) (since ++ before) (waits defaults start (since ++ before)) (kept start before Q k now since)
+  kept start before Q k now (In answer ∷ since) =
+      let effect = effect_told (since ++ before) answer in
+      subst (λ (dues : List Due). Q (In answer ∷ (since ++ before)) dues) (sym (waits-in start (since ++ before) effect))
+      (kept_told (is_choice effect) (Q (In answer ∷ (since ++ before))) (waits defaults start (since ++ before)) (k.none (In answer ∷ (since ++ before)))
+      (k.longer (In answer) (since ++ before) (waits defaults start (since ++ before)) (kept start before Q k now since)))
+  kept start before Q k now (Polled answer ∷ since) =
+      subst (λ (dues : List Due). Q (Polled answer ∷ (since ++ before)) dues) (sym (waits-poll start (since ++ before) answer))
+      (k.fewer (Polled answer ∷ (since ++ before)) 1 (waits defaults start (since ++ before)) (k.longer (Polled answer) (since ++ before) (waits defaults start (since ++ before)) (kept start before Q k now since)))
+  kept start before Q k now (Worked work image ∷ since) = k.longer (Worked work image) (since ++ before) (waits defaults start (since ++ before)) (kept start before Q k now since)
+  kept start before Q k now (BusReset ∷ since) = k.none (BusReset ∷ (since ++ before))
+
+  -- ---- the order of what waits
+
+  all_put : (P : Due → Type 0) (start : List ℕ) (before : List Call) (scan : Scan) → ((input : Input) → P (record { moment = Scanned scan ∷ before; input = input }))
+      → All P (put_by defaults start before scan)
+  all_put P start before scan h =
+      let inputs = filter (changes defaults start before scan) (reports_of (protocol_after before)) in
+      All-map P (λ input. record { moment = Scanned scan ∷ before; input = input }) inputs (All-weaker (λ (_ : Input). Unit {0}) (λ input. P (record { moment = Scanned scan ∷ before; input = input })) (λ input u. h input) inputs (λ k d l. tt))
+
+  -- ---- a moment and what comes after it
+
+  put_after : (start : List ℕ) (before : List Call) (scan : Scan) (dues : List Due) → IsQueue before dues → IsQueue (Scanned scan ∷ before) (dues ++ put_by defaults start before scan)
+  put_after start before scan dues q =
+      let new = put_by defaults start before scan in
+      record {
+        in_order = in_order-append dues new q.in_order (all_in_order (Scanned scan ∷ before) (changes defaults start before scan) (protocol_after before))
+            (All-weaker (λ one. GoesOn one.moment before) (λ one. All (Precedes one) new) (λ one g. all_put (Precedes one) start before scan (λ input. later_still one before [] (Scanned scan) input g)) dues q.of_past);
+        of_past = All-append (λ one. GoesOn one.moment (Scanned scan ∷ before)) dues new
+            (All-weaker (λ one. GoesOn one.moment before) (λ one. GoesOn one.moment (Scanned scan ∷ before)) (λ one g. goes_further one.moment before (Scanned scan ∷ []) g) dues q.of_past)
+            (all_put (λ one. GoesOn one.moment (Scanned scan ∷ before)) start before scan (λ input. ([], refl)));
+      }
+
+  queue_kept : (start : List ℕ) → IsKept start [] IsQueue
+  queue_kept start = record {
+    none = λ past. record { in_order = tt; of_past = All-nil (λ one. GoesOn one.moment past) };
+    fewer = λ past n dues q. record { in_order = in_order-drop n dues q.in_order; of_past = All-drop (λ one. GoesOn one.moment past) n dues q.of_past };
+    longer = λ call past dues q. record {
+      in_order = q.in_order;
+      of_past = All-weaker (λ one. GoesOn one.moment past) (λ one. GoesOn one.moment (call ∷ past)) (λ one g. goes_further one.moment past (call ∷ []) g) dues q.of_past;
+    };
+    more = λ since scan dues q. put_after start (since ++ []) scan dues q;
+  }
+
+  none_at_start : (start : List ℕ) → IsQueue [] (waits defaults start [])
+  unfolding waits put key_calls poller_calls waiting
+  none_at_start start = record { in_order = tt; of_past = All-nil (λ one. GoesOn one.moment []) }
+
+  queue_waits : (start : List ℕ) (past : List Call) → IsQueue past (waits defaults start past)
+  queue_waits start past = subst (λ (l : List Call). IsQueue l (waits defaults start l)) (append-nil past) (kept start [] IsQueue (queue_kept start) (none_at_start start) past)
+
+  -- ---- what is due
+
+  -- what holds of the reports of any moment from now on, and of those that wait, holds of the one that is due later
+  later_due : (P : Due → Type 0) (start : List ℕ) (before : List Call) → ((since : List Call) (input : Input) → P (record { moment = since ++ before; input = input }))
+      → All P (waits defaults start before) → (since : List Call) (report : Due) → due defaults start (since ++ before) ≡ Some report → P report
+  unfolding due ruled
+  later_due P start before new all since report e =
+      let past = since ++ before in
+      let k : IsKept start before (λ _ dues. All P dues) = record {
+        none = λ past. All-nil P;
+        fewer = λ past n dues h. All-drop P n dues h;
+        longer = λ call past dues h. h;
+        more = λ since scan dues h. All-append P dues (put_by defaults start (since ++ before) scan) h (all_put P start (since ++ before) scan (λ input. new (Scanned scan ∷ since) input));
+      } in
+      due_of_those P past (waits defaults start past) (chosen (protocol_after past) (wanted_after (key_calls defaults start past)) (poller_calls (key_calls defaults start past))) report
+      (kept start before (λ _ dues. All P dues) k all since) (λ input. new since input) e
+
+  is_first : (start : List ℕ) (past : List Call) (report : Due) → due defaults start past ≡ Some report → IsFirst past (waits defaults start past) report
+  unfolding due ruled
+  is_first start past report e =
+      first_due past (waits defaults start past) (chosen (protocol_after past) (wanted_after (key_calls defaults start past)) (poller_calls (key_calls defaults start past))) report (queue_waits start past) e
+
+  -- ---- moments go on
+
+  pub goes_on : (start : List ℕ) (before since : List Call) (first last : Due) → due defaults start before ≡ Some first → due defaults start (since ++ before) ≡ Some last
+      → (between : List Call) × (last.moment ≡ between ++ first.moment)
+  goes_on start before since first last e f =
+      let i = is_first start before first e in
+      later_due (λ d. GoesOn first.moment d.moment) start before (λ s input. goes_further first.moment before s i.of_past) i.not_earlier since last f
+
+  pub not_again : (start : List ℕ) (before since : List Call) (answer : Option (List ℕ)) (report : Due) → due defaults start before ≡ Some report
+      → due defaults start (since ++ Polled answer ∷ before) ≢ Some report
+  not_again start before since answer report e f =
+      let i = is_first start before report e in
+      let at_poll : All (Precedes report) (waits defaults start (Polled answer ∷ before)) = subst (All (Precedes report)) (sym (waits-poll start before answer)) i.others in
+      (later_due (Precedes report) start (Polled answer ∷ before) (λ s input. later_still report before s (Polled answer) input i.of_past) at_poll since report f).1 refl

@@ -1,6 +1,6 @@
 -- What a host has gathered of the report descriptor, and the read of it that is under way.
 use Rattle.std.specs.Option.{option_or}
-use Rattle.std.proofs.Common.{◌≡◌, ◌⊎◌, ℕ, suc, ◌+◌, ◌==◌, ◌&&◌, not, Bool, true, false, if◌then◌else◌, List, [], ◌∷◌, ◌++◌, Option, Some, None, Ok, length, take, min, ◌*◌, ◌≤◌, refl, sym, ◌∙◌, ap, arith, inl}
+use Rattle.std.proofs.Common.{◌≡◌, ◌⊎◌, ℕ, suc, ◌+◌, ◌==◌, ◌&&◌, not, Bool, true, false, if◌then◌else◌, List, [], ◌∷◌, ◌++◌, Option, Some, None, length, take, min, ◌*◌, ◌≤◌, refl, sym, ◌∙◌, ap, arith, inl}
 use Rattle.std.specs.Prelude.{unwrap_or}
 use Rattle.std.proofs.lemmas.Bool.{eqb-true}
 use Rattle.std.proofs.Common.{inr}
@@ -19,6 +19,7 @@ use Rattle.control_ep.specs.Packets.{packet_at, joined_packets}
 use Rattle.control_ep.specs.Stage.{Begins, calls_since, last_setup, first_stall, reason_in, count_in}
 use Rattle.host.specs.Faultless.{is_faultless}
 use Rattle.host.specs.Kept.{Fetch, with_packet, is_end, goes_on, is_kept, kept_with}
+use Rattle.layers.specs.Codes.{DefaultCodes}
 use Rattle.keyboard.specs.Endpoint.{with_out}
 use Rattle.session_law.proofs.Giving.{all_came}
 
@@ -51,15 +52,6 @@ same_read text old new (Some fetch) s h = record {
 pub none_before : (a b : Option Why) → option_or a b ≡ None → a ≡ None
 none_before None b e = refl
 none_before (Some why) b e = cc
-
-pub same_out : (step : OutStep) (packet : List ℕ) (entries : ℕ → ℕ → ℕ) (answer : EpAnswer) (calls : List EpCall) → SameRead calls (with_out step packet entries answer calls)
-same_out (Answered a) packet entries answer calls = record { setup = refl; stalled = none_before (first_stall (calls_since calls)) (reason_in a); count = refl }
-same_out (Leds leds) packet entries answer calls = record { setup = refl; stalled = none_before (first_stall (calls_since calls)) None; count = refl }
-same_out (Offer bytes) packet entries answer calls = record {
-  setup = refl;
-  stalled = λ e. none_before (first_stall (calls_since calls)) None (none_before (option_or (first_stall (calls_since calls)) None) (reason_in answer) e);
-  count = refl;
-}
 
 pub same_settle : (calls : List EpCall) → SameRead calls (Settle ∷ calls)
 same_settle calls = record { setup = refl; stalled = none_before (first_stall (calls_since calls)) None; count = refl }
@@ -150,3 +142,13 @@ kept_read text calls fetch bytes memory before size h none p k = by_test (memory
     by_test : (b : Bool) → (memory && (is_end fetch bytes && is_kept (fetch.bytes ++ bytes))) ≡ b → NoneOr text (if b then Some (fetch.bytes ++ bytes) else before)
     by_test false e = k
     by_test true e = inr (ap Some (is_text text calls fetch bytes size h none p (all_three memory (is_end fetch bytes) (is_kept (fetch.bytes ++ bytes)) e)))
+
+module _ (defaults : DefaultCodes) where
+  pub same_out : (step : OutStep) (packet : List ℕ) (entries : ℕ → ℕ → ℕ) (answer : EpAnswer) (calls : List EpCall) → SameRead calls (with_out defaults step packet entries answer calls)
+  same_out (Answered a) packet entries answer calls = record { setup = refl; stalled = none_before (first_stall (calls_since calls)) (reason_in a); count = refl }
+  same_out (Leds leds) packet entries answer calls = record { setup = refl; stalled = none_before (first_stall (calls_since calls)) None; count = refl }
+  same_out (Offer bytes) packet entries answer calls = record {
+    setup = refl;
+    stalled = λ e. none_before (first_stall (calls_since calls)) None (none_before (option_or (first_stall (calls_since calls)) None) (reason_in answer) e);
+    count = refl;
+  }

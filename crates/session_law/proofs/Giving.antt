@@ -1,5 +1,5 @@
 -- The answer to an IN packet of a read, and the packets that came so far, put together.
-use Rattle.std.proofs.Common.{◌≡◌, ℕ, ◌*◌, ◌==◌, ◌&&◌, nat_lt, min, Bool, true, false, if◌then◌else◌, List, [], Option, Some, None, Result, Ok, length, take, drop, refl, sym, ◌∙◌, ap, arith}
+use Rattle.std.proofs.Common.{◌≡◌, ℕ, ◌*◌, ◌==◌, ◌&&◌, nat_lt, min, Bool, true, false, if◌then◌else◌, List, [], Option, Some, None, length, take, drop, refl, sym, ◌∙◌, ap, arith}
 use Rattle.std.specs.Prelude.{unwrap_or}
 use Rattle.std.proofs.lemmas.Bool.{eqb-true}
 use Rattle.std.proofs.lemmas.Bool.Decides.{nat_tests}
@@ -9,7 +9,7 @@ use Rattle.control_ep.specs.declared.why.Why.TheVariants.{WrongStage}
 use Rattle.control_ep.specs.declared.answer.EpAnswer.{EpAnswer}
 use Rattle.control_ep.specs.declared.answer.EpAnswer.TheVariants.{Packet, Stall}
 use Rattle.control_ep.specs.declared.answer.Effect.TheVariants.{Nothing}
-use Rattle.control_ep.specs.Transfers.{Transfer, Reads, Rest, Sending}
+use Rattle.control_ep.specs.Transfers.{Reads, Rest, Sending}
 use Rattle.control_ep.specs.Packets.{packet_at, joined_packets}
 use Rattle.control_ep.specs.Stage.{LastSetup, Begins, Progress, until_confirmed}
 use Rattle.control_ep.specs.Answers.{in_answer, packet_or_stall}

@@ -3,46 +3,48 @@ use Rattle.std.proofs.Common.{◌≡◌, ℕ, suc, ◌≤◌, List, ◌∷◌, l
 use Rattle.control_ep.specs.declared.answer.EpAnswer.TheVariants.{Ack, Nak, Packet, Stall}
 use Rattle.control_ep.specs.Answers.{in_answer}
 use Rattle.host.specs.Calls.{HostCall, was_set_up, got_packet, lost}
+use Rattle.layers.specs.Codes.{DefaultCodes}
 use Rattle.keyboard.specs.Calls.{Call, Scanned, SetUp, Out, In, Polled, Worked, BusReset, EachCall}
 use Rattle.keyboard.specs.Endpoint.{stage_after}
 use Rattle.keyboard.specs.Lawful.{IsAnswered}
 use Rattle.session_law.specs.Heard.{Hears, at_start, one_more}
 
--- a packet is the answer that the stage gives
-abbrev pub IsGiven : List ℕ → List Call → HostCall → Type 0
-IsGiven start before (got_packet packet taken) = Packet (record { items = packet }) ≡ in_answer (stage_after start before)
-IsGiven start before _ = Unit {0}
+module _ (defaults : DefaultCodes) where
+  -- a packet is the answer that the stage gives
+  abbrev pub IsGiven : List ℕ → List Call → HostCall → Type 0
+  IsGiven start before (got_packet packet taken) = Packet (record { items = packet }) ≡ in_answer (stage_after defaults start before)
+  IsGiven start before _ = Unit {0}
 
--- the session before the latest call that a host heard
-pub record Before (start : List ℕ) (told : List HostCall) (call : HostCall) (host : List HostCall) : Type 0 where
-  pub past : List Call
-  pub hears : Hears told past host
-  pub answered : EachCall IsAnswered start past
-  pub given : IsGiven start past call
+  -- the session before the latest call that a host heard
+  pub record Before (start : List ℕ) (told : List HostCall) (call : HostCall) (host : List HostCall) : Type 0 where
+    pub past : List Call
+    pub hears : Hears told past host
+    pub answered : EachCall (IsAnswered defaults) start past
+    pub given : IsGiven start past call
 
-heard_then : (start : List ℕ) (told : List HostCall) (past : List Call) (latest call : HostCall) (earlier host : List HostCall) → Hears told past earlier → EachCall IsAnswered start past
-    → IsGiven start past latest → latest ∷ earlier ≡ call ∷ host → Before start told call host
-heard_then start told past latest call earlier host h a g e =
-    let same_call : latest ≡ call = cc in
-    let same_host : earlier ≡ host = cc in
-    record {
-      past = past;
-      hears = subst (λ (x : List HostCall). Hears told past x) same_host h;
-      answered = a;
-      given = subst (λ (x : HostCall). IsGiven start past x) same_call g;
-    }
+  heard_then : (start : List ℕ) (told : List HostCall) (past : List Call) (latest call : HostCall) (earlier host : List HostCall) → Hears told past earlier → EachCall (IsAnswered defaults) start past
+      → IsGiven start past latest → latest ∷ earlier ≡ call ∷ host → Before start told call host
+  heard_then start told past latest call earlier host h a g e =
+      let same_call : latest ≡ call = cc in
+      let same_host : earlier ≡ host = cc in
+      record {
+        past = past;
+        hears = subst (λ (x : List HostCall). Hears told past x) same_host h;
+        answered = a;
+        given = subst (λ (x : HostCall). IsGiven start past x) same_call g;
+      }
 
-pub unheard : (start : List ℕ) (told : List HostCall) (past : List Call) (all : List HostCall) (call : HostCall) (host : List HostCall) → Hears told past all → all ≡ call ∷ host
-    → length told ≤ length host → EachCall IsAnswered start past → Before start told call host
-unheard start told past all call host at_start e l a = (let size : length all ≡ suc (length host) = ap length e in absurd (omega (arith, size, l)))
-unheard start told past all call host (one_more (Scanned scan) memory before earlier h) e l a = unheard start told before earlier call host h e l a.1
-unheard start told past all call host (one_more (SetUp bytes) memory before earlier h) e l a = heard_then start told before (was_set_up bytes) call earlier host h a.1 tt e
-unheard start told past all call host (one_more (Out packet answer) memory before earlier h) e l a = unheard start told before earlier call host h e l a.1
-unheard start told past all call host (one_more (In Ack) memory before earlier h) e l a = unheard start told before earlier call host h e l a.1
-unheard start told past all call host (one_more (In Nak) memory before earlier h) e l a = unheard start told before earlier call host h e l a.1
-unheard start told past all call host (one_more (In (Packet packet)) memory before earlier h) e l a =
-    heard_then start told before (got_packet packet.items memory) call earlier host h a.1 a.0 e
-unheard start told past all call host (one_more (In (Stall why)) memory before earlier h) e l a = unheard start told before earlier call host h e l a.1
-unheard start told past all call host (one_more (Polled answer) memory before earlier h) e l a = unheard start told before earlier call host h e l a.1
-unheard start told past all call host (one_more (Worked work image) memory before earlier h) e l a = unheard start told before earlier call host h e l a.1
-unheard start told past all call host (one_more BusReset memory before earlier h) e l a = heard_then start told before lost call earlier host h a.1 tt e
+  pub unheard : (start : List ℕ) (told : List HostCall) (past : List Call) (all : List HostCall) (call : HostCall) (host : List HostCall) → Hears told past all → all ≡ call ∷ host
+      → length told ≤ length host → EachCall (IsAnswered defaults) start past → Before start told call host
+  unheard start told past all call host at_start e l a = (let size : length all ≡ suc (length host) = ap length e in absurd (omega (arith, size, l)))
+  unheard start told past all call host (one_more (Scanned scan) memory before earlier h) e l a = unheard start told before earlier call host h e l a.1
+  unheard start told past all call host (one_more (SetUp bytes) memory before earlier h) e l a = heard_then start told before (was_set_up bytes) call earlier host h a.1 tt e
+  unheard start told past all call host (one_more (Out packet answer) memory before earlier h) e l a = unheard start told before earlier call host h e l a.1
+  unheard start told past all call host (one_more (In Ack) memory before earlier h) e l a = unheard start told before earlier call host h e l a.1
+  unheard start told past all call host (one_more (In Nak) memory before earlier h) e l a = unheard start told before earlier call host h e l a.1
+  unheard start told past all call host (one_more (In (Packet packet)) memory before earlier h) e l a =
+      heard_then start told before (got_packet packet.items memory) call earlier host h a.1 a.0 e
+  unheard start told past all call host (one_more (In (Stall why)) memory before earlier h) e l a = unheard start told before earlier call host h e l a.1
+  unheard start told past all call host (one_more (Polled answer) memory before earlier h) e l a = unheard start told before earlier call host h e l a.1
+  unheard start told past all call host (one_more (Worked work image) memory before earlier h) e l a = unheard start told before earlier call host h e l a.1
+  unheard start told past all call host (one_more BusReset memory before earlier h) e l a = heard_then start told before lost call earlier host h a.1 tt e

@@ -3,6 +3,7 @@ use Rattle.std.proofs.Common.{◌≡◌, ◌⊎◌, ◌↔◌, ℕ, true, List, 
 use Rattle.descriptor_build.specs.Served.{report_bytes}
 use Rattle.host.specs.Calls.{HostCall}
 use Rattle.host.specs.Kept.{gathering, kept}
+use Rattle.layers.specs.Codes.{DefaultCodes}
 use Rattle.keyboard.specs.Calls.{Call, EachCall}
 use Rattle.keyboard.specs.Endpoint.{ep_calls}
 use Rattle.keyboard.specs.Lawful.{IsAnswered}
@@ -19,26 +20,27 @@ some_served o (inr some) e = some
 from_served : (o : Option (List ℕ)) → o ≡ Some report_bytes → is_some o ≡ true
 from_served o e = rw e refl
 
-pub kept_is_fetched : (start : List ℕ) (past : List Call) (told host : List HostCall) → EachCall IsAnswered start past → Hears told past host → gathering told ≡ None → NoneOrServed (kept told)
-    → kept host ≡ Some report_bytes ↔ ((kept told ≡ Some report_bytes) ⊎ IsFetched told host)
-kept_is_fetched start past told host a h none k = (forth, back)
-  where
-    first : Fetches told [] told
-    first = fetches_start told none k
+module _ (defaults : DefaultCodes) where
+  pub kept_is_fetched : (start : List ℕ) (past : List Call) (told host : List HostCall) → EachCall (IsAnswered defaults) start past → Hears told past host → gathering told ≡ None → NoneOrServed (kept told)
+      → kept host ≡ Some report_bytes ↔ ((kept told ≡ Some report_bytes) ⊎ IsFetched told host)
+  kept_is_fetched start past told host a h none k = (forth, back)
+    where
+      first : Fetches told [] told
+      first = fetches_start told none k
 
-    after : Fetches told (ep_calls start past) host
-    after = fetches start told past host served_size h a first
+      after : Fetches told (ep_calls defaults start past) host
+      after = fetches defaults start told past host served_size h a first
 
-    forth_by : (is_some (kept told) ≡ true) ⊎ IsFetched told host → (kept told ≡ Some report_bytes) ⊎ IsFetched told host
-    forth_by (inl e) = inl (some_served (kept told) (as_sum (kept told) k) e)
-    forth_by (inr f) = inr f
+      forth_by : (is_some (kept told) ≡ true) ⊎ IsFetched told host → (kept told ≡ Some report_bytes) ⊎ IsFetched told host
+      forth_by (inl e) = inl (some_served (kept told) (as_sum (kept told) k) e)
+      forth_by (inr f) = inr f
 
-    forth : kept host ≡ Some report_bytes → (kept told ≡ Some report_bytes) ⊎ IsFetched told host
-    forth e = forth_by (after.traces.fetched (from_served (kept host) e))
+      forth : kept host ≡ Some report_bytes → (kept told ≡ Some report_bytes) ⊎ IsFetched told host
+      forth e = forth_by (after.traces.fetched (from_served (kept host) e))
 
-    still : is_some (kept told) ≡ true → is_some (kept host) ≡ true
-    still e = subst (λ (x : List HostCall). is_some (kept x) ≡ true) (sym after.traces.follows) (stays_kept after.traces.more told e)
+      still : is_some (kept told) ≡ true → is_some (kept host) ≡ true
+      still e = subst (λ (x : List HostCall). is_some (kept x) ≡ true) (sym after.traces.follows) (stays_kept after.traces.more told e)
 
-    back : (kept told ≡ Some report_bytes) ⊎ IsFetched told host → kept host ≡ Some report_bytes
-    back (inl e) = some_served (kept host) after.keeps (still (from_served (kept told) e))
-    back (inr f) = some_served (kept host) after.keeps (fetched_keeps start told host past first h a f)
+      back : (kept told ≡ Some report_bytes) ⊎ IsFetched told host → kept host ≡ Some report_bytes
+      back (inl e) = some_served (kept host) after.keeps (still (from_served (kept told) e))
+      back (inr f) = some_served (kept host) after.keeps (fetched_keeps defaults start told host past first h a f)

@@ -10,6 +10,7 @@ use Rattle.reports.specs.declared.Protocol.TheVariants as protocol
 use Rattle.reports.specs.Calls.{PollerCall}
 use Rattle.reports.specs.Poll.{is_changed, is_elapsed, sent_last, one_of_two, chosen, rule_answer, poll_answer}
 use Rattle.reports.specs.Queue.{reports_of}
+use Rattle.layers.specs.Codes.{DefaultCodes}
 use Rattle.key_reports.specs.Past.{wanted_after, poller_calls, answer_after}
 use Rattle.keyboard.specs.Calls.{Call}
 use Rattle.keyboard.specs.Effects.{protocol_after}
@@ -58,27 +59,9 @@ chosen_of protocol.Report bytes past input e =
 
 -- ---- the report that is due
 
-due_map : (start : List ℕ) (past : List Call) (o : Option Input) → option_map (wanted_after (key_calls start past)) o ≡ option_map (due_bytes start) (option_map (λ input. record { moment = past; input = input }) o)
-due_map start past None = refl
-due_map start past (Some input) = refl
-
-by_rule : (start : List ℕ) (past : List Call) → rule_answer (protocol_after past) (wanted_after (key_calls start past)) (poller_calls (key_calls start past)) ≡ option_map (due_bytes start) (ruled start past)
-unfolding rule_answer ruled
-by_rule start past = due_map start past (chosen (protocol_after past) (wanted_after (key_calls start past)) (poller_calls (key_calls start past)))
-
 either_map : (f : Due → List ℕ) (a b : Option Due) → option_or (option_map f a) (option_map f b) ≡ option_map f (option_or a b)
 either_map f None b = refl
 either_map f (Some x) b = refl
-
--- a poll is answered the bytes of the report that is due
-pub answer_is_due : (start : List ℕ) (past : List Call) → answer_after (protocol_after past) (key_calls start past) ≡ option_map (due_bytes start) (due start past)
-unfolding answer_after poll_answer due
-answer_is_due start past =
-    ap (λ (o : Option (List ℕ)). option_or o (rule_answer (protocol_after past) (wanted_after (key_calls start past)) (poller_calls (key_calls start past)))) (first_waiting start past)
-    ∙ ap (λ (o : Option (List ℕ)). option_or (option_map (due_bytes start) (slice_get (waits start past) 0)) o) (by_rule start past)
-    ∙ either_map (due_bytes start) (slice_get (waits start past) 0) (ruled start past)
-
--- ---- it is one of the protocol in force
 
 first_of : (P : Due → Type 0) (xs : List Due) (report : Due) → All P xs → slice_get xs 0 ≡ Some report → P report
 first_of P [] report h e = cc
@@ -95,24 +78,43 @@ either_of : (P : Due → Type 0) (a b : Option Due) (report : Due) → (a ≡ So
 either_of P (Some x) b report f g e = f e
 either_of P None b report f g e = g e
 
-due_of : (start : List ℕ) (past : List Call) (report : Due) → due start past ≡ Some report → Contains (reports_of (protocol_after past)) report.input
-unfolding due ruled
-due_of start past report e =
-    either_of (λ r. Contains (reports_of (protocol_after past)) r.input) (slice_get (waits start past) 0) (ruled start past) report
-    (λ f. first_of (λ r. Contains (reports_of (protocol_after past)) r.input) (waits start past) report (waits_of start past) f)
-    (λ f. ruled_of start past (chosen (protocol_after past) (wanted_after (key_calls start past)) (poller_calls (key_calls start past))) report
-    (λ input c. chosen_of (protocol_after past) (wanted_after (key_calls start past)) (poller_calls (key_calls start past)) input c) f)
-    e
+module _ (defaults : DefaultCodes) where
+  due_map : (start : List ℕ) (past : List Call) (o : Option Input) → option_map (wanted_after (key_calls defaults start past)) o ≡ option_map (due_bytes defaults start) (option_map (λ input. record { moment = past; input = input }) o)
+  due_map start past None = refl
+  due_map start past (Some input) = refl
 
-wanted_at : (start : List ℕ) (past : List Call) (bytes : List ℕ) (o : Option Due) → due start past ≡ o → Some bytes ≡ option_map (due_bytes start) o → IsWantedAt start past bytes
-wanted_at start past bytes None d e = cc
-wanted_at start past bytes (Some report) d e = record {
-  moment = report.moment;
-  input = report.input;
-  is_due = d;
-  of_protocol = due_of start past report d;
-  bytes_are = cc;
-}
+  by_rule : (start : List ℕ) (past : List Call) → rule_answer (protocol_after past) (wanted_after (key_calls defaults start past)) (poller_calls (key_calls defaults start past)) ≡ option_map (due_bytes defaults start) (ruled defaults start past)
+  unfolding rule_answer ruled
+  by_rule start past = due_map start past (chosen (protocol_after past) (wanted_after (key_calls defaults start past)) (poller_calls (key_calls defaults start past)))
 
-pub sent_is_wanted : (start : List ℕ) (past : List Call) (bytes : List ℕ) → Some bytes ≡ answer_after (protocol_after past) (key_calls start past) → IsWantedAt start past bytes
-sent_is_wanted start past bytes e = wanted_at start past bytes (due start past) refl (e ∙ answer_is_due start past)
+  -- a poll is answered the bytes of the report that is due
+  pub answer_is_due : (start : List ℕ) (past : List Call) → answer_after (protocol_after past) (key_calls defaults start past) ≡ option_map (due_bytes defaults start) (due defaults start past)
+  unfolding answer_after poll_answer due
+  answer_is_due start past =
+      ap (λ (o : Option (List ℕ)). option_or o (rule_answer (protocol_after past) (wanted_after (key_calls defaults start past)) (poller_calls (key_calls defaults start past)))) (first_waiting defaults start past)
+      ∙ ap (λ (o : Option (List ℕ)). option_or (option_map (due_bytes defaults start) (slice_get (waits defaults start past) 0)) o) (by_rule start past)
+      ∙ either_map (due_bytes defaults start) (slice_get (waits defaults start past) 0) (ruled defaults start past)
+
+  -- ---- it is one of the protocol in force
+
+  due_of : (start : List ℕ) (past : List Call) (report : Due) → due defaults start past ≡ Some report → Contains (reports_of (protocol_after past)) report.input
+  unfolding due ruled
+  due_of start past report e =
+      either_of (λ r. Contains (reports_of (protocol_after past)) r.input) (slice_get (waits defaults start past) 0) (ruled defaults start past) report
+      (λ f. first_of (λ r. Contains (reports_of (protocol_after past)) r.input) (waits defaults start past) report (waits_of defaults start past) f)
+      (λ f. ruled_of start past (chosen (protocol_after past) (wanted_after (key_calls defaults start past)) (poller_calls (key_calls defaults start past))) report
+      (λ input c. chosen_of (protocol_after past) (wanted_after (key_calls defaults start past)) (poller_calls (key_calls defaults start past)) input c) f)
+      e
+
+  wanted_at : (start : List ℕ) (past : List Call) (bytes : List ℕ) (o : Option Due) → due defaults start past ≡ o → Some bytes ≡ option_map (due_bytes defaults start) o → IsWantedAt defaults start past bytes
+  wanted_at start past bytes None d e = cc
+  wanted_at start past bytes (Some report) d e = record {
+    moment = report.moment;
+    input = report.input;
+    is_due = d;
+    of_protocol = due_of start past report d;
+    bytes_are = cc;
+  }
+
+  pub sent_is_wanted : (start : List ℕ) (past : List Call) (bytes : List ℕ) → Some bytes ≡ answer_after (protocol_after past) (key_calls defaults start past) → IsWantedAt defaults start past bytes
+  sent_is_wanted start past bytes e = wanted_at start past bytes (due defaults start past) refl (e ∙ answer_is_due start past)

@@ -1,6 +1,6 @@
 -- Believed: a fetch of the report descriptor that came through.
 use Rattle.shapes.specs.Shapes.{Bytes}
-use Rattle.std.specs.Prelude.{◌≡◌, ℕ, ◌≤◌, true, List, [], ◌∷◌, ◌++◌, length}
+use Rattle.std.specs.Prelude.{◌≡◌, ◌≤◌, true, List, [], ◌∷◌, ◌++◌, length}
 use Rattle.std.specs.Int.{div_ceil}
 use Rattle.host.specs.Calls.{HostCall, was_set_up, got_packet}
 use Rattle.host.specs.Kept.{asks_for_report, wanted_length, text_length}

@@ -1,6 +1,6 @@
 -- Believed: what a host hears of a session, and the descriptor that it then keeps.
 use Rattle.shapes.specs.Shapes.{Bytes}
-use Rattle.std.specs.Prelude.{◌≡◌, ℕ, Bool, Option, None, Some, List, [], ◌∷◌}
+use Rattle.std.specs.Prelude.{◌≡◌, Bool, Option, None, Some, List, [], ◌∷◌}
 use Rattle.descriptor_build.specs.Served.{report_bytes}
 use Rattle.control_ep.specs.declared.answer.EpAnswer.TheVariants.{Packet}
 use Rattle.host.specs.Calls.{HostCall, was_set_up, got_packet, lost}

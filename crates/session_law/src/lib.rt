@@ -13,6 +13,7 @@ ghost use Rattle.host.specs.Calls.{HostCall};
 ghost use Rattle.host.specs.Kept.{Fetch, gathering, kept};
 ghost use Rattle.host.specs.Reads.{text_by, Reads};
 ghost use Rattle.host.specs.declared.reading.Reading.{Reading};
+ghost use Rattle.layers.specs.Codes.{DefaultCodes};
 ghost use Rattle.keyboard.specs.Calls.{Call, Polled};
 ghost use Rattle.keyboard.specs.Effects.{protocol_after};
 ghost use Rattle.keyboard.specs.Keys.{key_calls};
@@ -31,33 +32,33 @@ ghost use Rattle.session_law.specs.Sent.{IsWantedAt};
 /// of the debounced keys name at the moment that the report is of: if it waited, that of the very scan that put it into the
 /// queue; else that of the poll.
 pub fn sent_is_wanted()
-    ensures wanted { (start : List ℕ) (past : List Call) (bytes : List ℕ) → IsAnswered start past (Polled (Some bytes))
-        → IsWantedAt start past bytes }
+    ensures wanted { (defaults : DefaultCodes) (start : List ℕ) (past : List Call) (bytes : List ℕ) → IsAnswered defaults start past (Polled (Some bytes))
+        → IsWantedAt defaults start past bytes }
     // it is NAK exactly where no report is due
-    ensures due { (start : List ℕ) (past : List Call) (answer : Option (List ℕ)) → IsAnswered start past (Polled answer)
-        ↔ (answer ≡ option_map (due_bytes start) (due start past)) }
+    ensures due { (defaults : DefaultCodes) (start : List ℕ) (past : List Call) (answer : Option (List ℕ)) → IsAnswered defaults start past (Polled answer)
+        ↔ (answer ≡ option_map (due_bytes defaults start) (due defaults start past)) }
 {}
 
 /// In a session the moments of the reports that polls send do not go back: a report that is due later, whatever came in
 /// between, is of the same moment or a later one.
 pub fn moments_go_on()
-    ensures onward { (start : List ℕ) (before since : List Call) (first last : Due) → due start before ≡ Some first → due start (since ++ before) ≡ Some last
+    ensures onward { (defaults : DefaultCodes) (start : List ℕ) (before since : List Call) (first last : Due) → due defaults start before ≡ Some first → due defaults start (since ++ before) ≡ Some last
         → (between : List Call) × (last.moment ≡ between ++ first.moment) }
     // and no report is due again after the poll that it was due at
-    ensures once { (start : List ℕ) (before since : List Call) (answer : Option (List ℕ)) (report : Due) → due start before ≡ Some report
-        → due start (since ++ Polled answer ∷ before) ≢ Some report }
+    ensures once { (defaults : DefaultCodes) (start : List ℕ) (before since : List Call) (answer : Option (List ℕ)) (report : Due) → due defaults start before ≡ Some report
+        → due defaults start (since ++ Polled answer ∷ before) ≢ Some report }
 {}
 
 /// What a host fetches in a session is the keyboard's report descriptor: a host that kept that or nothing before, and was
 /// gathering nothing, keeps that or nothing after, whatever was asked, refused and cut short.
 pub fn fetched_is_served()
-    ensures { (start : List ℕ) (past : List Call) (told host : List HostCall) → IsLawful start past → Hears told past host
+    ensures { (defaults : DefaultCodes) (start : List ℕ) (past : List Call) (told host : List HostCall) → IsLawful defaults start past → Hears told past host
         → IsFresh told → NoneOrServed (kept host) }
 {}
 
 /// What a host gathers of it in a session, also of a fetch that is cut short, are its first bytes.
 pub fn gathered_is_served()
-    ensures { (start : List ℕ) (past : List Call) (told host : List HostCall) (fetch : Fetch) → IsLawful start past → Hears told past host
+    ensures { (defaults : DefaultCodes) (start : List ℕ) (past : List Call) (told host : List HostCall) (fetch : Fetch) → IsLawful defaults start past → Hears told past host
         → IsFresh told → gathering host ≡ Some fetch
         → fetch.bytes ≡ take (length fetch.bytes) report_bytes }
 {}
@@ -66,7 +67,7 @@ pub fn gathered_is_served()
 /// a SETUP packet that asks for at least 99 bytes, and its 13 packets before another SETUP packet or a bus reset, with memory
 /// for each.
 pub fn kept_is_fetched()
-    ensures { (start : List ℕ) (past : List Call) (told host : List HostCall) → IsLawful start past → Hears told past host
+    ensures { (defaults : DefaultCodes) (start : List ℕ) (past : List Call) (told host : List HostCall) → IsLawful defaults start past → Hears told past host
         → IsFresh told
         → kept host ≡ Some report_bytes ↔ ((kept told ≡ Some report_bytes) ⊎ IsFetched told host) }
 {}
@@ -75,9 +76,9 @@ pub fn kept_is_fetched()
 /// report is of: in boot protocol by the descriptor of its own, in report protocol by the one that it fetched, and nothing
 /// where it fetched none. No report is refused.
 pub fn read_is_wanted()
-    ensures { (start : List ℕ) (past : List Call) (told host : List HostCall) (bytes : List ℕ) (reading : Reading)
-        → IsLawful start (Polled (Some bytes) ∷ past) → Hears told past host → IsFresh told
-        → Reads (text_by (protocol_after past) host) bytes reading → IsReadAs start past host bytes reading }
+    ensures { (defaults : DefaultCodes) (start : List ℕ) (past : List Call) (told host : List HostCall) (bytes : List ℕ) (reading : Reading)
+        → IsLawful defaults start (Polled (Some bytes) ∷ past) → Hears told past host → IsFresh told
+        → Reads (text_by (protocol_after past) host) bytes reading → IsReadAs defaults start past host bytes reading }
 {}
 
 /// The usages that are read are those that the codes of the keys name which are down by the debounced scans, each code that of
@@ -85,27 +86,27 @@ pub fn read_is_wanted()
 /// the modifiers; the report of ID 2 has room for four.
 pub fn keys_are_read()
     // of page 07h, in the report of ID 1
-    ensures bitmap { (start : List ℕ) (past : List Call) (bytes usages : List ℕ) (n : NamesWanted start past bytes usages) → n.sent.input ≡ One
-        → (usage : ℕ) → Contains usages usage ↔ IsKeyNamed (key_calls start n.sent.moment) usage }
+    ensures bitmap { (defaults : DefaultCodes) (start : List ℕ) (past : List Call) (bytes usages : List ℕ) (n : NamesWanted defaults start past bytes usages) → n.sent.input ≡ One
+        → (usage : ℕ) → Contains usages usage ↔ IsKeyNamed (key_calls defaults start n.sent.moment) usage }
     // in the boot report too, where they fit
-    ensures boot { (start : List ℕ) (past : List Call) (bytes usages : List ℕ) (n : NamesWanted start past bytes usages) → n.sent.input ≡ Boot
-        → listed_count (keys_after (key_calls start n.sent.moment)) ≤ 6
-        → (usage : ℕ) → Contains usages usage ↔ IsKeyNamed (key_calls start n.sent.moment) usage }
+    ensures boot { (defaults : DefaultCodes) (start : List ℕ) (past : List Call) (bytes usages : List ℕ) (n : NamesWanted defaults start past bytes usages) → n.sent.input ≡ Boot
+        → listed_count (keys_after (key_calls defaults start n.sent.moment)) ≤ 6
+        → (usage : ℕ) → Contains usages usage ↔ IsKeyNamed (key_calls defaults start n.sent.moment) usage }
     // and else the modifiers and ErrorRollOver
-    ensures overflow { (start : List ℕ) (past : List Call) (bytes usages : List ℕ) (n : NamesWanted start past bytes usages) → n.sent.input ≡ Boot
-        → 6 < listed_count (keys_after (key_calls start n.sent.moment))
-        → (usage : ℕ) → Contains usages usage ↔ ((usage ≡ 0x70001) ⊎ ((0x700E0 ≤ usage) × IsKeyNamed (key_calls start n.sent.moment) usage)) }
+    ensures overflow { (defaults : DefaultCodes) (start : List ℕ) (past : List Call) (bytes usages : List ℕ) (n : NamesWanted defaults start past bytes usages) → n.sent.input ≡ Boot
+        → 6 < listed_count (keys_after (key_calls defaults start n.sent.moment))
+        → (usage : ℕ) → Contains usages usage ↔ ((usage ≡ 0x70001) ⊎ ((0x700E0 ≤ usage) × IsKeyNamed (key_calls defaults start n.sent.moment) usage)) }
     // of page 0Ch, in the report of ID 2; and all of them, where they fit
-    ensures consumer { (start : List ℕ) (past : List Call) (bytes usages : List ℕ) (n : NamesWanted start past bytes usages) → n.sent.input ≡ Two
-        → (usage : ℕ) → Contains usages usage → IsConsumerNamed (key_calls start n.sent.moment) usage }
-    ensures all_consumer { (start : List ℕ) (past : List Call) (bytes usages : List ℕ) (n : NamesWanted start past bytes usages) → n.sent.input ≡ Two
-        → consumer_count (consumer_after (key_calls start n.sent.moment)) ≤ 4
-        → (usage : ℕ) → IsConsumerNamed (key_calls start n.sent.moment) usage → Contains usages usage }
+    ensures consumer { (defaults : DefaultCodes) (start : List ℕ) (past : List Call) (bytes usages : List ℕ) (n : NamesWanted defaults start past bytes usages) → n.sent.input ≡ Two
+        → (usage : ℕ) → Contains usages usage → IsConsumerNamed (key_calls defaults start n.sent.moment) usage }
+    ensures all_consumer { (defaults : DefaultCodes) (start : List ℕ) (past : List Call) (bytes usages : List ℕ) (n : NamesWanted defaults start past bytes usages) → n.sent.input ≡ Two
+        → consumer_count (consumer_after (key_calls defaults start n.sent.moment)) ≤ 4
+        → (usage : ℕ) → IsConsumerNamed (key_calls defaults start n.sent.moment) usage → Contains usages usage }
     // and else the four least: as many as fit, and with each of them all that are less
-    ensures count_consumer { (start : List ℕ) (past : List Call) (bytes usages : List ℕ) (n : NamesWanted start past bytes usages) → n.sent.input ≡ Two
-        → length usages ≡ min 4 (consumer_count (consumer_after (key_calls start n.sent.moment))) }
-    ensures least_consumer { (start : List ℕ) (past : List Call) (bytes usages : List ℕ) (n : NamesWanted start past bytes usages) → n.sent.input ≡ Two
-        → (usage lesser : ℕ) → Contains usages usage → IsConsumerNamed (key_calls start n.sent.moment) lesser → lesser < usage → Contains usages lesser }
+    ensures count_consumer { (defaults : DefaultCodes) (start : List ℕ) (past : List Call) (bytes usages : List ℕ) (n : NamesWanted defaults start past bytes usages) → n.sent.input ≡ Two
+        → length usages ≡ min 4 (consumer_count (consumer_after (key_calls defaults start n.sent.moment))) }
+    ensures least_consumer { (defaults : DefaultCodes) (start : List ℕ) (past : List Call) (bytes usages : List ℕ) (n : NamesWanted defaults start past bytes usages) → n.sent.input ≡ Two
+        → (usage lesser : ℕ) → Contains usages usage → IsConsumerNamed (key_calls defaults start n.sent.moment) lesser → lesser < usage → Contains usages lesser }
     // rising, each once
-    ensures rising { (start : List ℕ) (past : List Call) (bytes usages : List ℕ) (n : NamesWanted start past bytes usages) → IsStrictlyIncreasing usages }
+    ensures rising { (defaults : DefaultCodes) (start : List ℕ) (past : List Call) (bytes usages : List ℕ) (n : NamesWanted defaults start past bytes usages) → IsStrictlyIncreasing usages }
 {}

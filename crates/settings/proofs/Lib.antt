@@ -5,3 +5,11 @@ pub mod Changes
 pub mod Compacting
 pub mod Reading
 pub mod Naming
+pub mod Values
+pub mod Storing
+pub mod Given
+pub mod Cutting
+pub mod Appending
+pub mod Turning
+pub mod Begins
+pub mod Whole

@@ -1,5 +1,5 @@
 -- The words of some bytes.
-use Rattle.std.proofs.Common.{◌≡◌, ◌∙◌, ℕ, zero, suc, ◌+◌, ◌-◌, ◌*◌, ◌/◌, ◌^◌, ◌<◌, refl, sym, arith, List, [], ◌∷◌, length, get_or, Some, None}
+use Rattle.std.proofs.Common.{◌≡◌, ◌∙◌, ℕ, zero, suc, ◌+◌, ◌-◌, ◌*◌, ◌/◌, ◌^◌, ◌<◌, refl, sym, arith, List, [], ◌∷◌, length, get_or, Option, Some, None}
 use Rattle.settings.specs.declared.change.Change.{Change}
 use Rattle.settings.specs.Words.{data_word, value_word, removal_word, packed, words_of, words_with}
 
@@ -56,3 +56,12 @@ word_with change bytes at e = rw e refl
 
 pub at_with : (change : Change) (bytes : List ℕ) (at : ℕ) → change.value ≡ Some bytes → at < length (words_of change) → at < 1 + (length bytes + 2) / 3
 at_with change bytes at e l = rw (size_some change bytes e) l
+
+-- a change has a word
+some_with : (id : ℕ) (value : Option (List ℕ)) → 0 < length (words_with id value)
+some_with id None = omega arith
+some_with id (Some bytes) = omega arith
+
+pub some_words : (change : Change) → 0 < length (words_of change)
+unfolding words_of
+some_words change = some_with change.id change.value

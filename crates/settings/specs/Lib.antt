@@ -1,4 +1,9 @@
 pub mod Words
 pub mod Settings
 pub mod Copies
+pub mod Store
+pub mod Begins
+pub mod Left
+pub mod Moments
+pub mod Works
 pub mod ties

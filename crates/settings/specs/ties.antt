@@ -1,2 +1,4 @@
 -- Only ties code to its definitions: the files of this folder.
 pub mod Reading
+pub mod Store
+pub mod Whole

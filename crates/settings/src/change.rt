@@ -1,6 +1,7 @@
 //! A change of a setting.
 
-ghost use Rattle.std.specs.Prelude.{◌≡◌, ◌+◌, ◌≤◌, ◌<◌, ◌↔◌, length, take, IsSome, IfSome};
+ghost use Rattle.std.specs.Prelude.{◌≡◌, ◌+◌, ◌≤◌, ◌<◌, ◌↔◌, ◌^◌, ℕ, length, take, slice_index, IsSome, IfSome, All};
+ghost use Rattle.settings.specs.Words.{IsChange};
 
 use std::marker::Model;
 
@@ -85,4 +86,32 @@ impl Value {
     {
         Value { len, bytes }
     }
+}
+
+/// What the proofs ask of changes holds of each: an id of 16 bits, and bytes, of which there are at
+/// most 64.
+pub(crate) fn are_changes(changes: &[Change])
+    ensures { All (λ change. IsChange change) changes.now }
+{
+    for change in changes {
+        is_change(change);
+    }
+}
+
+/// A change is one.
+fn is_change(change: &Change)
+    ensures { IsChange change.now }
+{
+    let _id = change.id;
+    if let Some(value) = &change.value {
+        let _len = value.len();
+        are_bytes(value.as_bytes());
+    }
+}
+
+/// Each is a byte.
+fn are_bytes(bytes: &[u8])
+    ensures { (k : ℕ) → slice_index bytes.now k < 2 ^ 8 }
+{
+    let _len = bytes.len();
 }

@@ -4,7 +4,7 @@ use Rattle.usb_device.specs.declared.answer.EpAnswer.{EpAnswer}
 use Rattle.usb_device.specs.declared.answer.EpAnswer.TheVariants.{Ack, Nak, Packet}
 use Rattle.usb_device.specs.Calls.{EpCall, SetUp, Out, In, BusReset, Polled}
 use Rattle.usb_device.specs.Bus.{Bus, Met, Seen, SetupSent, OutTaken, InGot, WasStalled, WasReset, InMode, Naks, Sends, Stalls, OutMode, Takes, StallsOut, Goes, looked, is_pending, is_write, unless_pending, with_input, with_output}
-use Rattle.usb_device.specs.Bus1.{KeptOrReset}
+use Rattle.usb_device.specs.Bus1.{KeptUnless}
 use Rattle.usb_device.specs.Confirmed.{asked_of, AllKept}
 use Rattle.usb_device.specs.Transfers.{TransferState, Idle, Refused, Over, Reads, ReadDue, Sent, Closing, Closed, Opening, Writes, Keeps, Asking, Due, Status, Done}
 use Rattle.usb_device.specs.ties.Link.{IsQuiet, IsClosed, ClosedIf, ConfirmsIf, StageLink, Link}
@@ -303,9 +303,9 @@ pub kept_behind : (reset : Bool) (t : TransferState) (b : Bus) (calls : List EpC
 kept_behind true t b calls h = was_reset t b calls h
 kept_behind false t b calls h = h.kept
 
-pub same_behind : (reset : Bool) (setup : List ℕ) (calls : List EpCall) → KeptOrReset calls (SetUp setup ∷ behind_reset reset calls)
-same_behind true setup calls = inr refl
-same_behind false setup calls = inl refl
+pub same_behind : (reset : Bool) (setup : List ℕ) (calls : List EpCall) → KeptUnless reset calls (SetUp setup ∷ behind_reset reset calls)
+same_behind true setup calls = refl
+same_behind false setup calls = refl
 
 pub resets : (t : TransferState) (b : Bus) (calls : List EpCall) → Link t b calls → b.met.reset ≡ true → b.met.setup ≡ None → Link Idle (looked b) (BusReset ∷ calls)
 resets t b calls h e n =

@@ -155,3 +155,8 @@ no_polls (BusReset ∷ before) = BusReset ∷ no_polls before
 -- these reports are kept, or the bus was reset
 abbrev pub KeptOrReset : List EpCall → List EpCall → Type 0
 KeptOrReset calls later = (reports_of later ≡ reports_of calls) ⊎ (reports_of later ≡ [])
+
+-- they are kept unless it was
+abbrev pub KeptUnless : Bool → List EpCall → List EpCall → Type 0
+KeptUnless true calls later = reports_of later ≡ []
+KeptUnless false calls later = reports_of later ≡ reports_of calls

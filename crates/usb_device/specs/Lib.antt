@@ -1,6 +1,5 @@
 pub mod Packets
 pub mod Calls
-pub mod KeyboardCalls
 pub mod Strings
 pub mod Waits
 pub mod Requests
@@ -9,10 +8,11 @@ pub mod Steps
 pub mod States
 pub mod Bus
 pub mod Confirmed
+pub mod Guarding
 pub mod Whole
 pub mod Transfers
 pub mod Bus1
 pub mod Reports
-pub mod KeyboardSessions
+pub mod Addresses
 pub mod Through
 pub mod ties

@@ -7,7 +7,7 @@ use Rattle.usb_device.specs.declared.answer.PollAnswer.TheVariants as Polls
 use Rattle.usb_device.specs.declared.answer.Endpoint1.{Endpoint1}
 use Rattle.usb_device.specs.declared.answer.Endpoint1.TheVariants.{Off, Ready, Halted}
 use Rattle.usb_device.specs.declared.answer.Change.{Change}
-use Rattle.usb_device.specs.declared.answer.Change.TheVariants.{Endpoint}
+use Rattle.usb_device.specs.declared.answer.Change.TheVariants.{Address, Endpoint}
 use Rattle.usb_device.specs.Packets.{packet_at}
 use Rattle.usb_device.specs.Calls.{EpCall, SetUp, Out, In, Polled, BusReset}
 use Rattle.usb_device.specs.Requests.{Lent, Served, Reads, Sets, request_of, served}
@@ -24,11 +24,12 @@ pub data Stage : Type 0 where
   -- it is over or was stalled
   Over : Stage
 
--- the descriptors that are lent, what endpoint 1 is, and where the transfer stands
+-- the descriptors that are lent, what endpoint 1 is, where the transfer stands, and the address that its status packet brought
 pub record LayerState : Type 0 where
   pub lent : Lent
   pub endpoint : Endpoint1
   pub stage : Stage
+  pub due : Option ℕ
 
 abbrev pub first_stage : Option Served → ℕ → Stage
 first_stage None asked = Theirs
@@ -63,6 +64,11 @@ abbrev pub endpoint_then : Endpoint1 → Option Change → Endpoint1
 endpoint_then state (Some (Endpoint next)) = next
 endpoint_then state _ = state
 
+-- the address of the transfer's status packet
+abbrev pub due_then : Option ℕ → Option Change → Option ℕ
+due_then due (Some (Address address)) = Some address
+due_then due _ = due
+
 -- an empty OUT packet ends a read
 abbrev pub closing : List ℕ → EpAnswer
 closing [] = Ack
@@ -85,16 +91,20 @@ PollAnswers Ready answer = Unit {0}
 
 -- what an event does to the device layer
 abbrev pub state_then : LayerState → Event → LayerState
-state_then now (SetupCame bytes) = record { lent = now.lent; endpoint = now.endpoint; stage = begun now.lent now.endpoint bytes }
-state_then now (OutCame packet answer) = record { lent = now.lent; endpoint = now.endpoint; stage = after_out now.stage }
-state_then now (InAsked answer) =
-    record { lent = now.lent; endpoint = endpoint_then now.endpoint (change_of now.stage); stage = after_in now.stage answer }
+state_then now (SetupCame bytes) = record { lent = now.lent; endpoint = now.endpoint; stage = begun now.lent now.endpoint bytes; due = None }
+state_then now (OutCame packet answer) = record { lent = now.lent; endpoint = now.endpoint; stage = after_out now.stage; due = now.due }
+state_then now (InAsked answer) = record {
+  lent = now.lent;
+  endpoint = endpoint_then now.endpoint (change_of now.stage);
+  stage = after_in now.stage answer;
+  due = due_then now.due (change_of now.stage);
+}
 state_then now (PollAsked answer) = now
-state_then now ResetCame = record { lent = now.lent; endpoint = Off; stage = Theirs }
+state_then now ResetCame = record { lent = now.lent; endpoint = Off; stage = Theirs; due = None }
 
 -- where the device layer stands after these events, newest first
 unfoldable pub state_of : Lent → List Event → LayerState
-state_of lent [] = record { lent = lent; endpoint = Off; stage = Theirs }
+state_of lent [] = record { lent = lent; endpoint = Off; stage = Theirs; due = None }
 state_of lent (event ∷ past) = state_then (state_of lent past) event
 
 -- the answer of an event is the standard's

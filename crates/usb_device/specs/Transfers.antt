@@ -35,6 +35,17 @@ abbrev pub is_done : TransferState → Bool
 is_done Done = true
 is_done _ = false
 
+-- the device is not asked any more before the next SETUP packet
+abbrev pub is_over : TransferState → Bool
+is_over Idle = true
+is_over Refused = true
+is_over Over = true
+is_over Closing = true
+is_over Closed = true
+is_over Status = true
+is_over Done = true
+is_over _ = false
+
 -- the newest call of endpoint 0
 abbrev pub last_0 : List EpCall → Option EpCall
 last_0 [] = None

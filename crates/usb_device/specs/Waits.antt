@@ -1,8 +1,8 @@
--- Believed: how long endpoint 1 waits for the host to know of a change (USB 2.0 section 9.2.6.4).
+-- Believed: how long endpoint 1 waits for the host to know of what a request changed (USB 2.0 section 9.2.6.4).
 use Rattle.std.specs.Prelude.{ℕ, ◌+◌, Bool, false, List, [], ◌∷◌, nat_lt}
 
 pub data Moment : Type 0 where
-  -- the status packet of a request that changes endpoint 1 was handed over
+  -- the status packet of a request was handed over
   Held : Moment
   -- a scan, which comes each millisecond
   Scanned : Moment

@@ -2,9 +2,9 @@
 pub mod Value
 pub mod Stands
 pub mod Link
-pub mod Keys
 pub mod Link1
 pub mod Waited
 pub mod Layered
 pub mod Played
 pub mod Played0
+pub mod Guarded

@@ -5,8 +5,9 @@ ghost use Rattle.std.specs.Option.{option_map};
 ghost use Rattle.usb_device.specs.Requests.{word_at};
 ghost use Rattle.usb_device.specs.Calls.{EpCall, SetUp, BusReset};
 ghost use Rattle.usb_device.specs.Bus.{is_pending, Bus, Goes, Sends, Takes, with_input, with_output, is_write, looked, mode_of, out_mode_of};
-ghost use Rattle.usb_device.specs.Bus1.{reports_of, KeptOrReset};
-ghost use Rattle.usb_device.specs.Transfers.{is_done, TransferState, Idle, Refused, Over, ReadDue, Closing, Opening, Due, IsOpen, WasAsked, last_0, Rests, NothingWithheld0};
+ghost use Rattle.usb_device.specs.Addresses.{Stays, StaysOrReset};
+ghost use Rattle.usb_device.specs.Bus1.{reports_of, KeptOrReset, KeptUnless};
+ghost use Rattle.usb_device.specs.Transfers.{is_done, is_over, TransferState, Idle, Refused, Over, ReadDue, Closing, Opening, Due, IsOpen, WasAsked, last_0, Rests, NothingWithheld0};
 ghost use Rattle.usb_device.specs.ties.Link.{Link, Ready, IsBegun, ended, on_taken, met_view, transfer_view};
 
 use crate::controller::{Controller, Input, Output, Waiting};
@@ -105,15 +106,17 @@ fn ended(answer: EpAnswer) -> Transfer
 
 /// Opens OUT for a packet.
 fn open<C: Controller>(controller: &mut C)
-    ensures { (steps : List Bus) × (mid : Bus) × Goes steps (C.bus controller.old) mid × (C.bus controller.new ≡ with_output mid Takes) }
+    ensures set { (steps : List Bus) × (mid : Bus) × Goes steps (C.bus controller.old) mid × (C.bus controller.new ≡ with_output mid Takes) }
+    ensures stays { Stays (C.bus controller.old) (C.bus controller.new) (C.address_of controller.old) (C.address_of controller.new) }
 {
     controller.output_0(Output::Take);
 }
 
 /// Puts the packet into the buffer of IN.
 fn hand_over<C: Controller>(packet: ArrayVec<u8, 8>, controller: &mut C)
-    ensures { (steps : List Bus) × (mid : Bus) × Goes steps (C.bus controller.old) mid
+    ensures set { (steps : List Bus) × (mid : Bus) × Goes steps (C.bus controller.old) mid
         × (C.bus controller.new ≡ with_input mid (Sends packet.items false)) }
+    ensures stays { Stays (C.bus controller.old) (C.bus controller.new) (C.address_of controller.old) (C.address_of controller.new) }
 {
     controller.input_0(Input::Packet(packet));
 }
@@ -138,7 +141,8 @@ impl ControlBuffers {
         ensures { (calls : List EpCall) → E.stands calls device.old → Link self.old (C.bus controller.old) calls
             → NothingWithheld0 self.old (C.bus controller.old) calls
             → (later : List EpCall) × E.stands later device.new × Link self.new (C.bus controller.new) later
-            × NothingWithheld0 self.new (C.bus controller.new) later × KeptOrReset calls later }
+            × NothingWithheld0 self.new (C.bus controller.new) later × KeptOrReset calls later
+            × StaysOrReset (C.bus controller.new).met.reset later (C.address_of controller.old) (C.address_of controller.new) }
     {
         let met = controller.waiting();
         self.take(met, device);
@@ -155,12 +159,24 @@ impl ControlBuffers {
         }
     }
 
+    /// Whether the device is asked nothing more before the next SETUP packet.
+    pub fn is_over(&self) -> bool
+        ensures { result ≡ is_over self.now }
+    {
+        match self.transfer {
+            Transfer::Idle | Transfer::Refused | Transfer::Over | Transfer::Closing => true,
+            Transfer::Closed | Transfer::Status | Transfer::Done => true,
+            Transfer::Reads(_) | Transfer::ReadDue(_) | Transfer::Sent | Transfer::Opening => false,
+            Transfer::Writes | Transfer::Kept(_) | Transfer::Asking | Transfer::Due => false,
+        }
+    }
+
     /// Takes what was met.
     fn take<E: Endpoints>(&mut self, met: Waiting, device: &mut E)
         ensures { (b : Bus) (calls : List EpCall) → E.stands calls device.old → Link self.old b calls → met_view met ≡ b.met
             → NothingWithheld0 self.old b calls
             → (later : List EpCall) × E.stands later device.new × Link self.new (looked b) later × Ready self.new (looked b) later
-            × KeptOrReset calls later }
+            × KeptUnless b.met.reset calls later }
     {
         match met.setup {
             Some(setup) => {
@@ -231,11 +247,13 @@ impl ControlBuffers {
     }
 
     /// Does what is due.
+    #[tactic(auto, using(crate::proofs::Addressing::stays_still))]
     fn go_on<E: Endpoints, C: Controller>(&mut self, device: &mut E, controller: &mut C)
-        ensures { (calls : List EpCall) → E.stands calls device.old → Link self.old (C.bus controller.old) calls
+        ensures linked { (calls : List EpCall) → E.stands calls device.old → Link self.old (C.bus controller.old) calls
             → Ready self.old (C.bus controller.old) calls
             → (later : List EpCall) × E.stands later device.new × Link self.new (C.bus controller.new) later
             × NothingWithheld0 self.new (C.bus controller.new) later × (reports_of later ≡ reports_of calls) }
+        ensures stays { Stays (C.bus controller.old) (C.bus controller.new) (C.address_of controller.old) (C.address_of controller.new) }
     {
         match &self.transfer {
             Transfer::Opening => {
@@ -265,20 +283,23 @@ impl ControlBuffers {
 
     /// Opens OUT, behind the packet of a write or where none is due, and asks for the packet of the status stage.
     fn ask<E: Endpoints, C: Controller>(&mut self, device: &mut E, controller: &mut C)
-        ensures { (calls : List EpCall) → E.stands calls device.old → Link Due (C.bus controller.old) calls
+        ensures linked { (calls : List EpCall) → E.stands calls device.old → Link Due (C.bus controller.old) calls
             → (later : List EpCall) × E.stands later device.new × Link self.new (C.bus controller.new) later
             × NothingWithheld0 self.new (C.bus controller.new) later × (reports_of later ≡ reports_of calls) }
+        ensures stays { Stays (C.bus controller.old) (C.bus controller.new) (C.address_of controller.old) (C.address_of controller.new) }
     {
         open(controller);
         self.confirm(device, controller);
     }
 
     /// Hands over the empty packet of the status stage once the device gives it.
+    #[tactic(auto, using(crate::proofs::Addressing::stays_still))]
     fn confirm<E: Endpoints, C: Controller>(&mut self, device: &mut E, controller: &mut C)
-        ensures { (calls : List EpCall) → E.stands calls device.old → Link Due (C.bus controller.old) calls
+        ensures linked { (calls : List EpCall) → E.stands calls device.old → Link Due (C.bus controller.old) calls
             → (is_pending (C.bus controller.old).met ≡ false → IsOpen (C.bus controller.old))
             → (later : List EpCall) × E.stands later device.new × Link self.new (C.bus controller.new) later
             × NothingWithheld0 self.new (C.bus controller.new) later × (reports_of later ≡ reports_of calls) }
+        ensures stays { Stays (C.bus controller.old) (C.bus controller.new) (C.address_of controller.old) (C.address_of controller.new) }
     {
         match device.in_packet() {
             EpAnswer::Packet(packet) => {
@@ -295,6 +316,7 @@ impl ControlBuffers {
         ensures over { self.new ≡ Over }
         ensures told { (calls : List EpCall) → WasAsked (last_0 calls) → NothingWithheld0 Over (C.bus controller.new) calls }
         ensures linked { (calls : List EpCall) → Link Refused (C.bus controller.old) calls → Link Over (C.bus controller.new) calls }
+        ensures stays { Stays (C.bus controller.old) (C.bus controller.new) (C.address_of controller.old) (C.address_of controller.new) }
     {
         self.transfer = Transfer::Over;
         controller.input_0(Input::Stall);
@@ -302,10 +324,12 @@ impl ControlBuffers {
     }
 
     /// Hands over the next packet of a read.
+    #[tactic(auto, using(crate::proofs::Addressing::stays_still))]
     fn read<E: Endpoints, C: Controller>(&mut self, left: u16, device: &mut E, controller: &mut C)
-        ensures { (calls : List EpCall) → E.stands calls device.old → Link (ReadDue left) (C.bus controller.old) calls
+        ensures linked { (calls : List EpCall) → E.stands calls device.old → Link (ReadDue left) (C.bus controller.old) calls
             → (later : List EpCall) × E.stands later device.new × Link self.new (C.bus controller.new) later
             × NothingWithheld0 self.new (C.bus controller.new) later × (reports_of later ≡ reports_of calls) }
+        ensures stays { Stays (C.bus controller.old) (C.bus controller.new) (C.address_of controller.old) (C.address_of controller.new) }
     {
         match device.in_packet() {
             EpAnswer::Packet(packet) => {

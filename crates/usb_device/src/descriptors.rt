@@ -51,6 +51,7 @@ pub(crate) enum Data<'a> {
 
 impl<'a> Data<'a> {
     /// Packet `index` of a read that asked for `asked` bytes.
+    #[inline(never)]
     pub(crate) fn packet_at(&self, asked: u16, index: u16) -> Option<ArrayVec<u8, 8>>
         ensures packet { option_map (λ packet. packet.items) result ≡ packet_at (data_bytes self.now) asked index }
         ensures in_data { OnSome result (8 * index ≤ asked) }

@@ -1,9 +1,10 @@
 //! A device behind its USB device layer, with endpoint 1 behind buffers, as one device.
 
-ghost use Rattle.std.specs.Prelude.{◌≡◌, ◌-◌, ◌∷◌, [], false, List, None, Option};
+ghost use Rattle.std.specs.Prelude.{◌≡◌, ◌&&◌, ◌-◌, ◌∷◌, [], false, List, None, Option};
 ghost use Rattle.std.specs.Option.{option_map};
 ghost use Rattle.usb_device.specs.declared.report_buffers.Course.TheVariants.{Rests};
 ghost use Rattle.usb_device.specs.Steps.{polled_of};
+ghost use Rattle.usb_device.specs.States.{is_empty_packet};
 ghost use Rattle.usb_device.specs.ties.Stands.{StandsFor};
 ghost use Rattle.usb_device.specs.declared.answer.Endpoint1.{Endpoint1};
 ghost use Rattle.usb_device.specs.Calls.{EpCall, Polled, Out};
@@ -22,10 +23,12 @@ use crate::{Change, DeviceLayer, Endpoint1, Endpoints, EpAnswer, PacketSize, Pol
 /// A device behind its USB device layer, with endpoint 1 behind the buffers of a controller.
 #[derive(Drop)]
 pub struct Device<'a, E, B> {
-    layer: DeviceLayer<'a>,
-    behind: E,
+    pub(crate) layer: DeviceLayer<'a>,
+    pub(crate) behind: E,
     pub(crate) buffers: B,
     reports: ReportBuffers,
+    /// Whether the transfer under way is no read, so that its last packet is the empty one of the status stage.
+    sets: bool,
 }
 
 /// What a change sets endpoint 1 to.
@@ -53,6 +56,16 @@ fn follow<B: Buffers>(change: Option<Change>, buffers: &mut B, reports: &mut Rep
     }
 }
 
+/// Whether an answer is the packet of a status stage.
+fn is_status(sets: bool, answer: &EpAnswer) -> bool
+    ensures { result ≡ (sets && is_empty_packet answer.now) }
+{
+    match answer {
+        EpAnswer::Packet(packet) => sets && packet.is_empty(),
+        EpAnswer::Ack | EpAnswer::Nak | EpAnswer::Stall => false,
+    }
+}
+
 /// The report of an answer.
 fn report_of(answer: PollAnswer) -> Option<Report>
     ensures { option_map (λ r. r.items) result ≡ polled_of answer }
@@ -75,6 +88,7 @@ impl<'a, E: Endpoints, B: Buffers> Device<'a, E, B> {
             behind,
             buffers,
             reports: ReportBuffers::new(size),
+            sets: false,
         }
     }
 
@@ -121,6 +135,13 @@ impl<'a, E: Endpoints, B: Buffers> Device<'a, E, B> {
             self.ask();
             self.reports.fill(&mut self.buffers);
         }
+    }
+
+    /// The address that the status packet of the transfer under way brought.
+    pub(crate) fn address_due(&self) -> Option<u8>
+        ensures { result ≡ self.now.layer.due }
+    {
+        self.layer.address_due()
     }
 
     /// Whether endpoint 1 is ready.
@@ -170,6 +191,7 @@ impl<'a, E: Endpoints, B: Buffers> Endpoints for Device<'a, E, B> {
     fn setup(&mut self, packet: [u8; 8]) {
         self.layer.setup(packet, &mut self.behind);
         self.reports.release(false);
+        self.sets = packet[0] < 0x80;
     }
 
     fn out(&mut self, packet: &[u8]) -> EpAnswer {
@@ -179,6 +201,7 @@ impl<'a, E: Endpoints, B: Buffers> Endpoints for Device<'a, E, B> {
     fn in_packet(&mut self) -> EpAnswer {
         let (answer, change) = self.layer.in_packet(&mut self.behind);
         follow(change, &mut self.buffers, &mut self.reports);
+        self.reports.hold(is_status(self.sets, &answer));
         answer
     }
 

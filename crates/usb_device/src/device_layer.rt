@@ -6,7 +6,7 @@ ghost use Rattle.usb_device.specs.Packets.{packet_at};
 ghost use Rattle.usb_device.specs.Requests.{Lent};
 ghost use Rattle.usb_device.specs.Calls.{EpCall};
 ghost use Rattle.usb_device.specs.Events.{Event, SetupCame, OutCame, InAsked, PollAsked, ResetCame};
-ghost use Rattle.usb_device.specs.Steps.{LayerState, begun, InAnswer, OutAnswer, PollAnswers, change_of, endpoint_then, state_then, calls_then, session, state_of, first_stage};
+ghost use Rattle.usb_device.specs.Steps.{LayerState, begun, InAnswer, OutAnswer, PollAnswers, change_of, endpoint_then, due_then, state_then, calls_then, session, state_of, first_stage};
 ghost use Rattle.usb_device.specs.ties.Value.{lent_view, data_bytes, stage_view, begun_view};
 ghost use Rattle.usb_device.specs.ties.Stands.{StandsFor};
 
@@ -54,6 +54,7 @@ pub struct DeviceLayer<'a> {
     lent: Descriptors<'a>,
     endpoint: Endpoint1,
     stage: Stage<'a>,
+    due: Option<u8>,
 }
 
 impl<'a> Model for DeviceLayer<'a> {
@@ -62,7 +63,7 @@ impl<'a> Model for DeviceLayer<'a> {
 
     ghost Value = { LayerState };
 
-    ghost view = { λ f. record { lent = lent_view f.lent; endpoint = f.endpoint; stage = stage_view f.stage } };
+    ghost view = { λ f. record { lent = lent_view f.lent; endpoint = f.endpoint; stage = stage_view f.stage; due = f.due } };
 }
 
 /// The stage that a request begins in.
@@ -91,7 +92,16 @@ impl<'a> DeviceLayer<'a> {
             lent: descriptors,
             endpoint: Endpoint1::Off,
             stage: Stage::Theirs,
+            due: None,
         }
+    }
+
+    /// The address that the status packet of the transfer under way brought: the device has it once the host has that packet
+    /// (section 9.2.6.3).
+    pub fn address_due(&self) -> Option<u8>
+        ensures { result ≡ self.now.due }
+    {
+        self.due
     }
 
     /// What endpoint 1 is.
@@ -117,6 +127,7 @@ impl<'a> DeviceLayer<'a> {
     {
         let request = Request::read(packet);
         self.stage = first_stage(request.served(self.endpoint, self.lent), request.length);
+        self.due = None;
     }
 
     /// An OUT packet of endpoint 0. An empty one ends a read.
@@ -181,12 +192,19 @@ impl<'a> DeviceLayer<'a> {
         }
     }
 
-    /// Takes the change of a status stage. The address is the controller's alone.
+    /// Takes the change of a status stage.
     fn follow(&mut self, change: Option<Change>)
-        ensures { self.new ≡ record { lent = self.old.lent; endpoint = endpoint_then self.old.endpoint change; stage = self.old.stage } }
+        ensures { self.new ≡ record {
+          lent = self.old.lent;
+          endpoint = endpoint_then self.old.endpoint change;
+          stage = self.old.stage;
+          due = due_then self.old.due change;
+        } }
     {
-        if let Some(Change::Endpoint(state)) = change {
-            self.endpoint = state;
+        match change {
+            Some(Change::Endpoint(state)) => self.endpoint = state,
+            Some(Change::Address(address)) => self.due = Some(address),
+            None => {}
         }
     }
 
@@ -232,5 +250,6 @@ impl<'a> DeviceLayer<'a> {
         behind.bus_reset();
         self.endpoint = Endpoint1::Off;
         self.stage = Stage::Theirs;
+        self.due = None;
     }
 }

@@ -13,8 +13,6 @@ ghost use Rattle.usb_device.specs.Bus1.{Bus1, reports_of, no_polls};
 ghost use Rattle.usb_device.specs.Reports.{GotInOrder};
 ghost use Rattle.usb_device.specs.Waits.{Moment, is_waiting, scans_last};
 ghost use Rattle.usb_device.specs.ties.Link1.{ReportState, Link1};
-ghost use Rattle.usb_device.specs.KeyboardCalls.{KbCall, usb_calls};
-ghost use Rattle.usb_device.specs.KeyboardSessions.{IsConfirmedIn};
 ghost use Rattle.usb_device.specs.Confirmed.{WasConfirmed};
 ghost use Rattle.usb_device.specs.Transfers.{TransferState, Idle, NothingWithheld0};
 ghost use Rattle.usb_device.specs.ties.Link.{Link};
@@ -73,11 +71,6 @@ pub fn a_poll_is_nothing_to_endpoint_0()
 #[tactic(auto, using(crate::proofs::Reporting::same_reports))]
 pub fn a_transfer_is_nothing_to_endpoint_1()
     ensures { (s : ReportState) (b : Bus1) (calls later : List EpCall) → Link1 s b calls → reports_of later ≡ reports_of calls → Link1 s b later }
-{}
-
-/// What was confirmed on the bus is confirmed in the session of the keyboard, by calls of which scans and flash work are some.
-pub fn confirmed_in_session()
-    ensures { (past : List KbCall) (setup data_ : List ℕ) → WasConfirmed setup data_ (usb_calls past) → IsConfirmedIn past setup data_ }
 {}
 
 /// What a string descriptor holds of a text is whole characters.

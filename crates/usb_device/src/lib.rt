@@ -3,19 +3,21 @@
 //! `UsbDevice` is what a loop calls. `DeviceLayer` serves the standard requests of USB 2.0 chapter 9 in each state of the
 //! device, with descriptors and names that a maker lends (`Descriptors`), and hands everything else on to the device behind
 //! it (`Endpoints`). `ControlBuffers` and `ReportBuffers` hand the packets of endpoints 0 and 1 to a controller beforehand
-//! (`Controller`, `Buffers`). `write` makes a whole control write, for a stack that keeps endpoint 0 to itself. It takes no
-//! memory and needs no `unsafe`. Sections are those of USB 2.0.
+//! (`Controller`, `Buffers`). `write` makes a whole control write, for a stack that keeps endpoint 0 to itself. `Guarded` is a
+//! maker's lock and pace of feature commands (`guard_laws`). It takes no memory and needs no `unsafe`. Sections are those of
+//! USB 2.0.
 //!
 //! The guarantee: a control write that the host saw the end of was acknowledged, and then confirmed by the empty packet, in
-//! the session of the device behind, whatever acknowledgements were lost (`laws::confirmed_on_the_bus`,
-//! `laws::confirmed_in_session`). Each answer of a standard request is that of tables 9-3 and 9-4 in the state that the
+//! the session of the device behind, whatever acknowledgements were lost (`laws::confirmed_on_the_bus`); `usb_keyboard` leads
+//! on to the flash. Each answer of a standard request is that of tables 9-3 and 9-4 in the state that the
 //! events before give (`laws::endpoint_is_looked_back`). The host takes as new the reports of the device, each whole, in
 //! their order (`laws::reports_are_got_in_order`): once, and at least once where endpoint 1 begins anew, whatever data toggle
 //! the host then wants. The controller is told of each change of endpoint 1 before the host. Endpoint 1 waits at most 50 scans
 //! for a host that does not take a status packet. Nothing else is withheld.
 //!
-//! Not yet here: suspend and remote wakeup. The address of SET_ADDRESS is an answer of `DeviceLayer::in_packet`, and no
-//! controller is told of it yet.
+//! The controller is told its address once the host has the status packet of SET_ADDRESS, and at no other time.
+//!
+//! Not yet here: suspend and remote wakeup.
 #![tactic(auto)]
 
 mod answer;
@@ -25,7 +27,9 @@ mod descriptors;
 mod device;
 mod device_layer;
 mod endpoints;
-mod keyboard_shape;
+mod guard;
+pub mod guard_laws;
+mod guarded;
 pub mod laws;
 mod packets;
 mod played_buffers;
@@ -46,11 +50,11 @@ pub use descriptors::Descriptors;
 pub use device::Device;
 pub use device_layer::DeviceLayer;
 pub use endpoints::Endpoints;
-pub use keyboard_shape::{Keys, Session};
+pub use guarded::{Guarded, ScansMatrix};
 pub use played_buffers::{Brought, Played, PlayedBuffers};
 pub use played_controller::{Played0, PlayedController, Saw};
 pub use quiet_controller::QuietController;
 pub use report_buffers::{Buffers, PacketSize, ReportBuffers};
 pub use strings::string_descriptor;
 pub use usb_device::UsbDevice;
-pub use whole_transfers::{TransferError, Works, write};
+pub use whole_transfers::{Status, TransferError, Works, status_of, write};

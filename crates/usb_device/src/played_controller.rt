@@ -2,6 +2,7 @@
 
 ghost use Rattle.std.specs.Prelude.{◌≡◌, ◌≤◌, ◌∷◌, [], List, true, false, length, map};
 ghost use Rattle.usb_device.specs.Bus.{InGot, got, is_pending, nothing_met, Naks, NaksOut};
+ghost use Rattle.usb_device.specs.Addresses.{StaysBy};
 ghost use Rattle.usb_device.specs.ties.Link.{met_view};
 ghost use Rattle.usb_device.specs.ties.Played0.{seen_of, played_bus_0, Moved0};
 
@@ -58,6 +59,7 @@ pub struct PlayedController<'a> {
     has: bool,
     output: Output,
     met: Waiting,
+    address: u8,
 }
 
 /// Nothing was met, but for a reset.
@@ -109,7 +111,15 @@ impl<'a> PlayedController<'a> {
             has: false,
             output: Output::Nak,
             met: only(false),
+            address: 0,
         }
+    }
+
+    /// The address that it answers to.
+    pub fn address(&self) -> u8
+        ensures { result ≡ self.now.address }
+    {
+        self.address
     }
 
     /// What the host met, newest first.
@@ -126,7 +136,8 @@ impl<'a> PlayedController<'a> {
 
     /// The next thing of the script happens.
     fn play(&mut self)
-        ensures { Moved0 (played_bus_0 self.old) (played_bus_0 self.new) }
+        ensures moved { Moved0 (played_bus_0 self.old) (played_bus_0 self.new) }
+        ensures stays { StaysBy self.new.met.reset self.old.address self.new.address }
     {
         let Some((first, rest)) = self.script.split_first() else {
             return;
@@ -145,7 +156,8 @@ impl<'a> PlayedController<'a> {
 
     /// The host sends a SETUP packet.
     fn set_up(&mut self, setup: [u8; 8])
-        ensures { Moved0 (played_bus_0 self.old) (played_bus_0 self.new) }
+        ensures moved { Moved0 (played_bus_0 self.old) (played_bus_0 self.new) }
+        ensures stays { self.new.address ≡ self.old.address }
     {
         if is_noted(Saw::SetupSent(setup), &mut self.seen) {
             self.input = Input::Nak;
@@ -156,7 +168,8 @@ impl<'a> PlayedController<'a> {
 
     /// The host takes the packet in the buffer.
     fn deliver(&mut self, is_acknowledged: bool)
-        ensures { Moved0 (played_bus_0 self.old) (played_bus_0 self.new) }
+        ensures moved { Moved0 (played_bus_0 self.old) (played_bus_0 self.new) }
+        ensures stays { self.new.address ≡ self.old.address }
     {
         match &self.input {
             Input::Packet(packet) => {
@@ -175,14 +188,16 @@ impl<'a> PlayedController<'a> {
 
     /// The host sends a packet of these bytes.
     fn send(&mut self, bytes: [u8; 6])
-        ensures { Moved0 (played_bus_0 self.old) (played_bus_0 self.new) }
+        ensures moved { Moved0 (played_bus_0 self.old) (played_bus_0 self.new) }
+        ensures stays { self.new.address ≡ self.old.address }
     {
         self.bring(&bytes);
     }
 
     /// The host sends a packet.
     fn bring(&mut self, bytes: &[u8])
-        ensures { length bytes.now ≤ 8 → Moved0 (played_bus_0 self.old) (played_bus_0 self.new) }
+        ensures moved { length bytes.now ≤ 8 → Moved0 (played_bus_0 self.old) (played_bus_0 self.new) }
+        ensures stays { self.new.address ≡ self.old.address }
     {
         match self.output {
             Output::Take => {
@@ -197,18 +212,22 @@ impl<'a> PlayedController<'a> {
 
     /// The host resets the bus.
     fn reset(&mut self)
-        ensures { Moved0 (played_bus_0 self.old) (played_bus_0 self.new) }
+        ensures moved { Moved0 (played_bus_0 self.old) (played_bus_0 self.new) }
+        ensures stays { StaysBy self.new.met.reset self.old.address self.new.address }
     {
         if is_noted(Saw::WasReset, &mut self.seen) {
             self.input = Input::Nak;
             self.output = Output::Nak;
             self.met = only(true);
+            self.address = 0;
         }
     }
 }
 
 impl<'a> Controller for PlayedController<'a> {
     ghost bus = { λ c. played_bus_0 c };
+
+    ghost address_of = { λ c. c.address };
 
     fn waiting(&mut self) -> Waiting {
         self.play();
@@ -228,5 +247,10 @@ impl<'a> Controller for PlayedController<'a> {
         if !self.is_pending() {
             self.output = answer;
         }
+    }
+
+    fn set_address(&mut self, address: u8) {
+        self.play();
+        self.address = if self.met.reset { 0 } else { address };
     }
 }

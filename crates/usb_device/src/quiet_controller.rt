@@ -11,6 +11,7 @@ pub struct QuietController {
     input: Input,
     output: Output,
     met: Waiting,
+    address: u8,
 }
 
 impl QuietController {
@@ -23,6 +24,8 @@ impl QuietController {
 
 impl Controller for QuietController {
     ghost bus = { λ c. record { seen = []; input = mode_of c.input; output = out_mode_of c.output; met = met_view c.met } };
+
+    ghost address_of = { λ c. c.address };
 
     fn waiting(&mut self) -> Waiting {
         let nothing = Waiting {
@@ -44,5 +47,9 @@ impl Controller for QuietController {
         if !self.is_pending() {
             self.output = answer;
         }
+    }
+
+    fn set_address(&mut self, address: u8) {
+        self.address = address;
     }
 }

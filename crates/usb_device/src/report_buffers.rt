@@ -186,6 +186,18 @@ impl ReportBuffers {
         }
     }
 
+    /// Where this is the status packet of a request, nothing is handed over until `release` or 50 scans: the host does not know
+    /// yet what the request has changed, as SET_PROTOCOL the reports (HID 1.11 section 7.2.6).
+    pub fn hold(&mut self, is_status: bool)
+        ensures linked { (b : Bus1) (calls : List EpCall) → Link1 self.old b calls → Link1 self.new b calls }
+        ensures waits { (moments : List Moment) → is_status ≡ true → Waited (Held ∷ moments) self.new.left }
+        ensures same { is_status ≡ false → self.new ≡ self.old }
+    {
+        if is_status {
+            self.waits = STATUS_SCANS;
+        }
+    }
+
     /// A scan of the matrix, a millisecond after the one before.
     pub fn scan(&mut self)
         ensures waits { (moments : List Moment) → Waited moments self.old.left → Waited (Scanned ∷ moments) self.new.left }

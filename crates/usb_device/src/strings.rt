@@ -41,11 +41,9 @@ pub fn string_descriptor(text: &[u16]) -> ArrayVec<u8, 254>
     let count = held_count(text);
     let units = &text[..count];
     let mut bytes = ArrayVec::new();
-    bytes.push(2 + 2 * count as u8);
-    bytes.push(STRING);
+    let _full = bytes.try_extend_from_slice(&[2 + 2 * count as u8, STRING]);
     for unit in units {
-        bytes.push((*unit % 256) as u8);
-        bytes.push((*unit / 256) as u8);
+        let _full = bytes.try_extend_from_slice(&[(*unit % 256) as u8, (*unit / 256) as u8]);
     }
     bytes
 }

@@ -2,7 +2,8 @@
 
 ghost use Rattle.std.specs.Prelude.{◌≡◌, ◌-◌, [], false, List};
 ghost use Rattle.usb_device.specs.Calls.{EpCall};
-ghost use Rattle.usb_device.specs.Bus.{Bus};
+ghost use Rattle.usb_device.specs.Addresses.{Addressed, Tells};
+ghost use Rattle.usb_device.specs.Bus.{Bus, Goes};
 ghost use Rattle.usb_device.specs.Bus1.{blank, room_of};
 ghost use Rattle.usb_device.specs.Requests.{Lent};
 ghost use Rattle.usb_device.specs.Events.{Event};
@@ -20,8 +21,8 @@ use crate::{ControlBuffers, Controller, Device, DeviceLayer, Endpoints, PacketSi
 /// A loop calls `serve` when an interrupt of the controller has come, and behind each scan; it may be called at any time.
 /// `scan` tells that a millisecond has gone by.
 pub struct UsbDevice<'a, E, B> {
-    control: ControlBuffers,
-    device: Device<'a, E, B>,
+    pub(crate) control: ControlBuffers,
+    pub(crate) device: Device<'a, E, B>,
 }
 
 impl<'a, E: Endpoints, B: Buffers> UsbDevice<'a, E, B> {
@@ -62,11 +63,24 @@ impl<'a, E: Endpoints, B: Buffers> UsbDevice<'a, E, B> {
             → (later : List EpCall) × (named : Lent) × (since : List Event)
             × Runs E.stands self.new.control (C.bus controller.new) later named since self.new.device.layer self.new.device.behind self.new.device.reports (B.bus self.new.device.buffers)
             × NothingWithheld (may_send (is_ready self.new.device.layer.endpoint) self.new.device.reports.left) (room_of B.two) self.new.device.reports
-            (B.bus self.new.device.buffers) (calls_of since) }
+            (B.bus self.new.device.buffers) (calls_of since)
+            × Addressed (is_done self.new.control) self.new.device.layer.due (C.bus controller.new).met.reset later (C.address_of controller.old) (C.address_of controller.new) }
     {
         self.control.serve(&mut self.device, controller);
         self.settle();
         self.device.serve_reports();
+        self.tell(controller);
+    }
+
+    /// The controller has the address once the host has the status packet that brings it.
+    fn tell<C: Controller>(&self, controller: &mut C)
+        ensures met { (steps : List Bus) × Goes steps (C.bus controller.old) (C.bus controller.new) }
+        ensures told { Tells (is_done self.now.control) self.now.device.layer.due (C.bus controller.new).met.reset (C.address_of controller.old) (C.address_of controller.new) }
+    {
+        match self.device.address_due() {
+            Some(address) if self.control.is_done() => controller.set_address(address),
+            _ => {}
+        }
     }
 
     /// Endpoint 1 goes on once the host has the status packet.

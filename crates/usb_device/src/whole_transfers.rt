@@ -9,9 +9,13 @@ use crate::{Endpoints, EpAnswer};
 
 /// A device that has work of its own to do between two packets, as one that writes a flash.
 pub trait Works: Endpoints {
+    /// This is a step of it.
+    ghost works: { Self → Self → Type 0 };
+
     /// A step of this work, which is nothing to the bus.
     fn work(&mut self)
-        ensures { (past : List EpCall) → Self.stands past self.old → Self.stands past self.new };
+        ensures made { works self.old self.new }
+        ensures stands { (past : List EpCall) → Self.stands past self.old → Self.stands past self.new };
 }
 
 /// Why a whole transfer failed.
@@ -44,14 +48,18 @@ pub fn write<E: Works>(
 }
 
 /// What an IN token of a status stage brings.
-enum Status {
+#[derive(Clone, Copy, Debug, PartialEq, Eq)]
+pub enum Status {
+    /// The empty packet.
     Done,
+    /// NAK.
     Waits,
+    /// Anything else.
     Refuses,
 }
 
 /// Reads an answer in a status stage.
-fn status_of(answer: EpAnswer) -> Status
+pub fn status_of(answer: EpAnswer) -> Status
     ensures { result ≡ status_of answer }
 {
     match answer {

@@ -6,9 +6,9 @@ use Rattle.control_ep.specs.declared.answer.EpAnswer.{EpAnswer}
 use Rattle.control_ep.specs.declared.answer.EpAnswer.TheVariants as ep
 use Rattle.host.specs.Calls.{HostCall, lost}
 use Rattle.host.specs.Kept.{gathering, kept}
-use Rattle.host.specs.Reads.{Reads}
 use Rattle.host.specs.declared.reading.Reading.{Reading}
 use Rattle.host.specs.declared.reading.Reading.TheVariants.{Unread}
+use Rattle.layers.specs.Codes.{DefaultCodes}
 use Rattle.keyboard.specs.Calls.{Polled, EachCall}
 use Rattle.keyboard.specs.Effects.{protocol_after}
 use Rattle.keyboard.specs.Feature.{yes, no}
@@ -39,34 +39,6 @@ record Hearing (now : Session) (host : List HostCall) : Type 0 where
   pub cut_off : IsCutOff told_before
   pub fetched : KeptIfFetched told_before
 
-hearing_with : (before : Session) (image : List ℕ) (k : Kind) (memory : Bool) (host : List HostCall) → EachCall keyboard.IsAnswered before.first before.past → Hearing before host
-    → Hearing (session_with k image before) (with_heard (heard_in k memory) host)
-unfolding gathering kept
-hearing_with before image starts memory host l h = record {
-  told_before = lost ∷ host;
-  hears = at_start;
-  none = refl;
-  keeps = fetched_is_served before.first before.past h.told_before host l h.hears h.none h.keeps;
-  cut_off = tt;
-  fetched = kept_over_cut host (kept_after before.first before.past h.told_before host l h.hears h.none h.keeps h.cut_off h.fetched);
-}
-hearing_with before image (calls call) memory host l h = record {
-  told_before = h.told_before;
-  hears = one_more call memory before.past host h.hears;
-  none = h.none;
-  keeps = h.keeps;
-  cut_off = h.cut_off;
-  fetched = h.fetched;
-}
-hearing_with before image looks memory host l h = h
-
-hearing : (start : SimValue) (past : List Step) → EachStep IsAnswered start past → Hearing (session start past) (host_calls past)
-unfolding gathering kept
-hearing start [] h = record { told_before = []; hears = at_start; none = refl; keeps = none_kept refl; cut_off = tt; fetched = kept_first }
-hearing start (step ∷ before) h =
-    hearing_with (session start before) step.flash.image (kind step) (not step.refused) (host_calls before) (here start before h.1).lawful
-    (hearing start before h.1)
-
 -- an answer that is no report
 pub clash : {A : Type 0} (answer other : Answer) (bytes : List ℕ) (reading : Reading) → answer ≡ other → bytes_told other ≡ None
     → answer ≡ Sent (record { items = bytes }) reading → A
@@ -93,55 +65,84 @@ abbrev pub bytes_or_none : Option (List ℕ) → List ℕ
 bytes_or_none (Some bytes) = bytes
 bytes_or_none None = []
 
-read_of_sent : (now : Session) (host : List HostCall) (report : Option (List ℕ)) (answer : Answer) (refused : Bool) (bytes : List ℕ) (reading : Reading)
-    → EachCall keyboard.IsAnswered now.first now.past → Hearing now host → keyboard.IsAnswered now.first now.past (Polled report)
-    → IsSent (protocol_after now.past) host report answer refused → answer ≡ Sent (record { items = bytes }) reading → IsReadAs now.first now.past host bytes reading
-read_of_sent now host None answer refused bytes reading l h p s e = clash answer Nak bytes reading s.0 refl e
-read_of_sent now host (Some sent) answer refused bytes reading l h p (read, a, r, n) e =
-    let same_bytes = ap (λ (x : Answer). bytes_or_none (bytes_told x)) (sym a ∙ e) in
-    let same_reading = ap reading_told (sym a ∙ e) in
-    let by_law = read_is_wanted now.first now.past host sent read (sent_is_wanted now.first now.past sent p)
-    (fetched_is_served now.first now.past h.told_before host l h.hears h.none h.keeps) r in
-    subst (λ (x : List ℕ). IsReadAs now.first now.past host x reading) same_bytes
-    (subst (λ (x : Reading). IsReadAs now.first now.past host sent x) same_reading by_law)
+module _ (defaults : DefaultCodes) where
+  hearing_with : (before : Session) (image : List ℕ) (k : Kind) (memory : Bool) (host : List HostCall) → EachCall (keyboard.IsAnswered defaults) before.first before.past → Hearing before host
+      → Hearing (session_with k image before) (with_heard (heard_in k memory) host)
+  unfolding gathering kept
+  hearing_with before image starts memory host l h = record {
+    told_before = lost ∷ host;
+    hears = at_start;
+    none = refl;
+    keeps = fetched_is_served defaults before.first before.past h.told_before host l h.hears h.none h.keeps;
+    cut_off = tt;
+    fetched = kept_over_cut host (kept_after defaults before.first before.past h.told_before host l h.hears h.none h.keeps h.cut_off h.fetched);
+  }
+  hearing_with before image (calls call) memory host l h = record {
+    told_before = h.told_before;
+    hears = one_more call memory before.past host h.hears;
+    none = h.none;
+    keeps = h.keeps;
+    cut_off = h.cut_off;
+    fetched = h.fetched;
+  }
+  hearing_with before image looks memory host l h = h
 
-reads_by : (now : Session) (host : List HostCall) (old : SimValue) (event : Event) (answer : Answer) (refused : Bool) (new : SimValue) (bytes : List ℕ) (reading : Reading)
-    → EachCall keyboard.IsAnswered now.first now.past → Hearing now host → Answered now host old event answer refused new
-    → answer ≡ Sent (record { items = bytes }) reading → IsReadAs now.first now.past host bytes reading
-reads_by now host old (Scan scan) answer refused new bytes reading l h a e = clash answer Done bytes reading a.0 refl e
-reads_by now host old (Setup setup) answer refused new bytes reading l h a e = clash answer Ack bytes reading a.0 refl e
-reads_by now host old (OutPacket packet) answer refused new bytes reading l h (by_ep, a, lawful, u) e = clash answer (as_answer by_ep) bytes reading a (of_endpoint by_ep) e
-reads_by now host old InPacket answer refused new bytes reading l h (by_ep, a, lawful, f, m) e = clash answer (as_answer by_ep) bytes reading a (of_endpoint by_ep) e
-reads_by now host old Poll answer refused new bytes reading l h (report, p, f, s) e = read_of_sent now host report answer refused bytes reading l h p s e
-reads_by now host old Work answer refused new bytes reading l h (work, a, w, r) e = clash answer (Worked work) bytes reading a refl e
-reads_by now host old (WorkFault mask) answer refused new bytes reading l h (work, a, w, r) e = clash answer (Worked work) bytes reading a refl e
-reads_by now host old Cut answer refused new bytes reading l h a e = clash answer Restarted bytes reading a.0 refl e
-reads_by now host old (CutInWork mask) answer refused new bytes reading l h (work, a, w, r) e = clash answer Restarted bytes reading a refl e
-reads_by now host old BusReset answer refused new bytes reading l h a e = clash answer Done bytes reading a.0 refl e
-reads_by now host old (Entry layer key) answer refused new bytes reading l h a e = clash answer _ bytes reading a.0 refl e
-reads_by now host old (SlotAt page slot) answer refused new bytes reading l h (a, u) e = of_slot answer bytes reading old.image page slot a e
-reads_by now host old Leds answer refused new bytes reading l h a e = clash answer _ bytes reading a.0 refl e
+  hearing : (start : SimValue) (past : List Step) → EachStep (IsAnswered defaults) start past → Hearing (session start past) (host_calls past)
+  unfolding gathering kept
+  hearing start [] h = record { told_before = []; hears = at_start; none = refl; keeps = none_kept refl; cut_off = tt; fetched = kept_first }
+  hearing start (step ∷ before) h =
+      hearing_with (session start before) step.flash.image (kind step) (not step.refused) (host_calls before) (here defaults start before h.1).lawful
+      (hearing start before h.1)
 
-pub reads_wanted : (start : SimValue) (past : List Step) → EachStep IsAnswered start past → EachStep ReadsWanted start past
-reads_wanted start [] h = tt
-reads_wanted start (step ∷ before) h = (
-  λ bytes reading e. reads_by (session start before) (host_calls before) (flash_after start before) step.event step.answer step.refused step.flash bytes reading
-      (here start before h.1).lawful (hearing start before h.1) h.0 e,
-  reads_wanted start before h.1,
-)
+  read_of_sent : (now : Session) (host : List HostCall) (report : Option (List ℕ)) (answer : Answer) (refused : Bool) (bytes : List ℕ) (reading : Reading)
+      → EachCall (keyboard.IsAnswered defaults) now.first now.past → Hearing now host → keyboard.IsAnswered defaults now.first now.past (Polled report)
+      → IsSent (protocol_after now.past) host report answer refused → answer ≡ Sent (record { items = bytes }) reading → IsReadAs defaults now.first now.past host bytes reading
+  read_of_sent now host None answer refused bytes reading l h p s e = clash answer Nak bytes reading s.0 refl e
+  read_of_sent now host (Some sent) answer refused bytes reading l h p (read, a, r, n) e =
+      let same_bytes = ap (λ (x : Answer). bytes_or_none (bytes_told x)) (sym a ∙ e) in
+      let same_reading = ap reading_told (sym a ∙ e) in
+      let by_law = read_is_wanted defaults now.first now.past host sent read (sent_is_wanted defaults now.first now.past sent p)
+      (fetched_is_served defaults now.first now.past h.told_before host l h.hears h.none h.keeps) r in
+      subst (λ (x : List ℕ). IsReadAs defaults now.first now.past host x reading) same_bytes
+      (subst (λ (x : Reading). IsReadAs defaults now.first now.past host sent x) same_reading by_law)
 
-kept_by : (now : Session) (host : List HostCall) → EachCall keyboard.IsAnswered now.first now.past → Hearing now host → NoneOrServed (kept host) × KeptIfFetched host
-kept_by now host l h = (
-  fetched_is_served now.first now.past h.told_before host l h.hears h.none h.keeps,
-  kept_after now.first now.past h.told_before host l h.hears h.none h.keeps h.cut_off h.fetched,
-)
+  reads_by : (now : Session) (host : List HostCall) (old : SimValue) (event : Event) (answer : Answer) (refused : Bool) (new : SimValue) (bytes : List ℕ) (reading : Reading)
+      → EachCall (keyboard.IsAnswered defaults) now.first now.past → Hearing now host → Answered defaults now host old event answer refused new
+      → answer ≡ Sent (record { items = bytes }) reading → IsReadAs defaults now.first now.past host bytes reading
+  reads_by now host old (Scan scan) answer refused new bytes reading l h a e = clash answer Done bytes reading a.0 refl e
+  reads_by now host old (Setup setup) answer refused new bytes reading l h a e = clash answer Ack bytes reading a.0 refl e
+  reads_by now host old (OutPacket packet) answer refused new bytes reading l h (by_ep, a, lawful, u) e = clash answer (as_answer by_ep) bytes reading a (of_endpoint by_ep) e
+  reads_by now host old InPacket answer refused new bytes reading l h (by_ep, a, lawful, f, m) e = clash answer (as_answer by_ep) bytes reading a (of_endpoint by_ep) e
+  reads_by now host old Poll answer refused new bytes reading l h (report, p, f, s) e = read_of_sent now host report answer refused bytes reading l h p s e
+  reads_by now host old Work answer refused new bytes reading l h (work, a, w, r) e = clash answer (Worked work) bytes reading a refl e
+  reads_by now host old (WorkFault mask) answer refused new bytes reading l h (work, a, w, r) e = clash answer (Worked work) bytes reading a refl e
+  reads_by now host old Cut answer refused new bytes reading l h a e = clash answer Restarted bytes reading a.0 refl e
+  reads_by now host old (CutInWork mask) answer refused new bytes reading l h (work, a, w, r) e = clash answer Restarted bytes reading a refl e
+  reads_by now host old BusReset answer refused new bytes reading l h a e = clash answer Done bytes reading a.0 refl e
+  reads_by now host old (Entry layer key) answer refused new bytes reading l h a e = clash answer _ bytes reading a.0 refl e
+  reads_by now host old (SlotAt page slot) answer refused new bytes reading l h (a, u) e = of_slot answer bytes reading old.image page slot a e
+  reads_by now host old Leds answer refused new bytes reading l h a e = clash answer _ bytes reading a.0 refl e
 
-pub keeps_served : (start : SimValue) (past : List Step) → EachStep IsAnswered start past → KeepsServed start past
-keeps_served start past h =
-    let k = kept_by (session start past) (host_calls past) (here start past h).lawful (hearing start past h) in
-    where_fetched (host_calls past) k.0 k.1
+  pub reads_wanted : (start : SimValue) (past : List Step) → EachStep (IsAnswered defaults) start past → EachStep (ReadsWanted defaults) start past
+  reads_wanted start [] h = tt
+  reads_wanted start (step ∷ before) h = (
+    λ bytes reading e. reads_by (session start before) (host_calls before) (flash_after start before) step.event step.answer step.refused step.flash bytes reading
+        (here defaults start before h.1).lawful (hearing start before h.1) h.0 e,
+    reads_wanted start before h.1,
+  )
 
-pub gathers_served : (start : SimValue) (past : List Step) → EachStep IsAnswered start past → GathersServed start past
-gathers_served start past h fetch gathers =
-    let heard = hearing start past h in
-    gathered_is_served (session start past).first (session start past).past heard.told_before (host_calls past) fetch (here start past h).lawful heard.hears heard.none heard.keeps gathers
+  kept_by : (now : Session) (host : List HostCall) → EachCall (keyboard.IsAnswered defaults) now.first now.past → Hearing now host → NoneOrServed (kept host) × KeptIfFetched host
+  kept_by now host l h = (
+    fetched_is_served defaults now.first now.past h.told_before host l h.hears h.none h.keeps,
+    kept_after defaults now.first now.past h.told_before host l h.hears h.none h.keeps h.cut_off h.fetched,
+  )
+
+  pub keeps_served : (start : SimValue) (past : List Step) → EachStep (IsAnswered defaults) start past → KeepsServed start past
+  keeps_served start past h =
+      let k = kept_by (session start past) (host_calls past) (here defaults start past h).lawful (hearing start past h) in
+      where_fetched (host_calls past) k.0 k.1
+
+  pub gathers_served : (start : SimValue) (past : List Step) → EachStep (IsAnswered defaults) start past → GathersServed start past
+  gathers_served start past h fetch gathers =
+      let heard = hearing start past h in
+      gathered_is_served defaults (session start past).first (session start past).past heard.told_before (host_calls past) fetch (here defaults start past h).lawful heard.hears heard.none heard.keeps gathers

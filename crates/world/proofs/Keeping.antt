@@ -3,6 +3,7 @@ use Rattle.std.proofs.Common.{◌≡◌, ◌⊎◌, ◌↔◌, ℕ, ◌≤◌, t
 use Rattle.descriptor_build.specs.Served.{report_bytes}
 use Rattle.host.specs.Calls.{HostCall, was_set_up, got_packet, lost}
 use Rattle.host.specs.Kept.{asks_for_report, wanted_length, text_length, gathering, kept}
+use Rattle.layers.specs.Codes.{DefaultCodes}
 use Rattle.keyboard.specs.Calls.{Call, EachCall}
 use Rattle.keyboard.specs.Feature.{Where, yes, no}
 use Rattle.keyboard.specs.Lawful.{IsAnswered}
@@ -150,30 +151,31 @@ kept_over_cut host h = (λ e. one_later [] host lost (h.0 e), λ f. h.1 (earlier
         let s = not_cut host f.later f.packets f.setup (f.before ++ []) f.taken f.split in
         fetched_ever host s.later f.packets f.setup (f.before ++ []) (whole_of f) s.split
 
-pub kept_after : (start : List ℕ) (past : List Call) (told host : List HostCall) → EachCall IsAnswered start past → Hears told past host → gathering told ≡ None → NoneOrServed (kept told)
-    → IsCutOff told → KeptIfFetched told → KeptIfFetched host
-kept_after start past told host a h none k c before = (forth, back)
-  where
-    o : Over told host
-    o = over told past host h
-
-    in_session : kept host ≡ Some report_bytes ↔ ((kept told ≡ Some report_bytes) ⊎ IsFetched told host)
-    in_session = kept_is_fetched start past told host a h none k
-
-    ever : (kept told ≡ Some report_bytes) ⊎ IsFetched told host → IsFetched [] host
-    ever (inl e) = subst (λ (x : List HostCall). IsFetched [] x) (sym o.split) (all_later o.new told (before.0 e))
-    ever (inr f) = of_session told host f
-
-    forth : kept host ≡ Some report_bytes → IsFetched [] host
-    forth e = ever (in_session.0 e)
-
-    by_session : IsFetched [] told ⊎ IsFetched told host → (kept told ≡ Some report_bytes) ⊎ IsFetched told host
-    by_session (inl f) = inl (before.1 f)
-    by_session (inr f) = inr f
-
-    back : IsFetched [] host → kept host ≡ Some report_bytes
-    back f = in_session.1 (by_session (before_or_in told host o c f))
-
 pub where_fetched : (host : List HostCall) → NoneOrServed (kept host) → KeptIfFetched host → Where (IsFetched [] host) (kept host ≡ Some report_bytes) (kept host ≡ None)
 where_fetched host (none_kept e) h = no (λ f. (let some = h.1 f in let clash : Some report_bytes ≡ None = sym some ∙ e in cc)) e
 where_fetched host (served_kept e) h = yes (h.0 e) e
+
+module _ (defaults : DefaultCodes) where
+  pub kept_after : (start : List ℕ) (past : List Call) (told host : List HostCall) → EachCall (IsAnswered defaults) start past → Hears told past host → gathering told ≡ None → NoneOrServed (kept told)
+      → IsCutOff told → KeptIfFetched told → KeptIfFetched host
+  kept_after start past told host a h none k c before = (forth, back)
+    where
+      o : Over told host
+      o = over told past host h
+
+      in_session : kept host ≡ Some report_bytes ↔ ((kept told ≡ Some report_bytes) ⊎ IsFetched told host)
+      in_session = kept_is_fetched defaults start past told host a h none k
+
+      ever : (kept told ≡ Some report_bytes) ⊎ IsFetched told host → IsFetched [] host
+      ever (inl e) = subst (λ (x : List HostCall). IsFetched [] x) (sym o.split) (all_later o.new told (before.0 e))
+      ever (inr f) = of_session told host f
+
+      forth : kept host ≡ Some report_bytes → IsFetched [] host
+      forth e = ever (in_session.0 e)
+
+      by_session : IsFetched [] told ⊎ IsFetched told host → (kept told ≡ Some report_bytes) ⊎ IsFetched told host
+      by_session (inl f) = inl (before.1 f)
+      by_session (inr f) = inr f
+
+      back : IsFetched [] host → kept host ≡ Some report_bytes
+      back f = in_session.1 (by_session (before_or_in told host o c f))

@@ -12,6 +12,7 @@ pub mod Moving
 pub mod Prefixes
 pub mod Wearing
 pub mod Ordering
+pub mod Erasing
 pub mod Single
 pub mod Tearing
 pub mod Promising

@@ -19,34 +19,36 @@ use Rattle.world.proofs.Sounding.{keeps_sound}
 use Rattle.world.proofs.Telling.{acknowledged}
 use Rattle.world.proofs.Timing.{stays_in_time}
 use Rattle.world.proofs.Wearing.{wears_slowly}
+use Rattle.layers.specs.Codes.{DefaultCodes}
 
--- what follows at the end of each history holds at each point of one
-each_point : (P : SimValue → List Step → Type 0) → ((start : SimValue) (past : List Step) → EachStep IsAnswered start past → P start past)
-    → (start : SimValue) (past : List Step) → EachStep IsAnswered start past → EachPoint P start past
-each_point P follows start [] h = follows start [] h
-each_point P follows start (step ∷ before) h = (follows start (step ∷ before) h, each_point P follows start before h.1)
+module _ (defaults : DefaultCodes) where
+  -- what follows at the end of each history holds at each point of one
+  each_point : (P : SimValue → List Step → Type 0) → ((start : SimValue) (past : List Step) → EachStep (IsAnswered defaults) start past → P start past)
+      → (start : SimValue) (past : List Step) → EachStep (IsAnswered defaults) start past → EachPoint P start past
+  each_point P follows start [] h = follows start [] h
+  each_point P follows start (step ∷ before) h = (follows start (step ∷ before) h, each_point P follows start before h.1)
 
-keeps_stored : (start : SimValue) (history : List Step) → EachStep IsAnswered start history → KeepsStored start history
-keeps_stored start history h = record { told = acknowledged start history h; allowed = holds_allowed start history h }
+  keeps_stored : (start : SimValue) (history : List Step) → EachStep (IsAnswered defaults) start history → KeepsStored defaults start history
+  keeps_stored start history h = record { told = acknowledged defaults start history h; allowed = holds_allowed defaults start history h }
 
-pub promise : (start : SimValue) (history : List Step) → EachStep IsAnswered start history → Promise start history
-promise start history h = record {
-  answered = h;
-  restarts = starts_legally start history h;
-  acknowledged = each_point KeepsStored keeps_stored start history h;
-  confirmed = record {
-    settled = each_point ConfirmsSettled confirms_settled start history h;
-    kept = starts_with_confirmed start history h;
-    changed = each_point StartsChanged starts_changed start history h;
-  };
-  looks = shows_settled start history h;
-  reads = reads_wanted start history h;
-  keeps = each_point KeepsServed keeps_served start history h;
-  gathered = each_point GathersServed gathers_served start history h;
-  moments = moves_on start history h;
-  in_time = stays_in_time start history h;
-  in_order = works_in_order start history h;
-  headers = writes_own_header start history h;
-  wears = wears_slowly start history h;
-  sound = each_point KeepsSound keeps_sound start history h;
-}
+  pub promise : (start : SimValue) (history : List Step) → EachStep (IsAnswered defaults) start history → Promise defaults start history
+  promise start history h = record {
+    answered = h;
+    restarts = starts_legally defaults start history h;
+    acknowledged = each_point (KeepsStored defaults) keeps_stored start history h;
+    confirmed = record {
+      settled = each_point (ConfirmsSettled defaults) (confirms_settled defaults) start history h;
+      kept = starts_with_confirmed defaults start history h;
+      changed = each_point (StartsChanged defaults) (starts_changed defaults) start history h;
+    };
+    looks = shows_settled defaults start history h;
+    reads = reads_wanted defaults start history h;
+    keeps = each_point KeepsServed (keeps_served defaults) start history h;
+    gathered = each_point GathersServed (gathers_served defaults) start history h;
+    moments = moves_on defaults start history h;
+    in_time = stays_in_time defaults start history h;
+    in_order = works_in_order defaults start history h;
+    headers = writes_own_header defaults start history h;
+    wears = wears_slowly defaults start history h;
+    sound = each_point KeepsSound (keeps_sound defaults) start history h;
+  }

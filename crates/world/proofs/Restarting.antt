@@ -1,12 +1,12 @@
 -- Each restart is legal, and each look shows the settled commands.
-use Rattle.std.proofs.Common.{◌≡◌, ◌≢◌, ℕ, ◌<◌, Bool, Option, Some, None, List, [], ◌∷◌, refl, sym, ◌∙◌, ap, subst}
+use Rattle.std.proofs.Common.{◌≡◌, ℕ, ◌<◌, Bool, Option, Some, None, List, [], ◌∷◌, sym, ◌∙◌, ap, subst}
 use Rattle.flash_model.specs.Sim.{SimValue}
-use Rattle.layers.specs.Codes.{layers, keys}
+use Rattle.layers.specs.Codes.{layers, keys, DefaultCodes}
 use Rattle.layers.specs.Entries.{changed}
 use Rattle.layers.specs.declared.command.Command.{Command}
 use Rattle.keymap_store.specs.declared.store.Work.{Work as WorkAnswer}
 use Rattle.host.specs.Calls.{HostCall}
-use Rattle.keyboard.specs.Calls.{Call, Worked as KeyboardWorked, image_after, keymap, EachCall}
+use Rattle.keyboard.specs.Calls.{Call, Worked as KeyboardWorked, keymap, EachCall}
 use Rattle.keyboard.specs.Commands.{accepted, working, settled_of}
 use Rattle.keyboard.specs.Lawful.{WorkedOn, IsAnswered as IsCallAnswered}
 use Rattle.keyboard.specs.Restart.{RestartsLegally}
@@ -23,49 +23,50 @@ use Rattle.world.specs.Lawful.{Answered, IsAnswered}
 use Rattle.world.specs.Restart.{StartsLegally, ShowsSettled}
 use Rattle.world.proofs.Here.{Here, here}
 
--- the power was cut inside a step of the flash work
-by_step : (first : List ℕ) (past : List Call) (w : Option Command) (work : WorkAnswer) (image : List ℕ) → EachCall IsCallAnswered first past
-    → IsCallAnswered first past (KeyboardWorked work image) → WorkedOn first past w work image → RestartsLegally first past image
-by_step first past None work image h a (idle, same) = subst (λ (x : List ℕ). RestartsLegally first past x) (sym same) (restarts_legally first past h)
-by_step first past (Some command) work image h a on = (cuts_legally first past work image h a on.attempts.not_idle).left
+module _ (defaults : DefaultCodes) where
+  -- the power was cut inside a step of the flash work
+  by_step : (first : List ℕ) (past : List Call) (w : Option Command) (work : WorkAnswer) (image : List ℕ) → EachCall (IsCallAnswered defaults) first past
+      → IsCallAnswered defaults first past (KeyboardWorked work image) → WorkedOn defaults first past w work image → RestartsLegally defaults first past image
+  by_step first past None work image h a (idle, same) = subst (λ (x : List ℕ). RestartsLegally defaults first past x) (sym same) (restarts_legally defaults first past h)
+  by_step first past (Some command) work image h a on = (cuts_legally defaults first past work image h a on.attempts.not_idle).left
 
-legal_by : (now : Session) (heard : List HostCall) (old : SimValue) (event : Event) (answer : Answer) (refused : Bool) (new : SimValue) → Here now old
-    → Answered now heard old event answer refused new → kind_of event answer new.image ≡ starts → RestartsLegally now.first now.past new.image
-legal_by now heard old (Scan scan) answer refused new h a e = cc
-legal_by now heard old (Setup bytes) answer refused new h a e = cc
-legal_by now heard old (OutPacket packet) answer refused new h a e = cc
-legal_by now heard old InPacket answer refused new h a e = cc
-legal_by now heard old Poll answer refused new h a e = cc
-legal_by now heard old Work answer refused new h a e = cc
-legal_by now heard old (WorkFault mask) answer refused new h a e = cc
-legal_by now heard old Cut answer refused new h a e =
-    subst (λ (x : List ℕ). RestartsLegally now.first now.past x) (h.image ∙ sym (ap (λ (f : SimValue). f.image) a.1.0)) (restarts_legally now.first now.past h.lawful)
-legal_by now heard old (CutInWork mask) answer refused new h (work, e, w, r) s =
-    by_step now.first now.past (working now.first now.past) work new.image h.lawful w.lawful w.lawful
-legal_by now heard old BusReset answer refused new h a e = cc
-legal_by now heard old (Entry layer key) answer refused new h a e = cc
-legal_by now heard old (SlotAt page slot) answer refused new h a e = cc
-legal_by now heard old Leds answer refused new h a e = cc
+  legal_by : (now : Session) (heard : List HostCall) (old : SimValue) (event : Event) (answer : Answer) (refused : Bool) (new : SimValue) → Here defaults now old
+      → Answered defaults now heard old event answer refused new → kind_of event answer new.image ≡ starts → RestartsLegally defaults now.first now.past new.image
+  legal_by now heard old (Scan scan) answer refused new h a e = cc
+  legal_by now heard old (Setup bytes) answer refused new h a e = cc
+  legal_by now heard old (OutPacket packet) answer refused new h a e = cc
+  legal_by now heard old InPacket answer refused new h a e = cc
+  legal_by now heard old Poll answer refused new h a e = cc
+  legal_by now heard old Work answer refused new h a e = cc
+  legal_by now heard old (WorkFault mask) answer refused new h a e = cc
+  legal_by now heard old Cut answer refused new h a e =
+      subst (λ (x : List ℕ). RestartsLegally defaults now.first now.past x) (h.image ∙ sym (ap (λ (f : SimValue). f.image) a.1.0)) (restarts_legally defaults now.first now.past h.lawful)
+  legal_by now heard old (CutInWork mask) answer refused new h (work, e, w, r) s =
+      by_step now.first now.past (working defaults now.first now.past) work new.image h.lawful w.lawful w.lawful
+  legal_by now heard old BusReset answer refused new h a e = cc
+  legal_by now heard old (Entry layer key) answer refused new h a e = cc
+  legal_by now heard old (SlotAt page slot) answer refused new h a e = cc
+  legal_by now heard old Leds answer refused new h a e = cc
 
-pub starts_legally : (start : SimValue) (past : List Step) → EachStep IsAnswered start past → EachStep StartsLegally start past
-starts_legally start [] h = tt
-starts_legally start (step ∷ before) h = (
-  λ s. legal_by (session start before) (host_calls before) (flash_after start before) step.event step.answer step.refused step.flash (here start before h.1) h.0 s,
-  starts_legally start before h.1,
-)
+  pub starts_legally : (start : SimValue) (past : List Step) → EachStep (IsAnswered defaults) start past → EachStep (StartsLegally defaults) start past
+  starts_legally start [] h = tt
+  starts_legally start (step ∷ before) h = (
+    λ s. legal_by (session start before) (host_calls before) (flash_after start before) step.event step.answer step.refused step.flash (here defaults start before h.1) h.0 s,
+    starts_legally start before h.1,
+  )
 
-shows_by : (now : Session) (heard : List HostCall) (old : SimValue) (event : Event) (answer : Answer) (refused : Bool) (new : SimValue) (layer key : ℕ) → Here now old
-    → Answered now heard old event answer refused new → layer < layers → key < keys → event ≡ Entry layer key
-    → answer ≡ EntryIs (changed (keymap now.first) (settled_of (accepted now.first now.past)) layer key)
-shows_by now heard old event answer refused new layer key h a l k e =
-    let shown = subst (λ (x : Event). Answered now heard old x answer refused new) e a in
-    shown.0
-    ∙ ap (λ (x : List ℕ). EntryIs (keymap x layer key)) (sym h.image)
-    ∙ ap (λ (x : ℕ). EntryIs x) ((orderly now.first now.past h.lawful).kept layer key l k)
+  shows_by : (now : Session) (heard : List HostCall) (old : SimValue) (event : Event) (answer : Answer) (refused : Bool) (new : SimValue) (layer key : ℕ) → Here defaults now old
+      → Answered defaults now heard old event answer refused new → layer < layers → key < keys → event ≡ Entry layer key
+      → answer ≡ EntryIs (changed defaults (keymap defaults now.first) (settled_of (accepted defaults now.first now.past)) layer key)
+  shows_by now heard old event answer refused new layer key h a l k e =
+      let shown = subst (λ (x : Event). Answered defaults now heard old x answer refused new) e a in
+      shown.0
+      ∙ ap (λ (x : List ℕ). EntryIs (keymap defaults x layer key)) (sym h.image)
+      ∙ ap (λ (x : ℕ). EntryIs x) ((orderly defaults now.first now.past h.lawful).kept layer key l k)
 
-pub shows_settled : (start : SimValue) (past : List Step) → EachStep IsAnswered start past → EachStep ShowsSettled start past
-shows_settled start [] h = tt
-shows_settled start (step ∷ before) h = (
-  λ layer key l k e. shows_by (session start before) (host_calls before) (flash_after start before) step.event step.answer step.refused step.flash layer key (here start before h.1) h.0 l k e,
-  shows_settled start before h.1,
-)
+  pub shows_settled : (start : SimValue) (past : List Step) → EachStep (IsAnswered defaults) start past → EachStep (ShowsSettled defaults) start past
+  shows_settled start [] h = tt
+  shows_settled start (step ∷ before) h = (
+    λ layer key l k e. shows_by (session start before) (host_calls before) (flash_after start before) step.event step.answer step.refused step.flash layer key (here defaults start before h.1) h.0 l k e,
+    shows_settled start before h.1,
+  )

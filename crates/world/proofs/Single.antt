@@ -17,6 +17,7 @@ use Rattle.host.specs.Calls.{HostCall}
 use Rattle.host.specs.Reads.{text_by, ReadsWith, Reads}
 use Rattle.host.specs.declared.reading.Reading.{Reading}
 use Rattle.host.specs.declared.reading.Reading.TheVariants.{Unread, NoMemory, Usages}
+use Rattle.layers.specs.Codes.{DefaultCodes}
 use Rattle.layers.specs.declared.command.Command.{Command}
 use Rattle.page_turnover.specs.declared.operation.Operation.{Operation}
 use Rattle.page_turnover.specs.Next.{on_flash}
@@ -108,43 +109,10 @@ operated_once : (old : SimValue) (operation : FlashOperation) (a b : SimValue) �
 operated_once old operation a b x y =
     same_flash a b (one_outcome old.image operation old.armed a.image b.image x.outcome y.outcome) (to_one x.armed y.armed) (to_one x.operations y.operations) (to_one x.faults y.faults)
 
-next_once : (now : Session) (command : Command) (old : SimValue) (one other : Answer) (a b : SimValue) → IsNextOperation now command old Work one a → IsNextOperation now command old Work other b → a ≡ b
-next_once now command old one other a b x y =
-    let same : x.operation ≡ y.operation = same_operation _ x.operation y.operation x.is_next y.is_next in
-    operated_once old (on_flash y.operation) a b (subst (λ (o : Operation). IsOperated old (on_flash o) a) same x.makes) y.makes
-
 -- what a step came to, and what it left
 record SameEnd (a b : WorkAnswer) (new other : SimValue) : Type 0 where
   answer : a ≡ b
   flash : new ≡ other
-
-pub idle_end : (now : Session) (old armed : SimValue) (work : WorkAnswer) (new : SimValue) → work ≡ Idle → OperatedAs now old armed work new → new ≡ old
-idle_end now old armed Idle new e o = o
-idle_end now old armed Working new e o = cc
-idle_end now old armed Settled new e o = cc
-idle_end now old armed Failed new e o = cc
-
-end_by : (now : Session) (w : Option Command) (old armed : SimValue) (a b : WorkAnswer) (new other : SimValue) → working now.first now.past ≡ w → WorksIn now old armed a new → WorksIn now old armed b other → SameEnd a b new other
-end_by now None old armed a b new other w x y =
-    let one : WorkedOn now.first now.past None a new.image = subst (λ (o : Option Command). WorkedOn now.first now.past o a new.image) w x.lawful in
-    let two : WorkedOn now.first now.past None b other.image = subst (λ (o : Option Command). WorkedOn now.first now.past o b other.image) w y.lawful in
-    record {
-      answer = to_one one.0 two.0;
-      flash = to_one (idle_end now old armed a new one.0 x.operated) (idle_end now old armed b other two.0 y.operated);
-    }
-end_by now (Some command) old armed a b new other w x y =
-    let flash : new ≡ other = next_once now command armed (Worked a) (Worked b) new other (worked now command old armed armed a Work (Worked a) new w (λ told. refl) refl x) (worked now command old armed armed b Work (Worked b) other w (λ told. refl) refl y) in
-    let one : WorkedOn now.first now.past (Some command) a new.image = subst (λ (o : Option Command). WorkedOn now.first now.past o a new.image) w x.lawful in
-    let two : WorkedOn now.first now.past (Some command) b other.image = subst (λ (o : Option Command). WorkedOn now.first now.past o b other.image) w y.lawful in
-    record {
-      answer = works_once now.first now.past command (call_image now.first now.past) other.image a b (subst (λ (f : SimValue). Works now.first now.past command (call_image now.first now.past) a f.image) flash one) two;
-      flash = flash;
-    }
-
-ends_once : (now : Session) (old armed : SimValue) (a b : WorkAnswer) (new other : SimValue) → WorksIn now old armed a new → WorksIn now old armed b other → SameEnd a b new other
-ends_once now old armed a b new other x y = end_by now (working now.first now.past) old armed a b new other refl x y
-
--- ---- an event
 
 record SameStep (a b : Answer) (new other : SimValue) : Type 0 where
   answer : a ≡ b
@@ -153,37 +121,10 @@ record SameStep (a b : Answer) (new other : SimValue) : Type 0 where
 told : (a b : Answer) (x y : WorkAnswer) (new other : SimValue) → a ≡ Worked x → b ≡ Worked y → SameEnd x y new other → SameStep a b new other
 told a b x y new other e f s = record { answer = e ∙ ap Worked s.answer ∙ sym f; flash = s.flash }
 
-answered_once : (now : Session) (heard : List HostCall) (old : SimValue) (event : Event) (a b : Answer) (refused : Bool) (new other : SimValue) → Answered now heard old event a refused new → Answered now heard old event b refused other
-    → SameStep a b new other
-answered_once now heard old (Scan scan) a b refused new other (x, u) (y, v) = record { answer = to_one x y; flash = to_one u.0 v.0 }
-answered_once now heard old (Setup bytes) a b refused new other (x, u) (y, v) = record { answer = to_one x y; flash = to_one u.0 v.0 }
-answered_once now heard old (OutPacket packet) a b refused new other (one, x, l, u) (two, y, m, v) =
-    let same : one ≡ two = out_once (out_step (stage_after now.first now.past) packet.items) _ _ one two l m in
-    record { answer = x ∙ ap as_answer same ∙ sym y; flash = to_one u.0 v.0 }
-answered_once now heard old InPacket a b refused new other (one, x, l, u, r) (two, y, m, v, s) = record { answer = x ∙ ap as_answer (to_one l m) ∙ sym y; flash = to_one u v }
-answered_once now heard old Poll a b refused new other (one, l, u, x) (two, m, v, y) = record { answer = sent_once _ heard one two a b refused (to_one l m) x y; flash = to_one u v }
-answered_once now heard old Work a b refused new other (one, x, w, r) (two, y, v, s) = told a b one two new other x y (ends_once now old _ one two new other w v)
-answered_once now heard old (WorkFault mask) a b refused new other (one, x, w, r) (two, y, v, s) = told a b one two new other x y (ends_once now old _ one two new other w v)
-answered_once now heard old Cut a b refused new other (x, u) (y, v) = record { answer = to_one x y; flash = to_one u.0 v.0 }
-answered_once now heard old (CutInWork mask) a b refused new other (one, x, w, r) (two, y, v, s) = record { answer = to_one x y; flash = (ends_once now old _ one two new other w v).flash }
-answered_once now heard old BusReset a b refused new other (x, u) (y, v) = record { answer = to_one x y; flash = to_one u.0 v.0 }
-answered_once now heard old (Entry layer key) a b refused new other (x, u) (y, v) = record { answer = to_one x y; flash = to_one u.0 v.0 }
-answered_once now heard old (SlotAt page slot) a b refused new other (x, u) (y, v) = record { answer = slot_once old.image page slot a b x y; flash = to_one u.0 v.0 }
-answered_once now heard old Leds a b refused new other (x, u) (y, v) = record { answer = to_one x y; flash = to_one u.0 v.0 }
-
--- ---- a history
-
 same_step : (a b : Step) → a.event ≡ b.event → a.answer ≡ b.answer → a.flash ≡ b.flash → a.refused ≡ b.refused → a ≡ b
 same_step a b e x f r =
     ap (λ (v : Event). record a { event = v }) e ∙ ap (λ (v : Answer). record { event = b.event; answer = v; flash = a.flash; refused = a.refused }) x
     ∙ ap (λ (v : SimValue). record { event = b.event; answer = b.answer; flash = v; refused = a.refused }) f ∙ ap (λ (v : Bool). record b { refused = v }) r
-
-step_once : (start : SimValue) (before : List Step) (a b : Step) → IsAnswered start before a → IsAnswered start before b → a.event ≡ b.event → a.refused ≡ b.refused → a ≡ b
-step_once start before a b x y e r =
-    let now : Session = session start before in
-    let as_b : Answered now (host_calls before) (flash_after start before) b.event a.answer b.refused a.flash = rw (← e, ← r) x in
-    let s : SameStep a.answer b.answer a.flash b.flash = answered_once now (host_calls before) (flash_after start before) b.event a.answer b.answer b.refused a.flash b.flash as_b y in
-    same_step a b e s.answer s.flash r
 
 first_same : {A : Type 0} (x y : A) (xs ys : List A) → x ∷ xs ≡ y ∷ ys → x ≡ y
 first_same x y xs ys e = cc
@@ -191,12 +132,73 @@ first_same x y xs ys e = cc
 rest_same : {A : Type 0} (x y : A) (xs ys : List A) → x ∷ xs ≡ y ∷ ys → xs ≡ ys
 rest_same x y xs ys e = cc
 
-pub one_history : (start : SimValue) (a b : List Step) → IsLawful start a → IsLawful start b → map (λ (s : Step). s.event) a ≡ map (λ (s : Step). s.event) b → map (λ (s : Step). s.refused) a ≡ map (λ (s : Step). s.refused) b → a ≡ b
-one_history start [] [] x y e r = refl
-one_history start [] (step ∷ before) x y e r = cc
-one_history start (step ∷ before) [] x y e r = cc
-one_history start (one ∷ before) (two ∷ earlier) x y e r =
-    let same : before ≡ earlier = one_history start before earlier x.1 y.1 (rest_same one.event two.event _ _ e) (rest_same one.refused two.refused _ _ r) in
-    let at_two : IsAnswered start before two = subst (λ (past : List Step). IsAnswered start past two) (sym same) y.0 in
-    let step : one ≡ two = step_once start before one two x.0 at_two (first_same one.event two.event _ _ e) (first_same one.refused two.refused _ _ r) in
-    ap (λ (s : Step). s ∷ before) step ∙ ap (λ (past : List Step). two ∷ past) same
+module _ (defaults : DefaultCodes) where
+  next_once : (now : Session) (command : Command) (old : SimValue) (one other : Answer) (a b : SimValue) → IsNextOperation defaults now command old Work one a → IsNextOperation defaults now command old Work other b → a ≡ b
+  next_once now command old one other a b x y =
+      let same : x.operation ≡ y.operation = same_operation _ x.operation y.operation x.is_next y.is_next in
+      operated_once old (on_flash y.operation) a b (subst (λ (o : Operation). IsOperated old (on_flash o) a) same x.makes) y.makes
+
+  pub idle_end : (now : Session) (old armed : SimValue) (work : WorkAnswer) (new : SimValue) → work ≡ Idle → OperatedAs defaults now old armed work new → new ≡ old
+  idle_end now old armed Idle new e o = o
+  idle_end now old armed Working new e o = cc
+  idle_end now old armed Settled new e o = cc
+  idle_end now old armed Failed new e o = cc
+
+  end_by : (now : Session) (w : Option Command) (old armed : SimValue) (a b : WorkAnswer) (new other : SimValue) → working defaults now.first now.past ≡ w → WorksIn defaults now old armed a new → WorksIn defaults now old armed b other → SameEnd a b new other
+  end_by now None old armed a b new other w x y =
+      let one : WorkedOn defaults now.first now.past None a new.image = subst (λ (o : Option Command). WorkedOn defaults now.first now.past o a new.image) w x.lawful in
+      let two : WorkedOn defaults now.first now.past None b other.image = subst (λ (o : Option Command). WorkedOn defaults now.first now.past o b other.image) w y.lawful in
+      record {
+        answer = to_one one.0 two.0;
+        flash = to_one (idle_end now old armed a new one.0 x.operated) (idle_end now old armed b other two.0 y.operated);
+      }
+  end_by now (Some command) old armed a b new other w x y =
+      let flash : new ≡ other = next_once now command armed (Worked a) (Worked b) new other (worked defaults now command old armed armed a Work (Worked a) new w (λ told. refl) refl x) (worked defaults now command old armed armed b Work (Worked b) other w (λ told. refl) refl y) in
+      let one : WorkedOn defaults now.first now.past (Some command) a new.image = subst (λ (o : Option Command). WorkedOn defaults now.first now.past o a new.image) w x.lawful in
+      let two : WorkedOn defaults now.first now.past (Some command) b other.image = subst (λ (o : Option Command). WorkedOn defaults now.first now.past o b other.image) w y.lawful in
+      record {
+        answer = works_once defaults now.first now.past command (call_image now.first now.past) other.image a b (subst (λ (f : SimValue). Works defaults now.first now.past command (call_image now.first now.past) a f.image) flash one) two;
+        flash = flash;
+      }
+
+  ends_once : (now : Session) (old armed : SimValue) (a b : WorkAnswer) (new other : SimValue) → WorksIn defaults now old armed a new → WorksIn defaults now old armed b other → SameEnd a b new other
+  ends_once now old armed a b new other x y = end_by now (working defaults now.first now.past) old armed a b new other refl x y
+
+  -- ---- an event
+
+  answered_once : (now : Session) (heard : List HostCall) (old : SimValue) (event : Event) (a b : Answer) (refused : Bool) (new other : SimValue) → Answered defaults now heard old event a refused new → Answered defaults now heard old event b refused other
+      → SameStep a b new other
+  answered_once now heard old (Scan scan) a b refused new other (x, u) (y, v) = record { answer = to_one x y; flash = to_one u.0 v.0 }
+  answered_once now heard old (Setup bytes) a b refused new other (x, u) (y, v) = record { answer = to_one x y; flash = to_one u.0 v.0 }
+  answered_once now heard old (OutPacket packet) a b refused new other (one, x, l, u) (two, y, m, v) =
+      let same : one ≡ two = out_once defaults (out_step (stage_after defaults now.first now.past) packet.items) _ _ one two l m in
+      record { answer = x ∙ ap as_answer same ∙ sym y; flash = to_one u.0 v.0 }
+  answered_once now heard old InPacket a b refused new other (one, x, l, u, r) (two, y, m, v, s) = record { answer = x ∙ ap as_answer (to_one l m) ∙ sym y; flash = to_one u v }
+  answered_once now heard old Poll a b refused new other (one, l, u, x) (two, m, v, y) = record { answer = sent_once _ heard one two a b refused (to_one l m) x y; flash = to_one u v }
+  answered_once now heard old Work a b refused new other (one, x, w, r) (two, y, v, s) = told a b one two new other x y (ends_once now old _ one two new other w v)
+  answered_once now heard old (WorkFault mask) a b refused new other (one, x, w, r) (two, y, v, s) = told a b one two new other x y (ends_once now old _ one two new other w v)
+  answered_once now heard old Cut a b refused new other (x, u) (y, v) = record { answer = to_one x y; flash = to_one u.0 v.0 }
+  answered_once now heard old (CutInWork mask) a b refused new other (one, x, w, r) (two, y, v, s) = record { answer = to_one x y; flash = (ends_once now old _ one two new other w v).flash }
+  answered_once now heard old BusReset a b refused new other (x, u) (y, v) = record { answer = to_one x y; flash = to_one u.0 v.0 }
+  answered_once now heard old (Entry layer key) a b refused new other (x, u) (y, v) = record { answer = to_one x y; flash = to_one u.0 v.0 }
+  answered_once now heard old (SlotAt page slot) a b refused new other (x, u) (y, v) = record { answer = slot_once old.image page slot a b x y; flash = to_one u.0 v.0 }
+  answered_once now heard old Leds a b refused new other (x, u) (y, v) = record { answer = to_one x y; flash = to_one u.0 v.0 }
+
+  -- ---- a history
+
+  step_once : (start : SimValue) (before : List Step) (a b : Step) → IsAnswered defaults start before a → IsAnswered defaults start before b → a.event ≡ b.event → a.refused ≡ b.refused → a ≡ b
+  step_once start before a b x y e r =
+      let now : Session = session start before in
+      let as_b : Answered defaults now (host_calls before) (flash_after start before) b.event a.answer b.refused a.flash = rw (← e, ← r) x in
+      let s : SameStep a.answer b.answer a.flash b.flash = answered_once now (host_calls before) (flash_after start before) b.event a.answer b.answer b.refused a.flash b.flash as_b y in
+      same_step a b e s.answer s.flash r
+
+  pub one_history : (start : SimValue) (a b : List Step) → IsLawful defaults start a → IsLawful defaults start b → map (λ (s : Step). s.event) a ≡ map (λ (s : Step). s.event) b → map (λ (s : Step). s.refused) a ≡ map (λ (s : Step). s.refused) b → a ≡ b
+  one_history start [] [] x y e r = refl
+  one_history start [] (step ∷ before) x y e r = cc
+  one_history start (step ∷ before) [] x y e r = cc
+  one_history start (one ∷ before) (two ∷ earlier) x y e r =
+      let same : before ≡ earlier = one_history start before earlier x.1 y.1 (rest_same one.event two.event _ _ e) (rest_same one.refused two.refused _ _ r) in
+      let at_two : IsAnswered defaults start before two = subst (λ (past : List Step). IsAnswered defaults start past two) (sym same) y.0 in
+      let step : one ≡ two = step_once start before one two x.0 at_two (first_same one.event two.event _ _ e) (first_same one.refused two.refused _ _ r) in
+      ap (λ (s : Step). s ∷ before) step ∙ ap (λ (past : List Step). two ∷ past) same

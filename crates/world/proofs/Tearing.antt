@@ -3,6 +3,7 @@ use Rattle.std.proofs.Common.{◌≡◌, ℕ, Bool, Option, None, Some, IsSome, 
 use Rattle.flash_model.specs.Operated.{Outcome}
 use Rattle.flash_model.specs.Sim.{SimValue}
 use Rattle.flash_model.proofs.ByMask.{may_program, may_erase}
+use Rattle.layers.specs.Codes.{DefaultCodes}
 use Rattle.layers.specs.declared.command.Command.{Command}
 use Rattle.page_turnover.specs.declared.operation.Operation.{Operation}
 use Rattle.page_turnover.specs.declared.operation.Operation.TheVariants.{Program, Erase}
@@ -31,46 +32,47 @@ by_mask : (old : List ℕ) (operation : Operation) (mask new : List ℕ) → Out
 by_mask old (Program page slot word) mask new o = may_program old page slot _ mask new o
 by_mask old (Erase page) mask new o = may_erase old page mask new o
 
-next_torn : (now : Session) (command : Command) (old : SimValue) (mask : List ℕ) (event : Event) (answer : Answer) (new : SimValue) → working now.first now.past ≡ Some command → Here now old
-    → IsNextOperation now command (armed_by mask old) event answer new → MayBeTorn now.first now.past new.image
-next_torn now command old mask event answer new w h n = record {
-  command = command;
-  is_working = w;
-  operation = n.operation;
-  is_next = n.is_next;
-  torn = subst (λ (image : List ℕ). MayMake image n.operation new.image) (sym h.image) (by_mask old.image n.operation mask new.image n.makes.outcome);
-}
-
 none_works : IsSome {T = Command} None → ⊥
 none_works s = cc
 
-torn_by : (now : Session) (w : Option Command) (old : SimValue) (mask : List ℕ) (work : WorkAnswer) (new : SimValue) → working now.first now.past ≡ w → Here now old → WorksIn now old (armed_by mask old) work new
-    → Where (IsSome w) (MayBeTorn now.first now.past new.image) (new.image ≡ old.image)
-torn_by now None old mask work new w h on =
-    let idle : WorkedOn now.first now.past None work new.image = subst (λ (o : Option Command). WorkedOn now.first now.past o work new.image) w on.lawful in
-    no none_works (ap (λ (x : SimValue). x.image) (idle_end now old (armed_by mask old) work new idle.0 on.operated))
-torn_by now (Some command) old mask work new w h on =
-    yes refl (next_torn now command old mask Work (Worked work) new w h (worked now command old (armed_by mask old) (armed_by mask old) work Work (Worked work) new w (λ told. refl) refl on))
+module _ (defaults : DefaultCodes) where
+  next_torn : (now : Session) (command : Command) (old : SimValue) (mask : List ℕ) (event : Event) (answer : Answer) (new : SimValue) → working defaults now.first now.past ≡ Some command → Here defaults now old
+      → IsNextOperation defaults now command (armed_by mask old) event answer new → MayBeTorn defaults now.first now.past new.image
+  next_torn now command old mask event answer new w h n = record {
+    command = command;
+    is_working = w;
+    operation = n.operation;
+    is_next = n.is_next;
+    torn = subst (λ (image : List ℕ). MayMake image n.operation new.image) (sym h.image) (by_mask old.image n.operation mask new.image n.makes.outcome);
+  }
 
-torn : (now : Session) (heard : List HostCall) (old : SimValue) (event : Event) (answer : Answer) (refused : Bool) (new : SimValue) → Here now old → Answered now heard old event answer refused new → IsTorn event
-    → Where (IsSome (working now.first now.past)) (MayBeTorn now.first now.past new.image) (new.image ≡ old.image)
-torn now heard old (WorkFault mask) answer refused new h (work, e, w, r) t = torn_by now (working now.first now.past) old mask.items work new refl h w
-torn now heard old (CutInWork mask) answer refused new h (work, e, w, r) t = torn_by now (working now.first now.past) old mask.items work new refl h w
-torn now heard old Work answer refused new h a t = absurd t
-torn now heard old (Scan scan) answer refused new h a t = absurd t
-torn now heard old (Setup bytes) answer refused new h a t = absurd t
-torn now heard old (OutPacket packet) answer refused new h a t = absurd t
-torn now heard old InPacket answer refused new h a t = absurd t
-torn now heard old Poll answer refused new h a t = absurd t
-torn now heard old Cut answer refused new h a t = absurd t
-torn now heard old BusReset answer refused new h a t = absurd t
-torn now heard old (Entry layer key) answer refused new h a t = absurd t
-torn now heard old (SlotAt page slot) answer refused new h a t = absurd t
-torn now heard old Leds answer refused new h a t = absurd t
+  torn_by : (now : Session) (w : Option Command) (old : SimValue) (mask : List ℕ) (work : WorkAnswer) (new : SimValue) → working defaults now.first now.past ≡ w → Here defaults now old → WorksIn defaults now old (armed_by mask old) work new
+      → Where (IsSome w) (MayBeTorn defaults now.first now.past new.image) (new.image ≡ old.image)
+  torn_by now None old mask work new w h on =
+      let idle : WorkedOn defaults now.first now.past None work new.image = subst (λ (o : Option Command). WorkedOn defaults now.first now.past o work new.image) w on.lawful in
+      no none_works (ap (λ (x : SimValue). x.image) (idle_end defaults now old (armed_by mask old) work new idle.0 on.operated))
+  torn_by now (Some command) old mask work new w h on =
+      yes refl (next_torn now command old mask Work (Worked work) new w h (worked defaults now command old (armed_by mask old) (armed_by mask old) work Work (Worked work) new w (λ told. refl) refl on))
 
-pub leaves_torn : (start : SimValue) (history : List Step) → IsLawful start history → EachStep LeavesTorn start history
-leaves_torn start [] h = tt
-leaves_torn start (step ∷ before) h = (
-  torn (session start before) (host_calls before) (flash_after start before) step.event step.answer step.refused step.flash (here start before h.1) h.0,
-  leaves_torn start before h.1,
-)
+  torn : (now : Session) (heard : List HostCall) (old : SimValue) (event : Event) (answer : Answer) (refused : Bool) (new : SimValue) → Here defaults now old → Answered defaults now heard old event answer refused new → IsTorn event
+      → Where (IsSome (working defaults now.first now.past)) (MayBeTorn defaults now.first now.past new.image) (new.image ≡ old.image)
+  torn now heard old (WorkFault mask) answer refused new h (work, e, w, r) t = torn_by now (working defaults now.first now.past) old mask.items work new refl h w
+  torn now heard old (CutInWork mask) answer refused new h (work, e, w, r) t = torn_by now (working defaults now.first now.past) old mask.items work new refl h w
+  torn now heard old Work answer refused new h a t = absurd t
+  torn now heard old (Scan scan) answer refused new h a t = absurd t
+  torn now heard old (Setup bytes) answer refused new h a t = absurd t
+  torn now heard old (OutPacket packet) answer refused new h a t = absurd t
+  torn now heard old InPacket answer refused new h a t = absurd t
+  torn now heard old Poll answer refused new h a t = absurd t
+  torn now heard old Cut answer refused new h a t = absurd t
+  torn now heard old BusReset answer refused new h a t = absurd t
+  torn now heard old (Entry layer key) answer refused new h a t = absurd t
+  torn now heard old (SlotAt page slot) answer refused new h a t = absurd t
+  torn now heard old Leds answer refused new h a t = absurd t
+
+  pub leaves_torn : (start : SimValue) (history : List Step) → IsLawful defaults start history → EachStep (LeavesTorn defaults) start history
+  leaves_torn start [] h = tt
+  leaves_torn start (step ∷ before) h = (
+    torn (session start before) (host_calls before) (flash_after start before) step.event step.answer step.refused step.flash (here defaults start before h.1) h.0,
+    leaves_torn start before h.1,
+  )

@@ -1,7 +1,7 @@
 -- What the host was told is stored stays stored, over all sessions.
 use Rattle.std.proofs.Common.{◌≡◌, ℕ, ◌<◌, Bool, Option, Some, None, List, [], ◌∷◌, ◌++◌, refl, sym, ◌∙◌, append_assoc, subst, ap}
 use Rattle.flash_model.specs.Sim.{SimValue}
-use Rattle.layers.specs.Codes.{layers, keys}
+use Rattle.layers.specs.Codes.{layers, keys, DefaultCodes}
 use Rattle.layers.specs.Entries.{written, changed}
 use Rattle.layers.specs.declared.command.Command.{Command}
 use Rattle.layers.proofs.LastWriter.{changed-nil, changed-one, changed-append}
@@ -19,153 +19,11 @@ use Rattle.world.specs.declared.event.Event.{Event}
 use Rattle.world.specs.declared.event.Event.TheVariants.{Scan, Setup, OutPacket, InPacket, Poll, Work, WorkFault, Cut, CutInWork, BusReset, Entry, SlotAt, Leds}
 use Rattle.world.specs.declared.event.Answer.{Answer}
 use Rattle.world.specs.declared.event.Answer.TheVariants.{Packet}
-use Rattle.world.specs.Acknowledged.{accepts_by, accepts_here, GoesOn, SameTransfer, NoneAcceptedWrites, IsAcknowledged, KeepsAcknowledged}
+use Rattle.world.specs.Acknowledged.{accepts_by, accepts_here, GoesOn, SameTransfer, NoneAcceptedWrites, KeepsAcknowledged}
 use Rattle.world.specs.Kinds.{Step, Kind, starts, calls, looks, kind, kind_of, ep_told, bytes_told, work_told}
 use Rattle.world.specs.History.{Session, session_with, session, host_calls, flash_after, EachStep}
 use Rattle.world.specs.Lawful.{Answered, IsAnswered}
 use Rattle.world.proofs.Here.{Here, here}
-
--- none of a session's commands writes the entry
-abbrev NoneWrites : List Call → ℕ → ℕ → Type 0
-NoneWrites [] layer key = Unit {0}
-NoneWrites (call ∷ before) layer key = keyboard.DoesNotWrite layer key (accepts before call) × NoneWrites before layer key
-
-abbrev AllLeave : List Accepted → ℕ → ℕ → Type 0
-AllLeave [] layer key = Unit {0}
-AllLeave (one ∷ later) layer key = (written one.command layer key ≡ None) × AllLeave later layer key
-
-AllLeave-append : (xs ys : List Accepted) (layer key : ℕ) → AllLeave xs layer key → AllLeave ys layer key → AllLeave (xs ++ ys) layer key
-AllLeave-append [] ys layer key h k = k
-AllLeave-append (one ∷ xs) ys layer key h k = (h.0, AllLeave-append xs ys layer key h.1 k)
-
-with_left : (entries : ℕ → ℕ → ℕ) (after : List Call) (o : Option Command) (layer key : ℕ) → keyboard.DoesNotWrite layer key o → AllLeave (accepted_with entries after o) layer key
-with_left entries after None layer key l = tt
-with_left entries after (Some command) layer key l = (l, tt)
-
-before_left : (first : List ℕ) (after past : List Call) (layer key : ℕ) → NoneWrites past layer key → AllLeave (accepted_before first after past) layer key
-before_left first after [] layer key n = tt
-before_left first after (call ∷ before) layer key n =
-    AllLeave-append (accepted_before first (after ++ call ∷ []) before) (accepted_with (keymap (image_after first before)) after (accepts before call)) layer key
-    (before_left first (after ++ call ∷ []) before layer key n.1) (with_left (keymap (image_after first before)) after (accepts before call) layer key n.0)
-
-all_left : (first : List ℕ) (past : List Call) (layer key : ℕ) → NoneWrites past layer key → AllLeave (accepted first past) layer key
-unfolding accepted
-all_left first past layer key n = before_left first [] past layer key n
-
--- the settled ones among them, on top of any keymap that has the code
-settled_left : (f : Fate) (entries : ℕ → ℕ → ℕ) (command : Command) (later : List Command) (layer key code : ℕ) → written command layer key ≡ None → entries layer key ≡ code
-    → ((m : ℕ → ℕ → ℕ) → m layer key ≡ code → changed m later layer key ≡ code) → changed entries (if_settled f command later) layer key ≡ code
-settled_left works entries command later layer key code w e k = k entries e
-settled_left failed entries command later layer key code w e k = k entries e
-settled_left settled entries command later layer key code w e k =
-    changed-append entries (command ∷ []) later layer key ∙ k (changed entries (command ∷ [])) (changed-one entries command layer key ∙ rw w e)
-
-left_code : (all : List Accepted) (entries : ℕ → ℕ → ℕ) (layer key code : ℕ) → AllLeave all layer key → entries layer key ≡ code → changed entries (settled_of all) layer key ≡ code
-left_code [] entries layer key code h e = changed-nil entries layer key ∙ e
-left_code (one ∷ later) entries layer key code h e =
-    settled_left one.fate entries one.command (settled_of later) layer key code h.0 e (λ m i. left_code later m layer key code h.1 i)
-
--- how the session that a history ends in knows of it: it was acknowledged in it; or the session's first keymap has the code,
--- and none of its commands writes the entry
-data Knows (now : Session) (layer key code : ℕ) : Type 0 where
-  in_session : keyboard.IsAcknowledgedInSession now.past layer key code → Knows now layer key code
-  from_start : keymap now.first layer key ≡ code → NoneWrites now.past layer key → Knows now layer key code
-
-stored : (now : Session) (layer key code : ℕ) → layer < layers → key < keys → EachCall IsCallAnswered now.first now.past → Knows now layer key code
-    → keymap (image_after now.first now.past) layer key ≡ code
-stored now layer key code l k h (in_session a) = told_in_session now.first now.past h layer key code a
-stored now layer key code l k h (from_start e n) =
-    (orderly now.first now.past h).kept layer key l k ∙ left_code (accepted now.first now.past) (keymap now.first) layer key code (all_left now.first now.past layer key n) e
-
--- a call more
-knows_call : (first : List ℕ) (past : List Call) (call : Call) (layer key code : ℕ) → keyboard.DoesNotWrite layer key (accepts past call) → Knows (record { first = first; past = past }) layer key code
-    → Knows (record { first = first; past = call ∷ past }) layer key code
-knows_call first past call layer key code n (from_start e m) = from_start e (n, m)
-knows_call first past call layer key code n (in_session a) =
-    in_session (record {
-      in_layers = a.in_layers;
-      in_keys = a.in_keys;
-      before = a.before;
-      packet = a.packet;
-      between = a.between;
-      after = call ∷ a.after;
-      past_is = ap (λ (xs : List Call). call ∷ xs) a.past_is;
-      command = a.command;
-      accepted = a.accepted;
-      writes = a.writes;
-      same_transfer = a.same_transfer;
-      not_since = (subst (λ (xs : List Call). keyboard.DoesNotWrite layer key (accepts xs call)) a.past_is n, a.not_since);
-    })
-
-worked_leaves : (past : List Call) (work : WorkAnswer) (image : List ℕ) (layer key : ℕ) → keyboard.DoesNotWrite layer key (accepts past (KeyboardWorked work image))
-unfolding accepts
-worked_leaves past work image layer key = tt
-
-in_leaves : (past : List Call) (layer key : ℕ) → keyboard.DoesNotWrite layer key (accepts past (In (EpPacket (record { items = [] }))))
-unfolding accepts
-in_leaves past layer key = tt
-
--- the keyboard starts on an image that has the code
-knows_start : (image : List ℕ) (layer key code : ℕ) → keymap image layer key ≡ code → Knows (record { first = image; past = [] }) layer key code
-knows_start image layer key code e = from_start e tt
-
--- the power was cut inside a step of the flash work
-after_step : (now : Session) (work : WorkAnswer) (image : List ℕ) (layer key code : ℕ) → layer < layers → key < keys → EachCall IsCallAnswered now.first now.past
-    → IsCallAnswered now.first now.past (KeyboardWorked work image) → Knows now layer key code → keymap image layer key ≡ code
-after_step now work image layer key code l k h a s =
-    stored (record { first = now.first; past = KeyboardWorked work image ∷ now.past }) layer key code l k (a, h)
-    (knows_call now.first now.past (KeyboardWorked work image) layer key code (worked_leaves now.past work image layer key) s)
-
--- a step more
-knows_more : (now : Session) (heard : List HostCall) (old : SimValue) (event : Event) (answer : Answer) (refused : Bool) (new : SimValue) (layer key code : ℕ) → layer < layers → key < keys
-    → Here now old → Answered now heard old event answer refused new → keyboard.DoesNotWrite layer key (accepts_by (kind_of event answer new.image) now.past) → Knows now layer key code
-    → Knows (session_with (kind_of event answer new.image) new.image now) layer key code
-knows_more now heard old (Scan scan) answer refused new layer key code l k h a n s = knows_call now.first now.past (Scanned scan) layer key code n s
-knows_more now heard old (Setup bytes) answer refused new layer key code l k h a n s = knows_call now.first now.past (SetUp bytes) layer key code n s
-knows_more now heard old (OutPacket packet) answer refused new layer key code l k h a n s = knows_call now.first now.past (Out packet.items (ep_told answer)) layer key code n s
-knows_more now heard old InPacket answer refused new layer key code l k h a n s = knows_call now.first now.past (In (ep_told answer)) layer key code n s
-knows_more now heard old Poll answer refused new layer key code l k h a n s = knows_call now.first now.past (Polled (bytes_told answer)) layer key code n s
-knows_more now heard old Work answer refused new layer key code l k h a n s = knows_call now.first now.past (KeyboardWorked (work_told answer) new.image) layer key code n s
-knows_more now heard old (WorkFault mask) answer refused new layer key code l k h a n s = knows_call now.first now.past (KeyboardWorked (work_told answer) new.image) layer key code n s
-knows_more now heard old Cut answer refused new layer key code l k h a n s =
-    knows_start new.image layer key code
-    (ap (λ (image : List ℕ). keymap image layer key) (ap (λ (f : SimValue). f.image) a.1.0 ∙ sym h.image) ∙ stored now layer key code l k h.lawful s)
-knows_more now heard old (CutInWork mask) answer refused new layer key code l k h (work, e, w, r) n s =
-    knows_start new.image layer key code (after_step now work new.image layer key code l k h.lawful w.lawful s)
-knows_more now heard old BusReset answer refused new layer key code l k h a n s = knows_call now.first now.past KeyboardReset layer key code n s
-knows_more now heard old (Entry at_layer at_key) answer refused new layer key code l k h a n s = s
-knows_more now heard old (SlotAt page slot) answer refused new layer key code l k h a n s = s
-knows_more now heard old Leds answer refused new layer key code l k h a n s = s
-
-EachStep-later : (start : SimValue) (later past : List Step) → EachStep IsAnswered start (later ++ past) → EachStep IsAnswered start past
-EachStep-later start [] past h = h
-EachStep-later start (step ∷ later) past h = EachStep-later start later past h.1
-
-NoneAcceptedWrites-later : (start : SimValue) (later earlier past : List Step) (layer key : ℕ) → NoneAcceptedWrites start (later ++ earlier) past layer key → NoneAcceptedWrites start earlier past layer key
-NoneAcceptedWrites-later start [] earlier past layer key n = n
-NoneAcceptedWrites-later start (step ∷ later) earlier past layer key n = NoneAcceptedWrites-later start later earlier past layer key n.1
-
-NoneAcceptedWrites-sooner : (start : SimValue) (later earlier past : List Step) (layer key : ℕ) → NoneAcceptedWrites start (later ++ earlier) past layer key
-    → NoneAcceptedWrites start later (earlier ++ past) layer key
-NoneAcceptedWrites-sooner start [] earlier past layer key n = tt
-NoneAcceptedWrites-sooner start (step ∷ later) earlier past layer key n =
-    (subst (λ (xs : List Step). keyboard.DoesNotWrite layer key (accepts_here start xs step)) (append_assoc later earlier past) n.0, NoneAcceptedWrites-sooner start later earlier past layer key n.1)
-
--- any steps more
-knows_after : (start : SimValue) (later past : List Step) (layer key code : ℕ) → layer < layers → key < keys → EachStep IsAnswered start (later ++ past) → NoneAcceptedWrites start later past layer key
-    → Knows (session start past) layer key code → Knows (session start (later ++ past)) layer key code
-knows_after start [] past layer key code l k h n s = s
-knows_after start (step ∷ later) past layer key code l k h n s =
-    let before : List Step = later ++ past in
-    knows_more (session start before) (host_calls before) (flash_after start before) step.event step.answer step.refused step.flash layer key code l k (here start before h.1) h.0 n.0
-    (knows_after start later past layer key code l k h.1 n.1 s)
-
--- the calls of the transfer since the packet that brought the command
-record Since (now : Session) (past : List Call) (packet : Call) (layer key : ℕ) : Type 0 where
-  between : List Call
-  past_is : now.past ≡ between ++ packet ∷ past
-  same : keyboard.SameTransfer between
-  none : keyboard.NoneAcceptedWrites between (packet ∷ past) layer key
 
 same_more : (call : Call) (between : List Call) → GoesOn (calls call) → keyboard.SameTransfer between → keyboard.SameTransfer (call ∷ between)
 same_more (Scanned scan) between g s = s
@@ -175,23 +33,6 @@ same_more (In answer) between g s = s
 same_more (Polled answer) between g s = s
 same_more (KeyboardWorked work image) between g s = s
 same_more KeyboardReset between g s = absurd g
-
-since_more : (now : Session) (k : Kind) (image : List ℕ) (past : List Call) (packet : Call) (layer key : ℕ) → GoesOn k → keyboard.DoesNotWrite layer key (accepts_by k now.past) → Since now past packet layer key
-    → Since (session_with k image now) past packet layer key
-since_more now starts image past packet layer key g n s = absurd g
-since_more now looks image past packet layer key g n s = record { between = s.between; past_is = s.past_is; same = s.same; none = s.none }
-since_more now (calls call) image past packet layer key g n s = record {
-  between = call ∷ s.between;
-  past_is = ap (λ (xs : List Call). call ∷ xs) s.past_is;
-  same = same_more call s.between g s.same;
-  none = (subst (λ (xs : List Call). keyboard.DoesNotWrite layer key (accepts xs call)) s.past_is n, s.none);
-}
-
-since_between : (start : SimValue) (between rest : List Step) (past : List Call) (packet : Call) (layer key : ℕ) → SameTransfer between → NoneAcceptedWrites start between rest layer key
-    → Since (session start rest) past packet layer key → Since (session start (between ++ rest)) past packet layer key
-since_between start [] rest past packet layer key t n s = s
-since_between start (step ∷ between) rest past packet layer key t n s =
-    since_more (session start (between ++ rest)) (kind step) step.flash.image past packet layer key t.0 n.0 (since_between start between rest past packet layer key t.1 n.1 s)
 
 -- the packet that brings the command
 record Brings (now : Session) (past : List Call) (command : Command) : Type 0 where
@@ -204,45 +45,205 @@ brings before starts image command e = cc
 brings before looks image command e = cc
 brings before (calls call) image command e = record { packet = call; past_is = refl; accepted = e }
 
--- the empty packet of its transfer
-told_now : (now : Session) (past : List Call) (packet : Call) (command : Command) (image : List ℕ) (k : Kind) (layer key code : ℕ) → layer < layers → key < keys → written command layer key ≡ Some code
-    → accepts past packet ≡ Some command → k ≡ calls (In (EpPacket (record { items = [] }))) → Since now past packet layer key → Knows (session_with k image now) layer key code
-told_now now past packet command image k layer key code l kk w a e s =
-    subst (λ (x : Kind). Knows (session_with x image now) layer key code) (sym e)
-    (in_session (record {
-      in_layers = l;
-      in_keys = kk;
-      before = past;
-      packet = packet;
-      between = s.between;
-      after = [];
-      past_is = ap (λ (xs : List Call). In (EpPacket (record { items = [] })) ∷ xs) s.past_is;
-      command = command;
-      accepted = a;
-      writes = w;
-      same_transfer = s.same;
-      not_since = (in_leaves (s.between ++ packet ∷ past) layer key, s.none);
-    }))
-
 kind_told : (status : Step) → (status.event ≡ InPacket) × (status.answer ≡ Packet (record { items = [] })) → kind status ≡ calls (In (EpPacket (record { items = [] })))
 kind_told status (e, a) = ap (λ (x : Event). kind_of x status.answer status.flash.image) e ∙ ap (λ (x : Answer). kind_of InPacket x status.flash.image) a
 
--- what was acknowledged is what the flash says
-pub acknowledged : (start : SimValue) (history : List Step) → EachStep IsAnswered start history → KeepsAcknowledged start history
-acknowledged start history h layer key code a =
-    let rest : List Step = a.between ++ a.packet ∷ a.before in
-    let is : history ≡ a.after ++ a.status ∷ rest = a.history_is ∙ append_assoc a.after (a.status ∷ a.between) (a.packet ∷ a.before) in
-    let all : EachStep IsAnswered start (a.after ++ a.status ∷ rest) = subst (λ (xs : List Step). EachStep IsAnswered start xs) is h in
-    let since : NoneAcceptedWrites start (a.status ∷ a.between) (a.packet ∷ a.before) layer key = NoneAcceptedWrites-later start a.after (a.status ∷ a.between) (a.packet ∷ a.before) layer key a.not_since in
-    let by : Brings (session start (a.packet ∷ a.before)) (session start a.before).past a.command =
-    brings (session start a.before) (kind a.packet) a.packet.flash.image a.command a.accepted in
-    let first : Since (session start (a.packet ∷ a.before)) (session start a.before).past by.packet layer key = record { between = []; past_is = by.past_is; same = tt; none = tt } in
-    let there : Since (session start rest) (session start a.before).past by.packet layer key =
-    since_between start a.between (a.packet ∷ a.before) (session start a.before).past by.packet layer key a.same_transfer since.1 first in
-    let told : Knows (session start (a.status ∷ rest)) layer key code =
-    told_now (session start rest) (session start a.before).past by.packet a.command a.status.flash.image (kind a.status) layer key code a.in_layers a.in_keys a.writes by.accepted (kind_told a.status a.told) there in
-    let after : Knows (session start (a.after ++ a.status ∷ rest)) layer key code =
-    knows_after start a.after (a.status ∷ rest) layer key code a.in_layers a.in_keys all (NoneAcceptedWrites-sooner start a.after (a.status ∷ a.between) (a.packet ∷ a.before) layer key a.not_since) told in
-    let now = here start (a.after ++ a.status ∷ rest) all in
-    subst (λ (xs : List Step). keymap (flash_after start xs).image layer key ≡ code) (sym is)
-    (ap (λ (image : List ℕ). keymap image layer key) (sym now.image) ∙ stored (session start (a.after ++ a.status ∷ rest)) layer key code a.in_layers a.in_keys now.lawful after)
+module _ (defaults : DefaultCodes) where
+  -- none of a session's commands writes the entry
+  abbrev NoneWrites : List Call → ℕ → ℕ → Type 0
+  NoneWrites [] layer key = Unit {0}
+  NoneWrites (call ∷ before) layer key = keyboard.DoesNotWrite defaults layer key (accepts before call) × NoneWrites before layer key
+
+  abbrev AllLeave : List Accepted → ℕ → ℕ → Type 0
+  AllLeave [] layer key = Unit {0}
+  AllLeave (one ∷ later) layer key = (written defaults one.command layer key ≡ None) × AllLeave later layer key
+
+  AllLeave-append : (xs ys : List Accepted) (layer key : ℕ) → AllLeave xs layer key → AllLeave ys layer key → AllLeave (xs ++ ys) layer key
+  AllLeave-append [] ys layer key h k = k
+  AllLeave-append (one ∷ xs) ys layer key h k = (h.0, AllLeave-append xs ys layer key h.1 k)
+
+  with_left : (entries : ℕ → ℕ → ℕ) (after : List Call) (o : Option Command) (layer key : ℕ) → keyboard.DoesNotWrite defaults layer key o → AllLeave (accepted_with defaults entries after o) layer key
+  with_left entries after None layer key l = tt
+  with_left entries after (Some command) layer key l = (l, tt)
+
+  before_left : (first : List ℕ) (after past : List Call) (layer key : ℕ) → NoneWrites past layer key → AllLeave (accepted_before defaults first after past) layer key
+  before_left first after [] layer key n = tt
+  before_left first after (call ∷ before) layer key n =
+      AllLeave-append (accepted_before defaults first (after ++ call ∷ []) before) (accepted_with defaults (keymap defaults (image_after first before)) after (accepts before call)) layer key
+      (before_left first (after ++ call ∷ []) before layer key n.1) (with_left (keymap defaults (image_after first before)) after (accepts before call) layer key n.0)
+
+  all_left : (first : List ℕ) (past : List Call) (layer key : ℕ) → NoneWrites past layer key → AllLeave (accepted defaults first past) layer key
+  unfolding accepted
+  all_left first past layer key n = before_left first [] past layer key n
+
+  -- the settled ones among them, on top of any keymap that has the code
+  settled_left : (f : Fate) (entries : ℕ → ℕ → ℕ) (command : Command) (later : List Command) (layer key code : ℕ) → written defaults command layer key ≡ None → entries layer key ≡ code
+      → ((m : ℕ → ℕ → ℕ) → m layer key ≡ code → changed defaults m later layer key ≡ code) → changed defaults entries (if_settled f command later) layer key ≡ code
+  settled_left works entries command later layer key code w e k = k entries e
+  settled_left failed entries command later layer key code w e k = k entries e
+  settled_left settled entries command later layer key code w e k =
+      changed-append defaults entries (command ∷ []) later layer key ∙ k (changed defaults entries (command ∷ [])) (changed-one defaults entries command layer key ∙ rw w e)
+
+  left_code : (all : List Accepted) (entries : ℕ → ℕ → ℕ) (layer key code : ℕ) → AllLeave all layer key → entries layer key ≡ code → changed defaults entries (settled_of all) layer key ≡ code
+  left_code [] entries layer key code h e = changed-nil defaults entries layer key ∙ e
+  left_code (one ∷ later) entries layer key code h e =
+      settled_left one.fate entries one.command (settled_of later) layer key code h.0 e (λ m i. left_code later m layer key code h.1 i)
+
+  -- how the session that a history ends in knows of it: it was acknowledged in it; or the session's first keymap has the code,
+  -- and none of its commands writes the entry
+  data Knows (now : Session) (layer key code : ℕ) : Type 0 where
+    in_session : keyboard.IsAcknowledgedInSession defaults now.past layer key code → Knows now layer key code
+    from_start : keymap defaults now.first layer key ≡ code → NoneWrites now.past layer key → Knows now layer key code
+
+  stored : (now : Session) (layer key code : ℕ) → layer < layers → key < keys → EachCall (IsCallAnswered defaults) now.first now.past → Knows now layer key code
+      → keymap defaults (image_after now.first now.past) layer key ≡ code
+  stored now layer key code l k h (in_session a) = told_in_session defaults now.first now.past h layer key code a
+  stored now layer key code l k h (from_start e n) =
+      (orderly defaults now.first now.past h).kept layer key l k ∙ left_code (accepted defaults now.first now.past) (keymap defaults now.first) layer key code (all_left now.first now.past layer key n) e
+
+  -- a call more
+  knows_call : (first : List ℕ) (past : List Call) (call : Call) (layer key code : ℕ) → keyboard.DoesNotWrite defaults layer key (accepts past call) → Knows (record { first = first; past = past }) layer key code
+      → Knows (record { first = first; past = call ∷ past }) layer key code
+  knows_call first past call layer key code n (from_start e m) = from_start e (n, m)
+  knows_call first past call layer key code n (in_session a) =
+      in_session (record {
+        in_layers = a.in_layers;
+        in_keys = a.in_keys;
+        before = a.before;
+        packet = a.packet;
+        between = a.between;
+        after = call ∷ a.after;
+        past_is = ap (λ (xs : List Call). call ∷ xs) a.past_is;
+        command = a.command;
+        accepted = a.accepted;
+        writes = a.writes;
+        same_transfer = a.same_transfer;
+        not_since = (subst (λ (xs : List Call). keyboard.DoesNotWrite defaults layer key (accepts xs call)) a.past_is n, a.not_since);
+      })
+
+  worked_leaves : (past : List Call) (work : WorkAnswer) (image : List ℕ) (layer key : ℕ) → keyboard.DoesNotWrite defaults layer key (accepts past (KeyboardWorked work image))
+  unfolding accepts
+  worked_leaves past work image layer key = tt
+
+  in_leaves : (past : List Call) (layer key : ℕ) → keyboard.DoesNotWrite defaults layer key (accepts past (In (EpPacket (record { items = [] }))))
+  unfolding accepts
+  in_leaves past layer key = tt
+
+  -- the keyboard starts on an image that has the code
+  knows_start : (image : List ℕ) (layer key code : ℕ) → keymap defaults image layer key ≡ code → Knows (record { first = image; past = [] }) layer key code
+  knows_start image layer key code e = from_start e tt
+
+  -- the power was cut inside a step of the flash work
+  after_step : (now : Session) (work : WorkAnswer) (image : List ℕ) (layer key code : ℕ) → layer < layers → key < keys → EachCall (IsCallAnswered defaults) now.first now.past
+      → IsCallAnswered defaults now.first now.past (KeyboardWorked work image) → Knows now layer key code → keymap defaults image layer key ≡ code
+  after_step now work image layer key code l k h a s =
+      stored (record { first = now.first; past = KeyboardWorked work image ∷ now.past }) layer key code l k (a, h)
+      (knows_call now.first now.past (KeyboardWorked work image) layer key code (worked_leaves now.past work image layer key) s)
+
+  -- a step more
+  knows_more : (now : Session) (heard : List HostCall) (old : SimValue) (event : Event) (answer : Answer) (refused : Bool) (new : SimValue) (layer key code : ℕ) → layer < layers → key < keys
+      → Here defaults now old → Answered defaults now heard old event answer refused new → keyboard.DoesNotWrite defaults layer key (accepts_by (kind_of event answer new.image) now.past) → Knows now layer key code
+      → Knows (session_with (kind_of event answer new.image) new.image now) layer key code
+  knows_more now heard old (Scan scan) answer refused new layer key code l k h a n s = knows_call now.first now.past (Scanned scan) layer key code n s
+  knows_more now heard old (Setup bytes) answer refused new layer key code l k h a n s = knows_call now.first now.past (SetUp bytes) layer key code n s
+  knows_more now heard old (OutPacket packet) answer refused new layer key code l k h a n s = knows_call now.first now.past (Out packet.items (ep_told answer)) layer key code n s
+  knows_more now heard old InPacket answer refused new layer key code l k h a n s = knows_call now.first now.past (In (ep_told answer)) layer key code n s
+  knows_more now heard old Poll answer refused new layer key code l k h a n s = knows_call now.first now.past (Polled (bytes_told answer)) layer key code n s
+  knows_more now heard old Work answer refused new layer key code l k h a n s = knows_call now.first now.past (KeyboardWorked (work_told answer) new.image) layer key code n s
+  knows_more now heard old (WorkFault mask) answer refused new layer key code l k h a n s = knows_call now.first now.past (KeyboardWorked (work_told answer) new.image) layer key code n s
+  knows_more now heard old Cut answer refused new layer key code l k h a n s =
+      knows_start new.image layer key code
+      (ap (λ (image : List ℕ). keymap defaults image layer key) (ap (λ (f : SimValue). f.image) a.1.0 ∙ sym h.image) ∙ stored now layer key code l k h.lawful s)
+  knows_more now heard old (CutInWork mask) answer refused new layer key code l k h (work, e, w, r) n s =
+      knows_start new.image layer key code (after_step now work new.image layer key code l k h.lawful w.lawful s)
+  knows_more now heard old BusReset answer refused new layer key code l k h a n s = knows_call now.first now.past KeyboardReset layer key code n s
+  knows_more now heard old (Entry at_layer at_key) answer refused new layer key code l k h a n s = s
+  knows_more now heard old (SlotAt page slot) answer refused new layer key code l k h a n s = s
+  knows_more now heard old Leds answer refused new layer key code l k h a n s = s
+
+  EachStep-later : (start : SimValue) (later past : List Step) → EachStep (IsAnswered defaults) start (later ++ past) → EachStep (IsAnswered defaults) start past
+  EachStep-later start [] past h = h
+  EachStep-later start (step ∷ later) past h = EachStep-later start later past h.1
+
+  NoneAcceptedWrites-later : (start : SimValue) (later earlier past : List Step) (layer key : ℕ) → NoneAcceptedWrites defaults start (later ++ earlier) past layer key → NoneAcceptedWrites defaults start earlier past layer key
+  NoneAcceptedWrites-later start [] earlier past layer key n = n
+  NoneAcceptedWrites-later start (step ∷ later) earlier past layer key n = NoneAcceptedWrites-later start later earlier past layer key n.1
+
+  NoneAcceptedWrites-sooner : (start : SimValue) (later earlier past : List Step) (layer key : ℕ) → NoneAcceptedWrites defaults start (later ++ earlier) past layer key
+      → NoneAcceptedWrites defaults start later (earlier ++ past) layer key
+  NoneAcceptedWrites-sooner start [] earlier past layer key n = tt
+  NoneAcceptedWrites-sooner start (step ∷ later) earlier past layer key n =
+      (subst (λ (xs : List Step). keyboard.DoesNotWrite defaults layer key (accepts_here start xs step)) (append_assoc later earlier past) n.0, NoneAcceptedWrites-sooner start later earlier past layer key n.1)
+
+  -- any steps more
+  knows_after : (start : SimValue) (later past : List Step) (layer key code : ℕ) → layer < layers → key < keys → EachStep (IsAnswered defaults) start (later ++ past) → NoneAcceptedWrites defaults start later past layer key
+      → Knows (session start past) layer key code → Knows (session start (later ++ past)) layer key code
+  knows_after start [] past layer key code l k h n s = s
+  knows_after start (step ∷ later) past layer key code l k h n s =
+      let before : List Step = later ++ past in
+      knows_more (session start before) (host_calls before) (flash_after start before) step.event step.answer step.refused step.flash layer key code l k (here defaults start before h.1) h.0 n.0
+      (knows_after start later past layer key code l k h.1 n.1 s)
+
+  -- the calls of the transfer since the packet that brought the command
+  record Since (now : Session) (past : List Call) (packet : Call) (layer key : ℕ) : Type 0 where
+    between : List Call
+    past_is : now.past ≡ between ++ packet ∷ past
+    same : keyboard.SameTransfer between
+    none : keyboard.NoneAcceptedWrites defaults between (packet ∷ past) layer key
+
+  since_more : (now : Session) (k : Kind) (image : List ℕ) (past : List Call) (packet : Call) (layer key : ℕ) → GoesOn k → keyboard.DoesNotWrite defaults layer key (accepts_by k now.past) → Since now past packet layer key
+      → Since (session_with k image now) past packet layer key
+  since_more now starts image past packet layer key g n s = absurd g
+  since_more now looks image past packet layer key g n s = record { between = s.between; past_is = s.past_is; same = s.same; none = s.none }
+  since_more now (calls call) image past packet layer key g n s = record {
+    between = call ∷ s.between;
+    past_is = ap (λ (xs : List Call). call ∷ xs) s.past_is;
+    same = same_more call s.between g s.same;
+    none = (subst (λ (xs : List Call). keyboard.DoesNotWrite defaults layer key (accepts xs call)) s.past_is n, s.none);
+  }
+
+  since_between : (start : SimValue) (between rest : List Step) (past : List Call) (packet : Call) (layer key : ℕ) → SameTransfer between → NoneAcceptedWrites defaults start between rest layer key
+      → Since (session start rest) past packet layer key → Since (session start (between ++ rest)) past packet layer key
+  since_between start [] rest past packet layer key t n s = s
+  since_between start (step ∷ between) rest past packet layer key t n s =
+      since_more (session start (between ++ rest)) (kind step) step.flash.image past packet layer key t.0 n.0 (since_between start between rest past packet layer key t.1 n.1 s)
+
+  -- the empty packet of its transfer
+  told_now : (now : Session) (past : List Call) (packet : Call) (command : Command) (image : List ℕ) (k : Kind) (layer key code : ℕ) → layer < layers → key < keys → written defaults command layer key ≡ Some code
+      → accepts past packet ≡ Some command → k ≡ calls (In (EpPacket (record { items = [] }))) → Since now past packet layer key → Knows (session_with k image now) layer key code
+  told_now now past packet command image k layer key code l kk w a e s =
+      subst (λ (x : Kind). Knows (session_with x image now) layer key code) (sym e)
+      (in_session (record {
+        in_layers = l;
+        in_keys = kk;
+        before = past;
+        packet = packet;
+        between = s.between;
+        after = [];
+        past_is = ap (λ (xs : List Call). In (EpPacket (record { items = [] })) ∷ xs) s.past_is;
+        command = command;
+        accepted = a;
+        writes = w;
+        same_transfer = s.same;
+        not_since = (in_leaves (s.between ++ packet ∷ past) layer key, s.none);
+      }))
+
+  -- what was acknowledged is what the flash says
+  pub acknowledged : (start : SimValue) (history : List Step) → EachStep (IsAnswered defaults) start history → KeepsAcknowledged defaults start history
+  acknowledged start history h layer key code a =
+      let rest : List Step = a.between ++ a.packet ∷ a.before in
+      let is : history ≡ a.after ++ a.status ∷ rest = a.history_is ∙ append_assoc a.after (a.status ∷ a.between) (a.packet ∷ a.before) in
+      let all : EachStep (IsAnswered defaults) start (a.after ++ a.status ∷ rest) = subst (λ (xs : List Step). EachStep (IsAnswered defaults) start xs) is h in
+      let since : NoneAcceptedWrites defaults start (a.status ∷ a.between) (a.packet ∷ a.before) layer key = NoneAcceptedWrites-later start a.after (a.status ∷ a.between) (a.packet ∷ a.before) layer key a.not_since in
+      let by : Brings (session start (a.packet ∷ a.before)) (session start a.before).past a.command =
+      brings (session start a.before) (kind a.packet) a.packet.flash.image a.command a.accepted in
+      let first : Since (session start (a.packet ∷ a.before)) (session start a.before).past by.packet layer key = record { between = []; past_is = by.past_is; same = tt; none = tt } in
+      let there : Since (session start rest) (session start a.before).past by.packet layer key =
+      since_between start a.between (a.packet ∷ a.before) (session start a.before).past by.packet layer key a.same_transfer since.1 first in
+      let told : Knows (session start (a.status ∷ rest)) layer key code =
+      told_now (session start rest) (session start a.before).past by.packet a.command a.status.flash.image (kind a.status) layer key code a.in_layers a.in_keys a.writes by.accepted (kind_told a.status a.told) there in
+      let after : Knows (session start (a.after ++ a.status ∷ rest)) layer key code =
+      knows_after start a.after (a.status ∷ rest) layer key code a.in_layers a.in_keys all (NoneAcceptedWrites-sooner start a.after (a.status ∷ a.between) (a.packet ∷ a.before) layer key a.not_since) told in
+      let now = here defaults start (a.after ++ a.status ∷ rest) all in
+      subst (λ (xs : List Step). keymap defaults (flash_after start xs).image layer key ≡ code) (sym is)
+      (ap (λ (image : List ℕ). keymap defaults image layer key) (sym now.image) ∙ stored (session start (a.after ++ a.status ∷ rest)) layer key code a.in_layers a.in_keys now.lawful after)

@@ -1,7 +1,7 @@
 -- Believed: what kind each step is. The look-backs over a history ask for the kind, so that a new event has to be placed
 -- here alone.
 use Rattle.shapes.specs.Shapes.{Bytes}
-use Rattle.std.specs.Prelude.{ℕ, Bool, Option, None, Some}
+use Rattle.std.specs.Prelude.{Bool, Option, None, Some}
 use Rattle.flash_model.specs.Sim.{SimValue}
 use Rattle.control_ep.specs.declared.answer.EpAnswer.{EpAnswer}
 use Rattle.control_ep.specs.declared.answer.EpAnswer.TheVariants as ep

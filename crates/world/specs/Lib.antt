@@ -1,5 +1,7 @@
 pub mod Acknowledged
+pub mod Asked
 pub mod Bounded
+pub mod Erases
 pub mod Flash
 pub mod History
 pub mod Kinds

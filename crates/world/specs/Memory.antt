@@ -1,5 +1,5 @@
 -- Believed: which steps of a history the host wants memory for.
-use Rattle.std.specs.Prelude.{◌≡◌, Bool, true, IsSome, List}
+use Rattle.std.specs.Prelude.{◌≡◌, true, IsSome, List}
 use Rattle.flash_model.specs.Sim.{SimValue}
 use Rattle.host.specs.Calls.{HostCall}
 use Rattle.host.specs.Kept.{gathering}

@@ -3,6 +3,7 @@ use Rattle.shapes.specs.Shapes.{Bytes}
 use Rattle.std.specs.Prelude.{◌≡◌, ℕ, suc, ◌<◌, Option, None, Some, List, length, slice_get}
 use Rattle.flash_model.specs.Operated.{IsOperated}
 use Rattle.flash_model.specs.Sim.{SimValue}
+use Rattle.layers.specs.Codes.{DefaultCodes}
 use Rattle.layers.specs.declared.command.Command.{Command}
 use Rattle.page_turnover.specs.declared.operation.Operation.{Operation}
 use Rattle.page_turnover.specs.Next.{on_flash, ReadsBack}
@@ -31,9 +32,10 @@ abbrev pub TellsEnd : Event → Type 0
 TellsEnd (CutInWork mask) = ⊥
 TellsEnd _ = Unit {0}
 
--- the operations of the command at work, by the flash when it was accepted
-abbrev pub operations_in : Session → Command → List Operation
-operations_in now command = operations_of (accepted_image now.first now.past) command
+module _ (defaults : DefaultCodes) where
+  -- the operations of the command at work, by the flash when it was accepted
+  abbrev pub operations_in : Session → Command → List Operation
+  operations_in now command = operations_of defaults (accepted_image now.first now.past) command
 
 -- how the operation with so many before it in a list ends: what reads as intended goes on to the next one, and settles the command
 -- after the last; any other fails it
@@ -42,21 +44,22 @@ pub record EndsBy (operations : List Operation) (made : ℕ) (operation : Operat
   pub settles : ReadsBack operation image → suc made ≡ length operations → answer ≡ Worked Settled
   pub fails : (ReadsBack operation image → ⊥) → answer ≡ Worked Failed
 
--- the operation that a step makes is the next in the list of the command's, which the flash gave when the command was accepted:
--- so many come before it as steps were made for the command. The flash after it is what the operation makes, whole, or torn by
--- the mask that is armed; and unless the power is cut inside it, which ends the session, it is told how it ends
-pub record IsNextOperation (now : Session) (command : Command) (old : SimValue) (event : Event) (answer : Answer) (new : SimValue) : Type 0 where
-  pub operation : Operation
-  pub is_next : slice_get (operations_in now command) (steps_since now.past) ≡ Some operation
-  pub makes : IsOperated old (on_flash operation) new
-  pub ends : TellsEnd event → EndsBy (operations_in now command) (steps_since now.past) operation new.image answer
+module _ (defaults : DefaultCodes) where
+  -- the operation that a step makes is the next in the list of the command's, which the flash gave when the command was accepted:
+  -- so many come before it as steps were made for the command. The flash after it is what the operation makes, whole, or torn by
+  -- the mask that is armed; and unless the power is cut inside it, which ends the session, it is told how it ends
+  pub record IsNextOperation (now : Session) (command : Command) (old : SimValue) (event : Event) (answer : Answer) (new : SimValue) : Type 0 where
+    pub operation : Operation
+    pub is_next : slice_get (operations_in defaults now command) (steps_since now.past) ≡ Some operation
+    pub makes : IsOperated old (on_flash operation) new
+    pub ends : TellsEnd event → EndsBy (operations_in defaults now command) (steps_since now.past) operation new.image answer
 
--- while a command works, each step of the flash work makes its next operation
-abbrev pub WorksInOrder : SimValue → List Step → Step → Type 0
-WorksInOrder start before step =
-    (command : Command) (old : SimValue) → working (session start before).first (session start before).past ≡ Some command
-    → found_by step.event (flash_after start before) ≡ Some old → IsNextOperation (session start before) command old step.event step.answer step.flash
+  -- while a command works, each step of the flash work makes its next operation
+  abbrev pub WorksInOrder : SimValue → List Step → Step → Type 0
+  WorksInOrder start before step =
+      (command : Command) (old : SimValue) → working defaults (session start before).first (session start before).past ≡ Some command
+      → found_by step.event (flash_after start before) ≡ Some old → IsNextOperation (session start before) command old step.event step.answer step.flash
 
--- each header after a step stood there before, or the step had to write it
-abbrev pub WritesOwnHeader : SimValue → List Step → Step → Type 0
-WritesOwnHeader start before step = OwnHeaders (session start before).first (session start before).past step.flash.image
+  -- each header after a step stood there before, or the step had to write it
+  abbrev pub WritesOwnHeader : SimValue → List Step → Step → Type 0
+  WritesOwnHeader start before step = OwnHeaders defaults (session start before).first (session start before).past step.flash.image

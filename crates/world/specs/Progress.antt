@@ -1,5 +1,6 @@
 -- Believed: how a command is served where nothing is in its way.
 use Rattle.std.specs.Prelude.{◌≡◌, ◌∷◌, ℕ, None, List, [], length}
+use Rattle.layers.specs.Codes.{DefaultCodes}
 use Rattle.layers.specs.declared.command.Command.{Command}
 use Rattle.flash_model.specs.Sim.{SimValue}
 use Rattle.keymap_store.specs.declared.store.Work.TheVariants.{Working, Settled}
@@ -9,24 +10,26 @@ use Rattle.world.specs.declared.event.Answer.TheVariants.{Ack, Packet, Worked}
 use Rattle.world.specs.Kinds.{Step}
 use Rattle.world.specs.History.{session, flash_after, image_after}
 
--- nothing is in the way of a command: each slot 0 is sound, the flash is not worn, no command works, and nothing is armed
-pub record IsReady (start : SimValue) (history : List Step) : Type 0 where
-  pub session : keyboard.IsReady (session start history).first (session start history).past
-  pub unarmed : (flash_after start history).armed ≡ None
+module _ (defaults : DefaultCodes) where
+  -- nothing is in the way of a command: each slot 0 is sound, the flash is not worn, no command works, and nothing is armed
+  pub record IsReady (start : SimValue) (history : List Step) : Type 0 where
+    pub session : keyboard.IsReady defaults (session start history).first (session start history).past
+    pub unarmed : (flash_after start history).armed ≡ None
 
 -- steps of the flash work, and nothing between them
 abbrev pub AreWorks : List Step → Type 0
 AreWorks [] = Unit {0}
 AreWorks (step ∷ before) = (step.event ≡ Work) × AreWorks before
 
--- a transfer that brings a command: SETUP, the packet with its five bytes after the Report ID, as many steps of the flash work as
--- its operations need, and the status stage
-pub record BringsCommand (start : SimValue) (before : List Step) (setup packet : Step) (works : List Step) (status : Step) (a b c d e : ℕ) (command : Command) : Type 0 where
-  pub begins : setup.event ≡ Setup keyboard.set_feature
-  pub brings : packet.event ≡ OutPacket (record { items = 3 ∷ a ∷ b ∷ c ∷ d ∷ e ∷ [] })
-  pub flash_work : AreWorks works
-  pub as_many : length works ≡ keyboard.steps_for (image_after start before) command
-  pub asks : status.event ≡ InPacket
+module _ (defaults : DefaultCodes) where
+  -- a transfer that brings a command: SETUP, the packet with its five bytes after the Report ID, as many steps of the flash work as
+  -- its operations need, and the status stage
+  pub record BringsCommand (start : SimValue) (before : List Step) (setup packet : Step) (works : List Step) (status : Step) (a b c d e : ℕ) (command : Command) : Type 0 where
+    pub begins : setup.event ≡ Setup keyboard.set_feature
+    pub brings : packet.event ≡ OutPacket (record { items = 3 ∷ a ∷ b ∷ c ∷ d ∷ e ∷ [] })
+    pub flash_work : AreWorks works
+    pub as_many : length works ≡ keyboard.steps_for defaults (image_after start before) command
+    pub asks : status.event ≡ InPacket
 
 -- each of these steps is answered Working
 abbrev pub AllWork : List Step → Type 0

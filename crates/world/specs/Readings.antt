@@ -5,6 +5,7 @@ use Rattle.flash_model.specs.Sim.{SimValue}
 use Rattle.descriptor_build.specs.Served.{report_bytes}
 use Rattle.host.specs.Kept.{Fetch, gathering, kept}
 use Rattle.host.specs.declared.reading.Reading.{Reading}
+use Rattle.layers.specs.Codes.{DefaultCodes}
 use Rattle.keyboard.specs.Feature.{Where}
 use Rattle.session_law.specs.Fetched.{IsFetched}
 use Rattle.session_law.specs.Read.{IsReadAs}
@@ -12,12 +13,13 @@ use Rattle.world.specs.declared.event.Answer.TheVariants.{Sent}
 use Rattle.world.specs.Kinds.{Step}
 use Rattle.world.specs.History.{session, host_calls}
 
--- what the host reads in a report that a poll sent is what the keymap gives for the debounced keys, at the moment of the
--- session that the report is of. It is unread only where report protocol is in force and no descriptor is kept
-abbrev pub ReadsWanted : SimValue → List Step → Step → Type 0
-ReadsWanted start before step =
-    (bytes : Bytes) (reading : Reading) → step.answer ≡ Sent (record { items = bytes }) reading
-    → IsReadAs (session start before).first (session start before).past (host_calls before) bytes reading
+module _ (defaults : DefaultCodes) where
+  -- what the host reads in a report that a poll sent is what the keymap gives for the debounced keys, at the moment of the
+  -- session that the report is of. It is unread only where report protocol is in force and no descriptor is kept
+  abbrev pub ReadsWanted : SimValue → List Step → Step → Type 0
+  ReadsWanted start before step =
+      (bytes : Bytes) (reading : Reading) → step.answer ≡ Sent (record { items = bytes }) reading
+      → IsReadAs defaults (session start before).first (session start before).past (host_calls before) bytes reading
 
 -- over all sessions the host keeps the keyboard's report descriptor where a fetch of it came through, whatever was asked,
 -- refused and cut off before and after; else none

@@ -7,6 +7,7 @@ use Rattle.world.specs.Kinds.{Step}
 use Rattle.world.specs.History.{flash_after}
 use Rattle.world.specs.ties.Value.{WorldValue}
 use Rattle.world.specs.ties.Stands.{StandsFor}
+use Rattle.layers.specs.Codes.{DefaultCodes}
 
 -- how many more answers there is room for, before memory is asked for again
 abbrev pub room_for : {X Z : Type 0} → Vec X Z → ℕ
@@ -28,18 +29,19 @@ abbrev pub EndsAfter : ℕ → Bool → List Step → List Event → Type 0
 EndsAfter room true steps events = (length steps ≡ length events) × NoneRefused steps
 EndsAfter room false steps events = StopsAfter room steps events
 
--- a history goes on by steps, newest first: they are the events that were taken, the answers appended are theirs, the flash
--- is the one after them, the world stands for the longer history, and P holds of it
-pub record LongerHistory (P : SimValue → List Step → Type 0) (start : SimValue) (past : List Step) (world : WorldValue) (events : List Event) (room : ℕ) (before after : List Answer) (ok : Bool) : Type 0 where
-  pub steps : List Step
-  pub stands : StandsFor start (steps ++ past) world
-  pub flash_is : world.flash ≡ flash_after start (steps ++ past)
-  pub events_are : map (λ (s : Step). s.event) (reverse steps) ≡ take (length steps) events
-  pub answers_are : after ≡ before ++ map (λ (s : Step). s.answer) (reverse steps)
-  pub ends : EndsAfter room ok steps events
-  pub holds : P start (steps ++ past)
+module _ (defaults : DefaultCodes) where
+  -- a history goes on by steps, newest first: they are the events that were taken, the answers appended are theirs, the flash
+  -- is the one after them, the world stands for the longer history, and P holds of it
+  pub record LongerHistory (P : SimValue → List Step → Type 0) (start : SimValue) (past : List Step) (world : WorldValue) (events : List Event) (room : ℕ) (before after : List Answer) (ok : Bool) : Type 0 where
+    pub steps : List Step
+    pub stands : StandsFor defaults start (steps ++ past) world
+    pub flash_is : world.flash ≡ flash_after start (steps ++ past)
+    pub events_are : map (λ (s : Step). s.event) (reverse steps) ≡ take (length steps) events
+    pub answers_are : after ≡ before ++ map (λ (s : Step). s.answer) (reverse steps)
+    pub ends : EndsAfter room ok steps events
+    pub holds : P start (steps ++ past)
 
--- from each history that the world stood for, the run makes such a longer one
-abbrev pub Runs : (SimValue → List Step → Type 0) → WorldValue → WorldValue → List Event → ℕ → List Answer → List Answer → Bool → Type 0
-Runs P old new events room before after ok =
-    (start : SimValue) (past : List Step) → StandsFor start past old → LongerHistory P start past new events room before after ok
+  -- from each history that the world stood for, the run makes such a longer one
+  abbrev pub Runs : (SimValue → List Step → Type 0) → WorldValue → WorldValue → List Event → ℕ → List Answer → List Answer → Bool → Type 0
+  Runs P old new events room before after ok =
+      (start : SimValue) (past : List Step) → StandsFor defaults start past old → LongerHistory P start past new events room before after ok

@@ -1,6 +1,7 @@
 -- Believed: what a step leaves that is torn.
 use Rattle.std.specs.Prelude.{◌≡◌, IsSome, List}
 use Rattle.flash_model.specs.Sim.{SimValue}
+use Rattle.layers.specs.Codes.{DefaultCodes}
 use Rattle.keyboard.specs.Commands.{working}
 use Rattle.keyboard.specs.Feature.{Where}
 use Rattle.keyboard.specs.Single.{MayBeTorn}
@@ -15,10 +16,11 @@ IsTorn (WorkFault mask) = Unit {0}
 IsTorn (CutInWork mask) = Unit {0}
 IsTorn _ = ⊥
 
--- while a command works such a step leaves what the next operation of this command may leave where it is torn; else nothing changes
-abbrev pub LeavesTorn : SimValue → List Step → Step → Type 0
-LeavesTorn start before step =
-    IsTorn step.event
-    → Where (IsSome (working (session start before).first (session start before).past))
-    (MayBeTorn (session start before).first (session start before).past step.flash.image)
-    (step.flash.image ≡ image_after start before)
+module _ (defaults : DefaultCodes) where
+  -- while a command works such a step leaves what the next operation of this command may leave where it is torn; else nothing changes
+  abbrev pub LeavesTorn : SimValue → List Step → Step → Type 0
+  LeavesTorn start before step =
+      IsTorn step.event
+      → Where (IsSome (working defaults (session start before).first (session start before).past))
+      (MayBeTorn defaults (session start before).first (session start before).past step.flash.image)
+      (step.flash.image ≡ image_after start before)

@@ -3,7 +3,8 @@
 ghost use Rattle.std.specs.Prelude.{◌≡◌, None, Some};
 ghost use Rattle.std.specs.Option.{option_map};
 ghost use Rattle.flash_model.specs.Operated.{IsOperated};
-ghost use Rattle.world.specs.ties.Flash.{torn_by, noted};
+ghost use Rattle.world.specs.Asked.{noted};
+ghost use Rattle.world.specs.ties.Flash.{torn_by};
 
 use flash_model::{FlashFault, Mask, NorFlash, SLOT_BYTES, SimFlash};
 

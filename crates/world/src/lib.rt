@@ -23,4 +23,4 @@ pub use flash_model::Mask;
 pub use host::{Reading, UsageList};
 pub use keymap_store::Work;
 pub use reports::Report;
-pub use world::World;
+pub use world::{World, WorldOf};

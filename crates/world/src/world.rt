@@ -19,21 +19,24 @@ use arrayvec::ArrayVec;
 use debounce::Scan;
 use flash_model::{Mask, NorFlash, PAGE_SLOTS, SimFlash};
 use host::{Host, Reading};
-use keyboard::{EpAnswer, Keyboard};
+use keyboard::{EpAnswer, KeyboardOf};
 use keymap_store::Work;
-use layers::{KeyNo, LayerNo};
+use layers::{Defaults, KeyNo, LayerNo, Standard};
 use std::alloc::{AllocError, Global};
 use std::marker::Model;
 
-/// A keyboard on a simulated flash, and a host that reads its reports.
+/// A keyboard with these defaults on a simulated flash, and a host that reads its reports.
 #[derive(Debug, Drop)]
-pub struct World {
-    keyboard: Keyboard,
+pub struct WorldOf<D: Defaults> {
+    keyboard: KeyboardOf<D>,
     host: Host,
     bench: Bench,
 }
 
-impl Model for World {
+/// A world with the standard defaults.
+pub type World = WorldOf<Standard>;
+
+impl<D: Defaults> Model for WorldOf<D> {
     ghost use Rattle.std.specs.Prelude.{◌≡◌, None};
     ghost use Rattle.keyboard.specs.ties.Value.{RunsOn};
     ghost use Rattle.world.specs.ties.Value.{WorldValue};
@@ -42,12 +45,14 @@ impl Model for World {
 
     ghost view = { λ w. record { keyboard = w.keyboard; host = w.host; flash = w.bench.flash; asked = w.bench.asked } };
 
-    ghost invariant = { λ w. RunsOn w.bench.flash.image w.keyboard × (w.bench.tear ≡ None) };
+    ghost invariant = { λ w. RunsOn D.defaults w.bench.flash.image w.keyboard × (w.bench.tear ≡ None) };
 }
 
-impl World {
+impl<D: Defaults> WorldOf<D> {
     ghost use Rattle.host.specs.ties.StandsFor as host_stands;
     ghost use Rattle.world.specs.History.{host_calls};
+    ghost use Rattle.world.specs.Asked.{asked_after};
+    ghost use Rattle.world.specs.Erases.{ErasesSeldom};
     ghost use Rattle.world.specs.Promise.{Promise};
     ghost use Rattle.world.specs.Stands.{Runs, room_for};
     ghost use Rattle.world.specs.ties.Stands.{StandsFor};
@@ -56,16 +61,16 @@ impl World {
     /// The keyboard as it starts on a flash, whose keymap it reads, and a host that keeps no
     /// descriptor. `AllocError` where there was no memory for the reports that wait; the flash is then
     /// dropped.
-    pub fn new(alloc: Global, flash: SimFlash) -> Result<World, AllocError>
+    pub fn new(alloc: Global, flash: SimFlash) -> Result<WorldOf<D>, AllocError>
         // it stands for no event, on this flash
-        ensures starts { IfOk result (λ world. StandsFor flash [] world) }
+        ensures starts { IfOk result (λ world. StandsFor D.defaults flash [] world) }
         // of which the promise holds
-        ensures promise { Promise flash [] }
+        ensures promise { Promise D.defaults flash [] }
         // the flash is as it was
         ensures untouched { IfOk result (λ world. world.flash ≡ flash) }
     {
-        let keyboard = Keyboard::start(alloc, &flash)?;
-        Ok(World {
+        let keyboard = KeyboardOf::start(alloc, &flash)?;
+        Ok(WorldOf {
             keyboard,
             host: Host::new(alloc),
             bench: Bench {
@@ -93,7 +98,9 @@ impl World {
     /// The flash operation that the latest step of the flash work asked for; `None` where it asked
     /// for none.
     pub fn operation(&self) -> Option<Operation>
-        ensures { result ≡ self.now.asked }
+        ensures same { result ≡ self.now.asked }
+        // it is the next one of the command at work, as it was when that step came
+        ensures next { (start : SimValue) (past : List Step) → StandsFor D.defaults start past self.now → result ≡ asked_after D.defaults start past }
     {
         self.bench.asked
     }
@@ -102,7 +109,7 @@ impl World {
     pub fn host(&self) -> &Host
         // it stands for all that it was told: the SETUP packets, the packets of data that IN packets were answered by, and
         // that the keyboard was cut off or reset
-        ensures { (start : SimValue) (past : List Step) → StandsFor start past self.now → host_stands.StandsFor (host_calls past) result.now }
+        ensures { (start : SimValue) (past : List Step) → StandsFor D.defaults start past self.now → host_stands.StandsFor (host_calls past) result.now }
     {
         &self.host
     }
@@ -116,7 +123,9 @@ impl World {
     pub fn run(&mut self, events: &[Event], answers: &mut Vec<Answer>) -> Result<(), AllocError>
         // From each history that the world stood for it makes a longer one, by the events that were taken with their answers,
         // and the promise holds of that.
-        ensures promise { Runs Promise self.old self.new events.now (room_for answers.old) answers.old.items answers.new.items (is_ok result) }
+        ensures promise { Runs D.defaults (Promise D.defaults) self.old self.new events.now (room_for answers.old) answers.old.items answers.new.items (is_ok result) }
+        // In that history a page is erased at most once more than headers are committed, cuts catch a command and commands fail.
+        ensures erases { Runs D.defaults (ErasesSeldom D.defaults) self.old self.new events.now (room_for answers.old) answers.old.items answers.new.items (is_ok result) }
         // Ok says that all events were taken, and there is at most one answer for each.
         ensures all { OnOk result (vec_len answers.new ≡ vec_len answers.old + length events.now) }
         ensures at_most { vec_len answers.new ≤ vec_len answers.old + length events.now }
@@ -126,8 +135,8 @@ impl World {
 
     /// Takes the events in order.
     fn take_all(&mut self, events: &[Event], answers: &mut Vec<Answer>) -> Result<(), AllocError>
-        ensures went { (start : SimValue) (past : List Step) → StandsFor start past self.old
-            → Went start past self.new events.now (room_for answers.old) answers.old.items answers.new.items (is_ok result) }
+        ensures went { (start : SimValue) (past : List Step) → StandsFor D.defaults start past self.old
+            → Went D.defaults start past self.new events.now (room_for answers.old) answers.old.items answers.new.items (is_ok result) }
         ensures all { OnOk result (vec_len answers.new ≡ vec_len answers.old + length events.now) }
         ensures at_most { vec_len answers.new ≤ vec_len answers.old + length events.now }
     {
@@ -145,7 +154,7 @@ impl World {
 
     /// Takes one event.
     fn step(&mut self, event: &Event) -> Told
-        ensures { Takes event.now self.old result self.new }
+        ensures { Takes D.defaults event.now self.old result self.new }
     {
         match event {
             Event::Scan(scan) => self.scan(*scan),
@@ -166,7 +175,7 @@ impl World {
 
     /// The keyboard takes a scan.
     fn scan(&mut self, scan: Scan) -> Told
-        ensures { Takes (ScanEvent scan) self.old result self.new }
+        ensures { Takes D.defaults (ScanEvent scan) self.old result self.new }
     {
         self.keyboard.scan(scan);
         just(Answer::Done)
@@ -174,7 +183,7 @@ impl World {
 
     /// A SETUP packet, of which the host knows.
     fn setup(&mut self, packet: [u8; 8]) -> Told
-        ensures { Takes (Setup packet) self.old result self.new }
+        ensures { Takes D.defaults (Setup packet) self.old result self.new }
     {
         self.keyboard.setup(packet);
         self.host.setup(packet);
@@ -183,14 +192,14 @@ impl World {
 
     /// An OUT packet.
     fn out_packet(&mut self, packet: &ArrayVec<u8, 8>) -> Told
-        ensures { Takes (OutPacket packet.now) self.old result self.new }
+        ensures { Takes D.defaults (OutPacket packet.now) self.old result self.new }
     {
         just(as_answer(self.keyboard.out(packet.as_slice())))
     }
 
     /// An IN token: a packet of data goes to the host.
     fn in_packet(&mut self) -> Told
-        ensures { Takes InPacket self.old result self.new }
+        ensures { Takes D.defaults InPacket self.old result self.new }
     {
         let answer = self.keyboard.in_packet();
         let refused = hears(&mut self.host, &answer);
@@ -202,7 +211,7 @@ impl World {
 
     /// A poll: the host reads the report, in the protocol in force.
     fn poll(&mut self) -> Told
-        ensures { Takes Poll self.old result self.new }
+        ensures { Takes D.defaults Poll self.old result self.new }
     {
         let protocol = self.keyboard.protocol();
         let Some(bytes) = self.keyboard.poll() else {
@@ -218,7 +227,7 @@ impl World {
 
     /// A step of the flash work.
     fn work(&mut self) -> Told
-        ensures { Takes WorkEvent self.old result self.new }
+        ensures { Takes D.defaults WorkEvent self.old result self.new }
     {
         self.bench.asked = None;
         let work = self.keyboard.work(&mut self.bench);
@@ -228,7 +237,7 @@ impl World {
 
     /// A step of the flash work, whose operation the mask tears.
     fn work_fault(&mut self, tear: &Mask) -> Told
-        ensures { Takes (WorkFault tear.now) self.old result self.new }
+        ensures { Takes D.defaults (WorkFault tear.now) self.old result self.new }
     {
         self.bench.asked = None;
         self.bench.tear = Some(copy_of(tear));
@@ -239,14 +248,14 @@ impl World {
 
     /// All RAM of the keyboard is lost, and it starts on its flash.
     fn cut(&mut self) -> Told
-        ensures { Takes Cut self.old result self.new }
+        ensures { Takes D.defaults Cut self.old result self.new }
     {
         start_anew(&mut self.keyboard, &mut self.host, &self.bench.flash)
     }
 
     /// The same in the middle of a step of the flash work, whose operation the mask tears.
     fn cut_in_work(&mut self, mask: &Mask) -> Told
-        ensures { Takes (CutInWork mask.now) self.old result self.new }
+        ensures { Takes D.defaults (CutInWork mask.now) self.old result self.new }
     {
         self.bench.asked = None;
         self.bench.tear = Some(copy_of(mask));
@@ -257,7 +266,7 @@ impl World {
 
     /// A bus reset, of which the host knows.
     fn bus_reset(&mut self) -> Told
-        ensures { Takes BusReset self.old result self.new }
+        ensures { Takes D.defaults BusReset self.old result self.new }
     {
         self.keyboard.bus_reset();
         self.host.lose();
@@ -266,14 +275,14 @@ impl World {
 
     /// The code of an entry.
     fn entry(&mut self, layer: LayerNo, key: KeyNo) -> Told
-        ensures { Takes (Entry layer key) self.old result self.new }
+        ensures { Takes D.defaults (Entry layer key) self.old result self.new }
     {
         just(Answer::EntryIs(self.keyboard.keymap().get(layer, key)))
     }
 
     /// The bytes of a slot.
     fn slot_at(&mut self, page: u8, slot: u16) -> Told
-        ensures { Takes (SlotAt page slot) self.old result self.new }
+        ensures { Takes D.defaults (SlotAt page slot) self.old result self.new }
     {
         let pages = self.bench.flash.pages();
         if page as usize >= pages {
@@ -287,16 +296,16 @@ impl World {
 
     /// The LEDs.
     fn leds(&mut self) -> Told
-        ensures { Takes Leds self.old result self.new }
+        ensures { Takes D.defaults Leds self.old result self.new }
     {
         just(Answer::LedsAre(self.keyboard.leds()))
     }
 }
 
 /// The keyboard loses all RAM and starts on its flash, and the host loses the keyboard.
-fn start_anew(keyboard: &mut Keyboard, host: &mut Host, flash: &SimFlash) -> Told
-    ensures stands { keyboard_stands.StandsFor flash.now.image [] keyboard.new }
-    ensures runs_on { RunsOn flash.now.image keyboard.new }
+fn start_anew<D: Defaults>(keyboard: &mut KeyboardOf<D>, host: &mut Host, flash: &SimFlash) -> Told
+    ensures stands { keyboard_stands.StandsFor D.defaults flash.now.image [] keyboard.new }
+    ensures runs_on { RunsOn D.defaults flash.now.image keyboard.new }
     ensures host { (past : List HostCall) → host_stands.StandsFor past host.old → host_stands.StandsFor (lost ∷ past) host.new }
     ensures told { result ≡ record { answer = Restarted; refused = false } }
 {

@@ -2,52 +2,44 @@
 //! The main loop of a controller that is handed packets beforehand, and such a controller: the tokens come by the UART, and are
 //! answered from buffers before the device is asked.
 
+use crate::PRODUCT;
 use crate::frames::{Frame, dump, out, scan};
 use crate::uart::Uart;
-use core::borrow::BorrowMut;
-use wuzhikar::{Keyboard, NorFlash, Work};
-use wuzhikar_device::{Ahead, Change, Controller, Device, Endpoint1, Input, Output, Waiting};
+use core::cell::RefCell;
+use wuzhikar::{NorFlash, Work};
+use wuzhikar_device::{
+    Buffers, Change, Controller, DeviceLayer, Endpoint1, HasKeyboard, Input, Keys, Output, Report, UsbDevice, Waiting,
+};
 
-/// A packet in a buffer.
-#[derive(Clone, Copy)]
-struct Buffer {
-    bytes: [u8; 64],
-    length: usize,
-}
+const NOTHING: Waiting = Waiting { reset: false, setup: None, out: None, taken: false };
 
-impl Buffer {
-    fn of(packet: &[u8]) -> Buffer {
-        let mut buffer = Buffer { bytes: [0; 64], length: packet.len() };
-        buffer.bytes[..packet.len()].copy_from_slice(packet);
-        buffer
-    }
-
-    fn packet(&self) -> &[u8] {
-        &self.bytes[..self.length]
-    }
-}
-
-enum Answers {
-    Nak,
-    Packet(Buffer),
-    Stall,
-}
-
-/// A controller with one buffer each.
-struct Soft {
+/// What a controller with one buffer each holds.
+struct State {
     met: Waiting,
-    input_0: Answers,
+    taken_1: usize,
+    input_0: Input,
     output_0: Output,
-    input_1: Option<Buffer>,
+    input_1: Option<Report>,
     endpoint_1: Endpoint1,
-    /// What the host's side is told of with the next frame.
+    address: u8,
+    /// What the host's side is told of with the next frame: a change, or a reset.
     change: Option<Change>,
+    resets: bool,
 }
 
-impl Soft {
-    fn new() -> Soft {
-        let (input_0, output_0) = (Answers::Nak, Output::Nak);
-        Soft { met: Waiting::default(), input_0, output_0, input_1: None, endpoint_1: Endpoint1::Off, change: None }
+impl State {
+    const fn new() -> State {
+        State {
+            met: NOTHING,
+            taken_1: 0,
+            input_0: Input::Nak,
+            output_0: Output::Nak,
+            input_1: None,
+            endpoint_1: Endpoint1::Off,
+            address: 0,
+            change: None,
+            resets: false,
+        }
     }
 
     /// A reset or a SETUP packet was met that the device has not seen.
@@ -55,14 +47,9 @@ impl Soft {
         self.met.reset || self.met.setup.is_some()
     }
 
-    fn reset(&mut self) {
-        *self = Soft::new();
-        self.met.reset = true;
-    }
-
     fn setup(&mut self, packet: [u8; 8]) {
         self.met.setup = Some(packet);
-        (self.input_0, self.output_0) = (Answers::Nak, Output::Nak);
+        (self.input_0, self.output_0) = (Input::Nak, Output::Nak);
     }
 
     fn out(&mut self, packet: &[u8]) -> u8 {
@@ -77,116 +64,144 @@ impl Soft {
         }
     }
 
-    fn in_0(&mut self) -> (u8, Option<Buffer>) {
-        match core::mem::replace(&mut self.input_0, Answers::Nak) {
-            Answers::Nak => (b'N', None),
-            Answers::Packet(buffer) => {
-                self.met.taken_0 = true;
-                (b'D', Some(buffer))
+    fn in_0(&mut self) -> (u8, Report) {
+        match core::mem::replace(&mut self.input_0, Input::Nak) {
+            Input::Nak => (b'N', Report::new()),
+            Input::Packet(packet) => {
+                self.met.taken = true;
+                (b'D', packet.into_iter().collect())
             }
-            Answers::Stall => {
-                self.input_0 = Answers::Stall;
-                (b'S', None)
+            Input::Stall => {
+                self.input_0 = Input::Stall;
+                (b'S', Report::new())
             }
         }
     }
 
-    fn in_1(&mut self) -> (u8, Option<Buffer>) {
+    fn in_1(&mut self) -> (u8, Report) {
         match (self.endpoint_1, self.input_1.take()) {
-            (Endpoint1::Off, _) => (b'k', None),
-            (Endpoint1::Halted, _) => (b'S', None),
-            (Endpoint1::Ready, None) => (b'N', None),
-            (Endpoint1::Ready, buffer) => {
-                self.met.taken_1 += 1;
-                (b'D', buffer)
+            (Endpoint1::Off, _) => (b'k', Report::new()),
+            (Endpoint1::Halted, _) => (b'S', Report::new()),
+            (Endpoint1::Ready, None) => (b'N', Report::new()),
+            (Endpoint1::Ready, Some(packet)) => {
+                self.taken_1 += 1;
+                (b'D', packet)
             }
         }
     }
 }
 
-impl Controller for Soft {
-    const PING_PONG: bool = false;
+/// The controller: endpoint 0 for the loop, and a copy of it, endpoint 1, that the device owns.
+#[derive(Clone, Copy)]
+struct Soft<'s>(&'s RefCell<State>);
 
+impl Controller for Soft<'_> {
     fn waiting(&mut self) -> Waiting {
-        core::mem::take(&mut self.met)
+        core::mem::replace(&mut self.0.borrow_mut().met, NOTHING)
     }
 
-    fn input_0(&mut self, answer: Input<'_>) {
-        if !self.is_late() {
-            self.input_0 = match answer {
-                Input::Nak => Answers::Nak,
-                Input::Packet(packet) => Answers::Packet(Buffer::of(packet)),
-                Input::Stall => Answers::Stall,
-            };
+    fn input_0(&mut self, answer: Input) {
+        let mut state = self.0.borrow_mut();
+        if !state.is_late() {
+            state.input_0 = answer;
         }
     }
 
     fn output_0(&mut self, answer: Output) {
-        if !self.is_late() {
-            self.output_0 = answer;
+        let mut state = self.0.borrow_mut();
+        if !state.is_late() {
+            state.output_0 = answer;
         }
     }
 
-    fn input_1(&mut self, packet: &[u8]) {
-        if !self.met.reset {
-            self.input_1 = Some(Buffer::of(packet));
+    fn set_address(&mut self, address: u8) {
+        let mut state = self.0.borrow_mut();
+        if core::mem::replace(&mut state.address, address) != address {
+            state.change = Some(Change::Address(address));
         }
-    }
-
-    fn drop_1(&mut self) -> usize {
-        self.input_1 = None;
-        core::mem::take(&mut self.met.taken_1)
-    }
-
-    fn change(&mut self, change: Change) {
-        match change {
-            Change::Endpoint1(state) => (self.endpoint_1, self.input_1) = (state, None),
-            Change::Reset => (self.endpoint_1, self.input_1) = (Endpoint1::Off, None),
-            Change::Address(_) | Change::Protocol => {}
-        }
-        self.change = Some(change);
     }
 }
 
-pub fn run<F: NorFlash, K: BorrowMut<Keyboard>>(device: Device<'_, F, K>, uart: &mut Uart) -> ! {
-    let (mut ahead, mut soft) = (Ahead::new(device), Soft::new());
+impl Buffers for Soft<'_> {
+    fn has_two(&self) -> bool {
+        false
+    }
+
+    fn taken_1(&mut self) -> usize {
+        core::mem::take(&mut self.0.borrow_mut().taken_1)
+    }
+
+    fn begin_anew(&mut self, endpoint: Endpoint1) {
+        let mut state = self.0.borrow_mut();
+        (state.endpoint_1, state.input_1, state.taken_1) = (endpoint, None, 0);
+        state.change = Some(Change::Endpoint(endpoint));
+    }
+
+    fn host_began(&mut self) {}
+
+    fn forget(&mut self) {
+        let mut state = self.0.borrow_mut();
+        (state.endpoint_1, state.input_1, state.taken_1) = (Endpoint1::Off, None, 0);
+        state.resets = true;
+    }
+
+    fn input_1(&mut self, packet: Report) {
+        self.0.borrow_mut().input_1 = Some(packet);
+    }
+}
+
+pub fn run<F: NorFlash, K: HasKeyboard>(keys: Keys<F, K>, uart: &mut Uart) -> ! {
+    let state = RefCell::new(State::new());
+    let mut soft = Soft(&state);
+    let layer = DeviceLayer::new(PRODUCT.descriptors());
+    let mut device = UsbDevice::new(layer, keys, soft, PRODUCT.identity().packet_size);
     loop {
         while !uart.waits() {
-            let work = ahead.work();
-            ahead.serve(&mut soft);
+            let work = device.work();
+            device.serve(&mut soft);
             if work == Work::Idle {
                 uart.sleep();
             }
         }
-        serve(&mut ahead, &mut soft, uart);
+        serve(&mut device, soft, uart);
     }
 }
 
 /// What one request asks for: the token is answered from the buffers, and then the device is asked.
-fn serve<F: NorFlash, K: BorrowMut<Keyboard>>(ahead: &mut Ahead<'_, F, K>, soft: &mut Soft, uart: &mut Uart) {
+fn serve<'s, F: NorFlash, K: HasKeyboard>(
+    device: &mut UsbDevice<'_, Keys<F, K>, Soft<'s>>,
+    mut soft: Soft<'s>,
+    uart: &mut Uart,
+) {
+    let state = soft.0;
     let (kind, packet) = match uart.byte() {
         b'm' => {
-            ahead.scan(scan(uart));
-            (b'k', None)
+            device.scan_keys(scan(uart));
+            (b'k', Report::new())
         }
         b's' => {
-            soft.setup(uart.bytes());
-            (b'k', None)
+            state.borrow_mut().setup(uart.bytes());
+            (b'k', Report::new())
         }
         b'o' => {
             let (packet, length) = out(uart);
-            (soft.out(&packet[..length]), None)
+            (state.borrow_mut().out(&packet[..length]), Report::new())
         }
-        b'i' => soft.in_0(),
-        b'p' => soft.in_1(),
+        b'i' => state.borrow_mut().in_0(),
+        b'p' => state.borrow_mut().in_1(),
         b'r' => {
-            soft.reset();
-            (b'k', None)
+            let mut state = state.borrow_mut();
+            *state = State::new();
+            state.met.reset = true;
+            (b'k', Report::new())
         }
-        b'd' => return dump(uart, ahead.device().keyboard()),
+        b'd' => return dump(uart, device.behind().keyboard()),
         _ => return,
     };
-    ahead.serve(soft);
-    let frame = packet.as_ref().map_or(Frame::of(kind), |buffer| Frame::data(buffer.packet()));
-    frame.with(soft.change.take()).send(uart, ahead.device().leds());
+    device.serve(&mut soft);
+    let mut state = state.borrow_mut();
+    let frame = if kind == b'D' { Frame::data(&packet) } else { Frame::of(kind) };
+    let frame = frame.with(state.change.take());
+    let frame = if core::mem::take(&mut state.resets) { frame.reset() } else { frame };
+    frame.send(uart, device.behind().leds());
 }

@@ -2,7 +2,7 @@
 //! What goes onto the line.
 
 use crate::uart::Uart;
-use wuzhikar::{KeyNo, Keyboard, LayerNo, Scan};
+use wuzhikar::{Defaults, KeyNo, KeyboardOf, LayerNo, Scan};
 use wuzhikar_device::Change;
 
 /// An answer on its way.
@@ -24,12 +24,15 @@ impl<'b> Frame<'b> {
     pub fn with(self, change: Option<Change>) -> Frame<'b> {
         let change = match change {
             None => self.change,
-            Some(Change::Reset) => [1, 0],
             Some(Change::Address(address)) => [2, address],
-            Some(Change::Endpoint1(state)) => [3, state as u8],
-            Some(Change::Protocol) => [4, 0],
+            Some(Change::Endpoint(state)) => [3, state as u8],
         };
         Frame { change, ..self }
+    }
+
+    /// That the bus was reset.
+    pub const fn reset(self) -> Frame<'b> {
+        Frame { change: [1, 0], ..self }
     }
 
     #[cfg(not(feature = "buffers"))]
@@ -58,7 +61,7 @@ pub fn out(uart: &mut Uart) -> ([u8; 8], usize) {
 
 /// Sends a layer of the keymap in RAM: what a firmware in the field has no use for, and a test has.
 #[inline(never)]
-pub fn dump(uart: &mut Uart, keyboard: &Keyboard) {
+pub fn dump<D: Defaults>(uart: &mut Uart, keyboard: &KeyboardOf<D>) {
     let mut bytes = [0; 192];
     if let Ok(layer) = LayerNo::read(uart.byte()) {
         for (key, place) in (0..).zip(bytes.chunks_exact_mut(2)) {

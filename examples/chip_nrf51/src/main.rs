@@ -1,5 +1,5 @@
 // SPDX-License-Identifier: MIT OR Apache-2.0
-//! The keyboard as the whole firmware of an nRF51822: its front and its log run as machine code on the chip's flash. What a bus and
+//! The keyboard as the whole firmware of an nRF51822: its USB device layer and its log run as machine code on the chip's flash. What a bus and
 //! a matrix do comes by the UART, one request at a time, each answered by one frame.
 //!
 //! | Request | Answer |
@@ -43,10 +43,18 @@ use plain as pages;
 use token as main_loop;
 use uart::Uart;
 use wuzhikar::UnstartedKeyboard;
-use wuzhikar_device::{Device, Identity};
+#[cfg(not(feature = "buffers"))]
+use wuzhikar_device::Device;
+#[cfg(feature = "buffers")]
+use wuzhikar_device::Keys;
+use wuzhikar_device::{Identity, Product, utf16};
 
-static IDENTITY: Identity =
-    Identity { manufacturer: "Example", product: "Wuzhikar keyboard", serial_number: "nRF51", ..Identity::TEST };
+static PRODUCT: Product = Product::of(Identity {
+    manufacturer: utf16!("Example"),
+    product: utf16!("Wuzhikar keyboard"),
+    serial_number: utf16!("nRF51"),
+    ..Identity::TEST
+});
 
 static mut MEMORY: UnstartedKeyboard = UnstartedKeyboard::NEW;
 
@@ -58,7 +66,10 @@ extern "C" fn run() -> ! {
     let memory = unsafe { &mut *(&raw mut MEMORY) };
     let Some(flash) = pages::flash() else { stopped() };
     // The flash has 2 pages, so that none is refused.
-    let Ok(device) = Device::start_in(memory, flash, &IDENTITY) else { stopped() };
+    #[cfg(not(feature = "buffers"))]
+    let Ok(device) = Device::start_in(memory, flash, &PRODUCT) else { stopped() };
+    #[cfg(feature = "buffers")]
+    let Ok(device) = Keys::start_in(memory, flash) else { stopped() };
     Frame::of(b'B').send(&mut uart, 0);
     uart.begin();
     Frame::of(b'k').send(&mut uart, 0);

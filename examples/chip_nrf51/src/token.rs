@@ -3,11 +3,10 @@
 
 use crate::frames::{Frame, dump, out, scan};
 use crate::uart::Uart;
-use core::borrow::BorrowMut;
-use wuzhikar::{EpAnswer, Keyboard, NorFlash, Work};
-use wuzhikar_device::{Device, PollAnswer};
+use wuzhikar::{NorFlash, Work};
+use wuzhikar_device::{Device, EpAnswer, HasKeyboard, PollAnswer};
 
-pub fn run<F: NorFlash, K: BorrowMut<Keyboard>>(mut device: Device<'_, F, K>, uart: &mut Uart) -> ! {
+pub fn run<F: NorFlash, K: HasKeyboard>(mut device: Device<'_, F, K>, uart: &mut Uart) -> ! {
     loop {
         while !uart.waits() {
             match device.work() {
@@ -21,7 +20,7 @@ pub fn run<F: NorFlash, K: BorrowMut<Keyboard>>(mut device: Device<'_, F, K>, ua
 }
 
 /// What one request asks for.
-fn serve<F: NorFlash, K: BorrowMut<Keyboard>>(device: &mut Device<'_, F, K>, uart: &mut Uart) {
+fn serve<F: NorFlash, K: HasKeyboard>(device: &mut Device<'_, F, K>, uart: &mut Uart) {
     match uart.byte() {
         b'm' => {
             device.scan(scan(uart));
@@ -34,31 +33,31 @@ fn serve<F: NorFlash, K: BorrowMut<Keyboard>>(device: &mut Device<'_, F, K>, uar
         b'o' => {
             let (packet, length) = out(uart);
             let answer = device.out(&packet[..length]);
-            endpoint_0(&answer).send(uart, device.leds());
+            endpoint_0(&answer, device.why().number()).send(uart, device.leds());
         }
         b'i' => {
             let (answer, change) = device.in_packet();
-            endpoint_0(&answer).with(change).send(uart, device.leds());
+            endpoint_0(&answer, device.why().number()).with(change).send(uart, device.leds());
         }
         b'p' => {
             let answer = device.poll();
             endpoint_1(&answer).send(uart, device.leds());
         }
         b'r' => {
-            let change = device.bus_reset();
-            Frame::of(b'k').with(Some(change)).send(uart, device.leds());
+            device.bus_reset();
+            Frame::of(b'k').reset().send(uart, device.leds());
         }
         b'd' => dump(uart, device.keyboard()),
         _ => {}
     }
 }
 
-fn endpoint_0(answer: &EpAnswer) -> Frame<'_> {
+fn endpoint_0(answer: &EpAnswer, why: u8) -> Frame<'_> {
     match answer {
         EpAnswer::Packet(packet) => Frame::data(packet),
         EpAnswer::Ack => Frame::of(b'A'),
         EpAnswer::Nak => Frame::of(b'N'),
-        EpAnswer::Stall(why) => Frame::stall(why.number()),
+        EpAnswer::Stall => Frame::stall(why),
     }
 }
 

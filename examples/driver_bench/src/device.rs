@@ -1,27 +1,27 @@
 // SPDX-License-Identifier: MIT OR Apache-2.0
-//! The device: keyboard, front and a flash in memory.
+//! The device: keyboard, USB device layer and a flash in memory.
 #![forbid(unsafe_code)]
 
 use core::ops::{Deref, DerefMut};
 use wuzhikar::{Mask, SimFlash, Work};
-use wuzhikar_device::{Device, Identity, PacketSize};
+use wuzhikar_device::{Device, Identity, PacketSize, Product, utf16};
 
 /// What the device tells of itself, by the packet size of endpoint 1. Vendor 1209h, product 0001h is an ID for tests.
-static IDENTITIES: [Identity<'static>; 4] = [
-    identity(PacketSize::Bytes8),
-    identity(PacketSize::Bytes16),
-    identity(PacketSize::Bytes32),
-    identity(PacketSize::Bytes64),
+static PRODUCTS: [Product<'static>; 4] = [
+    product(PacketSize::Bytes8),
+    product(PacketSize::Bytes16),
+    product(PacketSize::Bytes32),
+    product(PacketSize::Bytes64),
 ];
 
-const fn identity(packet_size: PacketSize) -> Identity<'static> {
-    Identity {
-        manufacturer: "Example",
-        product: "Wuzhikar keyboard",
-        serial_number: "0001",
+const fn product(packet_size: PacketSize) -> Product<'static> {
+    Product::of(Identity {
+        manufacturer: utf16!("Example"),
+        product: utf16!("Wuzhikar keyboard"),
+        serial_number: utf16!("0001"),
         packet_size,
         ..Identity::TEST
-    }
+    })
 }
 
 /// A device on a flash in memory.
@@ -40,8 +40,8 @@ impl Bench {
 
     fn on(flash: SimFlash, packet: usize) -> Option<Bench> {
         let size = PacketSize::of(packet)?;
-        let identity = IDENTITIES.iter().find(|identity| identity.packet_size == size)?;
-        Device::start(flash, identity).ok().map(Bench)
+        let product = PRODUCTS.iter().find(|product| product.identity().packet_size == size)?;
+        Device::start(flash, product).ok().map(Bench)
     }
 
     /// A step of the flash work, whose operation is torn by the mask and answers a fault.

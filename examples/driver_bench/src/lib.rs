@@ -12,8 +12,8 @@ mod device;
 
 use core::ffi::c_int;
 use device::Bench;
-use wuzhikar::{EpAnswer, Mask, PAGE_BYTES, Scan, Work};
-use wuzhikar_device::{NotDone, PollAnswer};
+use wuzhikar::{Mask, PAGE_BYTES, Scan, Work};
+use wuzhikar_device::{EpAnswer, NotDone, PollAnswer};
 
 // The answers, as bench.h names them.
 const ACK: c_int = 0;
@@ -77,7 +77,7 @@ pub unsafe extern "C" fn bench_out(bench: *mut Bench, packet: *const u8, length:
         unsafe { core::ptr::copy_nonoverlapping(packet, bytes.as_mut_ptr(), length) };
     }
     // SAFETY: nothing is written where the answer has no packet; an OUT packet never gets one.
-    unsafe { told(&bench.out(&bytes[..length]), bytes.as_mut_ptr()) }
+    unsafe { told(&bench.out(&bytes[..length]), bench, bytes.as_mut_ptr()) }
 }
 
 #[unsafe(no_mangle)]
@@ -85,7 +85,7 @@ pub unsafe extern "C" fn bench_in(bench: *mut Bench, buffer: *mut u8, room: usiz
     // SAFETY: the caller owes the bench.
     match unsafe { bench.as_mut() } {
         // SAFETY: a packet has at most 8 bytes, and the caller owes as much room.
-        Some(bench) if !buffer.is_null() && room >= PACKET => unsafe { told(&bench.in_packet().0, buffer) },
+        Some(bench) if !buffer.is_null() && room >= PACKET => unsafe { told(&bench.in_packet().0, bench, buffer) },
         _ => REFUSED,
     }
 }
@@ -189,7 +189,7 @@ pub unsafe extern "C" fn bench_leds(bench: *const Bench) -> c_int {
 pub unsafe extern "C" fn bench_reset(bench: *mut Bench) -> c_int {
     // SAFETY: the caller owes the bench.
     let Some(bench) = (unsafe { bench.as_mut() }) else { return REFUSED };
-    let _ = bench.bus_reset();
+    bench.bus_reset();
     ACK
 }
 
@@ -231,11 +231,11 @@ unsafe fn values<T: Copy, const N: usize>(first: *const T, count: usize) -> Opti
 }
 
 /// An answer of endpoint 0 as a number, with its packet in the buffer, which has room for 8 bytes.
-unsafe fn told(answer: &EpAnswer, buffer: *mut u8) -> c_int {
+unsafe fn told(answer: &EpAnswer, bench: &Bench, buffer: *mut u8) -> c_int {
     match answer {
         EpAnswer::Ack => ACK,
         EpAnswer::Nak => NAK,
-        EpAnswer::Stall(why) => STALL - c_int::from(why.number()),
+        EpAnswer::Stall => STALL - c_int::from(bench.why().number()),
         // SAFETY: a packet has at most 8 bytes.
         EpAnswer::Packet(packet) => unsafe { written(packet, buffer) },
     }

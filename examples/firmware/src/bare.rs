@@ -2,11 +2,11 @@
 //! The entry on a chip without an operating system. Interrupts leave what they bring in a mailbox, and the main loop
 //! leaves what is to be sent in another. They stand for the registers and the interrupts of your chip.
 
+use crate::board::ROWS;
 use crate::chip::{Chip, Event};
 use crate::{Board, run};
 use core::sync::atomic::{AtomicU8, AtomicU16, Ordering};
-use wuzhikar::{EpAnswer, Scan};
-use wuzhikar_device::{Change, Endpoint1, PollAnswer};
+use wuzhikar_device::{Change, Endpoint1, EpAnswer, PollAnswer};
 
 /// A packet and what it is.
 pub struct Mailbox {
@@ -42,7 +42,7 @@ impl Mailbox {
 pub static EVENT: Mailbox = Mailbox::EMPTY;
 
 /// The rows of the matrix.
-pub static ROWS: [AtomicU16; 6] = [const { AtomicU16::new(0) }; 6];
+pub static MATRIX: [AtomicU16; ROWS] = [const { AtomicU16::new(0) }; ROWS];
 
 /// What the endpoints send: 1 a packet, 2 ACK, 3 NAK, 4 STALL.
 pub static ENDPOINT_0: Mailbox = Mailbox::EMPTY;
@@ -62,7 +62,7 @@ struct Generic;
 impl Chip for Generic {
     fn event(&mut self) -> Event {
         match EVENT.take() {
-            (1, ..) => Event::Millisecond(Scan { rows: core::array::from_fn(|row| ROWS[row].load(Ordering::Relaxed)) }),
+            (1, ..) => Event::Millisecond(core::array::from_fn(|row| MATRIX[row].load(Ordering::Relaxed))),
             (2, packet, _) => Event::Setup(packet),
             (3, packet, len) => Event::Out(packet, len),
             (4, ..) => Event::In,
@@ -77,7 +77,7 @@ impl Chip for Generic {
             EpAnswer::Packet(packet) => ENDPOINT_0.put(1, packet),
             EpAnswer::Ack => ENDPOINT_0.put(2, &[]),
             EpAnswer::Nak => ENDPOINT_0.put(3, &[]),
-            EpAnswer::Stall(_) => ENDPOINT_0.put(4, &[]),
+            EpAnswer::Stall => ENDPOINT_0.put(4, &[]),
         }
     }
 
@@ -92,15 +92,14 @@ impl Chip for Generic {
 
     fn change(&mut self, change: Change) {
         match change {
-            Change::Reset => {
-                ADDRESS.store(0, Ordering::Relaxed);
-                ENDPOINT_1_STATE.store(Endpoint1::Off as u8, Ordering::Relaxed);
-            }
             Change::Address(address) => ADDRESS.store(address, Ordering::Relaxed),
-            Change::Endpoint1(state) => ENDPOINT_1_STATE.store(state as u8, Ordering::Relaxed),
-            // Endpoint 1 is asked at its token, so nothing is there to be dropped.
-            Change::Protocol => {}
+            Change::Endpoint(state) => ENDPOINT_1_STATE.store(state as u8, Ordering::Relaxed),
         }
+    }
+
+    fn reset(&mut self) {
+        ADDRESS.store(0, Ordering::Relaxed);
+        ENDPOINT_1_STATE.store(Endpoint1::Off as u8, Ordering::Relaxed);
     }
 
     /// A controller would take the next IN token again.

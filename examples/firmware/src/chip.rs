@@ -1,27 +1,29 @@
 // SPDX-License-Identifier: MIT OR Apache-2.0
 //! A chip, and one that is played in memory: write your own in its place.
 
+use crate::board::ROWS;
 use crate::flash::FlashController;
-use wuzhikar::{EpAnswer, SLOT_BYTES, Scan};
-use wuzhikar_device::{Change, Identity, PollAnswer};
+use wuzhikar::SLOT_BYTES;
+use wuzhikar_device::{Change, EpAnswer, Identity, PollAnswer, Product, utf16};
 
 /// What the keyboard is called: put your own here. Vendor 1209h, product 0001h is an ID for tests and not for products.
 /// Packets of 16 bytes, asked for each millisecond, are what a BIOS takes, too.
-pub const IDENTITY: Identity = Identity {
+pub static PRODUCT: Product = Product::of(Identity {
     vendor_id: 0x1209,
     product_id: 0x0001,
     release: 0x0100,
-    manufacturer: "Example",
-    product: "Wuzhikar keyboard",
-    serial_number: "0001",
+    manufacturer: utf16!("Example"),
+    product: utf16!("Wuzhikar keyboard"),
+    serial_number: utf16!("0001"),
     ..Identity::TEST
-};
+});
 
 /// What the chip's interrupts have left for the main loop.
 #[cfg_attr(target_os = "none", allow(dead_code))] // nobody cuts the power in a program
 pub enum Event {
-    /// The timer of a millisecond, with the matrix as it was scanned: bit c of row r is key 16 * r + c.
-    Millisecond(Scan),
+    /// The timer of a millisecond, with the matrix as it was scanned: bit c of row r is set while the switch in row r and
+    /// column c is closed.
+    Millisecond([u16; ROWS]),
     /// A SETUP packet of endpoint 0.
     Setup([u8; 8]),
     /// An OUT packet of endpoint 0, of so many bytes.
@@ -51,6 +53,9 @@ pub trait Chip {
 
     /// Follows a change of the device: its address, or what endpoint 1 is.
     fn change(&mut self, change: Change);
+
+    /// Follows a bus reset: address 0, and endpoint 1 off.
+    fn reset(&mut self);
 
     /// Arms endpoint 0 again, which answered a NAK.
     fn arm(&mut self);

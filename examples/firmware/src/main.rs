@@ -1,14 +1,16 @@
 // SPDX-License-Identifier: MIT OR Apache-2.0
 //! A keyboard's firmware on the exported crate.
 //!
-//! `flash` is the driver of the chip's flash, `chip` what a chip has to give. The keyboard, the standard requests in front
-//! of it and its flash are one `Device` of the crate `wuzhikar_device`. `run` is the main loop; it is the same on every
+//! `board` says which switch is which key, and what the keys are at first. `flash` is the driver of the chip's flash, `chip`
+//! what a chip has to give. The keyboard, the USB device layer before it
+//! and its flash are one `Device` of the crate `wuzhikar_device`. `run` is the main loop; it is the same on every
 //! chip. On a machine with an operating system, `main` plays a chip, and prints what goes onto the bus: the host
-//! enumerates the keyboard, a key is pressed, the host gives it another letter, the power is cut once the host was told
-//! that this is stored, and the key is pressed again.
+//! enumerates the keyboard, the key of the letter a is pressed, the host makes it a b, the power is cut once the host was
+//! told that this is stored, and the key is pressed again. Then the layer key is held, so that 1 is F1.
 #![cfg_attr(target_os = "none", no_std, no_main)]
 #![deny(unsafe_code)]
 
+mod board;
 mod chip;
 mod flash;
 
@@ -17,20 +19,21 @@ mod bare;
 #[cfg(not(target_os = "none"))]
 mod played;
 
-use chip::{Cells, Chip, Event, IDENTITY};
+use board::{SWITCHES, Sixty};
+use chip::{Cells, Chip, Event, PRODUCT};
 use flash::{Flash, FlashController};
-use wuzhikar::{PAGE_BYTES, UnstartedKeyboard, Work};
+use wuzhikar::{PAGE_BYTES, UnstartedKeyboardOf, Work};
 use wuzhikar_device::Device;
 
 /// All that is large: the keyboard, and cells that stand for the chip's flash. It is zeros, so that a `static` of it takes
 /// no ROM, and nothing of it is ever moved.
 struct Board {
-    keyboard: UnstartedKeyboard,
+    keyboard: UnstartedKeyboardOf<Sixty>,
     cells: Cells,
 }
 
 impl Board {
-    const NEW: Board = Board { keyboard: UnstartedKeyboard::NEW, cells: Cells::ZEROS };
+    const NEW: Board = Board { keyboard: UnstartedKeyboardOf::NEW, cells: Cells::ZEROS };
 
     /// Erases the cells, as those of a chip are in the factory.
     fn erase(&mut self) {
@@ -45,10 +48,10 @@ impl Board {
 fn run<C: Chip>(chip: &mut C, board: &mut Board) {
     let flash = Flash::new(&mut board.cells);
     // The cells have 2 pages, so that none is refused.
-    let Ok(mut device) = Device::start_in(&mut board.keyboard, flash, &IDENTITY) else { return };
+    let Ok(mut device) = Device::start_in(&mut board.keyboard, flash, &PRODUCT) else { return };
     loop {
         match chip.event() {
-            Event::Millisecond(scan) => device.scan(scan),
+            Event::Millisecond(rows) => device.scan(SWITCHES.scan(|row, column| rows[row] >> column & 1 != 0)),
             Event::Setup(packet) => device.setup(packet),
             Event::Out(packet, len) => {
                 chip.answer(&device.out(packet.get(..len).unwrap_or(&packet)));
@@ -63,7 +66,8 @@ fn run<C: Chip>(chip: &mut C, board: &mut Board) {
             }
             Event::Poll => chip.report(&device.poll()),
             Event::Reset => {
-                chip.change(device.bus_reset());
+                device.bus_reset();
+                chip.reset();
                 chip.leds(device.leds());
             }
             // If the last answer of endpoint 0 was NAK, it has to be armed again, since the status stage is due. (Where

@@ -1,16 +1,21 @@
 // SPDX-License-Identifier: MIT OR Apache-2.0
 //! A chip that is played: its events are a list, and what goes onto the bus is printed.
 
+use crate::board::ROWS;
 use crate::chip::{Chip, Event};
 use std::vec::IntoIter;
-use wuzhikar::{EpAnswer, KeyNo, Scan};
-use wuzhikar_device::{Change, PollAnswer};
+use wuzhikar_device::{Change, EpAnswer, PollAnswer};
 
 /// SET_REPORT of the feature report (HID 1.11 section 7.2.2), whose packet follows.
 const SET_FEATURE: [u8; 8] = [0x21, 0x09, 0x03, 0x03, 0x00, 0x00, 0x06, 0x00];
 
-/// Key 0 of layer 0 is usage 05h of the keyboard page, the letter b. The last two bytes are not sent.
-const KEY_0_IS_B: [u8; 8] = [0x03, 0x01, 0, 0, 0x05, 0x00, 0, 0];
+/// Key 29 of layer 0 is usage 05h of the keyboard page, the letter b. The last two bytes are not sent.
+const A_IS_B: [u8; 8] = [0x03, 0x01, 0, 29, 0x05, 0x00, 0, 0];
+
+/// The switch of the letter a, the layer key, and the switch of 1: a row and a column.
+const A: (usize, usize) = (2, 1);
+const LAYER: (usize, usize) = (4, 11);
+const ONE: (usize, usize) = (0, 1);
 
 pub struct Played {
     plays: IntoIter<Play>,
@@ -32,13 +37,15 @@ impl Played {
     pub fn new() -> Played {
         let mut plays = Plays(Vec::new());
         plays.enumerate();
-        plays.press_key_0();
-        plays.say("SET_REPORT: key 0 is a b");
-        plays.events([Event::Setup(SET_FEATURE), Event::Out(KEY_0_IS_B, 6), Event::In]);
+        plays.press("the key of the letter a is pressed", &[A]);
+        plays.say("SET_REPORT: the key is a b");
+        plays.events([Event::Setup(SET_FEATURE), Event::Out(A_IS_B, 6), Event::In]);
         // The header of a page, and the record of the entry.
         plays.events([Event::Nothing, Event::Nothing, Event::In, Event::Cut]);
         plays.address_and_configuration();
-        plays.press_key_0();
+        plays.press("the key is pressed", &[A]);
+        plays.press("the layer key is held", &[LAYER]);
+        plays.press("and 1 is pressed", &[LAYER, ONE]);
         plays.events([Event::Cut]);
         Played { plays: plays.0.into_iter() }
     }
@@ -99,15 +106,15 @@ impl Plays {
         self.ask("SET_CONFIGURATION", [0x00, 9, 1, 0, 0, 0, 0, 0]);
     }
 
-    /// After five milliseconds with key 0 closed the host polls: the report comes in two packets.
-    fn press_key_0(&mut self) {
-        self.say("key 0 is pressed");
-        let mut scan = Scan::NONE;
-        if let Ok(key) = KeyNo::read(0) {
-            scan = scan.with_key(key, true);
+    /// After five milliseconds with these switches closed the host polls: the report comes in two packets.
+    fn press(&mut self, line: &'static str, closed: &[(usize, usize)]) {
+        self.say(line);
+        let mut rows = [0; ROWS];
+        for (row, column) in closed {
+            rows[*row] |= 1 << column;
         }
         for _ in 0..5 {
-            self.events([Event::Millisecond(scan)]);
+            self.events([Event::Millisecond(rows)]);
         }
         self.events([Event::Poll, Event::Poll]);
     }
@@ -134,11 +141,13 @@ impl Chip for Played {
 
     fn change(&mut self, change: Change) {
         match change {
-            Change::Reset => println!("bus reset: address 0, endpoint 1 is Off"),
             Change::Address(address) => println!("address {address}"),
-            Change::Endpoint1(state) => println!("endpoint 1 is {state:?}"),
-            Change::Protocol => println!("the protocol was set"),
+            Change::Endpoint(state) => println!("endpoint 1 is {state:?}"),
         }
+    }
+
+    fn reset(&mut self) {
+        println!("bus reset: address 0, endpoint 1 is Off");
     }
 
     fn arm(&mut self) {

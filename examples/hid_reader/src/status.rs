@@ -89,6 +89,7 @@ impl From<ReadingError> for Status {
             ReadingError::Empty => Status::EmptyReport,
             ReadingError::UnknownReport => Status::UnknownReport,
             ReadingError::Short => Status::ShortReport,
+            ReadingError::OtherId => Status::OtherId,
             ReadingError::NoSuchField => Status::Absent,
             ReadingError::Memory => Status::NoMemory,
         }

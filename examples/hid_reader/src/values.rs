@@ -124,6 +124,37 @@ pub extern "C" fn hidr_buffered(
     })
 }
 
+#[unsafe(no_mangle)]
+#[allow(clippy::too_many_arguments)] // as C has them
+pub extern "C" fn hidr_changes(
+    reader: u64,
+    kind: u8,
+    before: Input,
+    before_length: usize,
+    now: Input,
+    now_length: usize,
+    pressed: Outputs<u32>,
+    pressed_room: usize,
+    pressed_count: Output<usize>,
+    released: Outputs<u32>,
+    released_room: usize,
+    released_count: Output<usize>,
+) -> Status {
+    told(|| {
+        let counts = both(pressed_count.place(), released_count.place())?;
+        let into = both(pressed.places(pressed_room), released.places(released_room));
+        let (into, (before, now)) = both(into, both(before.bytes(before_length), now.bytes(now_length)))?;
+        let changed = of_reader(reader, |reader| {
+            let is_empty = before.is_empty();
+            let kind = kind_of(kind).ok_or(if is_empty { Status::EmptyReport } else { Status::UnknownReport })?;
+            Ok(reader.changes(kind, before, now)?)
+        })?;
+        counts.0.put(into.0.put_all(changed.pressed.into_iter()));
+        counts.1.put(into.1.put_all(changed.released.into_iter()));
+        Ok(())
+    })
+}
+
 /// What a call makes of the detail of a field.
 fn of_field<R>(reader: u64, field: usize, call: impl FnOnce(&Detail) -> Result<R, Status>) -> Result<R, Status> {
     of_reader(reader, |reader| call(reader.detail(field).ok_or(Status::Absent)?))

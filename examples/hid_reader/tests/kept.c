@@ -67,8 +67,11 @@ static hidr_status g6(uint64_t r, struct outputs *to) { return hidr_decimal(r, 0
 static hidr_status g7(uint64_t r, struct outputs *to) {
     return hidr_write(r, 0, 0, &EAST, 1, NULL, 0, to->bytes, 8, &to->count, &to->rest);
 }
+static hidr_status g9(uint64_t r, struct outputs *to) {
+    return hidr_changes(r, 0, REPORT, 7, REPORT, 7, to->numbers, 1, &to->count, to->numbers + 1, 1, &to->rest);
+}
 static hidr_status g8(uint64_t r, struct outputs *to) { return hidr_applications_of(r, 0, 0, to->numbers, 2, &to->count); }
-static with_reader *const CALLS[] = {f0, f1, f2, f3, f4, f5, f6, f7, f8, f9, g0, g1, g2, g3, g4, g5, g6, g7, g8};
+static with_reader *const CALLS[] = {f0, f1, f2, f3, f4, f5, f6, f7, f8, f9, g0, g1, g2, g3, g4, g5, g6, g7, g8, g9};
 #define CALL_COUNT (sizeof CALLS / sizeof CALLS[0])
 
 static void each_answers(uint64_t handle, hidr_status status) {
@@ -156,6 +159,9 @@ static void null_pointers(hidr_reader r) {
     ANSWERS(HIDR_NULL, hidr_read(r, 0, NULL, 1, to.values, SIZE_MAX, &to.count, &to.rest));
     ANSWERS(HIDR_NULL, hidr_read(r, 0, REPORT, 7, to.values, 2, NULL, &to.rest));
     ANSWERS(HIDR_NULL, hidr_buffered(r, 0, REPORT, 7, 2, NULL, 8, &to.count));
+    ANSWERS(HIDR_NULL, hidr_changes(r, 0, NULL, 7, REPORT, 7, to.numbers, SIZE_MAX, &to.count, to.numbers, 1, &to.rest));
+    ANSWERS(HIDR_NULL, hidr_changes(r, 0, REPORT, 7, REPORT, 7, to.numbers, 1, &to.count, NULL, 1, &to.rest));
+    ANSWERS(HIDR_NULL, hidr_changes(r, 0, REPORT, 7, REPORT, 7, to.numbers, 1, &to.count, to.numbers, 1, NULL));
     ANSWERS(HIDR_NULL, hidr_physical(r, 0, 3, NULL));
     ANSWERS(HIDR_NULL, hidr_decimal(r, 0, 3, 1, NULL, 1, &to.count));
     ANSWERS(HIDR_NULL, hidr_write(r, 0, 0, NULL, 1, NULL, 0, to.bytes, SIZE_MAX, &to.count, &to.rest));
@@ -172,6 +178,7 @@ static void lengths_and_overlaps(hidr_reader r) {
     ANSWERS(HIDR_LENGTH, hidr_reports(0, to.reports, SIZE_MAX / 8, &to.count));
     ANSWERS(HIDR_LENGTH, hidr_usage_name(0, to.text, SIZE_MAX, &to.count));
     ANSWERS(HIDR_LENGTH, hidr_read(0, 0, REPORT, 7, to.values, SIZE_MAX / 16, &to.count, &to.rest));
+    ANSWERS(HIDR_LENGTH, hidr_changes(0, 0, REPORT, SIZE_MAX, REPORT, 7, to.numbers, 1, &to.count, to.numbers, 1, &to.rest));
     ANSWERS(HIDR_LENGTH, hidr_write(0, 0, 0, &EAST, SIZE_MAX / 8, NULL, 0, to.bytes, 8, &to.count, &to.rest));
     ANSWERS(HIDR_LENGTH, hidr_write(0, 0, 0, &EAST, 1, REPORT, SIZE_MAX, to.bytes, 8, &to.count, &to.rest));
     UNTOUCHED(to);
@@ -262,6 +269,29 @@ static void what_is_told(hidr_reader r) {
     CHECK(to.fraction.numerator == 90 && to.fraction.denominator == 1 && to.fraction.exponent == 0);
 }
 
+/* What two reports differ in. */
+static void what_changes(hidr_reader r) {
+    struct outputs to;
+    FILL(to);
+    ANSWERS(HIDR_SHORT_REPORT, hidr_changes(r, 0, REPORT, 5, REPORT, 0, to.numbers, 1, &to.count, to.numbers, 1, &to.rest));
+    ANSWERS(HIDR_EMPTY_REPORT, hidr_changes(r, 0, REPORT, 7, REPORT, 0, to.numbers, 1, &to.count, to.numbers, 1, &to.rest));
+    ANSWERS(HIDR_UNKNOWN_REPORT, hidr_changes(r, 3, REPORT, 7, REPORT, 7, to.numbers, 1, &to.count, to.numbers, 1, &to.rest));
+    UNTOUCHED(to);
+    uint8_t now[7];
+    memcpy(now, REPORT, sizeof now);
+    now[1] = 5, now[2] = 6; /* B and C in place of A */
+    ANSWERS(HIDR_OK, hidr_changes(r, 0, REPORT, 7, now, 7, to.numbers, 1, &to.count, to.numbers + 1, 1, &to.rest));
+    CHECK(to.count == 2 && to.numbers[0] == 0x00070005 && to.rest == 1 && to.numbers[1] == 0x00070004);
+    ANSWERS(HIDR_OK, hidr_changes(r, 0, now, 7, now, 6, NULL, 0, &to.count, NULL, 0, &to.rest));
+    CHECK(to.count == 0 && to.rest == 0);
+    hidr_reader other = opened(CONSUMER, sizeof CONSUMER);
+    static const uint8_t volume[] = {2, 1}, both[] = {3, 0};
+    FILL(to);
+    ANSWERS(HIDR_OTHER_ID, hidr_changes(other, 0, volume, 2, both, 2, to.numbers, 1, &to.count, to.numbers, 1, &to.rest));
+    UNTOUCHED(to);
+    ANSWERS(HIDR_OK, hidr_close(other));
+}
+
 /* A name is as much as fits, with a NUL behind it. */
 static void names(hidr_reader r) {
     struct outputs to;
@@ -343,8 +373,8 @@ static void what_is_written(hidr_reader r) {
 
 /* How many requests of each call are refused in turn until it serves, which leaves nothing behind. */
 static void memory(hidr_reader r) {
-    size_t refused[3] = {0};
-    for (int call = 0; call < 3; call++)
+    size_t refused[4] = {0};
+    for (int call = 0; call < 4; call++)
         for (;; refused[call]++) {
             struct outputs to;
             hidr_status status;
@@ -352,7 +382,7 @@ static void memory(hidr_reader r) {
             if (call == 0)
                 GRANTED(refused[call], status, hidr_reader_open(TEXT, sizeof TEXT, &to.handle, &to.error));
             else
-                GRANTED(refused[call], status, call == 1 ? g4(r, &to) : g7(r, &to));
+                GRANTED(refused[call], status, call == 1 ? g4(r, &to) : call == 2 ? g7(r, &to) : g9(r, &to));
             if (status == HIDR_OK) {
                 if (call == 0)
                     ANSWERS(HIDR_OK, hidr_close(to.handle));
@@ -364,7 +394,7 @@ static void memory(hidr_reader r) {
     /* No other call takes memory. */
     for (size_t number = 0; number < CALL_COUNT; number++) {
         struct outputs to;
-        if (CALLS[number] == g4 || CALLS[number] == g7)
+        if (CALLS[number] == g4 || CALLS[number] == g7 || CALLS[number] == g9)
             continue;
         hidr_status status;
         GRANTED(0, status, CALLS[number](r, &to));
@@ -372,8 +402,8 @@ static void memory(hidr_reader r) {
         CHECK(requests == 0);
     }
     CHECK(refused[0] > 6);
-    printf("each refusal of a reader's calls; requests refused in turn: %zu of a reader, %zu of bytes, %zu of a report\n", refused[0],
-           refused[1], refused[2]);
+    printf("each refusal of a reader's calls; requests refused in turn: %zu of a reader, %zu of bytes, %zu of a report, %zu of changes\n",
+           refused[0], refused[1], refused[2], refused[3]);
 }
 
 int main(void) {
@@ -388,6 +418,7 @@ int main(void) {
     lengths_and_overlaps(reader);
     what_is_absent(reader);
     what_is_told(reader);
+    what_changes(reader);
     names(reader);
     refused_settings(reader);
     what_is_written(reader);

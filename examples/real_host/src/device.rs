@@ -1,19 +1,31 @@
 // SPDX-License-Identifier: MIT OR Apache-2.0
 //! The device on a flash in memory, as it hangs on a bus.
 
-use crate::on_bus::{Ended, OnBus};
+use crate::on_bus::{About, Ended, OnBus, Polled};
 use core::ops::ControlFlow;
 use wuzhikar::{Mask, Scan, SimFlash, Work};
-use wuzhikar_device::{Identity, NotDone, PacketSize, PollAnswer};
+use wuzhikar_device::{Identity, NotDone, PacketSize, PollAnswer, Product, utf16};
 
 /// Vendor 1209h, product 0001h is an ID for tests and not for products.
-pub static IDENTITY: Identity =
-    Identity { manufacturer: "Example", product: "Wuzhikar keyboard", serial_number: "0001", ..Identity::TEST };
+pub static PRODUCT: Product = Product::of(Identity {
+    manufacturer: utf16!("Example"),
+    product: utf16!("Wuzhikar keyboard"),
+    serial_number: utf16!("0001"),
+    ..Identity::TEST
+});
 
-/// The identity with packets of so many bytes, and a serial number of its own.
-pub fn identity(size: PacketSize, serial: Option<String>) -> &'static Identity<'static> {
-    let serial_number = serial.map_or(IDENTITY.serial_number, |serial| serial.leak());
-    Box::leak(Box::new(Identity { packet_size: size, serial_number, ..IDENTITY }))
+/// What a bridge tells of a keyboard with this identity.
+pub fn about(identity: &Identity) -> About {
+    let numbers = [identity.vendor_id, identity.product_id, identity.release];
+    About { numbers, packet: identity.packet_size.bytes(), interval: identity.interval.count() }
+}
+
+/// The product with packets of 8, 16, 32 or 64 bytes, and a serial number of its own.
+pub fn product(size: usize, serial: Option<String>) -> &'static Product<'static> {
+    let packet_size = PacketSize::of(size).expect("a packet size");
+    let units = |serial: String| -> &'static [u16] { serial.encode_utf16().collect::<Vec<_>>().leak() };
+    let serial_number = serial.map_or(PRODUCT.identity().serial_number, units);
+    Box::leak(Box::new(Product::of(Identity { packet_size, serial_number, ..*PRODUCT.identity() })))
 }
 
 /// A keyboard on a bus.
@@ -26,20 +38,20 @@ pub struct Device {
 
 impl Device {
     /// A keyboard on this flash.
-    pub fn new(flash: SimFlash, identity: &'static Identity<'static>) -> Device {
-        let inner = wuzhikar_device::Device::start(flash, identity).expect("2 to 8 pages");
+    pub fn new(flash: SimFlash, product: &'static Product<'static>) -> Device {
+        let inner = wuzhikar_device::Device::start(flash, product).expect("2 to 8 pages");
         Device { inner, waits: 0, tear: None }
     }
 
     /// A keyboard on two erased pages.
     pub fn blank() -> Device {
-        Device::new(SimFlash::blank(2).expect("2 pages"), &IDENTITY)
+        Device::new(SimFlash::blank(2).expect("2 pages"), &PRODUCT)
     }
 }
 
 impl OnBus for Device {
-    fn identity(&self) -> &'static Identity<'static> {
-        self.inner.front().identity()
+    fn about(&self) -> About {
+        about(self.inner.product().identity())
     }
 
     fn control(&mut self, setup: [u8; 8], data: &[u8]) -> Ended {
@@ -70,12 +82,17 @@ impl OnBus for Device {
         }
     }
 
-    fn poll(&mut self) -> PollAnswer {
-        self.inner.poll()
+    fn poll(&mut self) -> Polled {
+        match self.inner.poll() {
+            PollAnswer::Data(packet) => Polled::Packet(packet.to_vec()),
+            PollAnswer::Nak => Polled::Nak,
+            PollAnswer::Stall => Polled::Stall,
+            PollAnswer::Nothing => Polled::Nothing,
+        }
     }
 
     fn bus_reset(&mut self) {
-        let _ = self.inner.bus_reset();
+        self.inner.bus_reset();
     }
 
     fn millisecond(&mut self, scan: Scan) {

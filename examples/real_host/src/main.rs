@@ -2,7 +2,7 @@
 //! The keyboard on a real host. `real_host --help` says how.
 #![forbid(unsafe_code)]
 
-use real_host::device::{Device, identity};
+use real_host::device::{Device, product};
 use real_host::{Given, named};
 use std::fs::File;
 use std::io::{Error, Read, Result};
@@ -20,7 +20,7 @@ fn keyboard(given: &Given) -> Result<Device> {
         Some(path) => image(path).map_err(|error| named(path.display(), error))?,
         None => SimFlash::blank(2).map_err(Error::other)?,
     };
-    Ok(Device::new(flash, identity(given.packet, given.serial.clone())))
+    Ok(Device::new(flash, product(given.packet, given.serial.clone())))
 }
 
 /// The flash with the image in a file, of which one byte more than the largest image has is read at most.

@@ -2,7 +2,6 @@
 //! What a host and two hands do to a keyboard: each that can do it may take the place of the one in memory.
 
 use wuzhikar::{KeyNo, Scan};
-use wuzhikar_device::{Identity, PollAnswer};
 
 /// What a control transfer ended in.
 #[derive(Debug, PartialEq, Eq)]
@@ -15,14 +14,34 @@ pub enum Ended {
     Gone,
 }
 
-/// A keyboard on a bus, for a host that asks by whole control transfers.
+/// What the keyboard answered to a poll of endpoint 1.
+#[derive(Debug, PartialEq, Eq)]
+pub enum Polled {
+    Packet(Vec<u8>),
+    Nak,
+    Stall,
+    /// The endpoint is off.
+    Nothing,
+}
+
+/// What a bridge tells a host before the host has asked the keyboard.
+#[derive(Clone, Copy, Debug)]
+pub struct About {
+    /// idVendor, idProduct, bcdDevice.
+    pub numbers: [u16; 3],
+    /// The bytes of a packet of endpoint 1, and its interval in milliseconds.
+    pub packet: usize,
+    pub interval: u8,
+}
+
+/// A keyboard on a bus, for a host that asks by whole control transfers. No type of a USB device layer stands in it.
 pub trait OnBus {
     /// What it tells of itself.
-    fn identity(&self) -> &'static Identity<'static>;
+    fn about(&self) -> About;
     /// A whole control transfer. Where a packet is told to wait, the flash works.
     fn control(&mut self, setup: [u8; 8], data: &[u8]) -> Ended;
     /// A packet of endpoint 1.
-    fn poll(&mut self) -> PollAnswer;
+    fn poll(&mut self) -> Polled;
     /// A bus reset.
     fn bus_reset(&mut self);
     /// A millisecond: a scan, and a step of the flash work.

@@ -14,7 +14,6 @@ use std::path::{Path, PathBuf};
 use std::process::ExitCode;
 use std::sync::mpsc::{Sender, channel};
 use std::time::Duration;
-use wuzhikar_device::PacketSize;
 
 const HELP: &str = "\
 real_host [--packet 8|16|32|64] [--serial TEXT] [--image FILE] [--save FILE] COMMAND
@@ -43,7 +42,7 @@ type Make<'m> = &'m dyn Fn(&Given) -> Result<Box<dyn OnBus>>;
 
 /// What the words ask for.
 pub struct Given {
-    pub packet: PacketSize,
+    pub packet: usize,
     pub serial: Option<String>,
     pub image: Option<PathBuf>,
     pub save: Option<PathBuf>,
@@ -52,15 +51,14 @@ pub struct Given {
 
 impl Given {
     fn read(words: impl Iterator<Item = OsString>) -> std::result::Result<Given, String> {
-        let mut given =
-            Given { packet: PacketSize::Bytes16, serial: None, image: None, save: None, command: Vec::new() };
+        let mut given = Given { packet: 16, serial: None, image: None, save: None, command: Vec::new() };
         let mut words = words.peekable();
         while let Some(option) = words.next_if(|word| word.as_encoded_bytes().starts_with(b"--")) {
             let option = option.to_string_lossy();
             let value = words.next().ok_or(format!("{option} wants a value"))?;
             match &option[..] {
                 "--packet" => {
-                    let size = value.to_str().and_then(|text| text.parse().ok()).and_then(PacketSize::of);
+                    let size = value.to_str().and_then(|text| text.parse().ok()).filter(|size| [8, 16, 32, 64].contains(size));
                     given.packet = size.ok_or("--packet is 8, 16, 32 or 64")?;
                 }
                 "--serial" => given.serial = Some(value.into_string().map_err(|_| "--serial is no text in UTF-8")?),

@@ -3,10 +3,9 @@
 //!
 //! A host asks by URBs: a whole control transfer, or a packet of endpoint 1, which waits until there is one.
 
-use crate::on_bus::{Ended, OnBus, plug};
+use crate::on_bus::{Ended, OnBus, Polled, plug};
 use std::collections::VecDeque;
 use std::io::{Error, ErrorKind, Read, Result, Write};
-use wuzhikar_device::PollAnswer;
 
 const CMD_SUBMIT: u32 = 1;
 const CMD_UNLINK: u32 = 2;
@@ -108,8 +107,7 @@ fn shape() -> Vec<u8> {
     for number in [1, 1, FULL_SPEED] {
         bytes.extend(number.to_be_bytes());
     }
-    let identity = &crate::device::IDENTITY;
-    for number in [identity.vendor_id, identity.product_id, identity.release] {
+    for number in crate::device::about(crate::device::PRODUCT.identity()).numbers {
         bytes.extend(number.to_be_bytes());
     }
     bytes.extend([0, 0, 0, 0, 1, 1]); // class, subclass, protocol, configuration, configurations, interfaces
@@ -182,13 +180,13 @@ impl<S: Write> Wire<S> {
     pub fn poll(&mut self, device: &mut dyn OnBus) -> Result<bool> {
         while let Some((seq, length)) = self.polls.front().copied() {
             match self.transfer(length, device) {
-                PollAnswer::Data(report) => {
+                Polled::Packet(report) => {
                     let sent = &report[..report.len().min(length)];
                     self.submitted(seq, 0, sent.len(), sent)?;
                 }
-                PollAnswer::Stall => self.submitted(seq, EPIPE, 0, &[])?,
-                PollAnswer::Nak => return Ok(true),
-                PollAnswer::Nothing => break,
+                Polled::Stall => self.submitted(seq, EPIPE, 0, &[])?,
+                Polled::Nak => return Ok(true),
+                Polled::Nothing => break,
             }
             self.polls.pop_front();
         }
@@ -196,17 +194,17 @@ impl<S: Write> Wire<S> {
     }
 
     /// A transfer of up to so many bytes on endpoint 1, which is over at a short packet or when all is there.
-    fn transfer(&mut self, length: usize, device: &mut dyn OnBus) -> PollAnswer {
+    fn transfer(&mut self, length: usize, device: &mut dyn OnBus) -> Polled {
         loop {
             match device.poll() {
-                PollAnswer::Data(packet) => {
+                Polled::Packet(packet) => {
                     self.partial.extend_from_slice(&packet);
-                    if packet.len() < device.identity().packet_size.bytes() || self.partial.len() >= length {
-                        return PollAnswer::Data(std::mem::take(&mut self.partial).into_iter().take(length).collect());
+                    if packet.len() < device.about().packet || self.partial.len() >= length {
+                        return Polled::Packet(std::mem::take(&mut self.partial).into_iter().take(length).collect());
                     }
                 }
                 other => {
-                    if other != PollAnswer::Nak {
+                    if other != Polled::Nak {
                         self.partial.clear();
                     }
                     return other;
@@ -271,8 +269,7 @@ mod tests {
         let mut device = Device::blank();
         let mut wire = Wire::plug(Vec::new(), &mut device);
         let set = [0x21, 9, 3, 3, 0, 0, 6, 0];
-        let urb =
-            |to_host, length| Urb::Submit { seq: 1, to_host, endpoint: 0, length, setup: set, data: vec![3; length] };
+        let urb = |to_host, length| Urb::Submit { seq: 1, to_host, endpoint: 0, length, setup: set, data: vec![3; length] };
         for (to_host, length) in [(false, 5), (false, 7), (false, 0), (true, 6)] {
             assert_eq!(ask(&mut wire, &mut device, urb(to_host, length)), [(EINVAL, vec![])]);
         }

@@ -4,9 +4,8 @@
 //! A host asks by messages: a bus reset, a whole control transfer, and once to receive the packets of endpoint 1, which are
 //! pushed from then on. SET_CONFIGURATION and SET_INTERFACE come as messages of their own; SET_ADDRESS doesn't come.
 
-use crate::on_bus::{Ended, OnBus, plug};
+use crate::on_bus::{About, Ended, OnBus, Polled, plug};
 use std::io::{Error, ErrorKind, Read, Result, Write};
-use wuzhikar_device::{Identity, PollAnswer};
 
 const HELLO: u32 = 0;
 const DEVICE_CONNECT: u32 = 1;
@@ -68,7 +67,7 @@ pub struct Wire<S> {
     to: S,
     receives: bool,
     sent: u64,
-    identity: &'static Identity<'static>,
+    about: About,
 }
 
 impl<S: Write> Wire<S> {
@@ -79,7 +78,7 @@ impl<S: Write> Wire<S> {
         hello.extend(CAPABILITIES.to_le_bytes());
         to.write_all(&[&HELLO.to_le_bytes()[..], &68u32.to_le_bytes(), &[0; 4], &hello].concat())?;
         plug(device);
-        Ok(Wire { to, receives: false, sent: 0, identity: device.identity() })
+        Ok(Wire { to, receives: false, sent: 0, about: device.about() })
     }
 
     /// The device is unplugged.
@@ -92,7 +91,7 @@ impl<S: Write> Wire<S> {
     pub fn connect(&mut self) -> Result<()> {
         self.shape()?;
         let mut about = vec![FULL_SPEED, 0, 0, 0];
-        for number in [self.identity.vendor_id, self.identity.product_id, self.identity.release] {
+        for number in self.about.numbers {
             about.extend(number.to_le_bytes());
         }
         self.say(DEVICE_CONNECT, 0, &about)
@@ -188,13 +187,13 @@ impl<S: Write> Wire<S> {
     pub fn poll(&mut self, device: &mut dyn OnBus) -> Result<bool> {
         while self.receives {
             let (status, report) = match device.poll() {
-                PollAnswer::Data(report) => (SUCCESS, report.to_vec()),
-                PollAnswer::Stall => {
+                Polled::Packet(report) => (SUCCESS, report.to_vec()),
+                Polled::Stall => {
                     self.receives = false;
                     (STALL, Vec::new())
                 }
-                PollAnswer::Nak => return Ok(true),
-                PollAnswer::Nothing => break,
+                Polled::Nak => return Ok(true),
+                Polled::Nothing => break,
             };
             let mut packet = vec![0x81, status, report.len() as u8, 0];
             packet.extend(report);
@@ -210,8 +209,8 @@ impl<S: Write> Wire<S> {
         let interfaces = [only_first(0), only_first(3), only_first(1), only_first(1)].concat();
         self.say(INTERFACE_INFO, 0, &[&1u32.to_le_bytes()[..], &interfaces].concat())?;
         let (mut kinds, mut intervals, mut sizes) = ([255; 32], [0; 32], [0u8; 64]);
-        (kinds[0], kinds[16], kinds[17], intervals[17]) = (0, 0, 3, self.identity.interval.count());
-        (sizes[0], sizes[32], sizes[34]) = (8, 8, self.identity.packet_size.bytes() as u8);
+        (kinds[0], kinds[16], kinds[17], intervals[17]) = (0, 0, 3, self.about.interval);
+        (sizes[0], sizes[32], sizes[34]) = (8, 8, self.about.packet as u8);
         self.say(EP_INFO, 0, &[&kinds[..], &intervals, &[0; 32], &sizes].concat())
     }
 
@@ -280,7 +279,7 @@ mod tests {
     }
 
     #[test]
-    fn a_host_is_told_of_a_command_in_which_the_power_went() {
+    fn a_power_loss_inside_a_command_is_reported() {
         let mut device = Device::blank();
         let mut wire = Wire::plug(Vec::new(), &mut device).expect("a wire of memory");
         device.tear(vec![0x0f]);

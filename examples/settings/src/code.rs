@@ -93,7 +93,7 @@ mod tests {
     }
 
     #[test]
-    fn one_cell_is_corrected_and_two_are_told() {
+    fn one_cell_is_corrected_and_two_are_reported() {
         let mut random = Random::of(3);
         for (bytes, checks) in [(8, 8), (16, 9), (32, 10)] {
             let code = Code::of(bytes);

@@ -1,10 +1,10 @@
 // SPDX-License-Identifier: MIT OR Apache-2.0
 //! Random settings, faults and cuts of the power, and the judge of what is there afterwards.
 
+use std::collections::BTreeMap;
 use std::fmt;
 
-use settings::{SetError, Settings};
-use wuzhikar_log::NorFlash;
+use wuzhikar_log::{Change, FlashSettings, NorFlash, SettingsError, Value};
 
 use crate::power::Power;
 use crate::random::Random;
@@ -51,24 +51,24 @@ impl Tally {
 /// What should not have been.
 #[derive(Clone, Debug, PartialEq, Eq)]
 pub enum Broken {
-    /// After this cut an id does not have a value that it may have.
-    Lost { cut: u64, id: u8, read: Option<u16>, stored: Option<u16> },
+    /// After this cut the values are neither those before the changes that it came into nor those after all of them.
+    Lost { cut: u64, read: Values, stored: Values },
     /// Between two cuts an id has another value than it was given.
-    Wrong { cut: u64, id: u8 },
+    Wrong { cut: u64, id: u16 },
     /// The values that are listed are not those of the ids.
     Listed { cut: u64 },
     /// A value was refused though no operation had failed.
-    Refused { cut: u64, error: SetError },
+    Refused { cut: u64, error: SettingsError },
     /// The adapter asked something of its driver that it should not.
     Misuse { cut: u64, how: &'static str },
 }
 
-/// A value that an id is given, or that it is taken.
-type Change = (u8, Option<u16>);
+/// What ids have.
+type Values = BTreeMap<u16, Vec<u8>>;
 
 /// The settings on a flash of 2 to 8 pages.
-pub fn mounted<F: NorFlash>(flash: F) -> Settings<F> {
-    Settings::mount(flash).expect("2 to 8 pages")
+pub fn mounted<F: NorFlash>(flash: F) -> FlashSettings<F> {
+    FlashSettings::mount(flash).expect("2 to 8 pages")
 }
 
 /// Starts the settings anew after each of `cuts` cuts, and finds what is lost.
@@ -81,7 +81,7 @@ pub fn run<A: Adapter>(seed: u64, cuts: u64) -> Result<Tally, Broken> {
     for cut in 0..cuts {
         judge.tally.cuts = cut;
         // Most cuts come soon, some so late that a compaction comes to its end.
-        let bound = [4, 40, 400, 2000][random.below(4)];
+        let bound = [4, 30, 200, 800][random.below(4)];
         power.on(random.below(bound) as u64);
         let mut settings = mounted(A::start(chip, pages));
         judge.starts(&settings)?;
@@ -97,10 +97,10 @@ pub fn run<A: Adapter>(seed: u64, cuts: u64) -> Result<Tally, Broken> {
     Ok(Tally { cuts, cut_erases: power.cut_erases(), faults: power.faults(), ..judge.tally })
 }
 
-/// What every id has to have, and the change that a cut came into.
+/// What every id has to have, and the changes that a cut came into.
 struct Judge {
-    stored: [Option<u16>; 256],
-    under_way: Option<Change>,
+    stored: Values,
+    under_way: Vec<Change>,
     /// How many ids are in use.
     ids: usize,
     tally: Tally,
@@ -108,60 +108,66 @@ struct Judge {
 
 impl Judge {
     fn new(random: &mut Random) -> Judge {
-        let ids = [1, 16, 256][random.below(3)];
-        Judge { stored: [None; 256], under_way: None, ids, tally: Tally::default() }
+        let ids = [1, 4, 12][random.below(3)];
+        Judge { stored: Values::new(), under_way: Vec::new(), ids, tally: Tally::default() }
     }
 
-    /// The settings after a start: each id has what was stored, or what was under way.
-    fn starts<A: Adapter>(&mut self, settings: &Settings<A>) -> Result<(), Broken> {
+    /// The settings after a start: what was stored, or that with all changes that were under way.
+    fn starts<A: Adapter>(&mut self, settings: &FlashSettings<A>) -> Result<(), Broken> {
         let cut = self.tally.cuts;
-        if let Some((id, value)) = self.under_way.take() {
-            if settings.get(id) == value {
-                self.stored[usize::from(id)] = value;
+        let read: Values = settings.iter().map(|(id, value)| (id, value.as_bytes().to_vec())).collect();
+        let changed = after(&self.stored, &self.under_way);
+        self.under_way.clear();
+        if read != self.stored && read != changed {
+            return Err(Broken::Lost { cut, read, stored: self.stored.clone() });
+        }
+        self.stored = read;
+        for id in 0..self.ids as u16 {
+            let value = settings.get(id).map(|value| value.as_bytes().to_vec());
+            if value != self.stored.get(&id).cloned() || settings.contains(id) != value.is_some() {
+                return Err(Broken::Listed { cut });
             }
         }
-        for (id, stored) in (0..=u8::MAX).zip(self.stored) {
-            let read = settings.get(id);
-            if read != stored {
-                return Err(Broken::Lost { cut, id, read, stored });
-            }
-        }
-        let listed = (0..=u8::MAX).zip(self.stored).filter_map(|(id, value)| Some((id, value?)));
-        if settings.iter().eq(listed) { Ok(()) } else { Err(Broken::Listed { cut }) }
+        Ok(())
     }
 
-    /// A change, or a compaction, and what it answers.
+    fn draw(&self, random: &mut Random) -> Change {
+        let most = [4, 12, 12, 64][random.below(4)];
+        let bytes: Vec<u8> = (0..random.below(most + 1)).map(|_| random.next() as u8).collect();
+        let id = random.below(self.ids) as u16;
+        Change { id, value: if random.below(8) == 0 { None } else { Value::new(&bytes) } }
+    }
+
+    /// A change, a transaction or a compaction, and what it answers.
     fn change<A: Adapter>(
         &mut self,
-        settings: &mut Settings<A>,
+        settings: &mut FlashSettings<A>,
         random: &mut Random,
         power: &Power,
     ) -> Result<(), Broken> {
         let faults = power.faults();
-        let id = random.below(self.ids) as u8;
-        let (change, answer) = match random.below(64) {
-            0 => (None, settings.compact()),
-            1..8 => (Some((id, None)), settings.remove(id)),
-            _ => {
-                let value = random.next() as u16;
-                (Some((id, Some(value))), settings.set(id, value))
-            }
+        let count = [0, 2, 3].get(random.below(24)).copied().unwrap_or(1);
+        let changes: Vec<Change> = (0..count).map(|_| self.draw(random)).collect();
+        let answer = match &changes[..] {
+            [] => settings.compact(),
+            [Change { id, value: Some(value) }] => settings.set(*id, value.as_bytes()),
+            [Change { id, value: None }] => settings.remove(*id),
+            changes => settings.transaction(changes),
         };
         if power.is_off() {
-            self.under_way = change;
+            self.under_way = changes;
             return Ok(());
         }
         match answer {
             Ok(()) => {
                 self.tally.stored += 1;
-                if let Some((id, value)) = change {
-                    self.stored[usize::from(id)] = value;
-                }
+                self.stored = after(&self.stored, &changes);
             }
-            Err(SetError::Fault) if power.faults() > faults => self.tally.failed += 1,
+            Err(SettingsError::Fault) if power.faults() > faults => self.tally.failed += 1,
             Err(error) => return Err(Broken::Refused { cut: self.tally.cuts, error }),
         }
-        if settings.get(id) == self.stored[usize::from(id)] {
+        let id = changes.first().map_or(0, |change| change.id);
+        if settings.get(id).map(|value| value.as_bytes().to_vec()) == self.stored.get(&id).cloned() {
             Ok(())
         } else {
             Err(Broken::Wrong { cut: self.tally.cuts, id })
@@ -169,12 +175,22 @@ impl Judge {
     }
 }
 
+/// What ids have after some changes more.
+fn after(values: &Values, changes: &[Change]) -> Values {
+    let mut values = values.clone();
+    for change in changes {
+        match &change.value {
+            Some(value) => values.insert(change.id, value.as_bytes().to_vec()),
+            None => values.remove(&change.id),
+        };
+    }
+    values
+}
+
 impl fmt::Display for Broken {
     fn fmt(&self, f: &mut fmt::Formatter<'_>) -> fmt::Result {
         match self {
-            Broken::Lost { cut, id, read, stored } => {
-                write!(f, "after cut {cut} id {id} reads {read:?}, and {stored:?} was stored")
-            }
+            Broken::Lost { cut, read, stored } => write!(f, "after cut {cut} there is {read:?}, and {stored:?} was stored"),
             Broken::Wrong { cut, id } => write!(f, "after cut {cut} id {id} has another value than it was given"),
             Broken::Listed { cut } => write!(f, "after cut {cut} what is listed is not what the ids have"),
             Broken::Refused { cut, error } => write!(f, "after cut {cut} without a fault: {error}"),

@@ -144,5 +144,5 @@ pub fn report(geometries: &[Geometry], tallies: &[Tally]) -> String {
         );
         all.add(*tally);
     }
-    lines + &format!("{} cuts on {} flashes: nothing lost\n", all.cuts, geometries.len())
+    lines + &format!("{} cuts on {} flashes: 0 lost, 0 torn in two\n", all.cuts, geometries.len())
 }

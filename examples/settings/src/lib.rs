@@ -1,207 +1,102 @@
 // SPDX-License-Identifier: MIT OR Apache-2.0
-//! Settings: a value of 16 bits for each of 256 ids, in NOR flash, which no loss of power spoils.
-//!
-//! [`Settings`] keeps the latest value of each id in a table in memory (1 KB) and, as words of a [`FlashLog`], in flash.
-//! No allocator is used.
+//! The settings of a lamp with Wi-Fi, in NOR flash: each outlives every loss of power, and a network's name and password
+//! are stored together or not at all. No allocator is used.
 #![no_std]
 #![forbid(unsafe_code)]
 
 pub mod stm32g0;
 
-use wuzhikar_log::{Dropped, FlashFault, FlashLog, LogRefusal, NorFlash, PageCount, WriteError};
+use wuzhikar_log::{Change, FlashSettings, NorFlash, PageCount, SettingsError, Value};
 
-/// Why a value was not stored. All values are as before.
-#[derive(Clone, Copy, Debug, PartialEq, Eq)]
-pub enum SetError {
-    /// The first slot of a page is not sound: something else wrote there. [`Settings::format`] erases it.
-    Unsound,
-    /// The flash holds a log of something else, and a compaction would lose it. [`Settings::format`] erases it.
-    Foreign,
-    /// Each page was erased some 268 million times.
-    Worn,
-    /// The flash told of a fault, and the value does not read back. A second try writes elsewhere.
-    Fault,
+/// The ids of the settings. Never give one another meaning in a product in the field.
+const NAME: u16 = 1;
+const PASSWORD: u16 = 2;
+const CHANNEL: u16 = 3;
+const LIT: u16 = 4;
+const ADDRESS: u16 = 5;
+
+/// A network that the lamp joins.
+#[derive(Clone, Debug, PartialEq, Eq)]
+pub struct Network {
+    name: Value,
+    password: Value,
 }
 
-/// The settings, and the flash that they are in.
+impl Network {
+    /// The name, of at most 64 bytes.
+    pub fn name(&self) -> &str {
+        self.name.as_str().unwrap_or_default()
+    }
+
+    /// The password, of at most 64 bytes.
+    pub fn password(&self) -> &str {
+        self.password.as_str().unwrap_or_default()
+    }
+}
+
+/// The settings of a lamp.
 #[derive(Debug)]
-pub struct Settings<F> {
-    log: FlashLog<F>,
-    latest: Latest,
-    foreign: bool,
-}
+pub struct Lamp<F>(FlashSettings<F>);
 
-impl<F: NorFlash> Settings<F> {
-    /// Reads what is in a flash, which it leaves as it is. A blank flash has no values.
-    ///
-    /// `PageCount` where the flash has not 2 to 8 pages: then it is not read either.
-    pub fn mount(flash: F) -> Result<Settings<F>, PageCount> {
-        let mut settings = Settings { log: FlashLog::mount(flash)?, latest: Latest::default(), foreign: false };
-        settings.read();
-        Ok(settings)
+impl<F: NorFlash> Lamp<F> {
+    /// Reads what is in a flash of 2 to 8 pages.
+    pub fn mount(flash: F) -> Result<Lamp<F>, PageCount> {
+        Ok(Lamp(FlashSettings::mount(flash)?))
     }
 
-    /// The value of an id, if it has one.
-    pub fn get(&self, id: u8) -> Option<u16> {
-        self.latest.0[usize::from(id)]
+    /// The network, if there is one.
+    pub fn network(&self) -> Option<Network> {
+        Some(Network { name: self.0.get(NAME)?, password: self.0.get(PASSWORD)? })
     }
 
-    /// The ids that have a value, rising, each with its value.
-    pub fn iter(&self) -> impl Iterator<Item = (u8, u16)> {
-        self.latest.iter()
+    /// Stores a network: name and password together.
+    pub fn join(&mut self, name: &str, password: &str) -> Result<(), SettingsError> {
+        let value = |text: &str| Value::new(text.as_bytes()).ok_or(SettingsError::TooLong);
+        self.0.transaction(&[
+            Change { id: NAME, value: Some(value(name)?) },
+            Change { id: PASSWORD, value: Some(value(password)?) },
+        ])
     }
 
-    /// Stores a value: when it answers `Ok`, no loss of power loses it. A power cut inside leaves the value before or this
-    /// one. Nothing is written where the id has this value already; else it is one program or, where the page is full,
-    /// a compaction.
-    pub fn set(&mut self, id: u8, value: u16) -> Result<(), SetError> {
-        self.store(Entry { id, value: Some(value) })
+    /// Forgets the network: name and password together.
+    pub fn leave(&mut self) -> Result<(), SettingsError> {
+        self.0.transaction(&[Change { id: NAME, value: None }, Change { id: PASSWORD, value: None }])
     }
 
-    /// Takes an id its value, as [`set`](Settings::set) gives it one.
-    pub fn remove(&mut self, id: u8) -> Result<(), SetError> {
-        self.store(Entry { id, value: None })
+    /// The channel, or 1.
+    pub fn channel(&self) -> u8 {
+        self.0.get(CHANNEL).and_then(|value| value.as_u8()).unwrap_or(1)
     }
 
-    /// Moves the values to the next page, which then has room for 511 words less one for each id that has a value. `set`
-    /// does so by itself where the page is full; a firmware may do it when it has time.
-    pub fn compact(&mut self) -> Result<(), SetError> {
-        self.usable()?;
-        Ok(self.log.rewrite(self.latest.words())?)
+    pub fn set_channel(&mut self, channel: u8) -> Result<(), SettingsError> {
+        self.0.set(CHANNEL, &[channel])
     }
 
-    /// Whether anything may be written, or why not.
-    pub fn usable(&self) -> Result<(), SetError> {
-        self.log.usable().map_err(|_| SetError::Unsound)?;
-        if self.foreign { Err(SetError::Foreign) } else { Ok(()) }
+    /// Whether the lamp is lit after a start.
+    pub fn is_lit(&self) -> bool {
+        self.0.get(LIT).and_then(|value| value.as_bool()).unwrap_or(false)
     }
 
-    /// Erases all pages, whatever they hold, and so **all values**: [`FlashLog::format`]. The answer says what was dropped.
-    pub fn format(&mut self) -> Result<Dropped, FlashFault> {
-        let done = self.log.format();
-        self.read();
-        done
+    pub fn set_lit(&mut self, lit: bool) -> Result<(), SettingsError> {
+        self.0.set(LIT, &[lit.into()])
     }
 
-    /// The flash.
-    pub fn flash(&self) -> &F {
-        self.log.flash()
+    /// The address, if one was given.
+    pub fn address(&self) -> Option<[u8; 4]> {
+        Some(self.0.get(ADDRESS)?.as_u32()?.to_le_bytes())
+    }
+
+    pub fn set_address(&mut self, address: [u8; 4]) -> Result<(), SettingsError> {
+        self.0.set(ADDRESS, &address)
+    }
+
+    /// All settings, with their flash.
+    pub fn settings(&mut self) -> &mut FlashSettings<F> {
+        &mut self.0
     }
 
     /// Gives up the settings, and the flash as it is.
     pub fn into_flash(self) -> F {
-        self.log.into_flash()
-    }
-
-    /// Reads the words of the log, of which the last one of an id counts.
-    fn read(&mut self) {
-        self.latest = Latest::default();
-        self.foreign = false;
-        for word in self.log.words() {
-            match Entry::of_word(word) {
-                Some(entry) => self.latest.take(entry),
-                None => self.foreign = true,
-            }
-        }
-    }
-
-    fn store(&mut self, entry: Entry) -> Result<(), SetError> {
-        self.usable()?;
-        let before = Entry { id: entry.id, value: self.get(entry.id) };
-        if before.value == entry.value {
-            return Ok(());
-        }
-        self.latest.take(entry);
-        let stored = match self.log.push(entry.word()) {
-            // The entry is among the values that are moved.
-            Err(WriteError::Refused(LogRefusal::NoRoom)) => self.log.rewrite(self.latest.words()),
-            stored => stored,
-        };
-        if stored.is_err() {
-            self.latest.take(before);
-        }
-        Ok(stored?)
+        self.0.into_flash()
     }
 }
-
-/// The value that an id was given, or that it was taken.
-#[derive(Clone, Copy)]
-struct Entry {
-    id: u8,
-    value: Option<u16>,
-}
-
-/// Bits 31 to 24 of the word that gives a value, and of the one that takes it. Below stand the id, 8 bits, and the value.
-const GIVEN: u8 = 0x50;
-const TAKEN: u8 = 0x60;
-
-impl Entry {
-    fn word(self) -> u32 {
-        let (kind, value) = match self.value {
-            Some(value) => (GIVEN, value),
-            None => (TAKEN, 0),
-        };
-        let [low, high] = value.to_le_bytes();
-        u32::from_le_bytes([low, high, self.id, kind])
-    }
-
-    /// The entry of a word, or `None` where it is a word of something else.
-    fn of_word(word: u32) -> Option<Entry> {
-        let [low, high, id, kind] = word.to_le_bytes();
-        let value = match kind {
-            GIVEN => Some(u16::from_le_bytes([low, high])),
-            TAKEN => None,
-            _ => return None,
-        };
-        Some(Entry { id, value })
-    }
-}
-
-/// The latest value of each id.
-#[derive(Debug)]
-struct Latest([Option<u16>; 256]);
-
-impl Default for Latest {
-    fn default() -> Latest {
-        Latest([None; 256])
-    }
-}
-
-impl Latest {
-    fn take(&mut self, entry: Entry) {
-        self.0[usize::from(entry.id)] = entry.value;
-    }
-
-    fn iter(&self) -> impl Iterator<Item = (u8, u16)> {
-        (0..=u8::MAX).zip(&self.0).filter_map(|(id, value)| Some((id, (*value)?)))
-    }
-
-    /// A word for each id that has a value.
-    fn words(&self) -> impl Iterator<Item = u32> {
-        self.iter().map(|(id, value)| Entry { id, value: Some(value) }.word())
-    }
-}
-
-impl From<WriteError> for SetError {
-    fn from(error: WriteError) -> SetError {
-        match error {
-            WriteError::Refused(LogRefusal::Worn) => SetError::Worn,
-            WriteError::Refused(LogRefusal::Unsound) => SetError::Unsound,
-            // No append or turn is ever left under way, and 256 words have room on a page.
-            WriteError::Refused(LogRefusal::NotNow | LogRefusal::NoRoom) | WriteError::Fault => SetError::Fault,
-        }
-    }
-}
-
-impl core::fmt::Display for SetError {
-    fn fmt(&self, f: &mut core::fmt::Formatter<'_>) -> core::fmt::Result {
-        f.write_str(match self {
-            SetError::Unsound => "the first slot of a page is not sound",
-            SetError::Foreign => "the flash holds a log of something else",
-            SetError::Worn => "the pages were erased as often as can be counted",
-            SetError::Fault => "an operation of the flash failed",
-        })
-    }
-}
-
-impl core::error::Error for SetError {}

@@ -3,10 +3,10 @@
 
 use std::fmt::Write;
 
-use settings::{SetError, Settings};
-use wuzhikar_log::{Dropped, PairedFlash, SlotFlash, UnitFlash};
+use settings::Lamp;
+use wuzhikar_log::{Dropped, FlashSettings, NorFlash, PairedFlash, SettingsError, SlotFlash, UnitFlash};
 
-use crate::cuts::{Adapter, mounted};
+use crate::cuts::Adapter;
 use crate::ecc::EccChip;
 use crate::plain::PlainChip;
 use crate::power::Power;
@@ -40,10 +40,10 @@ pub fn ecc() -> String {
     let units = UnitFlash::new(chip, 8192, PAGES).expect("a geometry that serves");
     match PairedFlash::format(units) {
         Ok(flash) => {
-            let mut settings = mounted(flash);
-            told.values("something else wrote everywhere, and all pages are erased", &settings);
-            told.answer(format_args!("set 1 to 5"), settings.set(1, 5));
-            told.values("now", &settings);
+            let mut lamp = mounted(flash);
+            told.values("something else wrote everywhere, and all pages are erased", &lamp);
+            told.answer(format_args!("join home"), lamp.join("home", "sesame"));
+            told.values("now", &lamp);
         }
         Err(fault) => told.line(format_args!("format: {fault}")),
     }
@@ -59,65 +59,72 @@ impl Told {
         self.0.push('\n');
     }
 
-    /// Values are set and removed, and the power is cut.
+    /// Settings are given and taken, and the power is cut.
     fn values_and_cuts<A: Adapter>(&mut self, chip: A::Chip, power: &Power) -> A::Chip {
-        let mut settings = mounted(A::start(chip, PAGES));
-        self.values("a blank flash", &settings);
-        for (id, value) in [(1, 100), (2, 200), (7, 7000)] {
-            self.answer(format_args!("set {id} to {value}"), settings.set(id, value));
-        }
-        self.answer(format_args!("remove 2"), settings.remove(2));
-        self.values("now", &settings);
+        let mut lamp = mounted(A::start(chip, PAGES));
+        self.values("a blank flash", &lamp);
+        self.answer(format_args!("join home"), lamp.join("home", "sesame"));
+        self.answer(format_args!("light"), lamp.set_lit(true));
+        self.answer(format_args!("address 10.0.0.7"), lamp.set_address([10, 0, 0, 7]));
+        self.values("now", &lamp);
+
+        power.on(3);
+        let _lost = lamp.join("office", "a longer password");
+        lamp = self.restart(lamp, power, "the power is cut while it joins office");
+
+        let last = (0..600).map(|n| lamp.set_channel(n as u8)).find(Result::is_err).unwrap_or(Ok(()));
+        self.answer(format_args!("600 channels, with a compaction where the page is full"), last);
+        self.values("now", &lamp);
 
         power.on(0);
-        let _lost = settings.set(1, 101);
-        settings = self.restart(settings, power, "the power is cut while 1 is set to 101");
-
-        let last = (0..600).map(|n| settings.set(1, n)).find(Result::is_err).unwrap_or(Ok(()));
-        self.answer(format_args!("set 1 to 0, 1 .. 599, with a compaction where the page is full"), last);
-        self.values("now", &settings);
-
-        power.on(0);
-        let _lost = settings.compact();
-        settings = self.restart(settings, power, "the power is cut in the erase of a compaction");
-        self.answer(format_args!("compact"), settings.compact());
-        self.values("now", &settings);
-        settings.into_flash().stop()
+        let _lost = lamp.settings().compact();
+        lamp = self.restart(lamp, power, "the power is cut in the erase of a compaction");
+        self.answer(format_args!("leave"), lamp.leave());
+        self.values("now", &lamp);
+        lamp.into_flash().stop()
     }
 
     /// The flash holds something else, and is formatted.
     fn something_else(&mut self, mut chip: <Plain as Adapter>::Chip) {
         chip.bytes()[8192..8200].fill(0);
-        let mut settings = mounted(Plain::start(chip, PAGES));
-        self.values("something else wrote into the first slot of a page", &settings);
-        self.answer(format_args!("set 1 to 5"), settings.set(1, 5));
-        match settings.format() {
-            Ok(Dropped { words, unsound }) => {
+        let mut lamp = mounted(Plain::start(chip, PAGES));
+        self.values("something else wrote into the first slot of a page", &lamp);
+        self.answer(format_args!("join home"), lamp.join("home", "sesame"));
+        match FlashSettings::format(lamp.into_flash()) {
+            Ok((settings, Dropped { words, unsound })) => {
                 let unsound = unsound.map_or(String::new(), |page| format!("; page {page} was not sound"));
                 self.line(format_args!("format: {words} words are dropped{unsound}"));
+                lamp = mounted(settings.into_flash());
+                self.answer(format_args!("join home"), lamp.join("home", "sesame"));
+                self.values("now", &lamp);
             }
             Err(fault) => self.line(format_args!("format: {fault}")),
         }
-        self.answer(format_args!("set 1 to 5"), settings.set(1, 5));
-        self.values("now", &settings);
     }
 
-    fn restart<A: Adapter>(&mut self, settings: Settings<A>, power: &Power, why: &str) -> Settings<A> {
+    fn restart<A: Adapter>(&mut self, lamp: Lamp<A>, power: &Power, why: &str) -> Lamp<A> {
         power.on(NO_CUT);
-        let settings = mounted(A::start(settings.into_flash().stop(), PAGES));
-        self.values(why, &settings);
-        settings
+        let lamp = mounted(A::start(lamp.into_flash().stop(), PAGES));
+        self.values(why, &lamp);
+        lamp
     }
 
-    fn answer(&mut self, asked: std::fmt::Arguments<'_>, answer: Result<(), SetError>) {
+    fn answer(&mut self, asked: std::fmt::Arguments<'_>, answer: Result<(), SettingsError>) {
         match answer {
             Ok(()) => self.line(format_args!("{asked}: done")),
             Err(error) => self.line(format_args!("{asked}: refused, {error}")),
         }
     }
 
-    fn values<A: Adapter>(&mut self, when: &str, settings: &Settings<A>) {
-        let values: Vec<String> = settings.iter().map(|(id, value)| format!("{id} is {value}")).collect();
-        self.line(format_args!("{when}: {}", if values.is_empty() { "no value".into() } else { values.join(", ") }));
+    fn values<F: NorFlash>(&mut self, when: &str, lamp: &Lamp<F>) {
+        let network = lamp.network().map_or("no network".into(), |n| format!("{} with {}", n.name(), n.password()));
+        let address = lamp.address().map_or("none".into(), |[a, b, c, d]| format!("{a}.{b}.{c}.{d}"));
+        let lit = if lamp.is_lit() { "lit" } else { "dark" };
+        self.line(format_args!("{when}: {network}, channel {}, {lit}, address {address}", lamp.channel()));
     }
+}
+
+/// The settings of a lamp on a flash of 2 to 8 pages.
+fn mounted<F: NorFlash>(flash: F) -> Lamp<F> {
+    Lamp::mount(flash).expect("2 to 8 pages")
 }

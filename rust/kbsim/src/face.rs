@@ -8,19 +8,21 @@ use std::io::{Read, Write};
 use wuzhikar_log::SimFlash;
 use wuzhikar_reader::AllocError;
 
-/// Runs the script that a reader gives on a blank flash of `pages` pages, 2 to 8, and prints its lines to a writer.
+/// Runs the script of a reader on a blank flash of `pages` pages, 2 to 8, and prints a line for each answer.
 ///
-/// Where the script can't be run, its fault is printed in place of all lines, and is the error.
+/// # Errors
+///
+/// A script that can't be run: its fault is printed in place of all lines, and returned.
 pub fn run_script<R: Read, W: Write>(pages: usize, reader: &mut R, writer: &mut W) -> Result<(), RunError> {
     kbsim::run_script((), pages, reader, writer)
 }
 
-/// Runs the script that a reader gives on this flash, and answers the flash after it: see [`run_script`].
+/// Runs the script of a reader on this flash, and returns the flash after it (see [`run_script`]).
 pub fn run_on<R: Read, W: Write>(flash: SimFlash, reader: &mut R, writer: &mut W) -> Result<SimFlash, RunError> {
     kbsim::run_on((), flash, reader, writer)
 }
 
-/// Does what [`run_on`] does, and tells a sink of each event and each line.
+/// Runs a script as [`run_on`] does, and hands a sink each event with its answer and flash operation, and each line.
 pub fn run_with<R: Read, W: Write, S: Sink>(
     flash: SimFlash,
     reader: &mut R,
@@ -30,25 +32,35 @@ pub fn run_with<R: Read, W: Write, S: Sink>(
     kbsim::run_with((), flash, reader, writer, sink)
 }
 
-/// A blank flash of `pages` pages. The fault of a script for which there is no memory, otherwise.
+/// Makes a blank flash of `pages` pages, 2 to 8.
+///
+/// # Errors
+///
+/// `RunError` names another number of pages, or refused memory.
 pub fn blank_flash(pages: usize) -> Result<SimFlash, RunError> {
     kbsim::blank_flash((), pages)
 }
 
-/// The flash that holds the bytes that a reader gives: 2 to 8 pages of 4,096 bytes.
+/// Makes a flash of the bytes of a reader: 2 to 8 pages of 4,096 bytes.
+///
+/// # Errors
+///
+/// `RunError` says that the bytes are no such image, that the reader failed, or that memory was refused.
 pub fn image_flash<R: Read>(reader: &mut R) -> Result<SimFlash, RunError> {
     kbsim::image_flash((), reader)
 }
 
-/// Prints the fields of the report descriptor in hex that a reader gives, a line each, or its first fault.
+/// Prints a line for each field of a report descriptor, which a reader gives in hex, or its first fault.
 pub fn parse_text<R: Read, W: Write>(reader: &mut R, writer: &mut W) -> Result<(), LinesError> {
     parse_lines::parse_text((), reader, writer)
 }
 
 impl World {
-    /// A keyboard as it starts on a flash, with a host that was told nothing.
+    /// Starts a keyboard on a flash, beside a host that has read nothing.
     ///
-    /// `AllocError` where there was no memory.
+    /// # Errors
+    ///
+    /// `AllocError` if memory was refused. The flash is dropped then.
     pub fn on(flash: SimFlash) -> Result<World, AllocError> {
         World::new((), flash)
     }

@@ -65,6 +65,72 @@ fn options_in_both_spellings_take_one_word() {
 }
 
 #[test]
+fn changes_are_by_the_last_report_of_an_id() {
+    let folder = Folder::new("changes");
+    let two = "05070901a101 8501 190029ff 26ff00 7508 9502 8100 8502 19e029e7 1500 2501 7501 9508 8102 c0";
+    fs::write(folder.0.join("two"), two).unwrap();
+    let reports = "01 04 00\n02 02\n01 04 05\n03\n02 00\n01 05 00\n01 05";
+    let told = "1 +00070004\n2 +000700e1\n1 +00070005\nfault UnknownReport at 4\n2 -000700e1\n1 -00070004\nfault Short at 7\n";
+    folder.ends(&format!("printf '{reports}' | $K read --changes two"), 1, told, "");
+    folder.ends("echo 010500 | $K read --changes --names two", 0, "1 +\"Keyboard b and B\"\n", "");
+    folder.ends("printf '\\1\\4\\5\\2\\0' | $K read --changes --raw two", 0, "1 +00070004 +00070005\n2\n", "");
+    folder.ends("$K read --changes --json two", 2, "", "cannot be used with");
+}
+
+#[test]
+fn settings_have_names_hex_and_units() {
+    let folder = Folder::new("settings");
+    // A hat of 45 degrees a step, X of 16 bits in hundredths, and Mute of two pages.
+    let pad = "05010905a101 0939 15012508 3500463b01 6514 7504 9501 8142 7504 8103 0930 16018026ff7f 36018046ff7f 550e 6511 7510 8102";
+    let two = "1500 2501 3500 4500 050c09e2 7501 9507 8102 05080909 9501 8102 c0";
+    fs::write(folder.0.join("pad"), format!("{pad} {two}")).unwrap();
+    for (settings, printed) in [
+        ("'Hat Switch=unit:90'", "03000000\n"),
+        ("'hat switch=unit:180/2' X=-0x7fff", "03018000\n"),
+        ("00010039=0x3 X=unit:1.27", "037f0000\n"),
+        ("f1[0]=unit:-127/100", "0081ff00\n"),
+        ("000c00e2[6]=1", "00000040\n"),
+    ] {
+        folder.ends(&format!("$K write --kind input pad 0 {settings}"), 0, printed, "");
+    }
+    for (settings, fault) in [
+        ("X=0 'Hat Switch=unit:91'", "NoStep 1"),
+        ("'Hat Switch=unit:1/0'", "NoStep 0"),
+        ("X=unit:1.275", "NoStep 0"),
+        ("Wheel=1", "Unknown 0"),
+        ("X=0 Mute=1", "Ambiguous 1"),
+        ("Mute[7]=1", "Unknown 0"),
+        ("'Hat Switch[1]=unit:0'", "Unknown 0"),
+        ("X=0x8000", "TooLarge 0"),
+    ] {
+        folder.ends(&format!("$K write --kind input pad 0 {settings}"), 1, &format!("fault write {fault}\n"), "error: setting");
+    }
+}
+
+#[test]
+fn words_that_are_no_settings() {
+    let folder = Folder::new("no-settings");
+    fs::write(folder.0.join("led"), LED).unwrap();
+    for word in [
+        "X=",
+        "=1",
+        "X",
+        "Nothing=1",
+        "X=0x",
+        "X=0x+1",
+        "X=+1",
+        "X=unit:",
+        "X=unit:1/",
+        "X=unit:1.-5",
+        "X=1.5",
+        "fX=1",
+        "X[-1]=1",
+    ] {
+        folder.ends(&format!("$K write led 0 '{word}'"), 2, "", "is no setting");
+    }
+}
+
+#[test]
 fn words_need_not_be_text() {
     let folder = Folder::new("bytes");
     let name = OsStr::from_bytes(b"\xff.hex");
@@ -91,7 +157,7 @@ fn numbers_have_digits_alone() {
         "0 'f0[+0]=1'",
         "256 00080001=1",
         "0 00080001=+1",
-        "0 X=1",
+        "0 Xx=1",
         "--onto 0 0",
     ] {
         folder.ends(&format!("$K write led {words}"), 2, "", "error: ");

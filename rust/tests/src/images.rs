@@ -62,8 +62,8 @@ pub fn unsound(image: &[u8]) -> Option<usize> {
 /// The codes of the 384 entries, by rising place.
 pub type Table = Vec<u16>;
 
-/// The default code of a place.
-fn default_at(place: usize) -> u16 {
+/// The standard default code of a place.
+fn standard_at(place: usize) -> u16 {
     match place {
         0..88 => 4 + place as u16,
         88..96 => 0xE0 + (place as u16 - 88),
@@ -71,8 +71,8 @@ fn default_at(place: usize) -> u16 {
     }
 }
 
-pub fn default_table() -> Table {
-    (0..384).map(default_at).collect()
+pub fn standard_table() -> Table {
+    (0..384).map(standard_at).collect()
 }
 
 /// The usages of page 0Ch that format 1 has codes for.
@@ -88,8 +88,8 @@ fn code_in(format: u32, code: u16) -> Option<u16> {
     }
 }
 
-/// Changes a table by a word of a page of this format, if it is that of a command.
-pub fn apply(table: &mut Table, format: u32, word: u32) {
+/// Changes a table with these defaults by a word of a page of this format, if it is that of a command.
+pub fn apply(table: &mut Table, defaults: &[u16], format: u32, word: u32) {
     let [low, high, key, top] = word.to_le_bytes();
     let layer = usize::from(top % 16);
     match top / 16 {
@@ -98,17 +98,17 @@ pub fn apply(table: &mut Table, format: u32, word: u32) {
                 table[96 * layer + usize::from(key)] = code;
             }
         }
-        2 if layer < 4 && word << 8 == 0 => (96 * layer..96 * layer + 96).for_each(|place| table[place] = default_at(place)),
-        3 if word << 4 == 0 => *table = default_table(),
+        2 if layer < 4 && word << 8 == 0 => table[96 * layer..][..96].copy_from_slice(&defaults[96 * layer..][..96]),
+        3 if word << 4 == 0 => table.copy_from_slice(defaults),
         _ => {}
     }
 }
 
-/// The entries that the words of a flash give.
-pub fn table(image: &[u8]) -> Table {
-    let mut table = default_table();
+/// The entries that the words of a flash give, with these defaults.
+pub fn table(image: &[u8], defaults: &[u16]) -> Table {
+    let mut table = defaults.to_vec();
     if let Some((_, _, format)) = newest(image) {
-        words(image).into_iter().for_each(|word| apply(&mut table, format, word));
+        words(image).into_iter().for_each(|word| apply(&mut table, defaults, format, word));
     }
     table
 }
@@ -121,7 +121,7 @@ pub enum Refusal {
 }
 
 /// How many operations a command takes that makes the one table of the other, or why it is refused.
-pub fn operations(image: &[u8], before: &Table, after: &Table) -> Result<usize, Refusal> {
+pub fn operations(image: &[u8], defaults: &[u16], before: &Table, after: &Table) -> Result<usize, Refusal> {
     if unsound(image).is_some() {
         return Err(Refusal::Unsound);
     }
@@ -135,6 +135,6 @@ pub fn operations(image: &[u8], before: &Table, after: &Table) -> Result<usize, 
         None => 0,
     };
     let is_blank = image[4096 * target..][..4096].iter().all(|&byte| byte == 0xFF);
-    let copies = before.iter().zip(default_table()).filter(|&(code, default)| *code != default).count();
+    let copies = before.iter().zip(defaults).filter(|&(code, default)| code != default).count();
     Ok(usize::from(!is_blank) + copies + 2)
 }

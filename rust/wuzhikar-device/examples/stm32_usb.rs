@@ -6,7 +6,8 @@
 #![cfg_attr(not(test), no_std)]
 
 use arrayvec::ArrayVec;
-use wuzhikar_device::{Change, Controller, Endpoint1, Input, Output, Waiting};
+use core::cell::{RefCell, RefMut};
+use wuzhikar_device::{Buffers, Controller, Endpoint1, Input, Output, Report, Waiting};
 
 /// The registers, with the lower 16 bits of those that have 32.
 #[derive(Clone, Copy, Debug, PartialEq, Eq)]
@@ -59,45 +60,55 @@ const VALID: u16 = 0x3030;
 const RESET: u16 = 1 << 10;
 const ENABLED: u16 = 1 << 7;
 
-/// The controller.
+/// The controller: endpoint 0 for `UsbDevice::serve`, and a copy of it, endpoint 1, that the device owns.
 #[derive(Debug)]
-pub struct Stm32Usb<R> {
-    registers: R,
+pub struct Stm32Usb<'r, R>(&'r RefCell<R>);
+
+impl<R> Clone for Stm32Usb<'_, R> {
+    fn clone(&self) -> Self {
+        *self
+    }
 }
 
-impl<R: Registers> Stm32Usb<R> {
+impl<R> Copy for Stm32Usb<'_, R> {}
+
+impl<'r, R: Registers> Stm32Usb<'r, R> {
     /// The controller, powered, out of its reset, and with its clock on.
-    pub fn new(registers: R) -> Stm32Usb<R> {
-        Stm32Usb { registers }
+    pub fn new(registers: &'r RefCell<R>) -> Stm32Usb<'r, R> {
+        Stm32Usb(registers)
+    }
+
+    fn registers(&self) -> RefMut<'r, R> {
+        self.0.borrow_mut()
     }
 
     /// Makes these bits of STAT and DTOG what they are in `to`, and leaves all others as they are.
-    fn set(&mut self, endpoint: Register, bits: u16, to: u16) {
-        let old = self.registers.read(endpoint);
-        self.registers.write(endpoint, old & (NUMBER | TYPE | KIND) | CTR_RX | CTR_TX | (old ^ to) & bits);
+    fn set(&self, endpoint: Register, bits: u16, to: u16) {
+        let old = self.registers().read(endpoint);
+        self.registers().write(endpoint, old & (NUMBER | TYPE | KIND) | CTR_RX | CTR_TX | (old ^ to) & bits);
     }
 
     /// Whether CTR_RX or CTR_TX stands, which is then cleared.
-    fn take(&mut self, endpoint: Register, flag: u16) -> bool {
-        let old = self.registers.read(endpoint);
+    fn take(&self, endpoint: Register, flag: u16) -> bool {
+        let old = self.registers().read(endpoint);
         if old & flag != 0 {
-            self.registers.write(endpoint, old & (NUMBER | TYPE | KIND) | (CTR_RX | CTR_TX) & !flag);
+            self.registers().write(endpoint, old & (NUMBER | TYPE | KIND) | (CTR_RX | CTR_TX) & !flag);
         }
         old & flag != 0
     }
 
-    fn is_reset(&mut self) -> bool {
-        self.registers.read(Register::Status) & RESET != 0
+    fn is_reset(&self) -> bool {
+        self.registers().read(Register::Status) & RESET != 0
     }
 
     /// Whether a SETUP packet or a reset has come that `waiting` did not give.
-    fn is_overtaken(&mut self) -> bool {
-        self.registers.read(Register::Endpoint0) & (CTR_RX | SETUP) == CTR_RX | SETUP || self.is_reset()
+    fn is_overtaken(&self) -> bool {
+        self.registers().read(Register::Endpoint0) & (CTR_RX | SETUP) == CTR_RX | SETUP || self.is_reset()
     }
 
     /// Sets what a direction of endpoint 0 answers, unless that is overtaken.
-    fn answer(&mut self, bits: u16, to: u16) {
-        self.registers.interrupts(false);
+    fn answer(&self, bits: u16, to: u16) {
+        self.registers().interrupts(false);
         if !self.is_overtaken() {
             self.set(Register::Endpoint0, bits, to);
             // A SETUP packet that came since has set both to NAK, which the write turned into something else. It is taken
@@ -106,19 +117,17 @@ impl<R: Registers> Stm32Usb<R> {
                 self.set(Register::Endpoint0, STAT_TX | STAT_RX, NAK);
             }
         }
-        self.registers.interrupts(true);
+        self.registers().interrupts(true);
     }
 }
 
-impl<R: Registers> Controller for Stm32Usb<R> {
-    const PING_PONG: bool = false;
-
+impl<R: Registers> Controller for Stm32Usb<'_, R> {
     fn waiting(&mut self) -> Waiting {
-        let mut met = Waiting::default();
-        let endpoint_0 = self.registers.read(Register::Endpoint0);
+        let mut met = Waiting { reset: false, setup: None, out: None, taken: false };
+        let endpoint_0 = self.registers().read(Register::Endpoint0);
         if endpoint_0 & CTR_RX != 0 {
             // Until it is cleared, none is taken in its place, not even a SETUP packet, which the host sends again.
-            let packet = self.registers.received();
+            let packet = self.registers().received();
             self.take(Register::Endpoint0, CTR_RX);
             if endpoint_0 & SETUP != 0 {
                 met.setup = packet.as_slice().try_into().ok();
@@ -126,25 +135,23 @@ impl<R: Registers> Controller for Stm32Usb<R> {
                 met.out = Some(packet);
             }
         }
-        met.taken_0 = self.take(Register::Endpoint0, CTR_TX);
-        met.taken_1 = usize::from(self.take(Register::Endpoint1, CTR_TX));
+        met.taken = self.take(Register::Endpoint0, CTR_TX);
         if self.is_reset() {
-            // All else is older, since the device is off until `change` turns it on.
-            self.registers.write(Register::Status, !RESET);
+            // All else is older, since the device is off until `forget` turns it on.
+            self.registers().write(Register::Status, !RESET);
             self.take(Register::Endpoint0, CTR_RX);
             self.take(Register::Endpoint0, CTR_TX);
-            self.take(Register::Endpoint1, CTR_TX);
-            met = Waiting { reset: true, ..Waiting::default() };
+            met = Waiting { reset: true, setup: None, out: None, taken: false };
         }
         met
     }
 
-    fn input_0(&mut self, answer: Input<'_>) {
+    fn input_0(&mut self, answer: Input) {
         let to = match answer {
             Input::Nak => NAK,
             Input::Stall => STALL,
             Input::Packet(packet) => {
-                self.registers.fill(Register::Endpoint0, packet);
+                self.registers().fill(Register::Endpoint0, &packet);
                 VALID
             }
         };
@@ -160,49 +167,58 @@ impl<R: Registers> Controller for Stm32Usb<R> {
         self.answer(STAT_RX, to);
     }
 
-    fn input_1(&mut self, packet: &[u8]) {
+    fn set_address(&mut self, address: u8) {
         if !self.is_reset() {
-            self.registers.fill(Register::Endpoint1, packet);
-            self.set(Register::Endpoint1, STAT_TX, VALID);
+            self.registers().write(Register::Address, ENABLED | u16::from(address));
         }
     }
+}
 
-    fn drop_1(&mut self) -> usize {
-        self.registers.interrupts(false);
-        // Where the host takes the packet before the write, the write turns NAK into VALID: then once more.
-        while self.registers.read(Register::Endpoint1) & STAT_TX == VALID & STAT_TX {
-            self.set(Register::Endpoint1, STAT_TX, NAK);
-        }
-        self.registers.interrupts(true);
+impl<R: Registers> Buffers for Stm32Usb<'_, R> {
+    fn has_two(&self) -> bool {
+        false
+    }
+
+    fn taken_1(&mut self) -> usize {
         usize::from(self.take(Register::Endpoint1, CTR_TX))
     }
 
-    fn change(&mut self, change: Change) {
-        if change != Change::Reset && self.is_reset() {
+    fn begin_anew(&mut self, state: Endpoint1) {
+        if self.is_reset() {
             return;
         }
-        match change {
-            Change::Reset => {
-                self.registers.lay_out();
-                for (endpoint, kind, to) in
-                    [(Register::Endpoint0, CONTROL, NAK), (Register::Endpoint1, INTERRUPT | 1, DISABLED)]
-                {
-                    let old = self.registers.read(endpoint);
-                    let toggles = (old ^ to) & (STAT_TX | STAT_RX) | old & (DTOG_TX | DTOG_RX);
-                    self.registers.write(endpoint, kind | toggles);
-                }
-                self.registers.write(Register::Address, ENABLED);
-            }
-            Change::Address(address) => self.registers.write(Register::Address, ENABLED | u16::from(address)),
-            Change::Endpoint1(state) => {
-                let to = match state {
-                    Endpoint1::Off => DISABLED,
-                    Endpoint1::Ready => NAK,
-                    Endpoint1::Halted => STALL,
-                };
-                self.set(Register::Endpoint1, STAT_TX | DTOG_TX, to & STAT_TX);
-            }
-            Change::Protocol => {}
+        let to = match state {
+            Endpoint1::Off => DISABLED,
+            Endpoint1::Ready => NAK,
+            Endpoint1::Halted => STALL,
+        };
+        self.registers().interrupts(false);
+        // Where the host takes the packet before a write, the write turns NAK into VALID: then once more.
+        while self.registers().read(Register::Endpoint1) & STAT_TX == VALID & STAT_TX {
+            self.set(Register::Endpoint1, STAT_TX, NAK);
+        }
+        self.registers().interrupts(true);
+        self.take(Register::Endpoint1, CTR_TX);
+        self.set(Register::Endpoint1, STAT_TX | DTOG_TX, to & STAT_TX);
+    }
+
+    /// The host does that by itself.
+    fn host_began(&mut self) {}
+
+    fn forget(&mut self) {
+        self.registers().lay_out();
+        for (endpoint, kind, to) in [(Register::Endpoint0, CONTROL, NAK), (Register::Endpoint1, INTERRUPT | 1, DISABLED)] {
+            let old = self.registers().read(endpoint);
+            let toggles = (old ^ to) & (STAT_TX | STAT_RX) | old & (DTOG_TX | DTOG_RX);
+            self.registers().write(endpoint, kind | toggles);
+        }
+        self.registers().write(Register::Address, ENABLED);
+    }
+
+    fn input_1(&mut self, packet: Report) {
+        if !self.is_reset() {
+            self.registers().fill(Register::Endpoint1, &packet);
+            self.set(Register::Endpoint1, STAT_TX, VALID);
         }
     }
 }

@@ -3,13 +3,11 @@
 //! A whole control transfer, from the host's side (USB 2.0 section 8.5.3): for tests, for a bench, and for a bridge to a
 //! host that asks by transfers and not by packets.
 
-use crate::device::Device;
-use crate::front::Change;
-use core::borrow::BorrowMut;
+use crate::{Change, Device, EpAnswer, HasKeyboard};
 use core::fmt;
 use core::ops::ControlFlow;
 use wuzhikar::usb::ENDPOINT_0_PACKET;
-use wuzhikar::{EpAnswer, Keyboard, NorFlash, Why, Work};
+use wuzhikar::{NorFlash, Why, Work};
 
 /// What a transfer brought that was not stalled.
 #[derive(Clone, Copy, Debug, PartialEq, Eq)]
@@ -56,7 +54,7 @@ pub(crate) fn length(setup: [u8; 8]) -> usize {
     u16::from_le_bytes([setup[6], setup[7]]).into()
 }
 
-impl<F: NorFlash, K: BorrowMut<Keyboard>> Device<'_, F, K> {
+impl<F: NorFlash, K: HasKeyboard> Device<'_, F, K> {
     /// A whole control transfer. A read puts what it reads into `data`, a write sends its first wLength bytes. Where a
     /// packet is told to wait, steps of the flash work are made until none is left.
     pub fn control(&mut self, setup: [u8; 8], data: &mut [u8]) -> Result<Done, NotDone> {
@@ -102,7 +100,7 @@ struct Bus<'b, 'a, F, K, N> {
 impl<'a, F, K, N> Bus<'_, 'a, F, K, N>
 where
     F: NorFlash,
-    K: BorrowMut<Keyboard>,
+    K: HasKeyboard,
     N: FnMut(&mut Device<'a, F, K>) -> ControlFlow<NotDone>,
 {
     /// Packets until one is short of 8 bytes, or all is there.
@@ -122,7 +120,7 @@ where
         loop {
             match self.device.in_packet() {
                 (EpAnswer::Packet(packet), change) => return Ok((packet, change)),
-                (EpAnswer::Stall(why), _) => return Err(NotDone::Stall(why)),
+                (EpAnswer::Stall, _) => return Err(NotDone::Stall(self.device.why())),
                 (EpAnswer::Nak | EpAnswer::Ack, _) => self.wait()?,
             }
         }
@@ -132,7 +130,7 @@ where
         loop {
             match self.device.out(packet) {
                 EpAnswer::Ack => return Ok(()),
-                EpAnswer::Stall(why) => return Err(NotDone::Stall(why)),
+                EpAnswer::Stall => return Err(NotDone::Stall(self.device.why())),
                 EpAnswer::Nak | EpAnswer::Packet(_) => self.wait()?,
             }
         }

@@ -3,6 +3,7 @@
 //! What a maker chooses: numbers, names, and the way endpoint 1 is polled. From these come the descriptors that differ
 //! from the keyboard's own.
 
+use crate::{Descriptors, PacketSize};
 use wuzhikar::usb::{CONFIGURATION_DESCRIPTOR, DEVICE_DESCRIPTOR, HID_DESCRIPTOR};
 
 /// The indices of the strings.
@@ -10,27 +11,9 @@ const MANUFACTURER: u8 = 1;
 const PRODUCT: u8 = 2;
 const SERIAL_NUMBER: u8 = 3;
 
-/// The text of string 0, whose units are the languages (USB 2.0 section 9.6.7): English of the United States.
-const LANGUAGES: &str = "\u{0409}";
-
-/// The most bytes of a packet of endpoint 1 (wMaxPacketSize, USB 2.0 section 5.7.3).
-///
-/// A device of low speed has at most 8, and some BIOSes take no more than 16.
-#[derive(Clone, Copy, Debug, Default, PartialEq, Eq, PartialOrd, Ord, Hash)]
-pub enum PacketSize {
-    /// 8 bytes: a report of keys takes three packets.
-    Bytes8 = 8,
-    /// 16 bytes: a report of keys takes two packets.
-    #[default]
-    Bytes16 = 16,
-    /// 32 bytes: each report takes one packet.
-    Bytes32 = 32,
-    /// 64 bytes: each report takes one packet.
-    Bytes64 = 64,
-}
-
 impl PacketSize {
-    /// The size of so many bytes. `None` where that is none of 8, 16, 32, 64.
+    /// The size of so many bytes. `None` where that is none of 8, 16, 32, 64. A device of low speed has at most 8, and some
+    /// BIOSes take no more than 16.
     pub const fn of(bytes: usize) -> Option<PacketSize> {
         match bytes {
             8 => Some(PacketSize::Bytes8),
@@ -41,9 +24,14 @@ impl PacketSize {
         }
     }
 
-    /// So many bytes.
-    pub const fn bytes(self) -> usize {
-        self as usize
+    /// wMaxPacketSize.
+    const fn byte(self) -> u8 {
+        match self {
+            PacketSize::Bytes8 => 8,
+            PacketSize::Bytes16 => 16,
+            PacketSize::Bytes32 => 32,
+            PacketSize::Bytes64 => 64,
+        }
     }
 }
 
@@ -95,21 +83,20 @@ impl Default for Power {
     }
 }
 
-/// What the descriptors say of a maker's product. A string is sent in UTF-16, of one with more than 126 units as many
-/// characters as these hold. An empty string is none: its index is 0.
+/// What the descriptors say of a maker's product. A name is in UTF-16 ([`utf16!`](crate::utf16)); of one with more than 126
+/// units as many characters are sent as these hold. An empty name is none: its index is 0.
 ///
 /// ```
-/// use wuzhikar_device::{Identity, Interval, PacketSize, Power};
+/// use wuzhikar_device::{Identity, PacketSize, Power, Product, utf16};
 ///
-/// const IDENTITY: Identity = Identity {
-///     manufacturer: "Example",
-///     product: "Keyboard",
+/// static PRODUCT: Product = Product::of(Identity {
+///     manufacturer: utf16!("Example"),
+///     product: utf16!("Keyboard"),
 ///     packet_size: PacketSize::Bytes16,
-///     interval: Interval::MILLISECOND,
 ///     power: Power::milliamperes(100).unwrap(),
 ///     ..Identity::TEST
-/// };
-/// assert_eq!(IDENTITY.configuration_descriptor()[31], 16);
+/// });
+/// assert_eq!(PRODUCT.descriptors().configuration[31], 16);
 /// ```
 #[derive(Clone, Copy, Debug, PartialEq, Eq)]
 pub struct Identity<'a> {
@@ -120,11 +107,11 @@ pub struct Identity<'a> {
     /// bcdDevice: 0123h is release 1.23.
     pub release: u16,
     /// The maker's name.
-    pub manufacturer: &'a str,
+    pub manufacturer: &'a [u16],
     /// The product's name.
-    pub product: &'a str,
+    pub product: &'a [u16],
     /// The serial number, another one for each keyboard.
-    pub serial_number: &'a str,
+    pub serial_number: &'a [u16],
     /// The most bytes of a packet of endpoint 1.
     pub packet_size: PacketSize,
     /// How often endpoint 1 is to be polled.
@@ -143,9 +130,9 @@ impl Identity<'static> {
         vendor_id: 0x1209,
         product_id: 0x0001,
         release: 0x0100,
-        manufacturer: "",
-        product: "",
-        serial_number: "",
+        manufacturer: &[],
+        product: &[],
+        serial_number: &[],
         packet_size: PacketSize::Bytes16,
         interval: Interval::MILLISECOND,
         power: Power(50),
@@ -153,53 +140,115 @@ impl Identity<'static> {
     };
 }
 
-impl<'a> Identity<'a> {
-    /// The string of an index: 1 the manufacturer, 2 the product, 3 the serial number. `None` where there is none.
-    pub fn string(&self, index: u8) -> Option<&'a str> {
-        let text = match index {
-            MANUFACTURER => self.manufacturer,
-            PRODUCT => self.product,
-            SERIAL_NUMBER => self.serial_number,
-            _ => "",
+/// An identity with the descriptors that say it: the keyboard's own, but for what the identity changes.
+#[derive(Clone, Copy, Debug, PartialEq, Eq)]
+pub struct Product<'a> {
+    identity: Identity<'a>,
+    device: [u8; 18],
+    configuration: [u8; 34],
+    hid: [u8; 9],
+}
+
+impl Product<'static> {
+    /// That of the identity for tests.
+    pub const TEST: Product<'static> = Product::of(Identity::TEST);
+}
+
+impl<'a> Product<'a> {
+    /// The product of an identity. In a `static` it takes no RAM.
+    pub const fn of(identity: Identity<'a>) -> Product<'a> {
+        let (mut device, mut configuration, mut hid) = (DEVICE_DESCRIPTOR, CONFIGURATION_DESCRIPTOR, HID_DESCRIPTOR);
+        [device[8], device[9]] = identity.vendor_id.to_le_bytes();
+        [device[10], device[11]] = identity.product_id.to_le_bytes();
+        [device[12], device[13]] = identity.release.to_le_bytes();
+        device[14] = named(identity.manufacturer, MANUFACTURER);
+        device[15] = named(identity.product, PRODUCT);
+        device[16] = named(identity.serial_number, SERIAL_NUMBER);
+        configuration[8] = identity.power.0;
+        configuration[22] = identity.country;
+        configuration[31] = identity.packet_size.byte();
+        configuration[32] = 0;
+        configuration[33] = identity.interval.0;
+        hid[4] = identity.country;
+        Product { identity, device, configuration, hid }
+    }
+
+    /// The identity.
+    pub const fn identity(&self) -> &Identity<'a> {
+        &self.identity
+    }
+
+    /// The descriptors, as [`DeviceLayer::new`](crate::DeviceLayer::new) is lent them.
+    pub const fn descriptors(&self) -> Descriptors<'_> {
+        Descriptors {
+            device: &self.device,
+            configuration: &self.configuration,
+            hid: &self.hid,
+            manufacturer: self.identity.manufacturer,
+            product: self.identity.product,
+            serial_number: self.identity.serial_number,
+        }
+    }
+}
+
+/// What the device descriptor has for a name: its index, or 0 where there is none.
+const fn named(name: &[u16], index: u8) -> u8 {
+    if name.is_empty() { 0 } else { index }
+}
+
+/// A text in UTF-16, as the names of an [`Identity`] are, made by the compiler.
+///
+/// ```
+/// assert_eq!(wuzhikar_device::utf16!("k\u{1f511}"), &[0x6b, 0xd83d, 0xdd11]);
+/// ```
+#[macro_export]
+macro_rules! utf16 {
+    ($text:expr) => {{
+        const TEXT: &str = $text;
+        const UNITS: [u16; $crate::unit_count(TEXT)] = $crate::units(TEXT);
+        &UNITS
+    }};
+}
+
+/// How many units of UTF-16 a text has.
+#[doc(hidden)]
+pub const fn unit_count(text: &str) -> usize {
+    let (bytes, mut at, mut count) = (text.as_bytes(), 0, 0);
+    while at < bytes.len() {
+        // Each character begins with a byte that is no continuation, and of four bytes are those of two units.
+        count += (bytes[at] & 0xc0 != 0x80) as usize + (bytes[at] >= 0xf0) as usize;
+        at += 1;
+    }
+    count
+}
+
+/// The units of UTF-16 of a text that has so many.
+#[doc(hidden)]
+pub const fn units<const N: usize>(text: &str) -> [u16; N] {
+    let (bytes, mut units) = (text.as_bytes(), [0; N]);
+    let (mut at, mut count) = (0, 0);
+    while at < bytes.len() {
+        let length = match bytes[at] {
+            0..0xc0 => 1,
+            0xc0..0xe0 => 2,
+            0xe0..0xf0 => 3,
+            _ => 4,
         };
-        (!text.is_empty()).then_some(text)
+        let mut code = bytes[at] as u32 & (0xff >> (length + (length > 1) as u32));
+        let mut more = 1;
+        while more < length {
+            code = code << 6 | bytes[at + more as usize] as u32 & 0x3f;
+            more += 1;
+        }
+        if code < 0x10000 {
+            units[count] = code as u16;
+        } else {
+            units[count] = 0xd800 | ((code - 0x10000) >> 10) as u16;
+            count += 1;
+            units[count] = 0xdc00 | (code & 0x3ff) as u16;
+        }
+        count += 1;
+        at += length as usize;
     }
-
-    /// The languages of the strings, where there are strings (USB 2.0 section 9.6.7).
-    pub(crate) fn languages(&self) -> Option<&'static str> {
-        [MANUFACTURER, PRODUCT, SERIAL_NUMBER].iter().find_map(|index| self.string(*index)).map(|_| LANGUAGES)
-    }
-
-    /// What the device descriptor has for the string of an index: the index, or 0 where there is none.
-    fn named(&self, index: u8) -> u8 {
-        if self.string(index).is_some() { index } else { 0 }
-    }
-
-    /// The device descriptor (USB 2.0 section 9.6.1): the keyboard's own with these numbers and strings.
-    pub fn device_descriptor(&self) -> [u8; 18] {
-        let mut bytes = DEVICE_DESCRIPTOR;
-        [bytes[8], bytes[9]] = self.vendor_id.to_le_bytes();
-        [bytes[10], bytes[11]] = self.product_id.to_le_bytes();
-        [bytes[12], bytes[13]] = self.release.to_le_bytes();
-        [bytes[14], bytes[15], bytes[16]] = [MANUFACTURER, PRODUCT, SERIAL_NUMBER].map(|index| self.named(index));
-        bytes
-    }
-
-    /// The configuration descriptor (USB 2.0 section 9.6.3) with all that it brings: the keyboard's own with this power,
-    /// country, packet size and interval.
-    pub fn configuration_descriptor(&self) -> [u8; 34] {
-        let mut bytes = CONFIGURATION_DESCRIPTOR;
-        bytes[8] = self.power.0;
-        bytes[22] = self.country;
-        [bytes[31], bytes[32]] = (self.packet_size as u16).to_le_bytes();
-        bytes[33] = self.interval.0;
-        bytes
-    }
-
-    /// The HID descriptor (HID 1.11 section 6.2.1): the keyboard's own with this country.
-    pub fn hid_descriptor(&self) -> [u8; 9] {
-        let mut bytes = HID_DESCRIPTOR;
-        bytes[4] = self.country;
-        bytes
-    }
+    units
 }

@@ -10,13 +10,16 @@ pub use crate::parts::field_details::{
 pub use facts::NoUnit;
 pub use questions::{Naming, namings};
 
+use crate::ReaderError;
 use crate::parts::field_details;
-use wuzhikar_reader::AllocError;
 
-/// The details of a report descriptor, for a text that [`parse`](wuzhikar_reader::parse) takes.
+/// Returns the attributes of all data items, the collections and the reports of a descriptor's text of at most 4,096 bytes.
 ///
-/// Of any other text it gives what its items say, up to its end or the first that is cut off, whatever faults they show.
-/// `AllocError` where there was no memory.
-pub fn details(text: &[u8]) -> Result<Details, AllocError> {
-    field_details::details_of((), text)
+/// It needs no [`Reader`](crate::Reader), which has them too.
+///
+/// # Errors
+///
+/// `ReaderError` as [`Reader::new`](crate::Reader::new) gives it.
+pub fn details(text: &[u8]) -> Result<Details, ReaderError> {
+    Ok(field_details::parse_details((), text)?.1)
 }

@@ -71,6 +71,26 @@
 //! # Ok::<(), Box<dyn std::error::Error>>(())
 //! ```
 //!
+//! # A keyboard
+//!
+//! A key is down until a later report lacks it. [`Reader::changes`] says which usages two reports of an ID differ in.
+//!
+//! ```
+//! use wuzhikar_hid::usages::keyboard;
+//! use wuzhikar_hid::{Kind, Reader};
+//!
+//! # let text = [
+//! #     0x05, 0x01, 0x09, 0x06, 0xa1, 0x01, 0x05, 0x07, 0x19, 0xe0, 0x29, 0xe7, 0x25, 0x01, 0x75, 0x01, 0x95, 0x08, 0x81, 0x02,
+//! #     0x81, 0x03, 0x19, 0x00, 0x29, 0xff, 0x26, 0xff, 0x00, 0x75, 0x08, 0x95, 0x06, 0x81, 0x00, 0xc0,
+//! # ];
+//! let reader = Reader::new(&text)?;
+//! let (before, now) = ([0, 0, 4, 5, 0, 0, 0, 0], [2, 0, 5, 6, 0, 0, 0, 0]);
+//! let changed = reader.changes(Kind::Input, &before, &now)?;
+//! assert_eq!(changed.pressed, [keyboard::C, keyboard::LEFT_SHIFT]);
+//! assert_eq!(changed.released, [keyboard::A]);
+//! # Ok::<(), Box<dyn std::error::Error>>(())
+//! ```
+//!
 //! # A gamepad
 //!
 //! A hat switch is at rest where its value is [`Within::Null`], or [`Within::Out`], since there are devices that don't declare
@@ -185,8 +205,9 @@ pub use crate::details::{
     Applications, Around, Collection, Detail, Details, Dimension, Naming, NoUnit, Placed, PlacedFields, ReportFacts, Reports,
     ReportsOf, details, namings,
 };
-pub use crate::names::{UsageName, page_name};
+pub use crate::names::{UsageName, page_name, usages_named};
 pub use crate::values::{
-    Asked, NoPhysical, Physical, Reader, ReaderError, Reading, ReadingError, Setting, Target, Value, Within, WriteError,
+    Asked, Changed, NoPhysical, NoValue, Physical, Reader, ReaderError, Reading, ReadingError, Setting, Target, Value, Within,
+    WriteError,
 };
 pub use wuzhikar_reader::{AllocError, Descriptor, Field, FieldUsages, Kind, ParseError, ParseFault};

@@ -31,12 +31,33 @@ fn name_in(mut lines: &'static str, number: u16) -> Option<&'static str> {
     None
 }
 
-/// The name of a usage page, as "Generic Desktop"; `None` where none is known here.
+/// Returns the name of a usage page, as "Generic Desktop"; `None` if none is known here.
 pub fn page_name(number: u16) -> Option<&'static str> {
     match page(number) {
         Some((name, _)) => Some(name),
         None => (number >= 0xFF00).then_some("Vendor-defined"),
     }
+}
+
+/// Returns the usages that have a name, rising: as [`UsageName`] writes it, or as it stands on a key where the table has that,
+/// too. ASCII letters are taken in either case, and a name may be that of usages of several pages.
+pub fn usages_named(name: &str) -> impl Iterator<Item = u32> + '_ {
+    PAGES.iter().flat_map(move |(number, begin, end)| {
+        let lines = TABLE.get(*begin..*end).unwrap_or("").lines().skip(1);
+        lines.filter_map(move |line| numbered(line, name)).map(move |low| u32::from(*number) << 16 | u32::from(low))
+    })
+}
+
+/// The number of the usage of a line, if it has this name.
+fn numbered(line: &str, name: &str) -> Option<u16> {
+    let (digits, names) = line.split_once(' ')?;
+    if digits == "*" {
+        let (word, number) = name.rsplit_once(' ')?;
+        let is_number = number.bytes().all(|digit| digit.is_ascii_digit()) && !number.starts_with('0');
+        return if is_number && word.eq_ignore_ascii_case(names) { number.parse().ok() } else { None };
+    }
+    let is_named = names.split(" | ").any(|other| other.eq_ignore_ascii_case(name));
+    if is_named { u16::from_str_radix(digits, 16).ok() } else { None }
 }
 
 /// The name of a usage, whose page is in its high half.
@@ -68,7 +89,7 @@ impl core::fmt::Display for UsageName {
 
 #[cfg(test)]
 mod tests {
-    use super::{TABLE, UsageName};
+    use super::{TABLE, UsageName, usages_named};
     use crate::usages;
     use std::collections::BTreeMap;
 
@@ -129,5 +150,20 @@ mod tests {
         assert_eq!((keyboard::PAGE_UP, keyboard::KEYPAD_SLASH, keyboard::LEFT_GUI), (0x0007_004b, 0x0007_0054, 0x0007_00e3));
         assert_eq!((consumer::VOLUME_INCREMENT, consumer::PLUS_10), (0x000c_00e9, 0x000c_0020));
         assert_eq!((sport::N1_IRON, usages::fido_alliance::PAGE, button::PAGE), (0x0004_0051, 0xf1d0, 9));
+    }
+
+    /// Each usage is among those that have its name, but for one that is told as a page and a number.
+    #[test]
+    fn usages_have_their_names() {
+        for usage in table().into_keys().chain([0x0009_0001, 0x0009_0400, 0x0009_ffff]) {
+            let name = UsageName(usage).to_string();
+            for name in [name.to_uppercase(), name] {
+                assert!(usages_named(&name).any(|other| other == usage), "{name}");
+            }
+        }
+        for none in ["", " ", "Button", "Button 0", "Button 03", "Button +3", "Button 65536", "No such usage", "page", "| "] {
+            assert_eq!(usages_named(none).count(), 0, "{none}");
+        }
+        assert_eq!(usages_named("A").collect::<Vec<_>>(), [0x0007_0004]);
     }
 }

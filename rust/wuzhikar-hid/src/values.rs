@@ -8,7 +8,7 @@ mod write;
 mod tests;
 
 pub use crate::parts::field_values::Within;
-pub use crate::parts::report_read::{Reading, ReadingError, Value};
-pub use physical::{NoPhysical, Physical};
+pub use crate::parts::report_read::{Changed, Reading, ReadingError, Value};
+pub use physical::{NoPhysical, NoValue, Physical};
 pub use reader::{Reader, ReaderError};
 pub use write::{Asked, Setting, Target, WriteError};

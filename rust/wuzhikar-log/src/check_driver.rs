@@ -8,7 +8,7 @@ use crate::parts::flash_model::{NorFlash, PAGE_SLOTS, SLOT_BYTES};
 
 const BLANK: [u8; SLOT_BYTES] = [0xFF; SLOT_BYTES];
 
-/// A slot of a flash.
+/// The place of a slot.
 #[derive(Clone, Copy, Debug, PartialEq, Eq)]
 pub struct Place {
     /// Its page.
@@ -17,7 +17,7 @@ pub struct Place {
     pub slot: usize,
 }
 
-/// What a flash does that a log can't stand on.
+/// What a flash or its driver does wrong.
 #[derive(Clone, Copy, Debug, PartialEq, Eq)]
 pub enum DriverFault {
     /// There are not 2 to 8 pages. Nothing was read or written.

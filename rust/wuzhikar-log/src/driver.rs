@@ -53,27 +53,27 @@
 /// # fn main() {}
 /// ```
 pub trait FlashDriver {
-    /// What a call answers that failed.
+    /// What a failed call answers.
     type Error: core::fmt::Debug;
 
-    /// Offset and length of each read are multiples of this.
+    /// Bytes of which offset and length of each read are multiples.
     const READ_SIZE: usize;
 
-    /// Offset and length of each write are multiples of this, the write unit.
+    /// Bytes of a write unit: offset and length of each write are multiples.
     const WRITE_SIZE: usize;
 
-    /// Both ends of each erase are multiples of this, the erase unit.
+    /// Bytes of an erase unit: both ends of each erase are multiples.
     const ERASE_SIZE: usize;
 
-    /// The size of the flash.
+    /// Returns the size of the flash in bytes.
     fn capacity(&self) -> usize;
 
-    /// Reads what stands from `offset` on.
+    /// Reads the bytes from `offset` on. It gives the same until the next write or erase.
     fn read(&mut self, offset: u32, bytes: &mut [u8]) -> Result<(), Self::Error>;
 
-    /// Programs what stands from `offset` on. It reads as FFh before, all of it.
+    /// Programs the bytes from `offset` on, all of which read as FFh before, and returns when that is done.
     fn write(&mut self, offset: u32, bytes: &[u8]) -> Result<(), Self::Error>;
 
-    /// Erases what stands from `from` on, up to `to`, which is no part of it: it then reads as FFh.
+    /// Erases the bytes from `from` up to `to`, without `to`, and returns when that is done: they read as FFh then.
     fn erase(&mut self, from: u32, to: u32) -> Result<(), Self::Error>;
 }

@@ -5,21 +5,25 @@ use crate::page_count::PageCount;
 use crate::parts::flash_model::NorFlash;
 use crate::parts::page_turnover::{Log, Step, TurnRefusal, Unsound, Words};
 
-/// Why a log takes nothing now.
+/// Why a log refuses a call, which then changes nothing.
 #[derive(Clone, Copy, Debug, PartialEq, Eq)]
 pub enum LogRefusal {
-    /// An append or a turn is under way, or, for a copy and a seal, none that waits for one.
+    /// An append or a compaction is in progress; for a copy or the end of copies, no compaction waits for it.
     NotNow,
-    /// Slot 0 of a page is not sound.
+    /// Slot 0 of a page is not sound, so nothing may be written.
     Unsound,
-    /// The active page has no room: a turn makes some.
+    /// The active page has no room, or there is none: a compaction makes some.
     NoRoom,
-    /// The active page has the greatest sequence number.
+    /// The active page has the greatest sequence number, 268,435,455, so no compaction can follow.
     Worn,
 }
 
 impl Log {
-    /// Takes a word to append; the next step programs it.
+    /// Takes a word to append, which the next step programs.
+    ///
+    /// # Errors
+    ///
+    /// `NotNow`, `Unsound` or `NoRoom`.
     pub fn append(&mut self, word: u32) -> Result<(), LogRefusal> {
         if self.busy() {
             return Err(LogRefusal::NotNow);
@@ -34,7 +38,11 @@ impl Log {
         Ok(())
     }
 
-    /// Begins a turn to the next page, which then wants the words to copy and its seal.
+    /// Begins a compaction to the next page, which then wants the words to copy, and their end.
+    ///
+    /// # Errors
+    ///
+    /// `NotNow`, `Unsound` or `Worn`.
     pub fn turn(&mut self) -> Result<(), LogRefusal> {
         if self.busy() {
             return Err(LogRefusal::NotNow);
@@ -46,7 +54,11 @@ impl Log {
         }
     }
 
-    /// Offers the next word to copy to a turn that `wants_copy`.
+    /// Gives a compaction the next word to copy, if it `wants_copy`.
+    ///
+    /// # Errors
+    ///
+    /// `NotNow`.
     pub fn copy(&mut self, word: u32) -> Result<(), LogRefusal> {
         if !self.wants_copy() {
             return Err(LogRefusal::NotNow);
@@ -55,7 +67,11 @@ impl Log {
         Ok(())
     }
 
-    /// Ends the copies of a turn that `wants` one: its header is next.
+    /// Ends the copies of a compaction, if it `wants` that: its header is next.
+    ///
+    /// # Errors
+    ///
+    /// `NotNow`.
     pub fn end_copies(&mut self) -> Result<(), LogRefusal> {
         if !self.wants() {
             return Err(LogRefusal::NotNow);
@@ -111,81 +127,83 @@ pub struct FlashLog<F> {
 }
 
 impl<F: NorFlash> FlashLog<F> {
-    /// The log on a flash: [`Log::mount`]. The flash is read and not written.
+    /// Mounts the log of a flash, which it owns from then on ([`Log::mount`]). The flash is read and not written.
     ///
-    /// `PageCount` where it has not 2 to 8 pages: then it is neither read nor written, and is dropped.
+    /// # Errors
+    ///
+    /// `PageCount` if the flash has not 2 to 8 pages. It is neither read nor written then, and dropped.
     pub fn mount(flash: F) -> Result<FlashLog<F>, PageCount> {
         PageCount::check(&flash)?;
         Ok(FlashLog { log: Log::mount(&flash), flash })
     }
 
-    /// The words on the active page, the oldest first.
+    /// Returns the words on the active page, the oldest first. Each is read from the flash when it is asked for.
     pub fn words(&self) -> Words<'_, F> {
         self.log.words(&self.flash)
     }
 
-    /// Takes a word to append: [`Log::append`].
+    /// Takes a word to append, which the next step programs ([`Log::append`]).
     pub fn append(&mut self, word: u32) -> Result<(), LogRefusal> {
         self.log.append(word)
     }
 
-    /// Begins a turn to the next page: [`Log::turn`].
+    /// Begins a compaction to the next page ([`Log::turn`]).
     pub fn turn(&mut self) -> Result<(), LogRefusal> {
         self.log.turn()
     }
 
-    /// Offers a turn the next word to copy: [`Log::copy`].
+    /// Gives a compaction the next word to copy ([`Log::copy`]).
     pub fn copy(&mut self, word: u32) -> Result<(), LogRefusal> {
         self.log.copy(word)
     }
 
-    /// Ends the copies of a turn: [`Log::end_copies`].
+    /// Ends the copies of a compaction ([`Log::end_copies`]).
     pub fn end_copies(&mut self) -> Result<(), LogRefusal> {
         self.log.end_copies()
     }
 
-    /// At most one operation of the flash: [`Log::step`].
+    /// Makes the next flash operation of what is in progress, one at most ([`Log::step`]).
     pub fn step(&mut self) -> Step {
         self.log.step(&mut self.flash)
     }
 
-    /// Whether an append or a turn is under way: [`Log::busy`].
+    /// Returns whether an append or a compaction is in progress ([`Log::busy`]).
     pub fn busy(&self) -> bool {
         self.log.busy()
     }
 
-    /// Whether a turn wants a word to copy, or its end: [`Log::wants`].
+    /// Returns whether a compaction waits for a word to copy, or for the end of copies ([`Log::wants`]).
     pub fn wants(&self) -> bool {
         self.log.wants()
     }
 
-    /// Whether a turn takes a word to copy: [`Log::wants_copy`].
+    /// Returns whether a compaction has room for a word to copy ([`Log::wants_copy`]).
     pub fn wants_copy(&self) -> bool {
         self.log.wants_copy()
     }
 
-    /// Whether anything may be written: [`Log::usable`].
+    /// Returns whether anything may be written; `Unsound` names a page that forbids it ([`Log::usable`]).
     pub fn usable(&self) -> Result<(), Unsound> {
         self.log.usable()
     }
 
-    /// The log.
+    /// Returns the log, to look at it.
     pub fn log(&self) -> &Log {
         &self.log
     }
 
-    /// The flash.
+    /// Returns the flash, to look at it.
     pub fn flash(&self) -> &F {
         &self.flash
     }
 
-    /// Gives up the log, and the flash as it is.
+    /// Drops the log, and returns the flash as it is.
     pub fn into_flash(self) -> F {
         self.flash
     }
 
-    /// Lends the flash, and mounts it anew: what was under way is forgotten, as by a loss of power. The number of its pages
-    /// stays as it is.
+    /// Lends the flash to `change`, and mounts it again, as after a power loss: what was in progress is forgotten. `change`
+    /// must leave the number of pages.
     pub fn remount<R>(&mut self, change: impl FnOnce(&mut F) -> R) -> R {
         let result = change(&mut self.flash);
         self.log = Log::mount(&self.flash);
@@ -195,9 +213,11 @@ impl<F: NorFlash> FlashLog<F> {
 
 #[cfg(feature = "sim")]
 impl crate::SimFlash {
-    /// A blank flash of `pages` pages, every byte FFh, with nothing armed and no operation counted.
+    /// Makes a blank flash of `pages` pages of 4,096 bytes, each FFh, with no mask armed and no operation counted.
     ///
-    /// `PageCount` where `pages` is not 2 to 8, `Memory` where there is no memory for the 4,096 bytes of each page.
+    /// # Errors
+    ///
+    /// `PageCount` if `pages` is not 2 to 8, `Memory` if memory was refused.
     pub fn blank(pages: usize) -> Result<crate::SimFlash, crate::FlashError> {
         crate::SimFlash::new((), pages)
     }

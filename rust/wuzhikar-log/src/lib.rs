@@ -53,9 +53,9 @@ pub use crate::parts::flash_model::{FlashError, Mask, SimFlash};
 pub use crate::parts::flash_model::{FlashFault, NorFlash, PAGE_BYTES, PAGE_SLOTS, SLOT_BYTES};
 pub use crate::parts::page_turnover::{Log, Step, TurnRefusal, Unsound, Words};
 #[cfg(feature = "settings")]
-pub use crate::parts::settings::{Change, MAX_BYTES, Value};
+pub use crate::parts::settings::{Change, MAX_BYTES, SettingsError, Value, Work};
 #[cfg(feature = "settings")]
-pub use crate::settings::{FlashSettings, SettingsError, UnderWay, Work};
+pub use crate::settings::{FlashSettings, UnderWay};
 pub use crate::slot_flash::SlotFlash;
 pub use crate::unit_flash::UnitFlash;
 pub use crate::units::GeometryError;

@@ -1,32 +1,10 @@
-//! Settings and their flash in one, with calls that come back when all is stored. Written by hand: tested, not proved.
+//! Settings and their flash in one. Each call is the exported one, lent its flash. Written by hand: tested, not proved.
 
 use crate::page_count::PageCount;
 use crate::parts::flash_model::{FlashFault, NorFlash};
-use crate::parts::settings::{Change, IDS, PAGE_WORDS, Value};
+use crate::parts::settings::{Change, IDS, Settings, SettingsError, Value, Work};
 use crate::whole::Dropped;
 use crate::{FlashLog, LogRefusal};
-use machine::{BeginRefusal, Settings};
-
-pub use machine::Work;
-
-mod machine;
-
-/// Why a change was not stored. All settings are as before.
-#[derive(Clone, Copy, Debug, PartialEq, Eq)]
-pub enum SettingsError {
-    /// The value has more than 64 bytes.
-    TooLong,
-    /// The values that there would be then do not fit on a page.
-    Full,
-    /// Slot 0 of a page is not sound: something else wrote there.
-    Unsound,
-    /// The flash holds words of something else, which a compaction would lose.
-    Foreign,
-    /// A compaction is needed, and each page was erased some 268 million times.
-    Worn,
-    /// The flash answered a fault, and what was written does not read back. A second try writes elsewhere.
-    Fault,
-}
 
 /// Settings and their flash: a map from ids to values of 0 to 64 bytes, of which some 1,500 bytes fit on a page.
 ///
@@ -77,14 +55,14 @@ impl<F: NorFlash> FlashSettings<F> {
 
     /// Whether an id has a value.
     pub fn contains(&self, id: u16) -> bool {
-        self.get(id).is_some()
+        self.settings.contains(&self.flash, id)
     }
 
     /// The ids that have a value, rising, each with its value.
     pub fn iter(&self) -> impl Iterator<Item = (u16, Value)> + '_ {
         let mut from = 0;
         core::iter::from_fn(move || {
-            let Change { id, value } = self.settings.next_from(&self.flash, &[], from)?;
+            let Change { id, value } = self.settings.next_from(&self.flash, from)?;
             from = u32::from(id) + 1;
             Some((id, value?))
         })
@@ -93,48 +71,33 @@ impl<F: NorFlash> FlashSettings<F> {
 
     /// How many words of the 511 of a page no value takes: a new value of n bytes takes 1 + (n + 2) / 3 of them.
     pub fn room_left(&self) -> usize {
-        PAGE_WORDS.saturating_sub(self.settings.words_alive(&self.flash, &[]))
+        self.settings.room_left(&self.flash)
     }
 
     /// Stores a value of at most 64 bytes. Nothing is written where the id has this value already.
     pub fn set(&mut self, id: u16, bytes: &[u8]) -> Result<(), SettingsError> {
-        let value = Value::new(bytes).ok_or(SettingsError::TooLong)?;
-        if self.get(id).is_some_and(|before| before == value) {
-            return Ok(());
-        }
-        self.transaction(&[Change { id, value: Some(value) }])
+        self.settings.set(&mut self.flash, id, bytes)
     }
 
     /// Takes an id its value. Nothing is written where it has none.
     pub fn remove(&mut self, id: u16) -> Result<(), SettingsError> {
-        if self.contains(id) { self.transaction(&[Change { id, value: None }]) } else { Ok(()) }
+        self.settings.remove(&mut self.flash, id)
     }
 
     /// Moves the values to the next page, which then has room for changes. Changes do so by themselves where they must.
     pub fn compact(&mut self) -> Result<(), SettingsError> {
-        self.transaction(&[])
+        self.settings.compact(&mut self.flash)
     }
 
     /// Stores several changes, which are in force together: a loss of power leaves all of them or none. Of one id the last
     /// change counts. More than one, or none, take a compaction.
     pub fn transaction(&mut self, changes: &[Change]) -> Result<(), SettingsError> {
-        let mut under_way = self.begin(changes)?;
-        loop {
-            match under_way.step() {
-                Work::Working => {}
-                Work::Idle | Work::Stored => return Ok(()),
-                Work::Failed => return Err(SettingsError::Fault),
-            }
-        }
+        self.settings.transaction(&mut self.flash, changes)
     }
 
     /// Begins changes that are stored one flash operation at a time, for a loop that must not wait: 1 to 23 for one change
-    /// that there is room for, else at most 513.
+    /// that there is room for, else at most 513. Changes that were dropped before their end are forgotten.
     pub fn begin<'a>(&'a mut self, changes: &'a [Change]) -> Result<UnderWay<'a, F>, SettingsError> {
-        if self.settings.busy() {
-            // Changes that were dropped before their end: as by a loss of power, they are forgotten.
-            self.settings = Settings::mount(&self.flash);
-        }
         self.settings.begin(&self.flash, changes)?;
         Ok(UnderWay { of: self, changes })
     }
@@ -208,19 +171,6 @@ impl PartialEq for Value {
 }
 
 impl Eq for Value {}
-
-impl From<BeginRefusal> for SettingsError {
-    fn from(refusal: BeginRefusal) -> SettingsError {
-        match refusal {
-            // Nothing is under way where changes are begun.
-            BeginRefusal::Busy => SettingsError::Fault,
-            BeginRefusal::Unsound => SettingsError::Unsound,
-            BeginRefusal::Foreign => SettingsError::Foreign,
-            BeginRefusal::Full => SettingsError::Full,
-            BeginRefusal::Worn => SettingsError::Worn,
-        }
-    }
-}
 
 impl core::fmt::Display for SettingsError {
     fn fmt(&self, f: &mut core::fmt::Formatter<'_>) -> core::fmt::Result {

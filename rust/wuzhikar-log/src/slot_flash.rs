@@ -66,26 +66,28 @@ pub struct SlotFlash<D> {
 }
 
 impl<D: FlashDriver> SlotFlash<D> {
-    /// The pages from byte `start` of a flash on, `pages` of them. Nothing is read or written.
+    /// Takes `pages` pages of a flash, 2 to 8, from byte `start` on. Nothing is read or written.
     ///
-    /// An error where this flash can't hold them: of its units first, then of the number of pages, of the start, and of
-    /// the capacity. The driver is then dropped.
+    /// # Errors
+    ///
+    /// `GeometryError` if this flash can't hold them. The units are checked first, then the number of pages, the start and
+    /// the capacity. The driver is dropped then.
     pub fn new(driver: D, start: u32, pages: usize) -> Result<SlotFlash<D>, GeometryError> {
         Ok(SlotFlash { units: Units::new(driver, start, pages)?, unreadable: Cell::new(false) })
     }
 
-    /// How many bytes of flash each page takes, or why this flash can hold none.
+    /// Returns the bytes of flash that each page takes, or why this flash can hold none.
     pub fn page_bytes() -> Result<u32, GeometryError> {
         Units::<D, { PAGE_SLOTS as u32 }>::page_bytes()
     }
 
-    /// Whether a read of the driver failed since [`SlotFlash::new`]. What was then read may lack words, and nothing is
-    /// written any more.
+    /// Returns whether a read of the driver failed since [`SlotFlash::new`]. What was read then may lack words, and
+    /// nothing is written any more.
     pub fn is_unreadable(&self) -> bool {
         self.unreadable.get()
     }
 
-    /// The driver, with what was written by it.
+    /// Returns the driver.
     pub fn into_driver(self) -> D {
         self.units.into_driver()
     }

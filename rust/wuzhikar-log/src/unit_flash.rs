@@ -66,16 +66,18 @@ pub struct UnitFlash<D> {
 }
 
 impl<D: FlashDriver> UnitFlash<D> {
-    /// The pages from byte `start` of a flash on, `pages` of them. Nothing is read or written.
+    /// Takes `pages` pages of a flash, 2 to 8, from byte `start` on. Nothing is read or written.
     ///
-    /// An error where this flash can't hold them: of its units first, then of the number of pages, of the start, and of
-    /// the capacity. The driver is then dropped.
+    /// # Errors
+    ///
+    /// `GeometryError` if this flash can't hold them. The units are checked first, then the number of pages, the start and
+    /// the capacity. The driver is dropped then.
     pub fn new(driver: D, start: u32, pages: usize) -> Result<UnitFlash<D>, GeometryError> {
         Self::page_bytes()?;
         Ok(UnitFlash { units: Units::new(driver, start, pages)? })
     }
 
-    /// How many bytes of flash each page takes, or why this flash can hold none.
+    /// Returns the bytes of flash that each page takes, or why this flash can hold none.
     pub fn page_bytes() -> Result<u32, GeometryError> {
         if D::WRITE_SIZE < UNIT_BYTES {
             return Err(GeometryError::WriteUnit);
@@ -83,7 +85,7 @@ impl<D: FlashDriver> UnitFlash<D> {
         Units::<D, { PAGE_UNITS as u32 }>::page_bytes()
     }
 
-    /// The driver, with what was written by it.
+    /// Returns the driver.
     pub fn into_driver(self) -> D {
         self.units.into_driver()
     }

@@ -10,7 +10,7 @@ const UNIT_BYTES: usize = 8;
 /// The longest write unit that is served.
 const LONGEST_WRITE: usize = 512;
 
-/// Why pages can't stand in a flash.
+/// Why a flash can't hold the pages of a log.
 #[derive(Clone, Copy, Debug, PartialEq, Eq)]
 pub enum GeometryError {
     /// There are 2 to 8 pages.

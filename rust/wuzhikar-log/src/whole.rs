@@ -4,13 +4,13 @@ use crate::face::{FlashLog, LogRefusal};
 use crate::parts::flash_model::{FlashFault, NorFlash};
 use crate::parts::page_turnover::Step;
 
-/// Why words were not stored. Those on the active page are as before.
+/// Why words were not stored. Those on the active page stay.
 #[derive(Clone, Copy, Debug, PartialEq, Eq)]
 pub enum WriteError {
-    /// The log took nothing.
+    /// The log refused the call, and nothing was written.
     Refused(LogRefusal),
-    /// An operation of the flash failed, and what it wrote does not read as intended. A second try writes elsewhere: an
-    /// append into the next slot, a turn after an erase.
+    /// A flash operation failed, and did not read back as intended. A second try writes elsewhere: an append into the next
+    /// slot, a compaction after an erase.
     Fault,
 }
 
@@ -24,19 +24,23 @@ pub struct Dropped {
 }
 
 impl<F: NorFlash> FlashLog<F> {
-    /// Appends a word, and comes back when it is stored: one program.
+    /// Appends a word, and returns when it is stored: one program.
     ///
-    /// `Refused` with `NoRoom` where the active page is full, or a blank flash has none: then
-    /// [`rewrite`](FlashLog::rewrite) makes room.
+    /// # Errors
+    ///
+    /// `Refused` with `NoRoom` if the active page is full, or a blank flash has none: [`rewrite`](FlashLog::rewrite) makes
+    /// room. A flash fault otherwise.
     pub fn push(&mut self, word: u32) -> Result<(), WriteError> {
         self.append(word)?;
         self.finish()
     }
 
-    /// Turns to the next page, with these words alone, and comes back when that is stored: at most one erase, a program
-    /// for each word, and one for the header, which takes the new page in the place of the one before it at once.
+    /// Compacts to the next page with these words alone, and returns when they are stored: at most one erase, a program
+    /// for each word, and one for the header, which puts all of them in force at once.
     ///
-    /// `Refused` with `NoRoom` where there are more than 511 words.
+    /// # Errors
+    ///
+    /// `Refused` with `NoRoom` if there are more than 511 words. A flash fault otherwise.
     pub fn rewrite(&mut self, words: impl IntoIterator<Item = u32>) -> Result<(), WriteError> {
         self.turn()?;
         for word in words {
@@ -51,13 +55,46 @@ impl<F: NorFlash> FlashLog<F> {
         self.finish()
     }
 
-    /// Erases all pages, whatever they hold. **This drops every word**, those that [`words`](FlashLog::words) gives and
-    /// those that a damaged page may have had; it is for a flash that holds something else, and for one that is not
-    /// [`usable`](FlashLog::usable). The answer says what was dropped. Afterwards the flash is blank, and wants a
-    /// [`rewrite`](FlashLog::rewrite) first.
+    /// Turns to the next page with those of the words that are kept, in their order, and comes back when that is stored. No
+    /// copy of the words is made: each is read from the page before, which stays until the new one takes its place.
     ///
-    /// The active page is the last one, so that a loss of power leaves its words or fewer, and none of an older page.
-    /// `FlashFault`: a page could not be erased; those before it are.
+    /// ```
+    /// # fn main() -> Result<(), Box<dyn core::error::Error>> {
+    /// # #[cfg(feature = "sim")]
+    /// # {
+    /// use wuzhikar_log::{FlashLog, SimFlash};
+    ///
+    /// let mut log = FlashLog::mount(SimFlash::blank(2)?)?;
+    /// log.rewrite([5, 6, 7])?;
+    /// log.rewrite_with(|word| word != 6)?;
+    /// assert!(log.words().eq([5, 7]));
+    /// # }
+    /// # Ok(())
+    /// # }
+    /// ```
+    pub fn rewrite_with(&mut self, mut keep: impl FnMut(u32) -> bool) -> Result<(), WriteError> {
+        self.turn()?;
+        let mut at = 0;
+        while let Some(word) = self.words().nth(at) {
+            at += 1;
+            if keep(word) {
+                self.copy(word)?;
+                self.finish()?;
+            }
+        }
+        self.end_copies()?;
+        self.finish()
+    }
+
+    /// Erases all pages, whatever they hold, and reports what it dropped. **This drops every word**, also those that a
+    /// damaged page may have had. It is for a flash that holds something else, or is not [`usable`](FlashLog::usable).
+    /// Afterwards the flash is blank, and needs a [`rewrite`](FlashLog::rewrite) first.
+    ///
+    /// The active page is erased last, so a power loss leaves its words or fewer, and none of an older page.
+    ///
+    /// # Errors
+    ///
+    /// `FlashFault` if a page could not be erased. Those before it are.
     pub fn format(&mut self) -> Result<Dropped, FlashFault> {
         let dropped = Dropped { words: self.words().count(), unsound: self.usable().err().map(|unsound| unsound.page) };
         let active = self.log().active().map(|(page, _)| page);

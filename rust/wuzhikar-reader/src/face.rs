@@ -7,21 +7,36 @@ use alloc::vec::Vec;
 
 /// Parses a report descriptor of at most 4,096 bytes (HID 1.11, section 6.2.2).
 ///
-/// `ParseError` is the first fault of the text, with the offset of its item, or says that there was no memory.
+/// Time is linear in the text, memory in its fields and usages.
+///
+/// # Errors
+///
+/// `ParseError` is the first fault of the text with the offset of its item in bytes, or says that memory was refused.
 #[inline]
 pub fn parse(text: &[u8]) -> Result<Descriptor, ParseError> {
     descriptor_parse::parse((), text)
 }
 
-/// Reads an input report: the usages that it names, with their values, in the order of the report.
+/// Reads the usages of an input report with their values, in the order of the report (HID 1.11, section 8.4).
 ///
-/// `ExtractError` says why a report is none that the descriptor declares, or that there was no memory.
+/// A report begins with its ID byte if the descriptor uses Report IDs. Bytes past its end are ignored.
+///
+/// # Errors
+///
+/// `ExtractError`, in this order: the report is empty, has an ID without an input report, is too short, or memory was
+/// refused.
 #[inline]
 pub fn extract(descriptor: &Descriptor, report: &[u8]) -> Result<Vec<Found>, ExtractError> {
     host_extract::extract((), descriptor, report)
 }
 
-/// The usages with a value that is not 0, rising, each once. `AllocError` where there was no memory.
+/// Returns the usages whose value is not 0, rising, each once.
+///
+/// This is for keys and buttons: an axis or a hat switch may rest at another value than 0.
+///
+/// # Errors
+///
+/// `AllocError` if memory was refused.
 #[inline]
 pub fn pressed(found: &[Found]) -> Result<Vec<u32>, AllocError> {
     host_extract::pressed((), found)

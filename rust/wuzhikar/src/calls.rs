@@ -2,8 +2,8 @@
 //! for the crates of this workspace. Written by hand. **No part of the promise.**
 
 use crate::parts::debounce::{Debouncer, Scan};
-use crate::parts::keyboard::{Keyboard, Room};
-use crate::parts::layers::{KeyNo, LayerNo};
+use crate::parts::keyboard::{KeyboardOf, Room};
+use crate::parts::layers::{Defaults, KeyNo, LayerNo};
 use crate::rattle::alloc::{AllocError, Global};
 use wuzhikar_log::NorFlash;
 
@@ -63,12 +63,12 @@ pub trait KeyboardCalls: Sized {
     fn start_in<F: NorFlash>(room: Room, flash: &F) -> Self;
 }
 
-impl KeyboardCalls for Keyboard {
-    fn start<F: NorFlash>(alloc: Global, flash: &F) -> Result<Keyboard, AllocError> {
-        Keyboard::start(alloc, flash)
+impl<D: Defaults> KeyboardCalls for KeyboardOf<D> {
+    fn start<F: NorFlash>(alloc: Global, flash: &F) -> Result<KeyboardOf<D>, AllocError> {
+        KeyboardOf::start(alloc, flash)
     }
 
-    fn start_in<F: NorFlash>(room: Room, flash: &F) -> Keyboard {
-        Keyboard::start_in(room, flash)
+    fn start_in<F: NorFlash>(room: Room, flash: &F) -> KeyboardOf<D> {
+        KeyboardOf::start_in(room, flash)
     }
 }

@@ -1,20 +1,23 @@
 //! Calls that take a type, or check, where the exported ones ask something of their caller, and a keyboard that owns its
 //! flash. Written by hand: tested, not proved.
 
+use crate::layout::Layout;
 use crate::parts::control_ep::EpAnswer;
 use crate::parts::debounce::{Debouncer, Scan};
-use crate::parts::keyboard::{Keyboard, Report, Work};
-use crate::parts::layers::KeyNo;
+use crate::parts::keyboard::{Keyboard, KeyboardOf, Report, Work};
+use crate::parts::layers::{Defaults, KeyNo, Standard};
 use wuzhikar_log::{NorFlash, PageCount};
 
-impl Keyboard {
-    /// A keyboard as it starts on a flash: no key down, nothing sent, entry (0, 0) selected, and no transfer. The flash
-    /// is read and not written.
+impl<D: Defaults> KeyboardOf<D> {
+    /// Starts a keyboard on a flash, which is read and not written: no key is down, nothing was sent, entry (0, 0) is
+    /// selected, and there is no transfer.
     ///
-    /// `PageCount` where the flash has not 2 to 8 pages: then it is not read either.
-    pub fn on<F: NorFlash>(flash: &F) -> Result<Keyboard, PageCount> {
+    /// # Errors
+    ///
+    /// `PageCount` if the flash has not 2 to 8 pages. It is not read then.
+    pub fn on<F: NorFlash>(flash: &F) -> Result<KeyboardOf<D>, PageCount> {
         PageCount::check(flash)?;
-        match Keyboard::start((), flash) {
+        match KeyboardOf::start((), flash) {
             Ok(keyboard) => Ok(keyboard),
             Err(never) => match never {},
         }
@@ -22,25 +25,25 @@ impl Keyboard {
 }
 
 impl Scan {
-    /// Whether this scan has a key.
+    /// Returns whether the switch of this key is closed in this scan.
     pub fn has_key(&self, key: KeyNo) -> bool {
         self.has(key.number())
     }
 
-    /// This scan, with a key too where `on` says so.
+    /// Returns this scan with the switch of this key closed (`on`) or open.
     pub fn with_key(self, key: KeyNo, on: bool) -> Scan {
         self.with(key.number(), on)
     }
 }
 
 impl Debouncer {
-    /// Whether a key is down.
+    /// Returns whether a key is down, after debouncing.
     pub fn is_key_down(&self, key: KeyNo) -> bool {
         self.is_down(key.number())
     }
 }
 
-/// A keyboard and its flash in one: no call of it has a condition on its caller, but that
+/// A keyboard and its flash in one, with the standard default codes or those of a [`Layout`]: no call of it has a condition on its caller, but that
 /// [`restart`](FlashKeyboard::restart) leaves the number of pages as it is.
 ///
 /// ```
@@ -69,71 +72,91 @@ impl Debouncer {
 /// # }
 /// ```
 #[derive(Debug)]
-pub struct FlashKeyboard<F> {
-    keyboard: Keyboard,
+pub struct FlashKeyboard<F, D: Defaults = Standard> {
+    keyboard: KeyboardOf<D>,
     flash: F,
 }
 
 impl<F: NorFlash> FlashKeyboard<F> {
-    /// A keyboard as it starts on a flash: [`Keyboard::on`].
+    /// Starts a keyboard on a flash, which it owns from then on ([`Keyboard::on`]).
     ///
-    /// `PageCount` where the flash has not 2 to 8 pages: then it is neither read nor written, and is dropped.
+    /// # Errors
+    ///
+    /// `PageCount` if the flash has not 2 to 8 pages. It is neither read nor written then, and dropped.
     pub fn start(flash: F) -> Result<FlashKeyboard<F>, PageCount> {
         Ok(FlashKeyboard { keyboard: Keyboard::on(&flash)?, flash })
     }
+}
 
-    /// A scan of the matrix: [`Keyboard::scan`].
+impl<F: NorFlash, L: Layout> FlashKeyboard<F, L> {
+    /// Starts a keyboard with the default codes of a layout on a flash, which it owns from then on.
+    ///
+    /// # Errors
+    ///
+    /// `PageCount` if the flash has not 2 to 8 pages. It is neither read nor written then, and dropped.
+    pub fn start_with(flash: F, _layout: L) -> Result<FlashKeyboard<F, L>, PageCount> {
+        Ok(FlashKeyboard { keyboard: KeyboardOf::on(&flash)?, flash })
+    }
+}
+
+impl<F: NorFlash, D: Defaults> FlashKeyboard<F, D> {
+    /// Returns whether nothing was stored on the flash since it was erased ([`KeyboardOf::is_first_start`]).
+    pub fn is_first_start(&self) -> bool {
+        self.keyboard.is_first_start()
+    }
+
+    /// Takes a scan of the matrix, one each millisecond ([`Keyboard::scan`]).
     pub fn scan(&mut self, scan: Scan) {
         self.keyboard.scan(scan);
     }
 
-    /// A SETUP packet of endpoint 0: [`Keyboard::setup`].
+    /// Takes a SETUP packet of endpoint 0, which is always acknowledged ([`Keyboard::setup`]; USB 2.0 section 8.5.3).
     pub fn setup(&mut self, packet: [u8; 8]) {
         self.keyboard.setup(packet);
     }
 
-    /// An OUT packet of endpoint 0: [`Keyboard::out`].
+    /// Takes an OUT packet of endpoint 0, of 0 to 8 bytes, and answers ACK, NAK or STALL ([`Keyboard::out`]).
     pub fn out(&mut self, packet: &[u8]) -> EpAnswer {
         self.keyboard.out(packet)
     }
 
-    /// An IN packet of endpoint 0: [`Keyboard::in_packet`].
+    /// Answers an IN token of endpoint 0 with a packet of 0 to 8 bytes, NAK or STALL ([`Keyboard::in_packet`]).
     pub fn in_packet(&mut self) -> EpAnswer {
         self.keyboard.in_packet()
     }
 
-    /// A poll of endpoint 1: [`Keyboard::poll`].
+    /// Answers an IN token of endpoint 1 with a report of 8, 9 or 23 bytes; `None` is NAK ([`Keyboard::poll`]).
     pub fn poll(&mut self) -> Option<Report> {
         self.keyboard.poll()
     }
 
-    /// At most one operation of the flash: [`Keyboard::work`].
+    /// Makes the next flash operation of a command, one at most ([`Keyboard::work`]).
     pub fn work(&mut self) -> Work {
         self.keyboard.work(&mut self.flash)
     }
 
-    /// A bus reset: [`Keyboard::bus_reset`].
+    /// Takes a bus reset ([`Keyboard::bus_reset`]; USB 2.0 section 7.1.7.5).
     pub fn bus_reset(&mut self) {
         self.keyboard.bus_reset();
     }
 
-    /// The keyboard, for what only looks at it.
-    pub fn keyboard(&self) -> &Keyboard {
+    /// Returns the keyboard, to look at it.
+    pub fn keyboard(&self) -> &KeyboardOf<D> {
         &self.keyboard
     }
 
-    /// The flash.
+    /// Returns the flash, to look at it.
     pub fn flash(&self) -> &F {
         &self.flash
     }
 
-    /// Gives up the keyboard, and the flash as it is.
+    /// Drops the keyboard, and returns the flash as it is.
     pub fn into_flash(self) -> F {
         self.flash
     }
 
-    /// Lends the flash, and restarts the keyboard on it, as after a loss of power: [`Keyboard::restart`]. The number of its
-    /// pages stays as it is.
+    /// Lends the flash to `change`, and restarts the keyboard on it, as after a power loss ([`Keyboard::restart`]).
+    /// `change` must leave the number of pages.
     pub fn restart<R>(&mut self, change: impl FnOnce(&mut F) -> R) -> R {
         let result = change(&mut self.flash);
         self.keyboard.restart(&self.flash);

@@ -38,6 +38,7 @@
 #[doc(hidden)]
 pub mod calls;
 mod face;
+mod layout;
 #[doc(hidden)]
 pub mod parts;
 #[doc(hidden)]
@@ -48,9 +49,10 @@ pub mod usb;
 mod wear;
 
 pub use crate::face::FlashKeyboard;
-pub use crate::parts::keyboard::{EpAnswer, Keyboard, Protocol, Report, Scan, Why, Work};
-pub use crate::parts::layers::{Code, KeyNo, Keymap, KeymapError, LayerNo, Usages};
-pub use crate::unstarted::UnstartedKeyboard;
+pub use crate::layout::{KEYS, LAYERS, Layout, Switches};
+pub use crate::parts::keyboard::{EpAnswer, Keyboard, KeyboardOf, Protocol, Report, Scan, Why, Work};
+pub use crate::parts::layers::{Code, Defaults, KeyNo, Keymap, KeymapError, KeymapOf, LayerNo, Standard, Usages};
+pub use crate::unstarted::{UnstartedKeyboard, UnstartedKeyboardOf};
 pub use wuzhikar_log;
 #[cfg(feature = "sim")]
 pub use wuzhikar_log::{FlashError, Mask, SimFlash};

@@ -1,13 +1,14 @@
 //! Memory in which a keyboard starts. Written by hand: tested, not proved.
 
-use crate::parts::keyboard::Keyboard;
+use crate::parts::keyboard::KeyboardOf;
+use crate::parts::layers::{Defaults, Standard};
 use core::fmt;
 use wuzhikar_log::{NorFlash, PageCount};
 
 /// Memory for a keyboard that has not started. Its only call starts one there, so no call reaches a keyboard that was not
 /// started.
 ///
-/// A `static` of it takes RAM alone: it is zeros. [`Keyboard::on`] gives the keyboard by value, which costs a stack of twice
+/// A `static` of it takes RAM alone: it is zeros. [`KeyboardOf::on`] gives the keyboard by value, which costs a stack of twice
 /// its size; here nothing large is moved.
 ///
 /// ```
@@ -31,26 +32,31 @@ use wuzhikar_log::{NorFlash, PageCount};
 /// # Ok::<(), wuzhikar::PageCount>(())
 /// ```
 #[repr(transparent)]
-pub struct UnstartedKeyboard {
-    keyboard: Keyboard,
+pub struct UnstartedKeyboardOf<D: Defaults> {
+    keyboard: KeyboardOf<D>,
 }
 
-impl UnstartedKeyboard {
-    /// Memory without a keyboard.
-    pub const NEW: UnstartedKeyboard = UnstartedKeyboard { keyboard: Keyboard::UNSTARTED };
+/// Memory for a keyboard with the standard default codes.
+pub type UnstartedKeyboard = UnstartedKeyboardOf<Standard>;
 
-    /// A keyboard as it starts on a flash, in this memory: what [`Keyboard::on`] gives. The flash is read and not written.
-    /// A keyboard that was started here before is gone.
+impl<D: Defaults> UnstartedKeyboardOf<D> {
+    /// Memory without a keyboard: zeros.
+    pub const NEW: UnstartedKeyboardOf<D> = UnstartedKeyboardOf { keyboard: KeyboardOf::UNSTARTED };
+
+    /// Starts a keyboard in this memory, as [`KeyboardOf::on`] does. The flash is read and not written. A keyboard that was
+    /// started here before is gone.
     ///
-    /// `PageCount` where the flash has not 2 to 8 pages: then it is not read either, and the memory stays as it is.
-    pub fn start<F: NorFlash>(&mut self, flash: &F) -> Result<&mut Keyboard, PageCount> {
+    /// # Errors
+    ///
+    /// `PageCount` if the flash has not 2 to 8 pages. It is not read then, and the memory stays as it is.
+    pub fn start<F: NorFlash>(&mut self, flash: &F) -> Result<&mut KeyboardOf<D>, PageCount> {
         PageCount::check(flash)?;
         self.keyboard.restart(flash);
         Ok(&mut self.keyboard)
     }
 }
 
-impl fmt::Debug for UnstartedKeyboard {
+impl<D: Defaults> fmt::Debug for UnstartedKeyboardOf<D> {
     fn fmt(&self, f: &mut fmt::Formatter<'_>) -> fmt::Result {
         f.debug_struct("UnstartedKeyboard").finish_non_exhaustive()
     }

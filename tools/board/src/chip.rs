@@ -1,13 +1,14 @@
 // SPDX-License-Identifier: MIT OR Apache-2.0
-//! The chip: QEMU's machine "microbit" with the plugin `switch.so`.
+//! The chip: its line, its flash, and the switch of its power.
 
 use crate::ecc;
+use crate::machine::Machine;
+use crate::silence::{Owed, Waits};
 use std::ffi::{c_int, c_short, c_ulong};
-use std::io::{BufRead, BufReader, Error, ErrorKind, Read, Result, Write};
+use std::io::{Error, ErrorKind, Read, Result, Write};
 use std::os::fd::AsRawFd;
-use std::os::unix::net::{UnixListener, UnixStream};
+use std::os::unix::net::UnixStream;
 use std::path::Path;
-use std::process::{Child, Command, Stdio};
 
 /// The last bytes of the flash, which the rig keeps while the power is off.
 pub const REGION: usize = 32 * 1024;
@@ -78,7 +79,7 @@ pub struct Frame {
 pub enum Lost {
     /// The power went.
     Cut,
-    /// The firmware says nothing for 15 seconds, or what is no frame.
+    /// The firmware is silent, or says what is no frame, or what is wrong.
     Dead(String),
     Io(Error),
 }
@@ -90,125 +91,43 @@ impl From<Error> for Lost {
 }
 
 pub struct Chip {
-    qemu: Child,
+    machine: Machine,
     uart: UnixStream,
     switch: UnixStream,
-    qmp: BufReader<UnixStream>,
     /// The flash while the power is off.
     pub flash: Vec<u8>,
     pub told: Told,
+    pub waits: Waits,
     came: Vec<u8>,
     /// Whether the switch holds the processor at a cut.
     held: bool,
     /// Whether the chip has a flash that the rig does not know.
     on: bool,
-    /// What QEMU's threads did when the power came last, and what they had done behind each three seconds without an answer.
-    began: String,
-    pub slow: Vec<String>,
-}
-
-fn qemu(firmware: &Path, plugin: &Path, folder: &Path) -> Result<Child> {
-    let at = |name: &str| folder.join(name).display().to_string();
-    Command::new("qemu-system-arm")
-        .args(["-M", "microbit", "-nodefaults", "-display", "none", "-accel", "tcg,thread=single,tb-size=32"])
-        .arg("-kernel")
-        .arg(firmware)
-        .args(["-chardev", &format!("socket,id=uart,path={}", at("uart")), "-serial", "chardev:uart"])
-        .args(["-qmp", &format!("unix:{}", at("qmp"))])
-        .args(["-plugin", &format!("{},rig={}", plugin.display(), at("switch"))])
-        .stdin(Stdio::null())
-        .spawn()
-}
-
-/// The connection that QEMU makes, unless it ends before.
-fn accepted(listener: &UnixListener, qemu: &mut Child) -> Result<UnixStream> {
-    listener.set_nonblocking(true)?;
-    loop {
-        match listener.accept() {
-            Ok((stream, _)) => return Ok(stream),
-            Err(error) if error.kind() != ErrorKind::WouldBlock => return Err(error),
-            Err(_) => std::thread::sleep(std::time::Duration::from_millis(5)),
-        }
-        if let Some(status) = qemu.try_wait()? {
-            return Err(Error::other(format!("it ended at its start, {status}")));
-        }
-    }
 }
 
 impl Chip {
     /// A chip without power, with an erased region.
-    pub fn new(firmware: &Path, plugin: &Path, folder: &Path) -> Result<Chip> {
-        std::fs::create_dir_all(folder)?;
-        let listen = |name: &str| {
-            let path = folder.join(name);
-            let _ = std::fs::remove_file(&path);
-            UnixListener::bind(path)
-        };
-        let (uart, switch, qmp) = (listen("uart")?, listen("switch")?, listen("qmp")?);
-        let mut qemu = qemu(firmware, plugin, folder)?;
-        let (uart, switch, qmp) = (accepted(&uart, &mut qemu)?, accepted(&switch, &mut qemu)?, accepted(&qmp, &mut qemu)?);
-        let mut chip = Chip {
-            qemu,
-            uart,
-            switch,
-            qmp: BufReader::new(qmp),
-            flash: Vec::new(),
-            told: Told::default(),
-            came: Vec::new(),
-            held: false,
-            on: false,
-            began: String::new(),
-            slow: Vec::new(),
-        };
-        // All have connected, so that the names are no more needed.
-        std::fs::remove_dir_all(folder)?;
-        chip.qmp.read_line(&mut String::new())?;
-        chip.ask_qmp("qmp_capabilities")?;
+    pub fn new(program: &[u8], plugin: &Path, folder: &Path) -> Result<Chip> {
+        let (machine, uart, switch) = Machine::start(program, plugin, folder)?;
+        let (flash, told, waits) = (Vec::new(), Told::default(), Waits::default());
+        let mut chip = Chip { machine, uart, switch, flash, told, waits, came: Vec::new(), held: false, on: false };
         chip.hear_switch()?;
+        std::fs::remove_dir_all(folder)?;
         chip.flash = vec![BESIDE; REGION];
         let from = chip.log();
         chip.flash[from..].fill(0xff);
         Ok(chip)
     }
 
-    fn ask_qmp(&mut self, command: &str) -> Result<()> {
-        self.qmp.get_mut().write_all(format!("{{\"execute\":\"{command}\"}}\n").as_bytes())?;
-        self.hear_qmp()
-    }
-
-    fn hear_qmp(&mut self) -> Result<()> {
-        loop {
-            let mut line = String::new();
-            if self.qmp.read_line(&mut line)? == 0 {
-                return Err(ErrorKind::UnexpectedEof.into());
-            }
-            if line.contains("\"return\"") {
-                return Ok(());
-            }
-        }
-    }
-
     /// Makes QEMU look at the UART again: its model of an nRF51 does not say that it takes bytes from now on.
     pub fn begin(&mut self) -> std::result::Result<Frame, Lost> {
-        self.ask_qmp("query-status")?;
+        self.machine.ask("query-status")?;
         self.ask(b"\x16\x16\x16\x16\x16\x16\x16\x16\x16\x16\x16\x16\x16\x16\x17")
-    }
-
-    /// What QEMU's monitor says in answer to a line.
-    fn monitor(&mut self, line: &str) -> Result<String> {
-        let ask = format!(r#"{{"execute":"human-monitor-command","arguments":{{"command-line":"{line}"}}}}"#);
-        self.qmp.get_mut().write_all(format!("{ask}\n").as_bytes())?;
-        loop {
-            let mut told = String::new();
-            if self.qmp.read_line(&mut told)? == 0 || told.contains("\"return\"") {
-                return Ok(told);
-            }
-        }
     }
 
     /// Whether the flash controller (CONFIG) lets words be programmed or pages be erased now.
     pub fn flash_is_open(&mut self) -> Result<bool> {
-        let told = self.monitor("xp /1wx 0x4001e504")?;
+        let told = self.machine.monitor("xp /1wx 0x4001e504")?;
         match told.split("0x").last().map(|word| &word[..word.len().min(8)]) {
             Some("00000000") => Ok(false),
             Some("00000001" | "00000002") => Ok(true),
@@ -216,17 +135,9 @@ impl Chip {
         }
     }
 
-    /// What Linux says of QEMU's threads: the state, and for how long each ran and waited for a processor, in milliseconds.
-    fn threads(&self) -> String {
-        let folder = format!("/proc/{}/task", self.qemu.id());
-        let tasks = std::fs::read_dir(folder).into_iter().flatten().flatten();
-        let told = tasks.filter_map(|task| {
-            let read = |name: &str| std::fs::read_to_string(task.path().join(name)).ok();
-            let (stat, times) = (read("stat")?, read("schedstat")?);
-            let mut times = times.split_whitespace().filter_map(|time| time.parse::<u64>().ok()).map(|time| time / 1_000_000);
-            Some(format!("[{} ran {}, waited {}]", stat.split_whitespace().nth(2)?, times.next()?, times.next()?))
-        });
-        told.collect()
+    /// Stops QEMU now, for so many seconds.
+    pub fn starve(&self, seconds: u32) -> Result<()> {
+        self.machine.stop(seconds)
     }
 
     fn hear_switch(&mut self) -> Result<()> {
@@ -280,16 +191,17 @@ impl Chip {
 
     /// The next frame.
     pub fn frame(&mut self) -> std::result::Result<Frame, Lost> {
-        let mut waited = 0;
+        let mut owed = Owed::new(&self.machine)?;
         loop {
             // What was said before a cut is heard before it.
             if let Some(frame) = self.take_frame()? {
+                self.waits.came(&owed, &self.machine)?;
                 return Ok(frame);
             }
             if self.held {
                 return Err(Lost::Cut);
             }
-            match self.wait(3_000) {
+            match self.wait(100) {
                 (_, true) => {
                     self.hear_switch()?;
                     if !self.told.cut {
@@ -299,14 +211,7 @@ impl Chip {
                     self.drain()?;
                 }
                 (true, false) => self.drain()?,
-                (false, false) if waited < 4 => {
-                    waited += 1;
-                    self.slow.push(format!("at the start {}, now {}", self.began, self.threads()));
-                }
-                (false, false) => {
-                    let (registers, threads) = (self.monitor("info registers")?, self.threads());
-                    return Err(Lost::Dead(format!("nothing for 15 seconds, {registers}, {threads}")));
-                }
+                (false, false) => owed.look(&mut self.machine)?,
             }
         }
     }
@@ -366,7 +271,6 @@ impl Chip {
             return Err(Error::other("the switch has not told a start"));
         }
         self.on = true;
-        self.began = self.threads();
         let mut bytes = order.bytes();
         bytes.extend(&self.flash);
         self.switch.write_all(&bytes)
@@ -374,7 +278,8 @@ impl Chip {
 
     /// Orders a cut while the chip runs: its operation is counted from here on.
     pub fn order(&mut self, order: Order) -> Result<()> {
-        self.switch.write_all(&order.bytes())
+        self.switch.write_all(&order.bytes())?;
+        self.machine.announce()
     }
 
     /// The power goes now, between two operations, where the processor sleeps or begins a block of instructions.
@@ -387,7 +292,7 @@ impl Chip {
 
     /// Resets the machine, and drops what it says before. The answer by QMP may come behind the reset, which waits for the processor.
     fn reset(&mut self) -> Result<()> {
-        self.qmp.get_mut().write_all(b"{\"execute\":\"system_reset\"}\n")?;
+        self.machine.say("system_reset")?;
         if self.held {
             std::thread::sleep(std::time::Duration::from_micros(300));
             self.switch.write_all(b"g")?;
@@ -398,7 +303,7 @@ impl Chip {
             self.switch.write_all(b"g")?;
             self.hear_switch()?;
         }
-        self.hear_qmp()?;
+        self.machine.hear()?;
         self.drain()?;
         self.came.clear();
         self.held = false;
@@ -416,12 +321,5 @@ impl Order {
             bytes.extend(number.to_le_bytes());
         }
         bytes
-    }
-}
-
-impl Drop for Chip {
-    fn drop(&mut self) {
-        let _ = self.qemu.kill();
-        let _ = self.qemu.wait();
     }
 }

@@ -62,20 +62,53 @@ impl Session {
         (0..10).try_for_each(|_| host::scan(chip, &[0]).map(drop)).map_err(|lost| (stored, lost))
     }
 
-    fn at_all(&self, shop: &Shop, what: &str, orders: impl Iterator<Item = Order>) -> Answer<()> {
+    /// Cuts at these places, up to the first that the session does not reach.
+    fn at_all(&self, shop: &Shop, what: &str, orders: impl Iterator<Item = Order>) -> Answer<Counts> {
         let (mut chip, began) = (shop.chip()?, Instant::now());
-        let (mut cuts, mut told, mut done) = (0, 0, 0);
+        let mut counts = Counts::default();
         for order in orders {
             let Some(outcome) = self.cut(&mut chip, order)? else { break };
-            cuts += 1;
-            told += u32::from(outcome.told);
-            done += u32::from(outcome.done);
+            counts.cuts += 1;
+            counts.told += u32::from(outcome.told);
+            counts.done += u32::from(outcome.done);
         }
-        if done == 0 || done == cuts {
-            return Err(Lost::Dead(format!("{cuts} cuts at {what}, {done} behind the record: the session was not met")));
-        }
+        let Counts { cuts, told, done } = counts;
         let seconds = began.elapsed().as_secs();
         println!("{cuts} cuts at {what} in {seconds} s: behind the confirmation {told}, command found done {done}, lost 0");
+        println!("{}", chip.waits);
+        Ok(counts)
+    }
+
+    /// How many ticks and operations the session takes, and how many ticks of them its start.
+    fn length(&self, shop: &Shop, order: Order) -> Answer<(u64, u64, u64)> {
+        let mut chip = shop.chip()?;
+        chip.put(&self.flash);
+        chip.power(order)?;
+        host::start(&mut chip)?;
+        chip.cut()?;
+        let start = chip.told.ticks;
+        chip.put(&self.flash);
+        chip.power(order)?;
+        self.until_the_cut(&mut chip).map_err(|(_, lost)| lost)?;
+        chip.cut()?;
+        Ok((start, chip.told.ticks, chip.told.operations))
+    }
+}
+
+/// What became of some cuts.
+#[derive(Default)]
+struct Counts {
+    cuts: u32,
+    told: u32,
+    done: u32,
+}
+
+impl Counts {
+    /// The cuts of a whole session are on both sides of its record.
+    fn met(self) -> Answer<()> {
+        if self.done == 0 || self.done == self.cuts {
+            return Err(Lost::Dead(format!("of {} cuts {} behind the record: the session was not met", self.cuts, self.done)));
+        }
         Ok(())
     }
 }
@@ -85,44 +118,72 @@ fn session(records: usize, turns: bool) -> Session {
     Session { flash, keymap, command: Command { operation: 1, layer: 1, key: 95, code: 5 } }
 }
 
-/// A cut at each so many instructions of the start, and sixteen times as often behind it. A program takes four ticks where an
-/// instruction takes one, so that some cuts fall into one.
+/// A session with one command.
+fn with_room() -> Session {
+    session(3, false)
+}
+
+/// A session whose command makes the log turn over, with an erase.
+fn compacting() -> Session {
+    session(511, true)
+}
+
+/// A program takes four ticks where an instruction takes one, so that some cuts fall into one.
+fn at_tick(tick: u64) -> Order {
+    Order { tick, takes: [4, 16], undone: 257, seed: tick, ..Order::NEVER }
+}
+
+/// Each operation is torn in five ways.
+fn at_operation(operation: u64) -> impl Iterator<Item = Order> {
+    [0, 64, 128, 192, 256].into_iter().map(move |undone| Order { operation, undone, seed: operation, ..Order::NEVER })
+}
+
+/// Few of a word's bits are left undone: such a word may pass for another.
+fn in_word(word: u64) -> impl Iterator<Item = Order> {
+    [8, 16, 24].into_iter().map(move |undone| Order { operation: word, undone, ..Order::NEVER })
+}
+
+/// How long the sessions are: the ticks of the one with a command, and the operations of the other.
+pub fn lengths(shop: &Shop) -> Answer<()> {
+    let (_, ticks, _) = with_room().length(shop, at_tick(u64::MAX))?;
+    let (_, _, operations) = compacting().length(shop, Order::NEVER)?;
+    println!("{ticks} {operations}");
+    Ok(())
+}
+
+/// A cut at each so many instructions of the start, and sixteen times as often behind it.
 pub fn instructions(shop: &Shop, stride: u64) -> Answer<()> {
-    let at = |tick| Order { tick, takes: [4, 16], undone: 257, seed: tick, ..Order::NEVER };
-    let session = session(3, false);
-    let start = {
-        let mut chip = shop.chip()?;
-        chip.put(&session.flash);
-        chip.power(at(u64::MAX))?;
-        host::start(&mut chip)?;
-        chip.cut()?;
-        chip.told.ticks
-    };
+    let session = with_room();
+    let (start, _, _) = session.length(shop, at_tick(u64::MAX))?;
     let ticks = (1..start).step_by(stride as usize).chain((start..).step_by(stride.div_ceil(16) as usize));
-    session.at_all(shop, &format!("every {stride}. instruction of {start}, and more behind"), ticks.map(at))
+    session.at_all(shop, &format!("every {stride}. instruction of {start}, and more behind"), ticks.map(at_tick))?.met()
+}
+
+/// A cut at each so many of these ticks.
+pub fn instructions_of(shop: &Shop, stride: u64, from: u64, to: u64) -> Answer<()> {
+    let ticks = (from..to).step_by(stride as usize);
+    with_room().at_all(shop, &format!("every {stride}. instruction from {from} on"), ticks.map(at_tick)).map(drop)
 }
 
 /// A cut in each so many operations, in the first eight, among which the four of the erase are, and in the last four.
 pub fn operations(shop: &Shop, stride: u64) -> Answer<()> {
-    let session = session(511, true);
-    let all = {
-        let mut chip = shop.chip()?;
-        chip.put(&session.flash);
-        chip.power(Order::NEVER)?;
-        session.until_the_cut(&mut chip).map_err(|(_, lost)| lost)?;
-        chip.cut()?;
-        chip.told.operations
-    };
+    let (_, _, all) = compacting().length(shop, Order::NEVER)?;
     let places = (1..=all).filter(|at| *at <= 8 || at % stride == 0 || at + 4 > all);
-    let torn = |operation| [0, 64, 128, 192, 256].map(|undone| Order { operation, undone, seed: operation, ..Order::NEVER });
-    session.at_all(shop, &format!("every {stride}. operation of {all} of a turnover"), places.flat_map(torn))
+    compacting()
+        .at_all(shop, &format!("every {stride}. operation of {all} of a compaction"), places.flat_map(at_operation))?
+        .met()
 }
 
-/// So many tears of each word of a record that leave few of its bits undone: such a word may pass for another.
-pub fn words(shop: &Shop, tears: u64) -> Answer<()> {
-    let torn = |operation| move |undone| move |seed| Order { operation, undone, seed, ..Order::NEVER };
+/// A cut in each of these operations.
+pub fn operations_of(shop: &Shop, from: u64, to: u64) -> Answer<()> {
+    compacting().at_all(shop, &format!("each operation from {from} on"), (from..to).flat_map(at_operation)).map(drop)
+}
+
+/// So many tears of each word of a record, in three ways, drawn from seeds that follow this one.
+pub fn words(shop: &Shop, tears: u64, seed: u64) -> Answer<()> {
     // With error correction two units are programmed, each with its checks.
     let count = if shop.chip()?.corrects() { 6 } else { 2 };
-    let orders = (1..=count).flat_map(|word| [8, 16, 24].map(torn(word)));
-    session(3, false).at_all(shop, "the words of a record", orders.flat_map(|order| (1..=tears).map(order)))
+    let orders = (1..=count).flat_map(in_word);
+    let seeded = orders.flat_map(|order| (seed..seed + tears).map(move |seed| Order { seed, ..order }));
+    with_room().at_all(shop, "the words of a record", seeded)?.met()
 }

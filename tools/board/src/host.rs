@@ -6,6 +6,20 @@ use crate::model::{Command, KEYS, Keymap, LAYERS};
 
 pub type Answer<T> = Result<T, Lost>;
 
+/// So often a host asks again that is told to wait. A compaction takes a few thousand operations at most.
+const ASKED: usize = 100_000;
+
+/// Asks until the answer is another than a wait.
+fn asked(chip: &mut Chip, request: &[u8]) -> Answer<Frame> {
+    for _ in 0..ASKED {
+        let frame = chip.ask(request)?;
+        if frame.kind != b'N' {
+            return Ok(frame);
+        }
+    }
+    Err(Lost::Dead(format!("SILENT: told to wait {ASKED} times for an answer to {request:02x?}")))
+}
+
 /// A control transfer that was not stalled: what was read. `None`: it was stalled.
 pub fn control(chip: &mut Chip, setup: [u8; 8], data: &[u8]) -> Answer<Option<Vec<u8>>> {
     chip.ask(&[b"s", &setup[..]].concat())?;
@@ -31,14 +45,8 @@ pub fn control(chip: &mut Chip, setup: [u8; 8], data: &[u8]) -> Answer<Option<Ve
 }
 
 fn in_packet(chip: &mut Chip) -> Answer<Option<Vec<u8>>> {
-    loop {
-        let frame = chip.ask(b"i")?;
-        match frame.kind {
-            b'D' => return Ok(Some(frame.bytes)),
-            b'S' => return Ok(None),
-            _ => {}
-        }
-    }
+    let frame = asked(chip, b"i")?;
+    Ok((frame.kind == b'D').then_some(frame.bytes))
 }
 
 /// The request of an OUT packet.
@@ -49,15 +57,9 @@ pub fn out_request(packet: &[u8]) -> [u8; 10] {
     request
 }
 
+/// Whether an OUT packet was taken; if not it was stalled.
 fn out(chip: &mut Chip, packet: &[u8]) -> Answer<bool> {
-    let request = out_request(packet);
-    loop {
-        match chip.ask(&request)?.kind {
-            b'A' => return Ok(true),
-            b'S' => return Ok(false),
-            _ => {}
-        }
-    }
+    Ok(asked(chip, &out_request(packet))?.kind == b'A')
 }
 
 /// Whether a command was confirmed; if not it was refused.

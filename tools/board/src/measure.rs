@@ -77,8 +77,8 @@ pub fn run(shop: &Shop) -> Answer<()> {
     )?;
     bench.row("address and configuration", &blank, nothing, host::enumerate)?;
     bench.row("a command with room, on 384 records", &entries, nothing, command)?;
-    bench.row("a turnover of 384 copies, the next page blank", &full, nothing, command)?;
-    bench.row("a turnover of 384 copies, the next page used", &used, nothing, command)?;
+    bench.row("a compaction of 384 copies, the next page blank", &full, nothing, command)?;
+    bench.row("a compaction of 384 copies, the next page used", &used, nothing, command)?;
     println!("the deepest stack, in bytes\t{}", bench.stack);
     Ok(())
 }

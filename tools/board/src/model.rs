@@ -56,7 +56,7 @@ pub fn difference(found: &Keymap, wanted: &Keymap, pending: Option<Command>) -> 
 }
 
 /// The bytes of a flash whose first page has so many records, made from numbers, and what they mean. `every`: the first 384 set each
-/// entry, so that a turnover copies all. `used`: the other page was used before, and has to be erased.
+/// entry, so that a compaction copies all. `used`: the other page was used before, and has to be erased.
 pub fn filled(records: usize, every: bool, used: bool, numbers: &mut Numbers) -> (Vec<u8>, Keymap) {
     let mut keymap = default_keymap();
     let mut words = vec![0x2000_0009u32];
@@ -79,7 +79,7 @@ pub fn filled(records: usize, every: bool, used: bool, numbers: &mut Numbers) ->
     for _ in 0..512 {
         bytes.extend(if used { word } else { u32::MAX }.to_le_bytes());
         bytes.extend(if used { !word } else { u32::MAX }.to_le_bytes());
-        word = 0x1000_0000 | numbers.below(96) as u32 * 0x1_0000 + 4;
+        word = 0x1000_0004 | (numbers.below(96) as u32) << 16;
     }
     (bytes, keymap)
 }

@@ -4,12 +4,13 @@
 use crate::Shop;
 use crate::chip::{Chip, Frame, LOG, Lost, Order};
 use crate::host::{self, Answer};
-use real_host::device::IDENTITY;
-use real_host::{Ended, Given, OnBus};
+use real_host::{About, Ended, Given, OnBus, Polled};
 use std::io::{Error, Result};
 use std::process::ExitCode;
-use wuzhikar::{Report, Scan};
-use wuzhikar_device::{Identity, PollAnswer};
+use wuzhikar::Scan;
+
+/// What the firmware tells of itself.
+const ABOUT: About = About { numbers: [0x1209, 1, 0x100], packet: 16, interval: 1 };
 
 /// Runs `real_host` with these words on the chip.
 pub fn run(shop: &Shop, words: &[String]) -> ExitCode {
@@ -30,7 +31,7 @@ fn lost<T>(why: impl std::fmt::Debug) -> T {
 
 impl Hung {
     fn new(shop: &Shop, given: &Given) -> Result<Hung> {
-        if given.serial.is_some() || given.packet != IDENTITY.packet_size {
+        if given.serial.is_some() || given.packet != ABOUT.packet {
             return Err(Error::other("the firmware has its own serial number and size of packets"));
         }
         let mut hung = Hung { chip: shop.chip()?, leds: 0, tear: None };
@@ -77,8 +78,8 @@ fn ended(answer: Answer<Option<Vec<u8>>>) -> Ended {
 }
 
 impl OnBus for Hung {
-    fn identity(&self) -> &'static Identity<'static> {
-        &IDENTITY
+    fn about(&self) -> About {
+        ABOUT
     }
 
     fn control(&mut self, setup: [u8; 8], data: &[u8]) -> Ended {
@@ -92,13 +93,13 @@ impl OnBus for Hung {
         ended
     }
 
-    fn poll(&mut self) -> PollAnswer {
+    fn poll(&mut self) -> Polled {
         let frame = self.ask(b"p");
         match frame.kind {
-            b'D' => PollAnswer::Data(frame.bytes.into_iter().collect::<Report>()),
-            b'N' => PollAnswer::Nak,
-            b'S' => PollAnswer::Stall,
-            _ => PollAnswer::Nothing,
+            b'D' => Polled::Packet(frame.bytes),
+            b'N' => Polled::Nak,
+            b'S' => Polled::Stall,
+            _ => Polled::Nothing,
         }
     }
 

@@ -5,6 +5,7 @@ use crate::Shop;
 use crate::chip::{Chip, LOG, Lost, Order};
 use crate::host::{self, Answer};
 use crate::model::{self, Command, Keymap, Numbers};
+use crate::silence::Waits;
 use std::time::Instant;
 
 /// What was seen.
@@ -107,7 +108,7 @@ impl Session {
     }
 }
 
-/// A flash that is put into the chip: a page that is nearly full, so that a turnover is near, or blank pages; one of eight of them
+/// A flash that is put into the chip: a page that is nearly full, so that a compaction is near, or blank pages; one of eight of them
 /// is damaged, whose keymap the chip then tells.
 fn another(chip: &mut Chip, numbers: &mut Numbers, counts: &mut Counts) -> Session {
     let records = if numbers.below(8) == 0 { 0 } else { 511 - numbers.below(4) as usize };
@@ -127,7 +128,7 @@ fn another(chip: &mut Chip, numbers: &mut Numbers, counts: &mut Counts) -> Sessi
     Session::on(keymap, damaged)
 }
 
-/// Where the power goes next: at any tick, or inside any operation, the more often the earlier. Where a turnover is near, inside it.
+/// Where the power goes next: at any tick, or inside any operation, the more often the earlier. Where a compaction is near, inside it.
 fn order(numbers: &mut Numbers, near: bool) -> Order {
     let (mut tick, mut operation) = (u64::MAX, 0);
     if numbers.below(2) == 0 {
@@ -168,15 +169,15 @@ pub fn run(shop: &Shop, cuts: u64, seed: u64) -> Answer<()> {
         counts.erases += chip.told.erases;
         counts.stack = counts.stack.max(chip.told.stack);
     }
-    tell(&counts, began.elapsed().as_secs(), &chip.slow);
+    tell(&counts, began.elapsed().as_secs(), &chip.waits);
     Ok(())
 }
 
-fn tell(c: &Counts, seconds: u64, slow: &[String]) {
+fn tell(c: &Counts, seconds: u64, waits: &Waits) {
     println!("{} random cuts in {seconds} s: acknowledged assignments lost 0", c.cuts);
     println!("  between operations {}, inside a program {}, inside an erase {}", c.inside[0], c.inside[1], c.inside[2]);
     println!("  in a start {}, in a command {}, which was found undone {}, done {}", c.in_start, c.in_command, c.old, c.new);
     println!("  confirmed {}, refused {}, entries read {}, reports {}", c.confirmed, c.refused, c.entries, c.reports);
     println!("  erases of 1 KiB {}, damaged flashes {}, stack {} bytes at most", c.erases, c.damaged, c.stack);
-    slow.iter().for_each(|told| println!("  three seconds without an answer, QEMU's threads in ms: {told}"));
+    println!("{waits}");
 }

@@ -37,3 +37,17 @@ pub fn run(shop: &Shop) -> Answer<()> {
     }
     power(&mut chip, Order::NEVER)
 }
+
+/// A host that has no processor for QEMU is no silence of the chip: QEMU is stopped while an answer is owed.
+pub fn starved(shop: &Shop) -> Answer<()> {
+    let mut chip = shop.chip()?;
+    chip.power(Order::NEVER)?;
+    host::start(&mut chip)?;
+    chip.starve(4)?;
+    let stored = host::command(&mut chip, Command { operation: 1, layer: 0, key: 0, code: 5 })?;
+    if !stored || !chip.waits.were_long() {
+        return Err(Lost::Dead(format!("QEMU was stopped for 4 s; stored: {stored}\n{}", chip.waits)));
+    }
+    println!("QEMU has no processor for 4 s: an answer is late, and no silence\n{}", chip.waits);
+    Ok(())
+}

@@ -6,7 +6,7 @@ from svg import Picture
 STEPS = [
     ("SETUP: SET_REPORT of feature report 3", "setup 2109030300000600", "the old code"),
     ("OUT: layer, key and code are checked, and accepted", "out 030100000600", "the old code"),
-    ("where there is no room: a turnover, a flash operation a step", "work", "the old code"),
+    ("where there is no room: a compaction, a flash operation a step", "work", "the old code"),
     ("the record is written into the tail slot", "work", "the old code or the new"),
     ("the keymap in RAM is changed: settled", "(it answers: settled)", "the new code"),
     ("IN: the empty packet tells the computer", "in", "the new code"),

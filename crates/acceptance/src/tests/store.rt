@@ -2,6 +2,7 @@
 //! default, behind which a page is to be erased, copied into and begun.
 
 ghost use Rattle.std.specs.Prelude.{◌≡◌};
+ghost use Rattle.layers.specs.Standard.{standard};
 
 use super::asserts::same;
 use super::rows::image;
@@ -26,7 +27,7 @@ impl Model for Device {
 
     ghost view = { λ d. d.flash.image };
 
-    ghost invariant = { λ d. Mirrors d.flash.image d.store };
+    ghost invariant = { λ d. Mirrors standard d.flash.image d.store };
 }
 
 impl Device {

@@ -1,6 +1,5 @@
 -- Only ties code to its definitions: the Local items that are kept stand for the items before.
-use Rattle.shapes.specs.Shapes.{Bytes}
-use Rattle.std.specs.Prelude.{◌≡◌, ℕ, ◌+◌, ◌*◌, ◌/◌, ◌^◌, ◌==◌, nat_lt, if◌then◌else◌, Bool, true, false, not, ◌||◌, List, [], ◌∷◌, ◌++◌, map, option_map, Option, Some, None, is_some}
+use Rattle.std.specs.Prelude.{◌≡◌, ℕ, ◌/◌, ◌^◌, ◌==◌, nat_lt, if◌then◌else◌, Bool, true, false, not, ◌||◌, List, [], ◌∷◌, ◌++◌, map, option_map, Option, Some, None, is_some}
 use Rattle.descriptor_parse.specs.declared.fault.ParseFault.{ParseFault}
 use Rattle.descriptor_parse.specs.declared.fault.ParseFault.TheVariants.{Delimiter, UnpairedUsage, UsageInverted}
 use Rattle.descriptor_parse.specs.declared.tag.LocalTag.{LocalTag}

@@ -8,7 +8,7 @@ use Rattle.descriptor_parse.specs.Items.{ItemValue}
 use Rattle.descriptor_parse.specs.Globals.{report_size, report_count}
 use Rattle.descriptor_parse.specs.Fields.{is_constant, fields, field_usages, report_bits, has_report_id, has_bare_data}
 use Rattle.descriptor_parse.specs.declared.locals.Locals.{Locals}
-use Rattle.descriptor_parse.specs.ties.GlobalsStand.{max_of}
+use Rattle.descriptor_parse.specs.ties.GlobalsOf.{max_of}
 use Rattle.descriptor_parse.specs.ties.LocalsStand.{range_on}
 use Rattle.descriptor_parse.specs.ties.Totals.{bits_in, first_in, no_field}
 use Rattle.descriptor_parse.specs.ties.Linked.{ends_of}

@@ -1,6 +1,6 @@
 -- Only ties code to its definitions: what callers of the parser know of it, by name alone.
 use Rattle.shapes.specs.Shapes.{Bytes}
-use Rattle.std.specs.Prelude.{◌≡◌, ℕ, Some}
+use Rattle.std.specs.Prelude.{◌≡◌, Some}
 use Rattle.descriptor_parse.specs.declared.fault.ParseError.{ParseError}
 use Rattle.descriptor_parse.specs.declared.parser.Parser.{Parser}
 use Rattle.descriptor_parse.specs.ties.Fed.{WasFed}

@@ -10,14 +10,15 @@ use Rattle.descriptor_parse.specs.declared.state.State.{State}
 use Rattle.descriptor_parse.specs.Items.{ItemValue}
 use Rattle.descriptor_parse.specs.Tags.{tag, is_collection, is_end_collection}
 use Rattle.descriptor_parse.specs.Fields.{open_collections}
-use Rattle.descriptor_parse.specs.ties.GlobalsStand.{GlobalsStand, max_of}
+use Rattle.descriptor_parse.specs.ties.GlobalsOf.{globals_of, max_of}
+use Rattle.descriptor_parse.specs.ties.StackStands.{StackStands}
 use Rattle.descriptor_parse.specs.ties.LocalsStand.{LocalsStand}
 use Rattle.descriptor_parse.specs.ties.ReportsStand.{ReportsStand, declares}
 use Rattle.descriptor_parse.specs.Faults.{fault_at, wants_memory}
 
 -- The state stands for the items before, none of which shows a fault.
 pub record StateStands (before : List ItemValue) (state : State) : Type 0 where
-  pub globals : GlobalsStand before state.globals
+  pub globals : StackStands globals_of before state.globals
   pub locals : LocalsStand before state.locals
   pub reports : ReportsStand before state.reports
   pub collections : state.collections ≡ open_collections before

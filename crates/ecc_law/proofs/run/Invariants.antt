@@ -8,7 +8,7 @@ use Rattle.ecc_law.proofs.run.Given as goal
 
 abbrev pub invariant-loop-step : goal.invariant-loop-step
 invariant-loop-step g l = record {
-  runs_on : RunsOn (image_of (g.F.EccFlash.units l.flash.0) (g.F.EccFlash.page_total l.flash.0)) l.keyboard;
-  whole : (start : List ℕ) (past : List Call) → StandsFor start past l.fn.keyboard → image_after start past ≡ image_of (g.F.EccFlash.units l.fn.flash.0) (g.F.EccFlash.page_total l.fn.flash.0) → g.F.EccFlash.is_healthy l.fn.flash.0
-      → (worked : List Call) × AreWhole worked × (length worked ≡ l.step) × g.F.EccFlash.is_healthy l.flash.0 × StandsFor start (worked ++ past) l.keyboard × (image_after start (worked ++ past) ≡ image_of (g.F.EccFlash.units l.flash.0) (g.F.EccFlash.page_total l.flash.0));
+  runs_on : RunsOn g.D.Defaults.defaults (image_of (g.F.EccFlash.units l.flash.0) (g.F.EccFlash.page_total l.flash.0)) l.keyboard;
+  whole : (start : List ℕ) (past : List Call) → StandsFor g.D.Defaults.defaults start past l.fn.keyboard → image_after start past ≡ image_of (g.F.EccFlash.units l.fn.flash.0) (g.F.EccFlash.page_total l.fn.flash.0) → g.F.EccFlash.is_healthy l.fn.flash.0
+      → (worked : List Call) × AreWhole worked × (length worked ≡ l.step) × g.F.EccFlash.is_healthy l.flash.0 × StandsFor g.D.Defaults.defaults start (worked ++ past) l.keyboard × (image_after start (worked ++ past) ≡ image_of (g.F.EccFlash.units l.flash.0) (g.F.EccFlash.page_total l.flash.0));
 }

@@ -10,6 +10,6 @@ returns g c = record {
       let before : List Call = Out c.args.report c.out-given.result ∷ SetUp set_feature ∷ past in
       let there = c.run.ensures.whole start before (c.out-given.ensures.stands start (SetUp set_feature ∷ past) (c.setup.ensures.stands start past s)) i h in
       let all = c.in_packet-status.ensures.stands start (there.0 ++ before) there.4 in
-      let lawful = subst (λ (l : List ℕ). IsLawful start (In c.in_packet-status.result ∷ there.0 ++ Out l c.out-given.result ∷ SetUp set_feature ∷ past)) r all.answered in
-      (there.0, c.a_command_is_served.ensures start past there.0 x y z v w c.out-given.result c.in_packet-status.result command ready k there.1 (there.2 ∙ n) lawful, there.2, there.3, all);
+      let lawful = subst (λ (l : List ℕ). IsLawful g.D.Defaults.defaults start (In c.in_packet-status.result ∷ there.0 ++ Out l c.out-given.result ∷ SetUp set_feature ∷ past)) r all.answered in
+      (there.0, c.a_command_is_served.ensures g.D.Defaults.defaults start past there.0 x y z v w c.out-given.result c.in_packet-status.result command ready k there.1 (there.2 ∙ n) lawful, there.2, there.3, all);
 }

@@ -7,8 +7,8 @@ use Rattle.ecc_law.proofs.work.Goals as goal
 
 pub returns-clause-legal : goal.returns-clause-legal
 returns-clause-legal g c start past s e =
-    legal_left start past c.work.result _ _ (c.work.ensures.cut start past s e) (λ idle. ap (λ p. image_of (g.F.EccFlash.units p.0) (g.F.EccFlash.page_total p.0)) (c.work.ensures.untouched idle)) (subst (RestartsLegally start past) e (c.restarts_are_legal.ensures start past s.answered))
+    legal_left g.D.Defaults.defaults start past c.work.result _ _ (c.work.ensures.cut start past s e) (λ idle. ap (λ p. image_of (g.F.EccFlash.units p.0) (g.F.EccFlash.page_total p.0)) (c.work.ensures.untouched idle)) (subst (RestartsLegally g.D.Defaults.defaults start past) e (c.restarts_are_legal.ensures g.D.Defaults.defaults start past s.answered))
 
 pub returns-clause-acknowledged : goal.returns-clause-acknowledged
 returns-clause-acknowledged g c start past layer key code s e a =
-    c.acknowledged_is_stored.ensures start (Worked c.work.result (image_of (g.F.EccFlash.units c.work.new.flash.0) (g.F.EccFlash.page_total c.work.new.flash.0)) ∷ past) (c.work.ensures.stands start past s e).answered layer key code (acknowledged_before past c.work.result _ layer key code a)
+    c.acknowledged_is_stored.ensures g.D.Defaults.defaults start (Worked c.work.result (image_of (g.F.EccFlash.units c.work.new.flash.0) (g.F.EccFlash.page_total c.work.new.flash.0)) ∷ past) (c.work.ensures.stands start past s e).answered layer key code (acknowledged_before g.D.Defaults.defaults past c.work.result _ layer key code a)

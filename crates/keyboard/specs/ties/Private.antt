@@ -1,6 +1,7 @@
 -- Only ties code to its definitions: contracts of the keyboard's private calls.
 use Rattle.shapes.specs.Shapes.{Bytes}
-use Rattle.std.specs.Prelude.{◌≡◌, ◌≤◌, ℕ, is_some, IsSome, None, Some, Result, Ok, Err, slice_index, if◌then◌else◌}
+use Rattle.std.specs.Prelude.{◌≡◌, ◌≤◌, is_some, IsSome, None, Some, Result, Ok, Err, slice_index, if◌then◌else◌}
+use Rattle.layers.specs.Codes.{DefaultCodes}
 use Rattle.layers.specs.declared.command.Command.{Command}
 use Rattle.control_ep.specs.declared.answer.EpAnswer.TheVariants.{Ack}
 use Rattle.control_ep.specs.declared.answer.Verdict.{Verdict}
@@ -32,26 +33,27 @@ verdict_of (Err Refusals.Busy) = Busy
 verdict_of (Err Refusals.Unsound) = Refused Unsound
 verdict_of (Err Refusals.Worn) = Refused Worn
 
--- what a verdict leaves: nothing is new where the report is not acknowledged; an entry is selected; or a command that
--- changes something works, and one that changes nothing is done
-pub data VerdictLeaves (image bytes : Bytes) (verdict : Verdict) (old new : KeyboardValue) : Type 0 where
-  refused : (judged_answer verdict ≡ Ack → ⊥) → new ≡ old → VerdictLeaves image bytes verdict old new
-  selects : slice_index bytes 0 ≡ 0 → judged_answer verdict ≡ Ack
-      → new ≡ record old { layer = slice_index bytes 1; key = slice_index bytes 2 } → VerdictLeaves image bytes verdict old new
-  commands : (command : Command) → command_in bytes ≡ Ok command → judged_answer verdict ≡ Ack → at_work old ≡ None → new ≡ record old { store = new.store }
-      → at_work new ≡ (if changes (keymap image) command then Some command else None) → left image new.store ≤ most_steps
-      → (IsSome (at_work new) → Needs image (left image new.store)) → (at_work new ≡ Some command → rest_of image new.store ≡ operations_of image command)
-      → VerdictLeaves image bytes verdict old new
+module _ (defaults : DefaultCodes) where
+  -- what a verdict leaves: nothing is new where the report is not acknowledged; an entry is selected; or a command that
+  -- changes something works, and one that changes nothing is done
+  pub data VerdictLeaves (image bytes : Bytes) (verdict : Verdict) (old new : KeyboardValue) : Type 0 where
+    refused : (judged_answer verdict ≡ Ack → ⊥) → new ≡ old → VerdictLeaves image bytes verdict old new
+    selects : slice_index bytes 0 ≡ 0 → judged_answer verdict ≡ Ack
+        → new ≡ record old { layer = slice_index bytes 1; key = slice_index bytes 2 } → VerdictLeaves image bytes verdict old new
+    commands : (command : Command) → command_in bytes ≡ Ok command → judged_answer verdict ≡ Ack → at_work old ≡ None → new ≡ record old { store = new.store }
+        → at_work new ≡ (if changes defaults (keymap defaults image) command then Some command else None) → left defaults image new.store ≤ most_steps
+        → (IsSome (at_work new) → Needs defaults image (left defaults image new.store)) → (at_work new ≡ Some command → rest_of defaults image new.store ≡ operations_of defaults image command)
+        → VerdictLeaves image bytes verdict old new
 
--- a verdict on a feature report's bytes
-pub record Judges (image bytes : Bytes) (verdict : Verdict) (old new : KeyboardValue) : Type 0 where
-  pub answer_is : FeatureAnswer image (is_some (at_work old)) bytes (judged_answer verdict)
-  pub told : verdict ≡ verdict_told (changes_by (keymap image) (command_in bytes)) (judged_answer verdict)
-  pub runs_on : RunsOn image new
-  pub leaves : VerdictLeaves image bytes verdict old new
+  -- a verdict on a feature report's bytes
+  pub record Judges (image bytes : Bytes) (verdict : Verdict) (old new : KeyboardValue) : Type 0 where
+    pub answer_is : FeatureAnswer defaults image (is_some (at_work old)) bytes (judged_answer verdict)
+    pub told : verdict ≡ verdict_told (changes_by defaults (keymap defaults image) (command_in bytes)) (judged_answer verdict)
+    pub runs_on : RunsOn defaults image new
+    pub leaves : VerdictLeaves image bytes verdict old new
 
--- the store makes a step of the flash work: what it promises of it
-pub record Operating (image : Bytes) (old : StoreValue) (work : WorkAnswer) (after : Bytes) (new : StoreValue) : Type 0 where
-  pub leaves : WorkLeaves image old work after new
-  pub down : CountsDown work (left image old) (left after new)
-  pub order : TakesFirst work (rest_of image old) (rest_of after new)
+  -- the store makes a step of the flash work: what it promises of it
+  pub record Operating (image : Bytes) (old : StoreValue) (work : WorkAnswer) (after : Bytes) (new : StoreValue) : Type 0 where
+    pub leaves : WorkLeaves defaults image old work after new
+    pub down : CountsDown work (left defaults image old) (left defaults after new)
+    pub order : TakesFirst work (rest_of defaults image old) (rest_of defaults after new)

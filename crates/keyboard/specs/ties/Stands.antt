@@ -1,6 +1,7 @@
 -- Only ties code to its definitions: a keyboard stands for the calls of its session, newest first, on its first image.
 use Rattle.shapes.specs.Shapes.{Bytes}
-use Rattle.std.specs.Prelude.{◌≡◌, ◌+◌, ◌≤◌, ℕ, IsSome, Some, List, drop}
+use Rattle.std.specs.Prelude.{◌≡◌, ◌+◌, ◌≤◌, IsSome, Some, List, drop}
+use Rattle.layers.specs.Codes.{DefaultCodes}
 use Rattle.layers.specs.declared.command.Command.{Command}
 use Rattle.control_ep.specs.ties.Stands as control_ep
 use Rattle.key_reports.specs.ties.Stands as key_reports
@@ -16,21 +17,22 @@ use Rattle.keyboard.specs.Bounded.{most_steps, steps_since, accepted_image}
 use Rattle.keyboard.specs.Lawful.{IsLawful}
 use Rattle.keyboard.specs.ties.Value.{KeyboardValue, RunsOn, at_work}
 
--- a clause for each field: each part stands for its own calls among them
-pub record PartsStandFor (start : Bytes) (past : List Call) (keyboard : KeyboardValue) : Type 0 where
-  pub ep : control_ep.StandsFor (ep_calls start past) keyboard.ep
-  pub keys : key_reports.StandsFor (key_calls start past) keyboard.keys
-  pub store : RunsOn (image_after start past) keyboard
-  pub works : at_work keyboard ≡ working start past
-  pub protocol : keyboard.protocol ≡ protocol_after past
-  pub leds : keyboard.leds ≡ leds_after past
-  pub layer : keyboard.layer ≡ (selected past).layer
-  pub key : keyboard.key ≡ (selected past).key
-  pub few : IsSome (at_work keyboard) → left (image_after start past) keyboard.store + steps_since past ≤ most_steps
-  pub needs : IsSome (at_work keyboard) → Needs (accepted_image start past) (left (image_after start past) keyboard.store + steps_since past)
-  pub order : (command : Command) → at_work keyboard ≡ Some command → drop (steps_since past) (operations_of (accepted_image start past) command) ≡ rest_of (image_after start past) keyboard.store
+module _ (defaults : DefaultCodes) where
+  -- a clause for each field: each part stands for its own calls among them
+  pub record PartsStandFor (start : Bytes) (past : List Call) (keyboard : KeyboardValue) : Type 0 where
+    pub ep : control_ep.StandsFor (ep_calls defaults start past) keyboard.ep
+    pub keys : key_reports.StandsFor (key_calls defaults start past) keyboard.keys
+    pub store : RunsOn defaults (image_after start past) keyboard
+    pub works : at_work keyboard ≡ working defaults start past
+    pub protocol : keyboard.protocol ≡ protocol_after past
+    pub leds : keyboard.leds ≡ leds_after past
+    pub layer : keyboard.layer ≡ (selected past).layer
+    pub key : keyboard.key ≡ (selected past).key
+    pub few : IsSome (at_work keyboard) → left defaults (image_after start past) keyboard.store + steps_since past ≤ most_steps
+    pub needs : IsSome (at_work keyboard) → Needs defaults (accepted_image start past) (left defaults (image_after start past) keyboard.store + steps_since past)
+    pub order : (command : Command) → at_work keyboard ≡ Some command → drop (steps_since past) (operations_of defaults (accepted_image start past) command) ≡ rest_of defaults (image_after start past) keyboard.store
 
--- and each call so far was answered as it had to be
-pub record StandsFor (start : Bytes) (past : List Call) (keyboard : KeyboardValue) : Type 0 where
-  pub now : PartsStandFor start past keyboard
-  pub answered : IsLawful start past
+  -- and each call so far was answered as it had to be
+  pub record StandsFor (start : Bytes) (past : List Call) (keyboard : KeyboardValue) : Type 0 where
+    pub now : PartsStandFor start past keyboard
+    pub answered : IsLawful defaults start past

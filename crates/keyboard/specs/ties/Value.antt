@@ -1,6 +1,7 @@
 -- Only ties code to its definitions: what contracts see of a keyboard.
 use Rattle.shapes.specs.Shapes.{Bytes}
 use Rattle.std.specs.Prelude.{ℕ, Option}
+use Rattle.layers.specs.Codes.{DefaultCodes}
 use Rattle.layers.specs.declared.command.Command.{Command}
 use Rattle.reports.specs.declared.Protocol.{Protocol}
 use Rattle.control_ep.specs.Transfers.{Stage}
@@ -19,9 +20,10 @@ pub record KeyboardValue : Type 0 where
   pub layer : ℕ
   pub key : ℕ
 
--- the keyboard runs on a flash with this image: the one that it started on, as it has left it
-abbrev pub RunsOn : Bytes → KeyboardValue → Type 0
-RunsOn image keyboard = Mirrors image keyboard.store
+module _ (defaults : DefaultCodes) where
+  -- the keyboard runs on a flash with this image: the one that it started on, as it has left it
+  abbrev pub RunsOn : Bytes → KeyboardValue → Type 0
+  RunsOn image keyboard = Mirrors defaults image keyboard.store
 
 -- the command that works, if one does
 abbrev pub at_work : KeyboardValue → Option Command

@@ -1,6 +1,7 @@
 -- Only ties code to its definitions: what the private parts of a turn owe each other; what `work` promises is in Works.
 use Rattle.shapes.specs.Shapes.{Bytes}
 use Rattle.std.specs.Prelude.{◌≡◌, ◌<◌, ℕ}
+use Rattle.layers.specs.Codes.{DefaultCodes}
 use Rattle.page_turnover.specs.Value.{LogValue, Task, Wait}
 use Rattle.page_turnover.specs.ties.Log.{Describes}
 use Rattle.page_turnover.specs.Turn.{copied, IsPending}
@@ -12,9 +13,10 @@ abbrev pub CanOfferIfWaiting : Task → Type 0
 CanOfferIfWaiting (Wait target) = copied target < 511
 CanOfferIfWaiting _ = Unit {0}
 
--- a log that was offered what its turn wants next
-pub record IsOffered (entries : ℕ → ℕ → ℕ) (image : Bytes) (before after : LogValue) (from : ℕ) : Type 0 where
-  pub describes : Describes image after
-  pub offers : OffersBelow entries from image after.task
-  pub pending : IsPending after.task
-  pub next : after ≡ with_task before (next_task entries before.task)
+module _ (defaults : DefaultCodes) where
+  -- a log that was offered what its turn wants next
+  pub record IsOffered (entries : ℕ → ℕ → ℕ) (image : Bytes) (before after : LogValue) (from : ℕ) : Type 0 where
+    pub describes : Describes image after
+    pub offers : OffersBelow defaults entries from image after.task
+    pub pending : IsPending after.task
+    pub next : after ≡ with_task before (next_task defaults entries before.task)

@@ -1,8 +1,8 @@
 -- Only ties code to its definitions: the operations that a store has still to make, in their order.
 use Rattle.shapes.specs.Shapes.{Bytes, SlotWords}
 use Rattle.std.specs.Prelude.{◌≡◌, ◌≢◌, ℕ, suc, Option, Some, None, List, [], ◌∷◌, ◌++◌, length, drop}
+use Rattle.layers.specs.Codes.{DefaultCodes}
 use Rattle.layers.specs.Commands.{word_of}
-use Rattle.layers.specs.declared.command.Command.{Command}
 use Rattle.page_turnover.specs.declared.log.ActivePage.{ActivePage}
 use Rattle.page_turnover.specs.declared.operation.Operation.{Operation}
 use Rattle.page_turnover.specs.declared.operation.Operation.TheVariants.{Program}
@@ -37,14 +37,15 @@ abbrev pub turn_rest : Bytes → Target → SlotWords → ℕ → List Operation
 turn_rest image target copies word =
     erase_rest image target ++ (copies_rest image (copied target) copies ++ header_and_record image (length copies) word)
 
-abbrev pub rest_for : Bytes → LogValue → Job → List Operation
-rest_for image log Resting = []
-rest_for image log (Appending command) = append_rest log.active (word_of command)
-rest_for image log (Turning command from) = turn_rest image (target_of log.task) (all_copies (entries_of image)) (word_of command)
+module _ (defaults : DefaultCodes) where
+  abbrev pub rest_for : Bytes → LogValue → Job → List Operation
+  rest_for image log Resting = []
+  rest_for image log (Appending command) = append_rest log.active (word_of command)
+  rest_for image log (Turning command from) = turn_rest image (target_of log.task) (all_copies defaults (entries_of defaults image)) (word_of command)
 
--- the operations that the command that works still needs; none where none works
-abbrev pub rest_of : Bytes → StoreValue → List Operation
-rest_of image store = rest_for image store.log store.job
+  -- the operations that the command that works still needs; none where none works
+  abbrev pub rest_of : Bytes → StoreValue → List Operation
+  rest_of image store = rest_for image store.log store.job
 
 -- a call that answers Working takes the first operation off, Settled is the answer to the last one, and after any other answer
 -- than Working none is left

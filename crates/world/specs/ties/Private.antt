@@ -8,17 +8,19 @@ use Rattle.world.specs.Kinds.{Step}
 use Rattle.world.specs.Stands.{EndsAfter}
 use Rattle.world.specs.ties.Stands.{StandsFor}
 use Rattle.world.specs.ties.Value.{WorldValue}
+use Rattle.layers.specs.Codes.{DefaultCodes}
 
--- an event is taken on top of each history that the world stood for
-abbrev pub Takes : Event → WorldValue → Told → WorldValue → Type 0
-Takes event old told new =
-    (start : SimValue) (past : List Step) → StandsFor start past old
-    → StandsFor start (record { event = event; answer = told.answer; flash = new.flash; refused = told.refused } ∷ past) new
+module _ (defaults : DefaultCodes) where
+  -- an event is taken on top of each history that the world stood for
+  abbrev pub Takes : Event → WorldValue → Told → WorldValue → Type 0
+  Takes event old told new =
+      (start : SimValue) (past : List Step) → StandsFor defaults start past old
+      → StandsFor defaults start (record { event = event; answer = told.answer; flash = new.flash; refused = told.refused } ∷ past) new
 
--- a run that is over: a longer history without what follows
-pub record Went (start : SimValue) (past : List Step) (world : WorldValue) (events : List Event) (room : ℕ) (before after : List Answer) (ok : Bool) : Type 0 where
-  pub steps : List Step
-  pub stands : StandsFor start (steps ++ past) world
-  pub events_are : map (λ (s : Step). s.event) (reverse steps) ≡ take (length steps) events
-  pub answers_are : after ≡ before ++ map (λ (s : Step). s.answer) (reverse steps)
-  pub ends : EndsAfter room ok steps events
+  -- a run that is over: a longer history without what follows
+  pub record Went (start : SimValue) (past : List Step) (world : WorldValue) (events : List Event) (room : ℕ) (before after : List Answer) (ok : Bool) : Type 0 where
+    pub steps : List Step
+    pub stands : StandsFor defaults start (steps ++ past) world
+    pub events_are : map (λ (s : Step). s.event) (reverse steps) ≡ take (length steps) events
+    pub answers_are : after ≡ before ++ map (λ (s : Step). s.answer) (reverse steps)
+    pub ends : EndsAfter room ok steps events

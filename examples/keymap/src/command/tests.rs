@@ -2,7 +2,7 @@ use super::*;
 use crate::keyboard::REPORT;
 use std::{fs, io};
 use wuzhikar::{Mask, SimFlash};
-use wuzhikar_device::{Device, Identity, NotDone};
+use wuzhikar_device::{Device, NotDone, Product};
 
 /// A keyboard in memory, called as hidraw calls a real one. A stall is EPIPE, a cut of the power EPROTO.
 struct Played {
@@ -14,7 +14,7 @@ struct Played {
 
 impl Played {
     fn blank() -> Played {
-        Played { device: Device::start(SimFlash::blank(2).unwrap(), &Identity::TEST).unwrap(), cut: None, sets: 0 }
+        Played { device: Device::start(SimFlash::blank(2).unwrap(), &Product::TEST).unwrap(), cut: None, sets: 0 }
     }
 }
 
@@ -146,7 +146,7 @@ fn a_stall_says_what_it_may_mean() {
     // Both pages are not sound: each command is refused.
     let image = [0x00; 8192].to_vec();
     let mut played = Played::blank();
-    played.device = Device::start(SimFlash::from_image(image).unwrap(), &Identity::TEST).unwrap();
+    played.device = Device::start(SimFlash::from_image(image).unwrap(), &Product::TEST).unwrap();
     let error = run(&mut played, "set 0 0 0005");
     assert!(
         error.contains("Broken pipe") && error.contains("is not sound, or used up") && error.ends_with("is as it was"),

@@ -117,7 +117,7 @@ fn pages_that_share_an_erase_unit_lose_values() {
 }
 
 #[test]
-fn faults_that_are_told_as_done_lose_values() {
+fn faults_reported_as_success_lose_values() {
     assert!(loses::<Wrong<A_FAULT_OF_A_WRITE_IS_OK, 8, 4096>>());
     assert!(first_broken::<Wrong<A_FAULT_OF_AN_ERASE_IS_OK, 8, 4096>>().is_err());
 }

@@ -7,7 +7,7 @@
 use core::arch::asm;
 use core::sync::atomic::{AtomicBool, AtomicU32, Ordering};
 
-use settings::Settings;
+use settings::Lamp;
 use settings::stm32g0::{Chip, Register, Stm32G0, on_nmi};
 use wuzhikar_log::{GeometryError, PairedFlash, UnitFlash};
 
@@ -19,7 +19,7 @@ const PAGES: usize = 2;
 /// Whether the NMI came of a double error since a read of the flash began.
 static DOUBLE_ERROR: AtomicBool = AtomicBool::new(false);
 
-/// A request that an interrupt has left: bit 31, the id in bits 23 to 16, the value in bits 15 to 0.
+/// A request that an interrupt has left: bit 31, and a channel in bits 7 to 0.
 pub static REQUEST: AtomicU32 = AtomicU32::new(0);
 
 /// How the last request ended: 0 it is stored, 1 it is refused.
@@ -90,11 +90,11 @@ pub extern "C" fn format() -> bool {
 /// What the chip's start-up code calls.
 #[unsafe(no_mangle)]
 pub extern "C" fn main() -> ! {
-    if let Ok(Ok(mut settings)) = units().map(|units| Settings::mount(PairedFlash::mount(units))) {
+    if let Ok(Ok(mut lamp)) = units().map(|units| Lamp::mount(PairedFlash::mount(units))) {
         loop {
             let request = REQUEST.load(Ordering::Acquire);
             if request >> 31 == 1 {
-                let stored = settings.set((request >> 16) as u8, request as u16);
+                let stored = lamp.set_channel(request as u8);
                 ANSWER.store(u32::from(stored.is_err()), Ordering::Relaxed);
                 REQUEST.store(0, Ordering::Release);
             }

@@ -22,4 +22,4 @@ pub use wuzhikar_log::parts::flash_model::Mask;
 pub use crate::parts::host::{Reading, UsageList};
 pub use wuzhikar::parts::keymap_store::Work;
 pub use wuzhikar::parts::reports::Report;
-pub use world::World;
+pub use world::{World, WorldOf};

@@ -20,7 +20,7 @@ pub struct Globals {
 pub struct Context {
     pub globals: Globals,
     saved: Vec<Globals>,
-    depth: usize,
+    pub depth: usize,
 }
 
 impl Context {
@@ -231,7 +231,7 @@ fn hex(number: u32) -> String {
 }
 
 /// The number that up to four bytes make, the least significant first.
-fn unsigned(bytes: &[u8]) -> u32 {
+pub fn unsigned(bytes: &[u8]) -> u32 {
     bytes.iter().take(4).rev().fold(0, |number, byte| number << 8 | u32::from(*byte))
 }
 

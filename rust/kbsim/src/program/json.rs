@@ -2,15 +2,16 @@
 
 use super::details::bit_words;
 use super::ends::Ended;
-use super::items::Context;
+use super::items::{Context, unsigned};
 use super::read::Names;
 use super::texts::reader_of;
 use serde_json::{Value as Json, json};
 use std::io::{self, Write};
 use wuzhikar_hid::{
-    Detail, Details, Dimension, Kind, Naming, Reader, Reading, ReadingError, UsageName, Value, Within, details, namings,
+    Detail, Details, Dimension, Kind, Naming, Reader, ReaderError, Reading, ReadingError, UsageName, Value, Within, details,
+    namings,
 };
-use wuzhikar_reader::{AllocError, Items, MainTag, Tag, parse as parsed};
+use wuzhikar_reader::{Items, MainTag, Tag, parse as parsed};
 
 /// The version of the schema.
 const VERSION: u32 = 1;
@@ -66,7 +67,7 @@ fn field(text: &[u8], details: &Details, place: usize, ranges: &[(u32, u32)], nu
 }
 
 /// The data items, those that take no bits among them: each with its place among the details, where it has one.
-fn fields(text: &[u8], reader: &Reader) -> Result<Vec<(Option<usize>, Json)>, AllocError> {
+fn fields(text: &[u8], reader: &Reader) -> Result<Vec<(Option<usize>, Json)>, ReaderError> {
     let mut number = 0;
     let mut all: Vec<(usize, Option<usize>, Json)> =
         empty(text)?.into_iter().map(|(offset, item)| (offset, None, item)).collect();
@@ -84,10 +85,10 @@ fn fields(text: &[u8], reader: &Reader) -> Result<Vec<(Option<usize>, Json)>, Al
     Ok(placed.collect())
 }
 
-/// The data items that take no bits, since their size or count is 0, each with its offset. What one declares is what the text up to
-/// it does, with 1 for both; its usages are those of the Usages before it, on the page in force.
-fn empty(text: &[u8]) -> Result<Vec<(usize, Json)>, AllocError> {
-    let (mut context, mut usages, mut found) = (Context::default(), Vec::new(), Vec::new());
+/// The data items that take no bits, since their size or count is 0, each with its offset. What one declares is what one bit of
+/// padding in its place does; its usages are those of the Usages before it, on the page in force.
+fn empty(text: &[u8]) -> Result<Vec<(usize, Json)>, ReaderError> {
+    let (mut context, mut before, mut usages, mut found) = (Context::default(), Vec::new(), Vec::new(), Vec::new());
     for item in Items::new(text).map_while(Result::ok) {
         let end = item.offset + 1 + item.bytes.len();
         let globals = context.globals;
@@ -97,16 +98,22 @@ fn empty(text: &[u8]) -> Result<Vec<(usize, Json)>, AllocError> {
                 let [low, high, ..] = globals.page.to_le_bytes();
                 let (ones, page, own) = ([0x75, 1, 0x95, 1], [0x06, low, high], &text[item.offset..end]);
                 let alone = parsed(&[&usages, &page[..], &ones, own].concat());
-                let mut told = details(&[&text[..item.offset], &ones, own].concat())?;
+                let ends = vec![0xC0; context.depth];
+                let mut told = details(&[&before[..], &ones, &[item.prefix & 0xFC | 1, 1], &ends].concat())?;
                 let last = told.fields.len() - 1;
                 let detail = &mut told.fields[last];
                 (detail.offset, detail.size, detail.count) = (item.offset, globals.size, globals.count);
+                detail.flags = unsigned(item.bytes);
                 let ranges = alone.as_ref().map_or(&[] as &[_], |alone| alone.ranges(0));
                 found.push((item.offset, field(text, &told, last, ranges, None)));
                 usages.clear();
             }
             Tag::Main(_) => usages.clear(),
             _ => {}
+        }
+        // Main and Global items alone say anything of those behind the next Main item.
+        if item.prefix & 0x08 == 0 {
+            before.extend_from_slice(&text[item.offset..end]);
         }
         context.take(&item);
     }

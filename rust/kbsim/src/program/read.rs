@@ -9,7 +9,7 @@ use std::collections::HashMap;
 use std::ffi::OsString;
 use std::io::{self, Read, Write};
 use std::process::ExitCode;
-use wuzhikar_hid::{Kind, Reader, ReadingError, UsageName, Value, Within};
+use wuzhikar_hid::{Changed, Kind, Reader, ReadingError, UsageName, Value, Within};
 
 /// How many bytes are asked for at once.
 const PIECE: usize = 65_536;
@@ -43,6 +43,8 @@ struct Teller<'a, W> {
     /// Whether usages have their names, and whether a report is an object of JSON.
     names_usages: bool,
     json: bool,
+    /// The last report of each ID, where it is told what a report changes.
+    last: Option<HashMap<u8, Vec<u8>>>,
     out: W,
     /// The number of the line or report, from 1.
     number: u64,
@@ -84,7 +86,7 @@ impl<W: Write> Teller<'_, W> {
         if detail.is_some_and(|detail| !detail.is_variable()) {
             // A place of an array says a usage, or nothing.
             if let Some(usage) = value.usage.filter(|usage| usage & 0xFFFF != 0) {
-                self.put_usage(usage);
+                self.put_usage(b' ', usage);
             }
             return Ok(());
         }
@@ -96,7 +98,7 @@ impl<W: Write> Teller<'_, W> {
     /// Puts what a place is called, by its usage or by field and place, with an equals sign.
     fn put_place(&mut self, value: &Value) {
         match value.usage {
-            Some(usage) => self.put_usage(usage),
+            Some(usage) => self.put_usage(b' ', usage),
             None => {
                 self.line.extend_from_slice(b" f");
                 put_number(&mut self.line, value.field as i64);
@@ -129,22 +131,46 @@ impl<W: Write> Teller<'_, W> {
         }
     }
 
-    fn put_usage(&mut self, usage: u32) {
+    /// Puts a usage behind a blank, or behind another sign.
+    fn put_usage(&mut self, before: u8, usage: u32) {
         if self.names_usages {
-            for part in [" \"", self.names.of(usage), "\""] {
-                self.line.extend_from_slice(part.as_bytes());
-            }
-            return;
+            self.line.extend_from_slice(&[before, b'"']);
+            self.line.extend_from_slice(self.names.of(usage).as_bytes());
+            return self.line.push(b'"');
         }
         let digit = |shift: u32| b"0123456789abcdef"[(usage >> shift & 15) as usize];
-        let digits = [b' ', digit(28), digit(24), digit(20), digit(16), digit(12), digit(8), digit(4), digit(0)];
+        let digits = [before, digit(28), digit(24), digit(20), digit(16), digit(12), digit(8), digit(4), digit(0)];
         self.line.extend_from_slice(&digits);
+    }
+
+    /// Tells the usages that a report presses and releases, by the last one of its ID; all are new in the first.
+    fn tell_changes(&mut self, id: u8, report: &[u8]) -> io::Result<()> {
+        let last = self.last.as_mut().and_then(|last| last.insert(id, report.to_vec()));
+        let changed = match last {
+            None => self.reader.pressed(self.kind, report).map(|pressed| Changed { pressed, ..Changed::default() }),
+            Some(last) => self.reader.changes(self.kind, &last, report),
+        };
+        let Changed { pressed, released } = match changed {
+            Err(error) => return self.refuse(&format!("{error:?}")),
+            Ok(changed) => changed,
+        };
+        self.line.clear();
+        put_number(&mut self.line, id.into());
+        for (sign, usages) in [(b'+', pressed), (b'-', released)] {
+            for usage in usages {
+                self.line.push(b' ');
+                self.put_usage(sign, usage);
+            }
+        }
+        self.line.push(b'\n');
+        self.out.write_all(&self.line)
     }
 
     /// Tells one report.
     fn tell(&mut self, report: &[u8]) -> io::Result<()> {
         match self.reader.read(self.kind, report) {
             Err(error) => self.refuse(&format!("{error:?}")),
+            Ok(reading) if self.last.is_some() => self.tell_changes(reading.id(), report),
             Ok(reading) if self.json => match json::buffered(self.reader, (self.kind, report), reading.clone()) {
                 Err(error) => self.refuse(&format!("{error:?}")),
                 Ok(buffered) => json::put_report(self.reader, reading, &buffered, &mut self.names, &mut self.out),
@@ -408,6 +434,7 @@ pub fn read(given: &ArgMatches) -> Result<ExitCode, Ended> {
         kind: kind_of(given),
         names_usages: given.get_flag("names"),
         json: given.get_flag("json"),
+        last: given.get_flag("changes").then(HashMap::new),
         out: io::BufWriter::new(files::output()?),
         number: 0,
         refused: false,

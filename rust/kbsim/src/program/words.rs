@@ -73,6 +73,7 @@ fn read() -> Command {
     command("read", "Tells the values in HID reports", include_str!("help/read.txt")).args([
         flag("names", "Usages by their names"),
         flag("json", "An object of JSON a line; docs/reader.md has the schema"),
+        flag("changes", "The usages that a report presses and releases, in place of its values").conflicts_with("json"),
         flag("raw", "The reports are bytes, and not lines"),
         kind("The kind of the reports").default_value("input"),
         form(LOOKED_AT),

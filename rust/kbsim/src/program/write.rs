@@ -8,31 +8,134 @@ use clap::ArgMatches;
 use std::ffi::OsString;
 use std::io::Write;
 use std::str::FromStr;
-use wuzhikar_hid::{Asked, Setting, Target, WriteError};
+use wuzhikar_hid::{Asked, Kind, NoValue, Reader, Setting, Target, WriteError, usages_named};
 
 /// The most bytes that a control transfer has (USB 2.0, section 9.3.5).
 const LONGEST: usize = 65_535;
 
-/// A setting: `00080001=1`, `00010039[1]=null`, `f2[0]=5`.
-fn setting(word: &str) -> Option<Setting> {
-    let (control, value) = word.split_once('=')?;
-    let (name, place) = match control.split_once('[') {
-        Some((name, place)) => (name, number(place.strip_suffix(']')?)?),
+const EXAMPLES: &str = "00080001=1, 'Num Lock=1', 00010039[1]=null, f2[0]=0x1f, 'X=unit:1/2'";
+
+/// What a word names.
+enum Control<'a> {
+    Place(Target),
+    /// A name of usages, and the place among what has one of them.
+    Named(&'a str, usize),
+}
+
+/// What a control is set to.
+enum Value {
+    Asked(Asked),
+    /// So much in the unit: a fraction.
+    Unit(i64, u64),
+}
+
+/// A setting: `00080001=1`, `Num Lock=1`, `00010039[1]=null`, `f2[0]=0x1f`, `X=unit:1/2`.
+fn setting(word: &str) -> Option<(Control<'_>, Value)> {
+    let (control, value) = word.rsplit_once('=')?;
+    // (There are names with brackets, as that of a key.)
+    let placed = control.strip_suffix(']').and_then(|rest| rest.rsplit_once('['));
+    let (name, place) = match placed.and_then(|(name, place)| Some((name, number(place)?))) {
+        Some(placed) => placed,
         None => (control, 0),
     };
-    // A field is f and a decimal number; a usage has eight hex digits.
-    let target = if name.len() == 8 && name.bytes().all(|digit| digit.is_ascii_hexdigit()) {
-        Target::Usage { usage: u32::from_str_radix(name, 16).ok()?, place }
-    } else {
-        Target::Field { field: number(name.strip_prefix('f').filter(|_| name.len() < 8)?)?, place }
+    Some((self::control(name, place)?, self::value(value)?))
+}
+
+/// A usage of eight hex digits, a field `f2`, or a name.
+fn control(name: &str, place: usize) -> Option<Control<'_>> {
+    if name.len() == 8 && name.bytes().all(|digit| digit.is_ascii_hexdigit()) {
+        return Some(Control::Place(Target::Usage { usage: u32::from_str_radix(name, 16).ok()?, place }));
+    }
+    if let Some(digits) = name.strip_prefix('f').filter(|digits| digits.bytes().all(|digit| digit.is_ascii_digit())) {
+        let field = number(digits).filter(|_| name.len() < 8)?;
+        return Some(Control::Place(Target::Field { field, place }));
+    }
+    usages_named(name).next().map(|_| Control::Named(name, place))
+}
+
+/// A number, decimal or behind `0x` in hex, a null, or a fraction of the unit: `unit:-1/3`, `unit:0.25`.
+fn value(word: &str) -> Option<Value> {
+    if matches!(word, "null" | "none") {
+        return Some(Value::Asked(Asked::Null));
+    }
+    if let Some(fraction) = word.strip_prefix("unit:") {
+        return self::fraction(fraction);
+    }
+    let (sign, digits) = word.strip_prefix('-').map_or(("", word), |digits| ("-", digits));
+    let value = match digits.strip_prefix("0x") {
+        Some(digits) if !digits.starts_with(['+', '-']) => i64::from_str_radix(&format!("{sign}{digits}"), 16).ok()?,
+        Some(_) => return None,
+        None => number(word)?,
     };
-    let asked = if matches!(value, "null" | "none") { Asked::Null } else { Asked::Value(number(value)?) };
-    Some(Setting { target, asked })
+    Some(Value::Asked(Asked::Value(value)))
+}
+
+/// A fraction: `-1/3`, or a decimal of at most 18 digits behind the point.
+fn fraction(word: &str) -> Option<Value> {
+    if let Some((above, below)) = word.split_once('/') {
+        return Some(Value::Unit(number(above)?, number(below)?));
+    }
+    let (whole, behind) = word.split_once('.').unwrap_or((word, ""));
+    let places = u32::try_from(behind.len()).ok().filter(|places| *places <= 18)?;
+    let digits = behind.bytes().all(|digit| digit.is_ascii_digit());
+    Some(Value::Unit(number(&format!("{whole}{behind}")).filter(|_| digits)?, 10u64.pow(places)))
 }
 
 /// A number of decimal digits, without a plus sign.
 fn number<N: FromStr>(word: &str) -> Option<N> {
     if word.starts_with('+') { None } else { word.parse().ok() }
+}
+
+/// What is written: the descriptor's reader, and which of its reports.
+struct Report {
+    reader: Reader,
+    kind: Kind,
+    id: u8,
+}
+
+impl Report {
+    /// The setting with a number that a word asks for.
+    fn settled(&self, number: usize, (control, value): (Control<'_>, Value)) -> Result<Setting, Ended> {
+        let target = match control {
+            Control::Place(target) => target,
+            Control::Named(name, place) => self.named(number, name, place)?,
+        };
+        let asked = match value {
+            Value::Asked(asked) => asked,
+            Value::Unit(above, below) => Asked::Value(self.of_unit(number, target, above, below)?),
+        };
+        Ok(Setting { target, asked })
+    }
+
+    /// The control of the report that has a name; `Ambiguous` where usages of two pages have it and are there.
+    fn named(&self, number: usize, name: &str, place: usize) -> Result<Target, Ended> {
+        let mut found = None;
+        for usage in usages_named(name) {
+            let target = Target::Usage { usage, place };
+            if self.field_of(target)?.is_some() && found.replace(target).is_some() {
+                let sentence = format!("error: setting {number}: the report has several usages of the name {name}");
+                return Err(Ended::fault(format!("fault write Ambiguous {number}"), sentence));
+            }
+        }
+        found.ok_or_else(|| told(WriteError::Unknown(number)))
+    }
+
+    /// The value of a control that is so much in its unit.
+    fn of_unit(&self, number: usize, target: Target, above: i64, below: u64) -> Result<i64, Ended> {
+        let field = self.field_of(target)?.ok_or_else(|| told(WriteError::Unknown(number)))?;
+        let detail = self.reader.detail(field).ok_or_else(|| told(WriteError::Unknown(number)))?;
+        detail.value_of(above, below).map_err(|why| {
+            let name = match why {
+                NoValue::NoPhysical(why) => format!("{why:?}"),
+                NoValue::NoStep => "NoStep".to_string(),
+            };
+            Ended::fault(format!("fault write {name} {number}"), format!("error: setting {number}: {why}"))
+        })
+    }
+
+    fn field_of(&self, target: Target) -> Result<Option<usize>, Ended> {
+        self.reader.field_of(self.kind, self.id, target).map_err(|_| Ended::memory())
+    }
 }
 
 /// Prints the report in hex.
@@ -44,17 +147,26 @@ pub fn write(given: &ArgMatches) -> Result<(), Ended> {
         Some(text) => Some(bytes_of(text.as_bytes()).ok_or_else(|| refused(format!("{text} is not pairs of hex digits")))?),
         None => None,
     };
-    let is_none = |word: &String| format!("{word} is no setting: 00080001=1, 00010039[1]=null, f2[0]=5");
+    let is_none = |word: &String| format!("{word} is no setting: {EXAMPLES}");
     let settings = given.get_many::<String>("settings").unwrap_or_default();
     let settings = settings.map(|word| setting(word).ok_or_else(|| refused(is_none(word)))).collect::<Result<Vec<_>, _>>()?;
 
-    let (reader, kind) = (reader_given(given.get_one::<OsString>("descriptor"), given)?, kind_of(given));
-    if let Some(length) = reader.descriptor().report_len(kind, id).filter(|length| *length > LONGEST) {
-        let sentence = format!("error: the report has {length} bytes, and a transfer at most {LONGEST}");
-        return Err(Ended::fault("fault write TooLong", sentence));
+    let report = Report { reader: reader_given(given.get_one::<OsString>("descriptor"), given)?, kind: kind_of(given), id };
+    let Report { reader, kind, .. } = &report;
+    match reader.descriptor().report_len(*kind, id) {
+        None => return Err(told(WriteError::UnknownReport)),
+        Some(length) if length > LONGEST => {
+            let sentence = format!("error: the report has {length} bytes, and a transfer at most {LONGEST}");
+            return Err(Ended::fault("fault write TooLong", sentence));
+        }
+        Some(_) => {}
     }
-    let report = reader.write(kind, id, &settings, onto.as_deref()).map_err(told)?;
-    Ok(writeln!(files::output()?, "{}", hex::encode(report))?)
+    let settled = (0..).zip(settings).map(|(number, setting)| report.settled(number, setting));
+    let written = match settled.collect::<Result<Vec<_>, _>>() {
+        Err(ended) => return Err(ended),
+        Ok(settings) => reader.write(*kind, id, &settings, onto.as_deref()).map_err(told)?,
+    };
+    Ok(writeln!(files::output()?, "{}", hex::encode(written))?)
 }
 
 /// A refusal with its name, as `OutOfRange`, and the number of the setting or field behind it.

@@ -96,3 +96,28 @@ fn each_of_262144_places() {
     let all = reader.read(Kind::Input, &onto).expect("a report");
     assert_eq!(all.filter(|value| value.usage == Some(0x1_0030)).count(), 1 << 18);
 }
+
+/// The same fields, each place with a usage of its own in turn, all on at once and then all off.
+#[test]
+fn changes_of_262144_places() {
+    let start = [0x05, 0x01, 0x85, 0xFF, 0x15, 0x00, 0x27, 0xFF, 0xFF, 0xFF, 0x7F, 0x75, 0x20, 0x96, 0x00, 0x04];
+    let reader = reader(&start, &[0x1A, 0x01, 0x00, 0x2A, 0x00, 0x04, 0x81, 0x02], 256, &[]);
+    let (mut on, mut off) = (vec![1; 1 << 20 | 1], vec![0; 1 << 20 | 1]);
+    (on[0], off[0]) = (255, 255);
+    let usages: Vec<u32> = (0x1_0001..=0x1_0400).collect();
+    assert_eq!(reader.pressed(Kind::Input, &on).as_ref(), Ok(&usages));
+    let pressed = reader.changes(Kind::Input, &off, &on).expect("changes");
+    assert_eq!((pressed.pressed, pressed.released), (usages.clone(), vec![]));
+    let released = reader.changes(Kind::Input, &on, &off).expect("changes");
+    assert_eq!((released.pressed, released.released), (vec![], usages));
+}
+
+/// 256 Arrays of one place, each of which names a usage of its own: as many usages as there are fields differ.
+#[test]
+fn changes_of_256_arrays() {
+    let start = [0x05, 0x07, 0x15, 0x00, 0x26, 0xFF, 0x00, 0x75, 0x08, 0x95, 0x01];
+    let reader = reader(&start, &[0x19, 0x00, 0x29, 0xFF, 0x81, 0x00], 256, &[]);
+    let all: Vec<u8> = (0..=255).collect();
+    let changed = reader.changes(Kind::Input, &all, &[0; 256]).expect("changes");
+    assert_eq!((changed.pressed.len(), changed.released), (0, (0x7_0001..=0x7_00FF).collect()));
+}

@@ -1,6 +1,6 @@
 //! Texts of the greatest length, and numbers that are as large as they can be.
 
-use wuzhikar_hid::{Details, Kind, Naming, details, namings};
+use wuzhikar_hid::{Details, Kind, Naming, ParseError, ParseFault, ReaderError, details, namings};
 
 /// A text of 4,096 bytes: these, and then the others over and over.
 fn filled(start: &[u8], again: &[u8]) -> Vec<u8> {
@@ -15,7 +15,7 @@ fn ended(start: &[u8], again: &[u8]) -> Vec<u8> {
 }
 
 fn told(text: &[u8]) -> Details {
-    details(text).expect("memory")
+    details(text).expect("a descriptor")
 }
 
 /// How many data items there are, the last one's first bit, ID and collection; how many collections, and the one around the
@@ -30,34 +30,42 @@ const ONE_BIT: [u8; 4] = [0x75, 1, 0x95, 1];
 
 #[test]
 fn as_many_data_items_as_there_can_be() {
-    let told = told(&filled(&ONE_BIT, &[0x81, 2]));
+    let told = told(&filled(&ONE_BIT, &[0x81, 3]));
     assert_eq!(counts(&told), "2046 Some((2045, 0, None)) 0 None");
 }
 
-/// Each within the one before.
+/// Each beside the one before.
 #[test]
 fn as_many_collections_as_there_can_be() {
-    assert_eq!(counts(&told(&filled(&[], &[0xA1, 1]))), "0 None 2048 Some(Some(2046))");
+    assert_eq!(counts(&told(&filled(&[], &[0xA0, 0xC0]))), "0 None 2048 Some(None)");
 }
 
 #[test]
 fn as_many_collections_around_as_there_can_be() {
-    let told = told(&ended(&ONE_BIT, &[0xA1, 1]));
-    assert!(told.around(0).eq(0..2045));
-    assert_eq!(told.application(0), Some(2044));
+    let told = told(&[&[0xA1, 1].repeat(16)[..], &ONE_BIT, &[0x81, 2], &[0xC0; 16]].concat());
+    assert!(told.around(0).eq(0..16));
+    assert_eq!(told.application(0), Some(15));
 }
 
-/// 4,089 Pushes, and what is in force after them.
+/// Seven Pushes, 2,041 that are popped, an eighth one, and what is in force after them.
 #[test]
 fn as_many_pushes_as_there_can_be() {
-    assert_eq!(counts(&told(&ended(&ONE_BIT, &[0xA4]))), "1 Some((0, 0, None)) 0 None");
+    let start = [&ONE_BIT[..], &[0xA4; 7]].concat();
+    assert_eq!(counts(&told(&ended(&start, &[0xA4, 0xB4]))), "1 Some((0, 0, None)) 0 None");
 }
 
-/// Items of 2 ^ 64 - 2 ^ 33 + 1 bits, of which 64 bits count one.
+/// Items of 2 ^ 20 bits.
 #[test]
-fn bits_past_what_64_bits_count() {
-    let start = [0x77, 0xFF, 0xFF, 0xFF, 0xFF, 0x97, 0xFF, 0xFF, 0xFF, 0xFF];
-    assert_eq!(counts(&told(&filled(&start, &[0x81, 2]))), "2043 Some((18446744073709551615, 0, None)) 0 None");
+fn as_many_bits_as_there_can_be() {
+    let start = [0x76, 0x00, 0x04, 0x96, 0x00, 0x04];
+    assert_eq!(counts(&told(&filled(&start, &[0x81, 3]))), "2045 Some((2143289344, 0, None)) 0 None");
+}
+
+#[test]
+fn a_longer_text_is_refused() {
+    let text = [filled(&ONE_BIT, &[0x81, 3]), vec![0x04]].concat();
+    let too_long = ParseError { fault: ParseFault::TooLong, offset: 4096 };
+    assert_eq!(details(&text), Err(ReaderError::Parse(too_long)));
 }
 
 /// 256 fields of one report in an application, with a string each.
@@ -87,4 +95,12 @@ fn as_much_as_there_can_be_is_asked() {
     assert_eq!(padded.reports().map(|facts| facts.bits).collect::<Vec<_>>(), [2046]);
     let text = ended(&[], &[0x79, 7]);
     assert_eq!(namings(&text, 4094, Naming::String).collect::<Vec<_>>(), vec![7..=7; 2047]);
+}
+
+/// A text of 65,536 bytes, which `parse` refuses.
+#[test]
+fn strings_of_a_text_over_4096_bytes() {
+    let mut text = [0x79, 7].repeat(1 << 15);
+    text[65_534..].copy_from_slice(&[0x81, 2]);
+    assert_eq!(namings(&text, 65_534, Naming::String).count(), 32_767);
 }

@@ -15,21 +15,24 @@
 //! slot PAGE SLOT = BYTES
 //! ```
 
-use wuzhikar::{EpAnswer, KeyNo, Keyboard, LayerNo, Mask, NorFlash, Scan, SimFlash, Work};
+use wuzhikar::{Defaults, EpAnswer, KeyNo, KeyboardOf, LayerNo, Mask, NorFlash, Scan, SimFlash, Standard, Work};
 use wuzhikar_tests::{bytes, expect, hex, images, number, repeated, word};
 
-pub struct Board {
-    pub keyboard: Keyboard,
+pub struct BoardOf<D: Defaults> {
+    pub keyboard: KeyboardOf<D>,
     pub flash: SimFlash,
 }
 
-impl Board {
-    pub fn on(flash: SimFlash) -> Board {
-        Board { keyboard: Keyboard::on(&flash).unwrap(), flash }
+/// A board with the standard layout.
+pub type Board = BoardOf<Standard>;
+
+impl<D: Defaults> BoardOf<D> {
+    pub fn on(flash: SimFlash) -> BoardOf<D> {
+        BoardOf { keyboard: KeyboardOf::on(&flash).unwrap(), flash }
     }
 
-    pub fn blank(pages: usize) -> Board {
-        Board::on(SimFlash::blank(pages).expect("a flash"))
+    pub fn blank(pages: usize) -> BoardOf<D> {
+        BoardOf::on(SimFlash::blank(pages).expect("a flash"))
     }
 
     pub fn rows(&mut self, script: &str) {

@@ -1,10 +1,11 @@
 //! Commands where operations are torn, by a fault or by a cut of the power inside them: the keymap is changed exactly where the
 //! host is told so, in RAM and after a restart, beside a plain reading of the flash.
 
-use crate::board::Board;
+use crate::board::BoardOf;
+use crate::layouts::{Known, Other};
 use proptest::collection::vec;
 use proptest::prelude::*;
-use wuzhikar::{EpAnswer, SimFlash, Why, Work};
+use wuzhikar::{EpAnswer, SimFlash, Standard, Why, Work};
 use wuzhikar_tests::images::{self, Refusal, good};
 
 /// SET_REPORT of the feature report.
@@ -24,10 +25,11 @@ struct Trouble {
 }
 
 /// Takes a command, and compares all that comes of it; `table` is the keymap before it and becomes the one after it.
-fn take(board: &mut Board, table: &mut images::Table, word: u32, trouble: &Trouble) {
+fn take<D: Known>(board: &mut BoardOf<D>, table: &mut images::Table, word: u32, trouble: &Trouble) {
+    let defaults = D::table();
     let mut after = table.clone();
-    images::apply(&mut after, 2, word);
-    let wanted = images::operations(board.flash.image(), table, &after);
+    images::apply(&mut after, &defaults, 2, word);
+    let wanted = images::operations(board.flash.image(), &defaults, table, &after);
     let begun = board.flash.image().to_vec();
     board.keyboard.setup(SET_FEATURE);
     let answer = board.keyboard.out(&report_of(word));
@@ -42,12 +44,12 @@ fn take(board: &mut Board, table: &mut images::Table, word: u32, trouble: &Troub
         }
     }
     assert!(wanted.is_ok_and(|operations| operations > 0) || board.flash.image() == begun, "a flash is written");
-    assert_eq!((&board.table(), &images::table(board.flash.image())), (&*table, &*table));
+    assert_eq!((&board.table(), &images::table(board.flash.image(), &defaults)), (&*table, &*table));
     assert_eq!(images::unsound(board.flash.image()), images::unsound(&begun));
 }
 
 /// Works on a command that takes so many operations; whether it is stored.
-fn work(board: &mut Board, operations: usize, trouble: &Trouble) -> bool {
+fn work<D: Known>(board: &mut BoardOf<D>, operations: usize, trouble: &Trouble) -> bool {
     for operation in 1..=operations {
         assert_eq!(board.keyboard.in_packet(), EpAnswer::Nak);
         let mask = trouble.torn.as_ref().filter(|torn| torn.0 == operation).map(|torn| &torn.1[..]);
@@ -74,12 +76,12 @@ fn work(board: &mut Board, operations: usize, trouble: &Trouble) -> bool {
 
 /// Takes a command once for each of its operations, each mask, and a fault or a cut, and then once more, whole, on the flash
 /// that an image gives.
-fn each_torn(image: &[u8], word: u32, operations: usize) {
-    let start = images::table(image);
+fn each_torn<D: Known>(image: &[u8], word: u32, operations: usize) {
+    let start = images::table(image, &D::table());
     for operation in 1..=operations {
         for mask in [&[0x00][..], &[0x01], &[0x0F], &[0x55], &[0xAA], &[0xFE], &[0xFF], &[0xF0, 0x81, 0x3C]] {
             for cut in [None, Some(operation)] {
-                let mut board = Board::on(SimFlash::from_image(image.to_vec()).expect("a flash"));
+                let mut board = BoardOf::<D>::on(SimFlash::from_image(image.to_vec()).expect("a flash"));
                 let mut table = start.clone();
                 take(&mut board, &mut table, word, &Trouble { torn: Some((operation, mask.to_vec())), cut });
                 take(&mut board, &mut table, word, &Trouble::default());
@@ -107,13 +109,14 @@ fn each_operation_torn() {
     images::put(&mut begun, 1, 0, [0xAA, 0xAA, 0xAA, 0xAA, 0xFF, 0xFF, 0xFF, 0xFF]);
     // A header and a record; a copy, a header and a record; an erase first; and a copy whose code is another one in format 2.
     for (image, operations) in [(vec![0xFF; 8192], 2), (full, 3), (begun, 4), (image([0x1000_0001, 0x1000_400D]), 3)] {
-        each_torn(&image, 0x1001_0006, operations);
+        each_torn::<Standard>(&image, 0x1001_0006, operations);
+        each_torn::<Other>(&image, 0x1001_0006, operations);
     }
 }
 
 /// A full page of format 1 on which each entry differs from the default, and whose next page is not blank.
 fn longest() -> Vec<u8> {
-    let entries = (0..384u32).map(|place| 0x1000_0000 | (place / 96) << 24 | (place % 96) << 16);
+    let entries = (0..384u32).map(|place| 0x1000_0070 | (place / 96) << 24 | (place % 96) << 16);
     let rest = (385..512).map(|slot| if slot % 2 == 1 { 0x1000_0005 } else { 0x1000_0000 });
     let mut image = image([0x1000_0001].into_iter().chain(entries).chain(rest));
     images::put(&mut image, 1, 9, [0; 8]);
@@ -122,7 +125,8 @@ fn longest() -> Vec<u8> {
 
 #[test]
 fn each_operation_of_the_longest_command_torn() {
-    each_torn(&longest(), 0x1000_0000, 387);
+    each_torn::<Standard>(&longest(), 0x1000_0000, 387);
+    each_torn::<Other>(&longest(), 0x1000_0000, 387);
 }
 
 /// A code of either format, or none.
@@ -196,6 +200,17 @@ fn page() -> impl Strategy<Value = Vec<u8>> {
     })
 }
 
+/// Takes commands on a flash of these pages, and compares all that comes of each.
+fn outlive<D: Known>(pages: &[Vec<u8>], commands: &[(u32, Trouble)]) {
+    let mut board = BoardOf::<D>::on(SimFlash::from_image(pages.concat()).expect("a flash"));
+    let mut table = images::table(board.flash.image(), &D::table());
+    assert_eq!(board.table(), table);
+    assert_eq!(board.keyboard.is_first_start(), images::newest(board.flash.image()).is_none());
+    for (word, trouble) in commands {
+        take(&mut board, &mut table, *word, trouble);
+    }
+}
+
 proptest! {
     #![proptest_config(ProptestConfig::with_cases(400))]
 
@@ -203,12 +218,9 @@ proptest! {
     fn commands_outlive_faults_and_cuts(
         pages in prop_oneof![vec(page(), 2), vec(page(), 3), vec(page(), 8), Just(vec![vec![0xFF; 4096]; 2])],
         commands in vec((command(), trouble()), 1..60),
+        is_standard in any::<bool>(),
     ) {
-        let mut board = Board::on(SimFlash::from_image(pages.concat()).expect("a flash"));
-        let mut table = images::table(board.flash.image());
-        prop_assert_eq!(board.table(), table.clone());
-        for (word, trouble) in &commands {
-            take(&mut board, &mut table, *word, trouble);
-        }
+        let outlive = if is_standard { outlive::<Standard> } else { outlive::<Other> };
+        outlive(&pages, &commands);
     }
 }

@@ -3,4 +3,5 @@
 mod board;
 mod commands;
 mod endpoint;
+mod layouts;
 mod sessions;

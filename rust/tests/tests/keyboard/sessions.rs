@@ -215,9 +215,9 @@ fn settings_and_refusals() {
     );
 }
 
-/// 511 changes, and a turnover that is cut inside its header, and the command again.
+/// 511 changes, and a compaction that is cut inside its header, and the command again.
 #[test]
-fn a_full_page_turns_over() {
+fn a_full_page_is_compacted() {
     let mut board = Board::blank(2);
     board.rows(
         "setup 2109030300000600

@@ -1,5 +1,6 @@
 //! What `wuzhikar-log` does: a flash in memory, the log of words on it, and the adapter for flash with error correction.
 
+mod compactions;
 mod flash;
 mod images;
 mod mounted;
@@ -7,4 +8,3 @@ mod paired;
 mod rows;
 mod steps;
 mod torn;
-mod turns;

@@ -55,7 +55,7 @@ fn a_blank_flash_gets_its_first_header() {
 }
 
 #[test]
-fn a_full_page_turns_over() {
+fn a_full_page_is_compacted() {
     on_blank(
         2,
         "put 0 0 20000001
@@ -102,7 +102,7 @@ fn a_used_target_is_erased_first() {
 }
 
 #[test]
-fn a_turn_that_was_cut_starts_anew() {
+fn an_interrupted_compaction_starts_anew() {
     on_blank(
         2,
         "put 0 0 20000001
@@ -133,7 +133,7 @@ fn the_last_page_turns_to_page_0() {
 }
 
 #[test]
-fn a_turn_is_refused() {
+fn a_compaction_is_refused() {
     on_blank(
         2,
         "put 0 0 1fffffff
@@ -174,7 +174,7 @@ fn a_page_of_format_1_can_be_worn_with_slots_left() {
 }
 
 #[test]
-fn a_waiting_turn_is_busy_and_its_steps_are_idle() {
+fn a_waiting_compaction_is_busy_and_its_steps_are_idle() {
     on_blank(
         2,
         "log = no page

@@ -100,7 +100,7 @@ fn a_page_that_reads_blank_after_a_fault_is_erased() {
 }
 
 #[test]
-fn a_torn_header_is_erased_by_the_next_turn() {
+fn a_torn_header_is_erased_by_the_next_compaction() {
     on_blank(
         2,
         "put 0 0 20000001

@@ -3,7 +3,7 @@
 
 use super::*;
 use wuzhikar::{Scan, SimFlash};
-use wuzhikar_device::{Ahead, Device, Identity};
+use wuzhikar_device::{DeviceLayer, Keys, Product, UsbDevice};
 
 /// What comes on the bus: whether it could.
 type Comes = fn(&mut Played) -> bool;
@@ -98,10 +98,10 @@ impl Registers for Played {
     }
 }
 
-/// A controller behind a reset, whose endpoint 0 answers so.
-fn started(to: u16) -> Stm32Usb<Played> {
-    let mut usb = Stm32Usb::new(Played::default());
-    usb.change(Change::Reset);
+/// A controller on these registers behind a reset, whose endpoint 0 answers so.
+fn started(registers: &RefCell<Played>, to: u16) -> Stm32Usb<'_, Played> {
+    let mut usb = Stm32Usb::new(registers);
+    usb.forget();
     usb.set(Register::Endpoint0, STAT_TX | STAT_RX, to);
     usb
 }
@@ -112,9 +112,9 @@ fn setup_comes(played: &mut Played) -> bool {
 
 #[test]
 fn a_setup_packet_at_any_access_leaves_nothing_in_the_buffers() {
-    let calls: [fn(&mut Stm32Usb<Played>); 6] = [
+    let calls: [fn(&mut Stm32Usb<'_, Played>); 6] = [
         |usb| usb.input_0(Input::Nak),
-        |usb| usb.input_0(Input::Packet(&[1, 2])),
+        |usb| usb.input_0(Input::Packet([1, 2].into_iter().collect())),
         |usb| usb.input_0(Input::Stall),
         |usb| usb.output_0(Output::Nak),
         |usb| usb.output_0(Output::Take),
@@ -124,15 +124,16 @@ fn a_setup_packet_at_any_access_leaves_nothing_in_the_buffers() {
     for (input, output) in [NAK, STALL, VALID].into_iter().flat_map(|one| [NAK, STALL, VALID].map(|other| (one, other))) {
         for call in calls {
             for at in 0.. {
-                let mut usb = started(input & STAT_TX | output & STAT_RX);
-                usb.registers.comes = Some((at, setup_comes));
+                let registers = RefCell::default();
+                let mut usb = started(&registers, input & STAT_TX | output & STAT_RX);
+                registers.borrow_mut().comes = Some((at, setup_comes));
                 call(&mut usb);
-                if usb.registers.comes.is_some() {
+                if registers.borrow().comes.is_some() {
                     break;
                 }
-                assert_eq!(usb.registers.endpoints[0] & (STAT_TX | STAT_RX), NAK, "at access {at}");
-                assert!(!usb.registers.masked);
-                assert_eq!(usb.waiting(), Waiting { setup: Some(GET_STATUS), ..Waiting::default() });
+                assert_eq!(registers.borrow().endpoints[0] & (STAT_TX | STAT_RX), NAK, "at access {at}");
+                assert!(!registers.borrow().masked);
+                assert_eq!(usb.waiting().setup, Some(GET_STATUS));
                 places += 1;
             }
         }
@@ -142,46 +143,53 @@ fn a_setup_packet_at_any_access_leaves_nothing_in_the_buffers() {
 
 #[test]
 fn what_comes_at_any_access_is_told_once() {
-    for at in 0..12 {
-        let mut usb = started(VALID);
-        assert!(usb.registers.input(0).is_some() && usb.registers.out(&[7]));
-        usb.registers.comes = Some((at, setup_comes));
+    for at in 0..8 {
+        let registers = RefCell::<Played>::default();
+        let mut usb = started(&registers, VALID);
+        assert!(registers.borrow_mut().input(0).is_some() && registers.borrow_mut().out(&[7]));
+        registers.borrow_mut().comes = Some((at, setup_comes));
         let met = [usb.waiting(), usb.waiting(), usb.waiting()];
-        assert_eq!(met.iter().filter(|met| met.taken_0).count(), 1);
+        assert_eq!(met.iter().filter(|met| met.taken).count(), 1);
         assert_eq!(met[0].out.as_deref(), Some(&[7][..]));
         let setups: Vec<usize> = (0..3).filter(|number| met[*number].setup == Some(GET_STATUS)).collect();
-        assert!(setups.len() == usize::from(usb.registers.comes.is_none()) && setups != [0], "{at}: {met:?}");
+        assert!(setups.len() == usize::from(registers.borrow().comes.is_none()) && setups != [0], "{at}: {setups:?}");
     }
 }
 
 #[test]
-fn a_packet_of_endpoint_1_is_taken_once_or_dropped() {
-    for at in 0..12 {
-        let mut usb = started(NAK);
-        usb.change(Change::Endpoint1(Endpoint1::Ready));
-        usb.input_1(&[1]);
-        usb.registers.comes = Some((at, |played| played.input(1).is_some()));
-        let dropped = usb.drop_1();
-        assert_eq!(dropped, usize::from(usb.registers.comes.is_none()), "{at}");
-        assert_eq!((usb.registers.input(1), usb.waiting().taken_1), (None, 0), "{at}");
+fn a_packet_of_endpoint_1_is_taken_or_dropped() {
+    for at in 0..16 {
+        let registers = RefCell::<Played>::default();
+        let mut usb = started(&registers, NAK);
+        usb.begin_anew(Endpoint1::Ready);
+        usb.input_1([1].into_iter().collect());
+        registers.borrow_mut().comes = Some((at, |played| played.input(1).is_some()));
+        usb.begin_anew(Endpoint1::Ready);
+        // Nothing of it is left, and the next packet has DATA0.
+        assert_eq!(registers.borrow_mut().input(1), None, "{at}");
+        assert_eq!(usb.taken_1(), 0, "{at}");
+        assert_eq!(registers.borrow().endpoints[1] & DTOG_TX, 0, "{at}");
     }
 }
 
+type Usb<'r> = UsbDevice<'static, Keys<SimFlash>, Stm32Usb<'r, Played>>;
+
 /// A transfer of the host: what it reads.
-fn control(ahead: &mut Ahead<SimFlash>, usb: &mut Stm32Usb<Played>, setup: [u8; 8], data: &[u8]) -> Vec<u8> {
+fn control(device: &mut Usb, usb: &mut Stm32Usb<Played>, setup: [u8; 8], data: &[u8]) -> Vec<u8> {
     let (mut read, asked) = (Vec::new(), usize::from(setup[6]));
-    assert!(usb.registers.setup(setup));
-    ahead.serve(usb);
-    assert!(data.is_empty() || usb.registers.out(data));
+    let registers = usb.0;
+    assert!(registers.borrow_mut().setup(setup));
+    device.serve(usb);
+    assert!(data.is_empty() || registers.borrow_mut().out(data));
     for _ in 0..100 {
-        ahead.serve(usb);
-        let _ = ahead.work();
-        let Some(packet) = usb.registers.input(0) else { continue };
+        device.serve(usb);
+        let _ = device.work();
+        let Some(packet) = registers.borrow_mut().input(0) else { continue };
         read.extend(&packet);
         if packet.len() < 8 || read.len() == asked {
-            ahead.serve(usb);
-            assert!(setup[0] & 0x80 == 0 || usb.registers.out(&[]));
-            ahead.serve(usb);
+            device.serve(usb);
+            assert!(setup[0] & 0x80 == 0 || registers.borrow_mut().out(&[]));
+            device.serve(usb);
             return read;
         }
     }
@@ -190,21 +198,23 @@ fn control(ahead: &mut Ahead<SimFlash>, usb: &mut Stm32Usb<Played>, setup: [u8; 
 
 #[test]
 fn a_host_enumerates_the_keyboard_sets_a_key_and_hears_it() {
-    let mut ahead = Ahead::new(Device::start(SimFlash::blank(2).unwrap(), &Identity::TEST).unwrap());
-    let mut usb = Stm32Usb::new(Played::default());
-    usb.registers.status = RESET;
-    ahead.serve(&mut usb);
-    let device = control(&mut ahead, &mut usb, [0x80, 6, 0, 1, 0, 0, 18, 0], &[]);
-    assert_eq!(device, Identity::TEST.device_descriptor());
-    assert_eq!(control(&mut ahead, &mut usb, [0, 5, 9, 0, 0, 0, 0, 0], &[]), []);
-    assert_eq!(usb.registers.address, ENABLED | 9);
-    control(&mut ahead, &mut usb, [0, 9, 1, 0, 0, 0, 0, 0], &[]);
-    control(&mut ahead, &mut usb, [0x21, 9, 3, 3, 0, 0, 6, 0], &[3, 1, 0, 0, 5, 0]);
-    (0..5).for_each(|_| ahead.scan(Scan { rows: [1, 0, 0, 0, 0, 0] }));
+    let registers = RefCell::new(Played { status: RESET, ..Played::default() });
+    let mut usb = Stm32Usb::new(&registers);
+    let keys = Keys::start(SimFlash::blank(2).unwrap()).unwrap();
+    let layer = DeviceLayer::new(Product::TEST.descriptors());
+    let mut device = UsbDevice::new(layer, keys, usb, Product::TEST.identity().packet_size);
+    device.serve(&mut usb);
+    let read = control(&mut device, &mut usb, [0x80, 6, 0, 1, 0, 0, 18, 0], &[]);
+    assert_eq!(read, Product::TEST.descriptors().device);
+    assert_eq!(control(&mut device, &mut usb, [0, 5, 9, 0, 0, 0, 0, 0], &[]), []);
+    assert_eq!(registers.borrow().address, ENABLED | 9);
+    control(&mut device, &mut usb, [0, 9, 1, 0, 0, 0, 0, 0], &[]);
+    control(&mut device, &mut usb, [0x21, 9, 3, 3, 0, 0, 6, 0], &[3, 1, 0, 0, 5, 0]);
+    (0..5).for_each(|_| device.scan_keys(Scan { rows: [1, 0, 0, 0, 0, 0] }));
     let mut report = Vec::new();
     for _ in 0..3 {
-        ahead.serve(&mut usb);
-        report.extend(usb.registers.input(1).into_iter().flatten());
+        device.serve(&mut usb);
+        report.extend(registers.borrow_mut().input(1).into_iter().flatten());
     }
     // The letter b: bit 1 behind the modifiers.
     assert_eq!((report.len(), &report[..3]), (23, &[1, 0, 2][..]));

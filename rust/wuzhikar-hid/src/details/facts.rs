@@ -4,7 +4,7 @@ use crate::parts::field_details::{Collection, Detail, Dimension};
 use core::fmt;
 
 impl Detail {
-    /// The exponents of all dimensions in the unit, in the order of [`Dimension::ALL`]; all 0 where no unit is declared.
+    /// Returns the exponents of all dimensions of the unit, in the order of [`Dimension::ALL`]; all 0 if no unit is declared.
     pub fn unit_exponents(&self) -> Result<[i8; 6], NoUnit> {
         match self.unit_system() {
             _ if self.unit_reserved() != 0 => Err(NoUnit::ReservedDigit),
@@ -15,7 +15,7 @@ impl Detail {
         }
     }
 
-    /// The name of a usual unit, as "centimetre", or `None` for one that is made up of others.
+    /// Returns the name of a usual unit, as "centimetre"; `None` for one that is made up of others.
     pub fn unit_name(&self) -> Option<&'static str> {
         Some(match self.unit {
             0x11 => "centimetre",
@@ -73,7 +73,7 @@ impl fmt::Display for NoUnit {
 impl core::error::Error for NoUnit {}
 
 impl Collection {
-    /// The name of its type, or `None` where it is reserved or the vendor's.
+    /// Returns the name of its type; `None` if it is reserved or the vendor's.
     pub fn kind_name(&self) -> Option<&'static str> {
         const NAMES: [&str; 7] =
             ["Physical", "Application", "Logical", "Report", "Named Array", "Usage Switch", "Usage Modifier"];

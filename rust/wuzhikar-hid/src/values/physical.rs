@@ -19,8 +19,76 @@ impl fmt::Display for NoPhysical {
 
 impl core::error::Error for NoPhysical {}
 
+/// Why no value of a field is so much in its unit.
+#[derive(Clone, Copy, Debug, PartialEq, Eq)]
+pub enum NoValue {
+    /// The values of the field have no physical ones.
+    NoPhysical(NoPhysical),
+    /// No value within the logical extents is just so much, or all are.
+    NoStep,
+}
+
+impl fmt::Display for NoValue {
+    fn fmt(&self, f: &mut fmt::Formatter<'_>) -> fmt::Result {
+        match self {
+            NoValue::NoPhysical(why) => why.fmt(f),
+            NoValue::NoStep => f.write_str("no value of the field is just so much"),
+        }
+    }
+}
+
+impl core::error::Error for NoValue {}
+
 impl Detail {
-    /// The physical value of a logical one: the line through the logical and the physical extents, also past their ends.
+    /// Returns the value within the logical extents that is just `numerator` / `denominator` in the unit, with the power of ten
+    /// that stands beside it: what [`physical_value`](Detail::physical_value) gives of it is that.
+    ///
+    /// # Errors
+    ///
+    /// `NoPhysical` says why the values of the field have no physical ones. Else `NoStep`, where the denominator is 0, no value
+    /// within the logical extents is just so much, or all of several are.
+    pub fn value_of(&self, numerator: i64, denominator: u64) -> Result<i64, NoValue> {
+        self.physical_value(self.min).map_err(NoValue::NoPhysical)?;
+        let value = self.step(numerator, denominator).ok_or(NoValue::NoStep)?;
+        let exact = self.physical_value(value).map_err(NoValue::NoPhysical)?;
+        let asked = scaled(numerator, denominator, self.exponent).ok_or(NoValue::NoStep)?;
+        if (exact.numerator, exact.denominator) == asked { Ok(value) } else { Err(NoValue::NoStep) }
+    }
+
+    /// The one value on the line.
+    fn step(&self, numerator: i64, denominator: u64) -> Option<i64> {
+        let ((above, below), (least, greatest)) = (scaled(numerator, denominator, self.exponent)?, self.physical());
+        let (span, rise) = (i128::from(self.max) - i128::from(self.min), i128::from(greatest) - i128::from(least));
+        let over = above.checked_sub(i128::from(least).checked_mul(below)?)?.checked_mul(span)?;
+        let step = rise.checked_mul(below)?;
+        // (Neither divides by 0.)
+        if over.checked_rem(step)? != 0 {
+            return None;
+        }
+        let value = i64::try_from(over.checked_div(step)?.checked_add(i128::from(self.min))?).ok()?;
+        (self.min..=self.max).contains(&value).then_some(value)
+    }
+}
+
+/// A fraction over a power of ten, in lowest terms; `None` where it does not fit, as no physical value does then.
+fn scaled(numerator: i64, denominator: u64, exponent: i64) -> Option<(i128, i128)> {
+    let (above, below) = (i128::from(numerator), i128::from(denominator));
+    if below == 0 || above == 0 {
+        return (below != 0).then_some((0, 1));
+    }
+    let power = 10i128.checked_pow(u32::try_from(exponent.unsigned_abs()).ok()?)?;
+    let (above, below) = if exponent < 0 { (above.checked_mul(power)?, below) } else { (above, below.checked_mul(power)?) };
+    let (mut divisor, mut rest) = (above.unsigned_abs(), below.unsigned_abs());
+    while rest != 0 {
+        (divisor, rest) = (rest, divisor % rest);
+    }
+    let divisor = i128::try_from(divisor).ok()?;
+    Some((above / divisor, below / divisor))
+}
+
+impl Detail {
+    /// Returns the physical value of a logical one, on the line through the logical and the physical extents, also past
+    /// their ends (HID 1.11, section 6.2.2.7).
     pub fn physical_value(&self, value: i64) -> Result<Physical, NoPhysical> {
         let (min, max) = self.physical();
         physical_value(Extents { min: self.min, max: self.max }, Extents { min, max }, self.exponent, value)
@@ -28,7 +96,7 @@ impl Detail {
 }
 
 impl Physical {
-    /// The value as a decimal, cut off after so many digits behind the point, at most 18; with `e` and the power of ten
+    /// Returns the value as a decimal, cut off after so many digits behind the point, at most 18; with `e` and the power of ten
     /// behind it where that is beyond 18 either way, or the whole would have more than 38 digits.
     pub fn decimal(&self, digits: u32) -> String {
         let mut text = String::new();

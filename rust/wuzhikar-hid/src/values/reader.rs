@@ -1,11 +1,13 @@
 //! A kept reader, and what is kept beside the proved one. Written by hand: tested, not proved.
 
-use crate::parts::report_read::ReportReader;
-use crate::{Details, Placed, Reading, ReadingError, details};
+use crate::parts::field_details::parse_details;
+use crate::parts::report_read::{self, ReportReader};
+use crate::{Changed, Details, Placed, Reading, ReadingError};
 use alloc::vec::Vec;
 use core::fmt;
+use wuzhikar_reader::parts::descriptor_parse::beside::Refusal;
 use wuzhikar_reader::parts::host_extract::number_at;
-use wuzhikar_reader::{Descriptor, Kind, ParseError, parse};
+use wuzhikar_reader::{Descriptor, Kind, ParseError};
 
 /// A reader of reports that is made once of a report descriptor.
 #[derive(Clone, Debug)]
@@ -42,11 +44,23 @@ impl From<ParseError> for ReaderError {
     }
 }
 
+impl From<Refusal> for ReaderError {
+    fn from(refusal: Refusal) -> ReaderError {
+        match refusal {
+            Refusal::Parse(error) => ReaderError::Parse(error),
+            Refusal::Memory => ReaderError::Memory,
+        }
+    }
+}
+
 impl Reader {
-    /// The reader of a report descriptor of at most 4,096 bytes.
+    /// Makes a reader of a report descriptor of at most 4,096 bytes (HID 1.11, section 6.2.2).
+    ///
+    /// # Errors
+    ///
+    /// The first fault of the text with its offset in bytes, or refused memory.
     pub fn new(text: &[u8]) -> Result<Reader, ReaderError> {
-        let descriptor = parse(text)?;
-        let details = details(text).map_err(|_| ReaderError::Memory)?;
+        let (descriptor, details) = parse_details((), text)?;
         let (mut places, mut null_states) = (Vec::new(), Vec::new());
         places.try_reserve_exact(descriptor.fields().len()).map_err(|_| ReaderError::Memory)?;
         null_states.try_reserve_exact(descriptor.fields().len()).map_err(|_| ReaderError::Memory)?;
@@ -58,24 +72,24 @@ impl Reader {
         Ok(Reader { reports, details, places })
     }
 
-    /// The descriptor.
+    /// Returns the descriptor: its fields and their usages.
     pub fn descriptor(&self) -> &Descriptor {
         self.reports.descriptor()
     }
 
-    /// What it declares beside.
+    /// Returns the attributes of all data items, the collections and the reports.
     pub fn details(&self) -> &Details {
         &self.details
     }
 
-    /// What the field with this place in `Descriptor::fields`, as [`Value::field`](crate::Value) has it, declares; `None` if
-    /// there is no such field.
+    /// Returns the attributes of a field, by its place in `Descriptor::fields`, as [`Value::field`](crate::Value) has it;
+    /// `None` if there is no such field.
     pub fn detail(&self, field: usize) -> Option<&crate::Detail> {
         self.details.fields.get(*self.places.get(field)?)
     }
 
-    /// The same with its place in [`Details::fields`], as [`Details::around`] and [`Details::application`] take it: there
-    /// padding counts, too.
+    /// Returns the same with its place in [`Details::fields`], where padding counts too, as [`Details::around`] and
+    /// [`Details::application`] take it.
     pub fn placed(&self, field: usize) -> Option<Placed<'_>> {
         let place = *self.places.get(field)?;
         Some(Placed { place, detail: self.details.fields.get(place)? })
@@ -86,14 +100,27 @@ impl Reader {
         self.reports.null_states()
     }
 
-    /// Reads a report of a kind: its values one by one. Bytes past its end are left, as [`Reading::rest`].
+    /// Reads the values of a report one by one (HID 1.11, sections 5.6 and 8.4). It begins with its ID byte if the
+    /// descriptor uses Report IDs. Bytes past its end are left, as [`Reading::rest`].
     #[inline]
     pub fn read<'a>(&'a self, kind: Kind, report: &'a [u8]) -> Result<Reading<'a>, ReadingError> {
         self.reports.read(kind, report)
     }
 
-    /// The bytes of a field of Buffered Bytes in a report, the bits of its places one after the other, the last byte filled
-    /// with 0.
+    /// Returns the usages that are on in a report of a kind, rising, each once: those that arrays name, and those of variable fields
+    /// whose value isn't 0. That is meant for keys, buttons and LEDs: an axis counts as on wherever it isn't 0.
+    pub fn pressed(&self, kind: Kind, report: &[u8]) -> Result<Vec<u32>, ReadingError> {
+        report_read::pressed((), &self.reports, kind, report)
+    }
+
+    /// Returns the usages in which two reports of a kind and ID differ: those that are on in the later one alone, and those that are on
+    /// in the earlier one alone. A driver keeps the last report of each ID.
+    pub fn changes(&self, kind: Kind, before: &[u8], now: &[u8]) -> Result<Changed, ReadingError> {
+        report_read::changes((), &self.reports, kind, before, now)
+    }
+
+    /// Returns the bytes of a field of Buffered Bytes in a report: the bits of its elements one after the other, the last
+    /// byte filled up with 0.
     pub fn buffered(&self, kind: Kind, report: &[u8], field: usize) -> Result<Vec<u8>, ReadingError> {
         let id = self.read(kind, report)?.id();
         let report = report.get(usize::from(self.descriptor().uses_ids())..).unwrap_or(&[]);

@@ -9,12 +9,13 @@
 //! nothing of collections, units, physical extents, Relative or Null State. The promise is that its fields are exactly
 //! those that the text declares, and that a refusal is the text's first fault. `host_extract` reads reports by it.
 
+pub mod beside;
 mod counts;
 pub mod descriptor;
 pub mod fault;
 pub mod field;
 pub mod field_usages;
-mod globals;
+pub mod globals;
 pub mod items;
 mod locals;
 pub mod number;
@@ -22,7 +23,8 @@ pub mod parser;
 pub mod readers;
 mod reading;
 mod reports;
-mod state;
+pub mod stack;
+pub mod state;
 mod tag;
 mod text;
 mod totals;

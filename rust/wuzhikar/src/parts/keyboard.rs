@@ -23,6 +23,6 @@ mod shown;
 pub use crate::parts::control_ep::{EpAnswer, Why};
 pub use wuzhikar_log::parts::flash_model::NorFlash;
 pub use crate::parts::key_reports::{Protocol, Report, Scan};
-pub use keyboard::Keyboard;
+pub use keyboard::{Keyboard, KeyboardOf};
 pub use crate::parts::keymap_store::Work;
 pub use room::Room;

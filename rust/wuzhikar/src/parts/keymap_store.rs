@@ -9,4 +9,4 @@
 
 mod store;
 
-pub use store::{Store, SubmitRefusal, Taken, Work};
+pub use store::{Store, StoreOf, SubmitRefusal, Taken, Work};

@@ -13,12 +13,14 @@
 mod bits;
 pub mod code;
 pub mod command;
+pub mod defaults;
 pub mod held;
 pub mod keymap;
 pub mod usages;
 
 pub use code::{Code, ENTRIES, KeyNo, KeymapError, LayerNo};
 pub use command::Command;
+pub use defaults::{Defaults, Standard};
 pub use held::Held;
-pub use keymap::Keymap;
+pub use keymap::{Keymap, KeymapOf};
 pub use usages::Usages;

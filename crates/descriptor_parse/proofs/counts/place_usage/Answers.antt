@@ -1,4 +1,4 @@
-use Rattle.std.proofs.Common.{sym, ◌∙◌}
+use Rattle.std.proofs.Common.{◌∙◌}
 use Rattle.descriptor_parse.specs.Descriptor.{usage_list}
 use Rattle.descriptor_parse.proofs.CountLemmas.{all_counted, place_within}
 use Rattle.descriptor_parse.proofs.counts.place_usage.Goals as goal

@@ -1,6 +1,6 @@
 use Rattle.std.proofs.Common.{◌≡◌, ◌+◌, ◌%◌, ◌≤◌, ◌<◌, ap, sym, subst, arith}
 use Rattle.std.proofs.Math.Nat.{mod-le, mod-eq_of_lt}
-use Rattle.descriptor_parse.specs.ties.Fed.{IsAt, IsFront}
+use Rattle.descriptor_parse.specs.ties.Fed.{IsFront}
 use Rattle.descriptor_parse.specs.ItemViews.{item_view}
 use Rattle.descriptor_parse.specs.Items.{item_size}
 use Rattle.descriptor_parse.proofs.ItemLemmas.{size_pos}

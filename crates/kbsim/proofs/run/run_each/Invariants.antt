@@ -4,6 +4,7 @@ use Rattle.text_io.specs.Printers.{printed, printer_writer}
 use Rattle.world.specs.ties.Stands.{StandsFor}
 use Rattle.kbsim.proofs.OutputLemmas.{RunSoFar}
 use Rattle.kbsim.proofs.run.run_each.Given as goal
+use Rattle.layers.specs.Standard.{standard}
 
 -- what was run and printed so far, to the same writer
 pub record SoFar (run same : Type 0) : Type 0 where
@@ -12,6 +13,6 @@ pub record SoFar (run same : Type 0) : Type 0 where
 
 abbrev pub invariant-loop-line : goal.invariant-loop-line
 invariant-loop-line g l = SoFar
-    ((start : SimValue) → StandsFor start [] l.fn.world
+    ((start : SimValue) → StandsFor standard start [] l.fn.world
     → RunSoFar start (take l.line-index l.lines) l.world (printed g.W.Write.contents l.fn.printer) (printed g.W.Write.contents l.printer))
     (printer_writer l.printer ≡ printer_writer l.fn.printer)

@@ -6,14 +6,14 @@ use Rattle.key_reports.proofs.Those.{key-below}
 use Rattle.key_reports.proofs.keys.press_all.Goals as goal
 
 pub known-requires : goal.known-requires
-known-requires c = key-below c.args.pressed.now c.loop-key.yielded c.next.new.self c.in-Some.key (rw (c.in-Some.ensures.steps) at c.loop-key.invariant.split_is)
+known-requires g c = key-below c.args.pressed.now c.loop-key.yielded c.next.new.self c.in-Some.key (rw (c.in-Some.ensures.steps) at c.loop-key.invariant.split_is)
 
 pub loop-key-preserved : goal.loop-key-preserved
-loop-key-preserved c = record {
+loop-key-preserved g c = record {
   split_is = append_assoc c.loop-key.yielded (c.in-Some.key ∷ []) c.next.new.self ∙ (rw (c.in-Some.ensures.steps) at c.loop-key.invariant.split_is);
   called_is = called-more (Press c.args.keymap.now) c.loop-key.yielded c.in-Some.key c.args.held.now c.loop-key.held c.press.new.self c.loop-key.invariant.called_is (rw c.known.ensures at c.press.ensures);
 }
 
 pub returns : goal.returns
 unfolding with_presses
-returns c = record { each = called-all (Press c.args.keymap.now) c.args.pressed.now c.loop-key.yielded c.loop-key.key-iterator c.args.held.now c.loop-key.held c.in-None.ensures.steps.0 c.loop-key.invariant.split_is c.loop-key.invariant.called_is }
+returns g c = record { each = called-all (Press c.args.keymap.now) c.args.pressed.now c.loop-key.yielded c.loop-key.key-iterator c.args.held.now c.loop-key.held c.in-None.ensures.steps.0 c.loop-key.invariant.split_is c.loop-key.invariant.called_is }

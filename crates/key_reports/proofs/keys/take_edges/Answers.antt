@@ -4,7 +4,7 @@ use Rattle.key_reports.proofs.Edges.{takes_edges, takes_named}
 use Rattle.key_reports.proofs.keys.take_edges.Goals as goal
 
 pub returns-clause-takes : goal.returns-clause-takes
-returns-clause-takes c =
+returns-clause-takes g c =
     let edges : Edges = record { released = c.args.released.now; pressed = c.args.pressed.now } in
     rw c.name_usages.ensures
     (takes_named (with_edges c.args.keymap.now edges) c.args.held.now c.press_all.new.held

@@ -2,4 +2,4 @@ use Rattle.keyboard.proofs.Cutting.{restarts_inside}
 use Rattle.keyboard.proofs.laws.a_cut_inside.Goals as goal
 
 pub returns : goal.returns
-returns c start past keyboard operation image s n i m = restarts_inside start past keyboard operation image s n i m
+returns c defaults start past keyboard operation image s n i m = restarts_inside defaults start past keyboard operation image s n i m

@@ -2,4 +2,4 @@ use Rattle.keyboard.proofs.Finding.{finds_all_but_last}
 use Rattle.keyboard.proofs.laws.a_restart_finds_all_but_the_last.Goals as goal
 
 pub returns : goal.returns
-returns c entries next session r = finds_all_but_last entries next session r
+returns c defaults entries next session r = finds_all_but_last defaults entries next session r

@@ -2,10 +2,10 @@ use Rattle.keyboard.proofs.Single as single
 use Rattle.keyboard.proofs.laws.one_image.Goals as goal
 
 pub returns-clause-whole : goal.returns-clause-whole
-returns-clause-whole c start past work a b x y n = single.one_image start past work a b x y n
+returns-clause-whole c defaults start past work a b x y n = single.one_image defaults start past work a b x y n
 
 pub returns-clause-failed : goal.returns-clause-failed
-returns-clause-failed c start past new x = single.torn_image start past new x
+returns-clause-failed c defaults start past new x = single.torn_image defaults start past new x
 
 pub returns-clause-session : goal.returns-clause-session
-returns-clause-session c start a b x y n e = single.same_images_left start a b x y n e
+returns-clause-session c defaults start a b x y n e = single.same_images_left defaults start a b x y n e

@@ -13,7 +13,7 @@ loop-word-preserved-in-Some-command_in g c = record {
 
 pub loop-word-preserved : goal.loop-word-preserved
 loop-word-preserved g c = record {
-  stands = stands_other _ c.loop-word.yielded c.in-Some.word c.loop-word.keymap (sym c.command_in.ensures ∙ c.in_default.is) c.loop-word.invariant.stands;
+  stands = stands_other g.D.Defaults.defaults _ c.loop-word.yielded c.in-Some.word c.loop-word.keymap (sym c.command_in.ensures ∙ c.in_default.is) c.loop-word.invariant.stands;
   together = together_more c.loop-word.yielded c.loop-word.word-iterator c.next.new.self (words (g.F.NorFlash.image c.args.flash.now)) c.in-Some.word c.in-Some.ensures.steps c.loop-word.invariant.together;
 }
 
@@ -26,5 +26,5 @@ returns g c =
     let f = c.format-format.ensures image c.requires.describes in
     let none : c.loop-word.word-iterator ≡ [] = search rules in
     let all : c.loop-word.yielded ≡ words image = sym (append-nil c.loop-word.yielded) ∙ rw none at c.loop-word.invariant.together in
-    let P : List ℕ → Type 0 = λ ws. StandsFor (unwrap_or c.format-format.result 2) ws c.loop-word.keymap in
-    rw (entries_of-is image, ← f) (subst P all c.loop-word.invariant.stands)
+    let P : List ℕ → Type 0 = λ ws. StandsFor g.D.Defaults.defaults (unwrap_or c.format-format.result 2) ws c.loop-word.keymap in
+    rw (entries_of-is g.D.Defaults.defaults image, ← f) (subst P all c.loop-word.invariant.stands)

@@ -5,4 +5,4 @@ use Rattle.layers.specs.Keymaps.{code_at}
 use Rattle.layers.proofs.held.resolve.Given as goal
 
 abbrev pub invariant-loop-number : goal.invariant-loop-number
-invariant-loop-number l = (codes : ℕ → Option ℕ) → AreActive codes l.active → (layer : ℕ) → l.number ≤ layer → layer < 4 → counts (code_at l.keymap) codes l.key layer ≡ false
+invariant-loop-number g l = (codes : ℕ → Option ℕ) → AreActive codes l.active → (layer : ℕ) → l.number ≤ layer → layer < 4 → counts (code_at l.keymap) codes l.key layer ≡ false

@@ -75,6 +75,6 @@ returns-clause-set c =
       listed = c.in-Some.listed;
       chosen = sym c.in-Some-place_for.ensures.place;
       number = listed_first (usage_list c.args.declared.now.ranges.now) c.args.usage c.in-Some.listed c.in-Some.ensures;
-      put = rw value at c.put_one.ensures.put;
-      marked = c.put_one.ensures.marked;
+      put = rw value at c.put_one.ensures;
+      marked = c.mark.ensures;
     }

@@ -1,4 +1,4 @@
-use Rattle.std.proofs.Common.{◌≡◌, ◌∙◌, sym, rules, to_z, of_z, w64}
+use Rattle.std.proofs.Common.{◌≡◌, ◌∙◌, refl, sym, rules, to_z, of_z, w64}
 use Rattle.descriptor_parse.specs.Descriptor.{usage_list}
 use Rattle.report_write.specs.Unused.{unused}
 use Rattle.report_write.proofs.ArraysRefused.{off_no_room, off_twice, off_once}
@@ -38,6 +38,6 @@ returns-clause-set c =
     record {
       value = c.in-Some.value;
       none = sym c.in-Some.ensures.unused;
-      put = rw value at c.put_all.ensures.put;
-      marked = c.put_all.ensures.marked;
+      put = rw value at c.put_all.ensures;
+      marks = refl;
     }

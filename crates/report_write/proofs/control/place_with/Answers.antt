@@ -1,36 +1,42 @@
-use Rattle.std.proofs.Common.{◌∙◌, sym, ap, arith}
+use Rattle.std.proofs.Common.{◌∙◌, sym, arith, ap}
 use Rattle.descriptor_parse.specs.Descriptor.{usage_list}
-use Rattle.report_write.specs.Controls.{is_usage}
-use Rattle.report_write.proofs.Controls.{no_place, with_usage, without_usage, place_found, place_past}
+use Rattle.report_write.proofs.Controls.{place_found}
+use Rattle.report_write.proofs.Walked.{none_yet, range_counted, range_skipped, served_here, served_past}
 use Rattle.report_write.proofs.control.place_with.Goals as goal
-use Rattle.report_write.proofs.control.place_with.Goals.{then-is_usage+else-left-eq0, else-is_usage}
+use Rattle.report_write.proofs.control.place_with.Goals.{in-Some+else-left-eq0, in_default}
 
-pub loop-place-init : goal.loop-place-init
-loop-place-init c =
-    let none = no_place c.args.declared.now.field (usage_list c.args.declared.now.ranges.now) c.args.usage in
+pub loop-range-init : goal.loop-range-init
+loop-range-init c =
+    let none = none_yet c.args.declared.now.field c.args.declared.now.ranges.now c.args.usage in
     omega (arith, none)
 
-pub returns-then-left-eq0 : goal.returns-then-left-eq0
-returns-then-left-eq0 c =
-    let same = c.is_usage.ensures ∙ ap (is_usage c.args.usage) c.usage.ensures in
-    sym (place_found c.args.declared.now.field (usage_list c.args.declared.now.ranges.now) c.args.usage c.loop-place.place
-    c.args.declared.now.field.count c.args.number c.loop-place-test.true (sym same ∙ c.if-is_usage.true)
-    (omega (arith, c.loop-place.invariant, c.if-left-eq0.true)))
-
-pub loop-place-preserved : goal.loop-place-preserved
-loop-place-preserved c =
+pub returns-then-left-eq0-clause-here : goal.returns-then-left-eq0-clause-here
+returns-then-left-eq0-clause-here c =
     let field = c.args.declared.now.field in
-    let usages = usage_list c.args.declared.now.ranges.now in
-    let place = c.loop-place.place in
-    let same = c.is_usage.ensures ∙ ap (is_usage c.args.usage) c.usage.ensures in
-    elim c.if-is_usage.branch [
-      | then-is_usage+else-left-eq0 w ↦ (let more = with_usage field usages c.args.usage place (sym same ∙ w.if-is_usage.true) in
-          omega (arith, w.left-is, w.if-left-eq0, more, c.loop-place.invariant))
-      | else-is_usage w ↦ (let more = without_usage field usages c.args.usage place (sym same ∙ w.if-is_usage.false) in
-          omega (arith, w.left-is, more, c.loop-place.invariant))
+    let ranges = c.args.declared.now.ranges.now in
+    let its = range_counted field ranges c.loop-range.range c.args.usage c.in-Some.place c.requires c.loop-range-test.true c.in-Some.ensures in
+    place_found field (usage_list ranges) c.args.usage c.in-Some.place field.count c.args.number c.in-Some.ensures.within its.1
+    (omega (arith, its.0, c.loop-range.invariant, c.if-left-eq0.true))
+
+pub loop-range-preserved : goal.loop-range-preserved
+loop-range-preserved c =
+    let field = c.args.declared.now.field in
+    let ranges = c.args.declared.now.ranges.now in
+    elim c.match-place_in_range.branch [
+      | in-Some+else-left-eq0 w ↦ (
+          let its = range_counted field ranges c.loop-range.range c.args.usage w.in-Some.place c.requires c.loop-range-test.true w.in-Some.ensures in
+          omega (arith, w.left-is, w.if-left-eq0, its.2, c.loop-range.invariant))
+      | in_default w ↦ (
+          let none = range_skipped field ranges c.loop-range.range c.args.usage c.requires c.loop-range-test.true w.in_default.ensures in
+          omega (arith, w.left-is, none, c.loop-range.invariant))
     ]
 
-pub returns : goal.returns
-returns c =
-    sym (place_past c.args.declared.now.field (usage_list c.args.declared.now.ranges.now) c.args.usage c.loop-place.place
-    c.args.declared.now.field.count c.args.number c.loop-place.left (omega (arith, c.loop-place.auto.place-end, c.loop-place-test.false)) c.loop-place.invariant)
+pub returns-then-left-served-clause-here : goal.returns-then-left-served-clause-here
+returns-then-left-served-clause-here c =
+    served_here c.args.declared.now.field c.args.declared.now.ranges.now c.loop-range.range c.args.usage c.served_by_last-served.result c.loop-range.left c.args.number
+    c.requires (omega (arith, c.loop-range-test.false)) c.served_by_last-served.ensures c.loop-range.invariant c.if-left-served.true
+
+pub returns-else-left-served-clause-past : goal.returns-else-left-served-clause-past
+returns-else-left-served-clause-past c =
+    served_past c.args.declared.now.field c.args.declared.now.ranges.now c.loop-range.range c.args.usage c.served_by_last-served.result c.loop-range.left c.args.number
+    c.requires (omega (arith, c.loop-range-test.false)) c.served_by_last-served.ensures c.loop-range.invariant (omega (arith, c.if-left-served.false))

@@ -1,7 +1,7 @@
-use Rattle.std.proofs.Common.{◌≡◌, ◌+◌, length}
+use Rattle.std.proofs.Common.{◌≡◌, ◌+◌}
 use Rattle.descriptor_parse.specs.Descriptor.{usage_list}
-use Rattle.report_write.specs.Controls.{places_with}
+use Rattle.report_write.proofs.Walked.{counted, reach}
 use Rattle.report_write.proofs.control.place_with.Given as goal
 
-abbrev pub invariant-loop-place : goal.invariant-loop-place
-invariant-loop-place l = length (places_with l.declared.field (usage_list l.declared.ranges.now) l.usage l.place) + l.left ≡ l.number
+abbrev pub invariant-loop-range : goal.invariant-loop-range
+invariant-loop-range l = counted l.declared.field (usage_list l.declared.ranges.now) l.usage (reach l.declared.field l.declared.ranges.now l.range) + l.left ≡ l.number

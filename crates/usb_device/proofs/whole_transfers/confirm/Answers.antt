@@ -17,4 +17,4 @@ pub loop-step-preserved : goal.loop-step-preserved
 loop-step-preserved g c = λ past setup data_ s e d n.
     let i = c.loop-step.invariant past setup data_ s e d n in
     let later = In c.in_packet.result ∷ i.0 in
-    (later, c.work.ensures later (c.in_packet.ensures i.0 i.1), i.2, i.3, waits_is c.in_packet.result i.0 _ (sym c.status_of.ensures ∙ c.in-Waits.is) i.4)
+    (later, c.work.ensures.stands later (c.in_packet.ensures i.0 i.1), i.2, i.3, waits_is c.in_packet.result i.0 _ (sym c.status_of.ensures ∙ c.in-Waits.is) i.4)

@@ -2,4 +2,4 @@ use Rattle.world.proofs.Progressing.{erased_ready}
 use Rattle.world.proofs.laws.an_erased_flash_is_ready.Goals as goal
 
 pub returns : goal.returns
-returns g start armed erased = erased_ready start armed erased
+returns g defaults start armed erased = erased_ready defaults start armed erased

@@ -2,4 +2,4 @@ use Rattle.world.proofs.Promising.{promise}
 use Rattle.world.proofs.laws.answered_is_promised.Goals as goal
 
 pub returns : goal.returns
-returns c start history h = promise start history h
+returns c defaults start history h = promise defaults start history h

@@ -2,4 +2,4 @@ use Rattle.world.proofs.Wanting.{refused_where_wanted}
 use Rattle.world.proofs.laws.memory_is_refused_where_wanted.Goals as goal
 
 pub returns : goal.returns
-returns c start history h = refused_where_wanted start history h
+returns c defaults start history h = refused_where_wanted defaults start history h

@@ -7,26 +7,29 @@ use arrayvec::ArrayVec;
 use wuzhikar::parts::debounce::Scan;
 use wuzhikar_log::parts::flash_model::{Mask, NorFlash, PAGE_SLOTS, SimFlash};
 use crate::parts::host::{Host, Reading};
-use wuzhikar::parts::keyboard::{EpAnswer, Keyboard};
+use wuzhikar::parts::keyboard::{EpAnswer, KeyboardOf};
 use wuzhikar::parts::keymap_store::Work;
-use wuzhikar::parts::layers::{KeyNo, LayerNo};
+use wuzhikar::parts::layers::{Defaults, KeyNo, LayerNo, Standard};
 use crate::rattle::alloc::{AllocError, Global};
 
-/// A keyboard on a simulated flash, and a host that reads its reports.
+/// A keyboard with these defaults on a simulated flash, and a host that reads its reports.
 #[derive(Debug)]
-pub struct World {
-    keyboard: Keyboard,
+pub struct WorldOf<D: Defaults> {
+    keyboard: KeyboardOf<D>,
     host: Host,
     bench: Bench,
 }
 
-impl World {
+/// A world with the standard defaults.
+pub type World = WorldOf<Standard>;
+
+impl<D: Defaults> WorldOf<D> {
     /// The keyboard as it starts on a flash, whose keymap it reads, and a host that keeps no
     /// descriptor. `AllocError` where there was no memory for the reports that wait; the flash is then
     /// dropped.
-    pub(crate) fn new(alloc: Global, flash: SimFlash) -> Result<World, AllocError> {
-        let keyboard = Keyboard::start(alloc, &flash)?;
-        Ok(World {
+    pub(crate) fn new(alloc: Global, flash: SimFlash) -> Result<WorldOf<D>, AllocError> {
+        let keyboard = KeyboardOf::start(alloc, &flash)?;
+        Ok(WorldOf {
             keyboard,
             host: Host::new(alloc),
             bench: Bench {
@@ -205,7 +208,7 @@ impl World {
 }
 
 /// The keyboard loses all RAM and starts on its flash, and the host loses the keyboard.
-fn start_anew(keyboard: &mut Keyboard, host: &mut Host, flash: &SimFlash) -> Told {
+fn start_anew<D: Defaults>(keyboard: &mut KeyboardOf<D>, host: &mut Host, flash: &SimFlash) -> Told {
     keyboard.restart(flash);
     host.lose();
     just(Answer::Restarted)

@@ -3,14 +3,14 @@
 
 use crate::parts::field_details::told::Details;
 use crate::parts::field_details::walk::Walk;
-use crate::rattle::alloc::{AllocError, Global};
+use wuzhikar_reader::parts::descriptor_parse::Descriptor;
+use wuzhikar_reader::parts::descriptor_parse::beside::{Refusal, parse_beside};
+use crate::rattle::alloc::Global;
 
-/// The details of a report descriptor, for a text that `wuzhikar_reader::parse` takes (HID 1.11, 6.2.2.4 to 6.2.2.8).
-///
-/// Of any other text it gives what its items say, up to its end or to the first that is not whole, whatever faults they
-/// show. `AllocError` where there was no memory.
-pub fn details_of(alloc: Global, text: &[u8]) -> Result<Details, AllocError> {
+/// Parses a report descriptor as `wuzhikar_reader::parse` does, with its details, in one walk over its items (HID 1.11,
+/// 6.2.2.4 to 6.2.2.8).
+pub fn parse_details(alloc: Global, text: &[u8]) -> Result<(Descriptor, Details), Refusal> {
     let mut walk = Walk::new(alloc);
-    walk.take_all(text)?;
-    Ok(walk.into_told())
+    let descriptor = parse_beside(alloc, text, &mut walk)?;
+    Ok((descriptor, walk.into_told()))
 }

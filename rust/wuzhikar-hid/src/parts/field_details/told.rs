@@ -2,13 +2,13 @@
 //! What was declared.
 
 use crate::parts::field_details::applications::Applications;
-use crate::parts::field_details::around::{Around, application_of, inside, outer};
+use crate::parts::field_details::around::{Around, application_of};
 use crate::parts::field_details::collection::Collection;
 use crate::parts::field_details::detail::Detail;
 use crate::parts::field_details::placed::{PlacedFields, Question};
 use crate::parts::field_details::report::{Reports, ReportsOf};
 use wuzhikar_reader::parts::descriptor_parse::Kind;
-use crate::rattle::alloc::{AllocError, Global};
+use crate::rattle::alloc::Global;
 
 /// What a report descriptor declares, padding among it.
 ///
@@ -32,26 +32,12 @@ impl Details {
         }
     }
 
-    /// The numbers of the collections around a data item, outermost first; none where there is no such item.
-    ///
-    /// `AllocError` where there was no memory for them.
-    pub(crate) fn numbers_around(&self, alloc: Global, place: usize) -> Result<crate::rattle::Vec<usize>, AllocError> {
-        let mut all = crate::rattle::vec::new(alloc);
-        let mut next = inside(&self.fields, place);
-        while let Some(number) = next {
-            all.push_in(number)?;
-            next = outer(&self.collections, number);
-        }
-        all.reverse();
-        Ok(all)
-    }
-
     /// The number of the innermost Application collection around a data item, if it is in one.
     pub fn application(&self, place: usize) -> Option<usize> {
         application_of(&self.fields, &self.collections, place)
     }
 
-    /// The numbers of the collections around a data item, outermost first, one by one; none where there is no such item.
+    /// The numbers of the collections around a data item, outermost first; none where there is no such item.
     pub fn around(&self, place: usize) -> Around<'_> {
         Around::new(&self.fields, &self.collections, place)
     }
@@ -93,6 +79,3 @@ impl Details {
         Applications::new(Some((kind, id)), &self.fields, &self.collections)
     }
 }
-
-#[allow(unused_imports)]
-use crate::rattle::memory::*;

@@ -1,19 +1,22 @@
 // Exported from crates/field_details/src/walk.rt by bin/export-rust. Edit that file instead.
-//! The walk over the items of a text, which keeps what is in force.
+//! The walk over the items of a text, which keeps what is in force beside the parser.
 
 use crate::parts::field_details::collection::Collection;
 use crate::parts::field_details::detail::Detail;
-use crate::parts::field_details::globals::GlobalStack;
-use crate::parts::field_details::report::end_of_report;
+use crate::parts::field_details::extents::{Extents, take_global, take_skipped};
 use crate::parts::field_details::told::Details;
+use wuzhikar_reader::parts::descriptor_parse::beside::Beside;
+use wuzhikar_reader::parts::descriptor_parse::globals::Globals;
 use wuzhikar_reader::parts::descriptor_parse::number::unsigned;
+use wuzhikar_reader::parts::descriptor_parse::stack::Stack;
+use wuzhikar_reader::parts::descriptor_parse::state::State;
 use wuzhikar_reader::parts::descriptor_parse::usage::{Usage, read_usage};
-use wuzhikar_reader::parts::descriptor_parse::{Item, Items, Kind, LocalTag, MainTag, Tag};
+use wuzhikar_reader::parts::descriptor_parse::{Item, Kind, LocalTag, MainTag, Tag};
 use crate::rattle::alloc::{AllocError, Global};
 
 /// What the items so far leave to the next one, and what they declared.
 pub(crate) struct Walk {
-    pub(crate) globals: GlobalStack,
+    pub(crate) extents: Stack<Extents>,
     /// The first Usage since the latest Main item.
     pub(crate) usage: Option<Usage>,
     /// The numbers of the collections that are open, outermost first.
@@ -24,7 +27,7 @@ pub(crate) struct Walk {
 impl Walk {
     pub(crate) fn new(alloc: Global) -> Walk {
         Walk {
-            globals: GlobalStack::new(alloc),
+            extents: Stack::new(alloc, Extents::NONE),
             usage: None,
             opened: crate::rattle::vec::new(alloc),
             told: Details::new(alloc),
@@ -35,38 +38,11 @@ impl Walk {
     pub(crate) fn into_told(self) -> Details {
         let Walk {
             told,
-            globals: _,
+            extents: _,
             usage: _,
             opened: _,
         } = self;
         told
-    }
-
-    /// Takes the items of a text, up to its end or to the first that is not whole.
-    pub(crate) fn take_all(&mut self, text: &[u8]) -> Result<(), AllocError> {
-        for each in Items::new(text) {
-            match each {
-                Ok(item) => self.take(&item)?,
-                Err(_) => return Ok(()),
-            }
-        }
-        Ok(())
-    }
-
-    /// Takes an item.
-    fn take(&mut self, item: &Item<'_>) -> Result<(), AllocError> {
-        match item.tag() {
-            Tag::Main(tag) => self.take_main(tag, item.offset, unsigned(item.bytes)),
-            Tag::Global(tag) => self.globals.take(tag, item.bytes),
-            Tag::Local(tag) => {
-                self.take_local(tag, item.bytes);
-                Ok(())
-            }
-            Tag::Skipped => {
-                self.globals.take_skipped(item.prefix, item.bytes);
-                Ok(())
-            }
-        }
     }
 
     /// Takes a Local item.
@@ -85,10 +61,16 @@ impl Walk {
     }
 
     /// Takes a Main item.
-    fn take_main(&mut self, tag: MainTag, offset: usize, value: u32) -> Result<(), AllocError> {
+    fn take_main(
+        &mut self,
+        tag: MainTag,
+        offset: usize,
+        value: u32,
+        before: &State,
+    ) -> Result<(), AllocError> {
         match tag {
-            MainTag::Data(kind) => self.take_data(kind, offset, value),
-            MainTag::Collection => self.open_collection(offset, value),
+            MainTag::Data(kind) => self.take_data(kind, offset, value, before),
+            MainTag::Collection => self.open_collection(offset, value, before),
             MainTag::EndCollection => {
                 self.close_collection();
                 Ok(())
@@ -97,22 +79,35 @@ impl Walk {
     }
 
     /// Takes a data item.
-    fn take_data(&mut self, kind: Kind, offset: usize, flags: u32) -> Result<(), AllocError> {
-        if !self.globals.now.fills() {
+    fn take_data(
+        &mut self,
+        kind: Kind,
+        offset: usize,
+        flags: u32,
+        before: &State,
+    ) -> Result<(), AllocError> {
+        if !fills(before.globals()) {
             self.usage = None;
             return Ok(());
         }
-        let detail = self.detail(kind, offset, flags);
+        let detail = self.detail(kind, offset, flags, before);
         self.told.fields.push_in(detail)?;
         self.usage = None;
         Ok(())
     }
 
     /// What a data item declares.
-    fn detail(&self, kind: Kind, offset: usize, flags: u32) -> Detail {
-        let globals = &self.globals.now;
-        let bit = end_of_report(&self.told.fields, kind, globals.id);
-        globals.detail(kind, offset, flags, bit, self.innermost())
+    fn detail(&self, kind: Kind, offset: usize, flags: u32, before: &State) -> Detail {
+        let (globals, extents) = (before.globals(), &self.extents.now);
+        detail_by(
+            kind,
+            offset,
+            flags,
+            before.bits(kind),
+            self.innermost(),
+            globals,
+            extents,
+        )
     }
 
     /// The number of the innermost collection that is open, if one is.
@@ -121,8 +116,13 @@ impl Walk {
     }
 
     /// Takes a Collection item.
-    fn open_collection(&mut self, offset: usize, kind: u32) -> Result<(), AllocError> {
-        let collection = self.collection(offset, kind);
+    fn open_collection(
+        &mut self,
+        offset: usize,
+        kind: u32,
+        before: &State,
+    ) -> Result<(), AllocError> {
+        let collection = self.collection(offset, kind, before);
         self.opened.push_in(self.told.collections.len())?;
         self.told.collections.push_in(collection)?;
         self.usage = None;
@@ -130,11 +130,11 @@ impl Walk {
     }
 
     /// What a Collection item declares.
-    fn collection(&self, offset: usize, kind: u32) -> Collection {
+    fn collection(&self, offset: usize, kind: u32, before: &State) -> Collection {
         Collection {
             offset,
             kind,
-            usage: usage_on(self.globals.now.page, self.usage),
+            usage: usage_on(before.globals().page, self.usage),
             outer: self.innermost(),
         }
     }
@@ -144,6 +144,56 @@ impl Walk {
         let _ = self.opened.pop();
         self.usage = None;
     }
+}
+
+impl Beside for Walk {
+    fn take(&mut self, item: &Item<'_>, before: &State) -> Result<(), AllocError> {
+        match item.tag() {
+            Tag::Main(tag) => self.take_main(tag, item.offset, unsigned(item.bytes), before),
+            Tag::Global(tag) => take_global(&mut self.extents, tag),
+            Tag::Local(tag) => {
+                self.take_local(tag, item.bytes);
+                Ok(())
+            }
+            Tag::Skipped => {
+                take_skipped(&mut self.extents, item.prefix, item.bytes);
+                Ok(())
+            }
+        }
+    }
+}
+
+/// A data item under these values, from a bit on.
+fn detail_by(
+    kind: Kind,
+    offset: usize,
+    flags: u32,
+    bit: u64,
+    inside: Option<usize>,
+    globals: &Globals,
+    extents: &Extents,
+) -> Detail {
+    Detail {
+        offset,
+        kind,
+        flags,
+        id: globals.id as u32,
+        bit,
+        size: globals.size,
+        count: globals.count,
+        min: globals.min,
+        max: globals.max(),
+        physical_min: extents.min,
+        physical_max: extents.greatest(),
+        unit: extents.unit,
+        exponent: extents.exponent,
+        inside,
+    }
+}
+
+/// Whether a data item under these Globals takes a bit.
+fn fills(globals: &Globals) -> bool {
+    globals.size > 0 && globals.count > 0
 }
 
 /// The number of a usage, if there is one.

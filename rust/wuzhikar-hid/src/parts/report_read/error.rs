@@ -12,6 +12,8 @@ pub enum ReadingError {
     UnknownReport,
     /// It is shorter than the descriptor declares.
     Short,
+    /// Two reports that are compared have different IDs.
+    OtherId,
     /// It has no such field, or the field is not of Buffered Bytes.
     NoSuchField,
     /// There was no memory.
@@ -24,6 +26,7 @@ impl core::fmt::Display for ReadingError {
             Self::Empty => write!(f, "the report is empty"),
             Self::UnknownReport => write!(f, "the descriptor has no such report"),
             Self::Short => write!(f, "the report is too short"),
+            Self::OtherId => write!(f, "the two reports have different IDs"),
             Self::NoSuchField => write!(f, "the report has no such field of Buffered Bytes"),
             Self::Memory => write!(f, "out of memory"),
         }

@@ -4,7 +4,7 @@
 
 use crate::parts::report_write::control::is_usage;
 use crate::parts::report_write::kept::{Kept, usages_of};
-use crate::parts::report_write::place::{is_set, put_one};
+use crate::parts::report_write::place::{is_set, mark, put_one};
 use crate::parts::report_write::setting::WriteError;
 use crate::parts::report_write::unused::unused;
 use wuzhikar_reader::parts::descriptor_parse::{Descriptor, FieldUsages};
@@ -60,7 +60,8 @@ fn put_in(
     if is_set(&declared.field, marks, place) {
         return Err(WriteError::Twice(number));
     }
-    put_one(&declared.field, place, value, bytes, marks);
+    put_one(&declared.field, place, value, bytes);
+    mark(&declared.field, marks, place);
     Ok(())
 }
 
@@ -117,7 +118,7 @@ fn take_out(
     if is_set_already(declared, usage, bytes, marks) {
         return Err(WriteError::Twice(number));
     }
-    put_all(declared, usage, value, bytes, marks);
+    put_all(declared, usage, value, bytes);
     Ok(())
 }
 
@@ -131,11 +132,11 @@ fn is_set_already(declared: &FieldUsages<'_>, usage: u32, bytes: &[u8], marks: &
     false
 }
 
-/// Writes a value into each place that names a usage, and marks it.
-fn put_all(declared: &FieldUsages<'_>, usage: u32, value: i64, bytes: &mut [u8], marks: &mut [u8]) {
+/// Writes a value into each place that names a usage.
+fn put_all(declared: &FieldUsages<'_>, usage: u32, value: i64, bytes: &mut [u8]) {
     for place in 0..declared.field.count {
         if is_named(declared, bytes, usage, place) {
-            put_one(&declared.field, place, value, bytes, marks);
+            put_one(&declared.field, place, value, bytes);
         }
     }
 }

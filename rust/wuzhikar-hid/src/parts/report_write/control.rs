@@ -3,6 +3,7 @@
 
 use crate::parts::report_write::kept::{Kept, usages_of};
 use crate::parts::report_write::setting::Target;
+use crate::parts::report_write::unused::start_of;
 use wuzhikar_reader::parts::descriptor_parse::{Descriptor, FieldUsages};
 use crate::parts::field_values::number_of_usage;
 
@@ -16,7 +17,7 @@ pub enum Control {
 }
 
 /// The control that is meant; `None` where the report does not have it.
-pub(crate) fn control_of(descriptor: &Descriptor, kept: &[Kept], target: Target) -> Option<Control> {
+pub fn control_of(descriptor: &Descriptor, kept: &[Kept], target: Target) -> Option<Control> {
     match target {
         Target::Usage { usage, place } => control_with(descriptor, kept, usage, place),
         Target::Field { field, place } => place_of(kept, field, place),
@@ -28,61 +29,78 @@ fn control_with(descriptor: &Descriptor, kept: &[Kept], usage: u32, place: usize
     let mut left = place;
     for number in 0..kept.len() {
         let declared = usages_of(descriptor, &kept[number]);
-        let count = count_in(&kept[number], &declared, usage);
-        if left < count {
-            return control_in(&kept[number], &declared, usage, left);
+        match control_in(&kept[number], &declared, usage, left) {
+            Ok(control) => return Some(control),
+            Err(past) => left = past,
         }
-        left -= count;
     }
     None
 }
 
-/// How many controls of a field have a usage.
-fn count_in(kept: &Kept, declared: &FieldUsages<'_>, usage: u32) -> usize {
+/// The control of a field with this number among those that have a usage, or else the number without them.
+fn control_in(
+    kept: &Kept,
+    declared: &FieldUsages<'_>,
+    usage: u32,
+    number: usize,
+) -> Result<Control, usize> {
     if declared.field.array {
-        if number_of_usage(declared, usage).is_some() {
-            1
+        if !number_of_usage(declared, usage).is_some() {
+            Err(number)
+        } else if number == 0 {
+            Ok(Control::Usage(*kept, usage))
         } else {
-            0
+            Err(number - 1)
         }
     } else {
-        count_with(declared, usage)
-    }
-}
-
-/// The control of a field with this number among those that have a usage.
-fn control_in(kept: &Kept, declared: &FieldUsages<'_>, usage: u32, number: usize) -> Option<Control> {
-    if declared.field.array {
-        Some(Control::Usage(*kept, usage))
-    } else {
-        let place = place_with(declared, usage, number)?;
-        Some(Control::Place(*kept, place))
-    }
-}
-
-/// How many places of a Variable field have a usage.
-fn count_with(declared: &FieldUsages<'_>, usage: u32) -> usize {
-    let mut count = 0;
-    for place in 0..declared.field.count {
-        if is_usage(declared.usage(place as usize), usage) {
-            count += 1;
+        match place_with(declared, usage, number) {
+            Ok(place) => Ok(Control::Place(*kept, place)),
+            Err(left) => Err(left),
         }
     }
-    count
 }
 
-/// The place of a Variable field with this number among those that have a usage.
-fn place_with(declared: &FieldUsages<'_>, usage: u32, number: usize) -> Option<u16> {
+/// The place of a Variable field with this number among those that have a usage, or else the number without them.
+fn place_with(declared: &FieldUsages<'_>, usage: u32, number: usize) -> Result<u16, usize> {
     let mut left = number;
-    for place in 0..declared.field.count {
-        if is_usage(declared.usage(place as usize), usage) {
+    for range in 0..declared.ranges.len() {
+        if let Some(place) = place_in_range(declared, range, usage) {
             if left == 0 {
-                return Some(place);
+                return Ok(place);
             }
             left -= 1;
         }
     }
-    None
+    let served = served_by_last(declared, usage);
+    if left < served as usize {
+        Ok(declared.field.count - (served - left as u16))
+    } else {
+        Err(left - served as usize)
+    }
+}
+
+/// The place to which a range gives a usage.
+fn place_in_range(declared: &FieldUsages<'_>, range: usize, usage: u32) -> Option<u16> {
+    let (first, last) = declared.ranges[range];
+    if usage < first || last < usage {
+        return None;
+    }
+    let place = start_of(declared, range) as u64 + (usage - first) as u64;
+    if place < declared.field.count as u64 {
+        Some(place as u16)
+    } else {
+        None
+    }
+}
+
+/// How many places past the list have a usage by its last one: all or none.
+fn served_by_last(declared: &FieldUsages<'_>, usage: u32) -> u16 {
+    let listed = start_of(declared, declared.ranges.len());
+    if listed < declared.field.count as u32 && is_usage(declared.usage(listed as usize), usage) {
+        declared.field.count - listed as u16
+    } else {
+        0
+    }
 }
 
 /// Whether something is this usage.

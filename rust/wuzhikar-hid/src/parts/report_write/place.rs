@@ -52,8 +52,7 @@ pub(crate) fn mark(field: &Field, marks: &mut [u8], place: u16) {
     put_number(marks, first_bit(field, place), 1, 1);
 }
 
-/// Puts a value that the bits hold into a place, and marks it.
-pub(crate) fn put_one(field: &Field, place: u16, value: i64, bytes: &mut [u8], marks: &mut [u8]) {
+/// Puts a value that the bits hold into a place.
+pub(crate) fn put_one(field: &Field, place: u16, value: i64, bytes: &mut [u8]) {
     put_value(bytes, first_bit(field, place), field.size, field.min, value);
-    mark(field, marks, place);
 }

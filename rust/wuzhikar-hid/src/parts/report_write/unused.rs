@@ -39,7 +39,7 @@ fn id_zero(declared: &FieldUsages<'_>) -> Option<i64> {
 }
 
 /// How many usages stand before a range.
-fn start_of(declared: &FieldUsages<'_>, range: usize) -> u32 {
+pub(crate) fn start_of(declared: &FieldUsages<'_>, range: usize) -> u32 {
     if range == 0 {
         0
     } else {

@@ -5,8 +5,8 @@
 //! torn, and from then on nothing is written. `PairedFlash` is proved on every `EccFlash`, and so on
 //! this one: what an operation of it leaves there is what the units held when the power failed.
 
-use crate::parts::ecc_flash::{EccFlash, PAGE_UNITS, PairedFlash, UNIT_BYTES};
-use crate::parts::flash_model::{FlashFault, NorFlash, PAGE_SLOTS, SLOT_BYTES};
+use crate::parts::ecc_flash::{EccFlash, PAGE_UNITS, UNIT_BYTES};
+use crate::parts::flash_model::FlashFault;
 
 /// A flash whose power fails inside a program or an erase.
 #[derive(Debug)]
@@ -73,28 +73,4 @@ impl<F: EccFlash> EccFlash for CutFlash<F> {
             }
         }
     }
-}
-
-/// A program of a slot in which the power fails, inside the unit program that comes after `whole`
-/// others: what it leaves is an outcome of a torn program. With `whole` 0 that is inside the first
-/// unit or before it, with 1 inside the second or between the two. The units before are programmed
-/// as the flash does it, that one may be torn, and none is behind it.
-pub fn program_cut<F: EccFlash>(
-    flash: PairedFlash<F>,
-    page: usize,
-    slot: usize,
-    bytes: [u8; SLOT_BYTES],
-    whole: u32,
-) -> PairedFlash<F> {
-    let mut cut = PairedFlash::mount(CutFlash::new(flash.into_flash(), whole));
-    let _done = cut.program_slot(page, slot, bytes);
-    PairedFlash::mount(cut.into_flash().into_flash())
-}
-
-/// An erase of a page in which the power fails: what it leaves is an outcome of a torn erase.
-pub fn erase_cut<F: EccFlash>(flash: PairedFlash<F>, page: usize) -> PairedFlash<F> {
-    let mut cut = PairedFlash::mount(CutFlash::new(flash.into_flash(), 0));
-    let _pages = cut.pages();
-    let _done = cut.erase_page(page);
-    PairedFlash::mount(cut.into_flash().into_flash())
 }

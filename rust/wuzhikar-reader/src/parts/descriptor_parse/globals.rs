@@ -1,28 +1,44 @@
 // Exported from crates/descriptor_parse/src/globals.rt by bin/export-rust. Edit that file instead.
-//! The Global items in force, and those that were pushed (HID 1.11, 6.2.2.7).
+//! The Global items that the parser uses (HID 1.11, 6.2.2.7).
 
 use crate::parts::descriptor_parse::number::{signed, unsigned};
+use crate::parts::descriptor_parse::stack::Stack;
 use crate::parts::descriptor_parse::tag::GlobalTag;
-use crate::rattle::alloc::{AllocError, Global};
+use crate::rattle::alloc::AllocError;
 
 /// The values of the Global items that the parser uses.
-#[derive(Clone, Copy)]
-pub(crate) struct Globals {
-    pub(crate) page: u16,
-    pub(crate) min: i64,
+#[derive(Clone, Copy, Debug)]
+pub struct Globals {
+    /// The Usage Page.
+    pub page: u16,
+    /// The Logical Minimum.
+    pub min: i64,
     /// The Logical Maximum, read as signed.
-    pub(crate) signed_max: i64,
+    pub signed_max: i64,
     /// The same, read as unsigned.
-    pub(crate) unsigned_max: u32,
-    pub(crate) size: u32,
-    pub(crate) count: u32,
+    pub unsigned_max: u32,
+    /// The Report Size.
+    pub size: u32,
+    /// The Report Count.
+    pub count: u32,
     /// The Report ID, 0 if there is none.
-    pub(crate) id: u8,
+    pub id: u8,
 }
 
 impl Globals {
+    /// Those before the first item.
+    pub(crate) const NONE: Globals = Globals {
+        page: 0,
+        min: 0,
+        signed_max: 0,
+        unsigned_max: 0,
+        size: 0,
+        count: 0,
+        id: 0,
+    };
+
     /// The Logical Maximum: signed only under a negative minimum.
-    pub(crate) fn max(&self) -> i64 {
+    pub fn max(&self) -> i64 {
         if self.min < 0 {
             self.signed_max
         } else {
@@ -50,47 +66,17 @@ impl Globals {
     }
 }
 
-/// The Globals in force, and those of the Pushes that are still to be popped, the latest last.
-pub(crate) struct GlobalStack {
-    pub(crate) now: Globals,
-    pub(crate) saved: crate::rattle::Vec<Globals>,
+/// Takes a Global item.
+#[inline(always)]
+pub(crate) fn take_global(
+    globals: &mut Stack<Globals>,
+    tag: GlobalTag,
+    bytes: &[u8],
+) -> Result<(), AllocError> {
+    match tag {
+        GlobalTag::Push => globals.save()?,
+        GlobalTag::Pop => globals.restore(),
+        _ => globals.now.set(tag, bytes),
+    }
+    Ok(())
 }
-
-impl GlobalStack {
-    pub(crate) fn new(alloc: Global) -> GlobalStack {
-        GlobalStack {
-            now: Globals {
-                page: 0,
-                min: 0,
-                signed_max: 0,
-                unsigned_max: 0,
-                size: 0,
-                count: 0,
-                id: 0,
-            },
-            saved: crate::rattle::vec::new(alloc),
-        }
-    }
-
-    /// Takes a Global item.
-    #[inline(always)]
-    pub(crate) fn take(&mut self, tag: GlobalTag, bytes: &[u8]) -> Result<(), AllocError> {
-        match tag {
-            GlobalTag::Push => self.saved.push_in(self.now)?,
-            GlobalTag::Pop => self.pop(),
-            _ => self.now.set(tag, bytes),
-        }
-        Ok(())
-    }
-
-    /// Puts the latest saved Globals in force again.
-    fn pop(&mut self) {
-        match self.saved.pop() {
-            Some(globals) => self.now = globals,
-            None => {}
-        }
-    }
-}
-
-#[allow(unused_imports)]
-use crate::rattle::memory::*;

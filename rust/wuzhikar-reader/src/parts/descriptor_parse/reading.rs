@@ -69,20 +69,25 @@ impl Reading {
             part,
             offset,
         } = self;
-        if has_bytes(&part) {
-            return Err(ParseError {
-                fault: ParseFault::Truncated,
-                offset,
-            });
-        }
-        if state.collections > 0 {
-            return Err(ParseError {
-                fault: ParseFault::CollectionOpen,
-                offset,
-            });
-        }
-        Ok(Descriptor::new(state.into_reports()))
+        end(state, &part, offset)
     }
+}
+
+/// Ends a text of which these bytes at an offset are left, which make no item.
+pub(crate) fn end(state: State, left: &[u8], offset: usize) -> Result<Descriptor, ParseError> {
+    if has_bytes(left) {
+        return Err(ParseError {
+            fault: ParseFault::Truncated,
+            offset,
+        });
+    }
+    if state.collections > 0 {
+        return Err(ParseError {
+            fault: ParseFault::CollectionOpen,
+            offset,
+        });
+    }
+    Ok(Descriptor::new(state.into_reports()))
 }
 
 /// Whether there are bytes of an item that is not whole.
@@ -129,7 +134,11 @@ fn read_items<'a>(
 ///
 /// An item that reaches past the greatest length of a text is judged, and never taken.
 #[inline(always)]
-fn take_item(state: &mut State, item: &Item<'_>, size: usize) -> Result<usize, ParseError> {
+pub(crate) fn take_item(
+    state: &mut State,
+    item: &Item<'_>,
+    size: usize,
+) -> Result<usize, ParseError> {
     let after = item.offset.wrapping_add(size);
     if after > MAX_LEN {
         return Err(judge_last(state, item.offset, item.prefix, item.bytes));

@@ -3,14 +3,17 @@
 
 use crate::parts::descriptor_parse::fault::ParseFault;
 use crate::parts::descriptor_parse::field::Kind;
-use crate::parts::descriptor_parse::globals::GlobalStack;
+use crate::parts::descriptor_parse::globals::{Globals, take_global};
 use crate::parts::descriptor_parse::items::{Item, LONG};
 use crate::parts::descriptor_parse::locals::Locals;
 use crate::parts::descriptor_parse::number::unsigned;
 use crate::parts::descriptor_parse::reports::{MAX_COUNT, MAX_SIZE, Reports, declares};
+use crate::parts::descriptor_parse::stack::Stack;
 use crate::parts::descriptor_parse::tag::{GlobalTag, LocalTag, MainTag, Tag};
 use crate::parts::descriptor_parse::usage::{Usage, read_usage};
 use crate::rattle::alloc::{AllocError, Global};
+use core::fmt;
+use core::fmt::Debug;
 
 /// The most bits of a Constant item's place.
 const MAX_CONSTANT_SIZE: u32 = 1024;
@@ -22,8 +25,8 @@ const MAX_COLLECTIONS: usize = 16;
 const MAX_PUSHES: usize = 8;
 
 /// What the items so far leave to the next one.
-pub(crate) struct State {
-    pub(crate) globals: GlobalStack,
+pub struct State {
+    pub(crate) globals: Stack<Globals>,
     pub(crate) locals: Locals,
     pub(crate) reports: Reports,
     /// The collections that are open.
@@ -33,11 +36,21 @@ pub(crate) struct State {
 impl State {
     pub(crate) fn new(alloc: Global) -> State {
         State {
-            globals: GlobalStack::new(alloc),
+            globals: Stack::new(alloc, Globals::NONE),
             locals: Locals::new(alloc),
             reports: Reports::new(alloc),
             collections: 0,
         }
+    }
+
+    /// The Globals in force.
+    pub fn globals(&self) -> &Globals {
+        &self.globals.now
+    }
+
+    /// The bits so far of the report of a kind that has the ID in force.
+    pub fn bits(&self, kind: Kind) -> u64 {
+        self.reports.totals.bits(kind, self.globals.now.id)
     }
 
     pub(crate) fn into_reports(self) -> Reports {
@@ -167,7 +180,7 @@ impl State {
 
     #[inline(always)]
     fn take_global(&mut self, tag: GlobalTag, bytes: &[u8]) -> Result<(), AllocError> {
-        self.globals.take(tag, bytes)?;
+        take_global(&mut self.globals, tag, bytes)?;
         self.reports.note(tag);
         Ok(())
     }
@@ -206,6 +219,14 @@ impl State {
     fn close_collection(&mut self) {
         self.collections = self.collections.saturating_sub(1);
         self.locals.clear();
+    }
+}
+
+impl Debug for State {
+    fn fmt(&self, f: &mut fmt::Formatter<'_>) -> fmt::Result {
+        f.debug_struct("State")
+            .field("collections", &self.collections)
+            .finish_non_exhaustive()
     }
 }
 

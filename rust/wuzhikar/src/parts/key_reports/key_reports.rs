@@ -3,7 +3,7 @@
 
 use crate::parts::key_reports::keys::{make_for, take_edges};
 use crate::parts::debounce::{KeySet, Matrix, Scan};
-use crate::parts::layers::{Held, Keymap, Usages};
+use crate::parts::layers::{Defaults, Held, KeymapOf, Usages};
 use crate::parts::reports::{IdleId, Poller, Protocol, Report};
 use crate::rattle::alloc::{AllocError, Global};
 
@@ -44,7 +44,7 @@ impl KeyReports {
     /// Takes one scan, one millisecond after the last. The keys that the debounced scan releases are
     /// released, then those that it presses are pressed, each by rising key and with this keymap. The
     /// reports of the protocol whose bytes this changes wait for a poll.
-    pub fn scan(&mut self, scan: Scan, keymap: &Keymap, protocol: Protocol) {
+    pub fn scan<D: Defaults>(&mut self, scan: Scan, keymap: &KeymapOf<D>, protocol: Protocol) {
         let flips = self.matrix.feed(&scan);
         if flips.is_empty() {
             self.poller.pass();
@@ -55,7 +55,7 @@ impl KeyReports {
 
     /// Takes the keys that a scan changed.
     #[inline(never)]
-    fn take(&mut self, flips: &KeySet, keymap: &Keymap, protocol: Protocol) {
+    fn take<D: Defaults>(&mut self, flips: &KeySet, keymap: &KeymapOf<D>, protocol: Protocol) {
         make_for(&mut self.poller, &self.held, protocol);
         let released = self.matrix.released(flips);
         let pressed = self.matrix.pressed(flips);

@@ -2,11 +2,16 @@
 //! The held keys after the edges of a scan, and the bytes of the reports for them.
 
 use crate::parts::debounce::KeySet;
-use crate::parts::layers::{Held, KeyNo, Keymap};
+use crate::parts::layers::{Defaults, Held, KeyNo, KeymapOf};
 use crate::parts::reports::{Poller, Protocol};
 
 /// Takes the edges of a scan: the releases, then the presses, each by rising number.
-pub(crate) fn take_edges(held: &mut Held, keymap: &Keymap, released: &KeySet, pressed: &KeySet) {
+pub(crate) fn take_edges<D: Defaults>(
+    held: &mut Held,
+    keymap: &KeymapOf<D>,
+    released: &KeySet,
+    pressed: &KeySet,
+) {
     release_all(held, released);
     press_all(held, keymap, pressed);
     held.name_usages();
@@ -20,7 +25,7 @@ fn release_all(held: &mut Held, released: &KeySet) {
 }
 
 /// Presses these keys, by rising number.
-fn press_all(held: &mut Held, keymap: &Keymap, pressed: &KeySet) {
+fn press_all<D: Defaults>(held: &mut Held, keymap: &KeymapOf<D>, pressed: &KeySet) {
     for key in pressed.keys() {
         held.press(keymap, KeyNo::known(key));
     }

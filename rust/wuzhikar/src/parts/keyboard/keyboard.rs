@@ -7,16 +7,16 @@ use crate::parts::keyboard::shown::Shown;
 use crate::parts::control_ep::{ControlEp, Effect, EpAnswer, OutStep, Verdict, Why};
 use wuzhikar_log::parts::flash_model::NorFlash;
 use crate::parts::key_reports::{KeyReports, Protocol, Report, Scan};
-use crate::parts::keymap_store::{Store, Work};
-use crate::parts::layers::{Command, KeyNo, Keymap, LayerNo, Usages};
+use crate::parts::keymap_store::{StoreOf, Work};
+use crate::parts::layers::{Command, Defaults, KeyNo, KeymapOf, LayerNo, Standard, Usages};
 use crate::rattle::alloc::{AllocError, Global};
 
-/// A keyboard of 96 keys on a NOR flash that keeps its keymap.
+/// A keyboard of 96 keys on a NOR flash that keeps its keymap, with these defaults.
 #[derive(Debug)]
-pub struct Keyboard {
+pub struct KeyboardOf<D: Defaults> {
     ep: ControlEp,
     keys: KeyReports,
-    store: Store,
+    store: StoreOf<D>,
     protocol: Protocol,
     leds: u8,
     /// The entry that GET_REPORT of the feature report shows.
@@ -24,27 +24,30 @@ pub struct Keyboard {
     key: KeyNo,
 }
 
-impl Keyboard {
+impl<D: Defaults> KeyboardOf<D> {
     /// Zeros, where memory waits for a keyboard to start there.
-    pub(crate) const UNSTARTED: Self = Keyboard { ep: ControlEp::UNSTARTED, keys: KeyReports::UNSTARTED, store: Store::UNSTARTED, protocol: Protocol::UNSTARTED, leds: 0, layer: LayerNo::UNSTARTED, key: KeyNo::UNSTARTED };
+    pub(crate) const UNSTARTED: Self = KeyboardOf { ep: ControlEp::UNSTARTED, keys: KeyReports::UNSTARTED, store: StoreOf::UNSTARTED, protocol: Protocol::UNSTARTED, leds: 0, layer: LayerNo::UNSTARTED, key: KeyNo::UNSTARTED };
 }
 
-impl Keyboard {
+/// A keyboard with the standard defaults.
+pub type Keyboard = KeyboardOf<Standard>;
+
+impl<D: Defaults> KeyboardOf<D> {
     /// A keyboard as it starts on a flash, whose keymap it reads: report protocol, no LED on, every key
     /// up, nothing sent, entry (0, 0) selected, and no transfer. `AllocError` where there was no room for
     /// the reports that wait (`Room::take`); no other call takes memory.
-    pub(crate) fn start<F: NorFlash>(alloc: Global, flash: &F) -> Result<Keyboard, AllocError> {
+    pub(crate) fn start<F: NorFlash>(alloc: Global, flash: &F) -> Result<KeyboardOf<D>, AllocError> {
         let room = Room::take(alloc)?;
-        Ok(Keyboard::start_in(room, flash))
+        Ok(KeyboardOf::start_in(room, flash))
     }
 
     /// A keyboard as `start` gives it, in room that was taken before. Takes no memory, and nothing
     /// refuses it.
-    pub(crate) fn start_in<F: NorFlash>(room: Room, flash: &F) -> Keyboard {
-        Keyboard {
+    pub(crate) fn start_in<F: NorFlash>(room: Room, flash: &F) -> KeyboardOf<D> {
+        KeyboardOf {
             ep: ControlEp::new(),
             keys: room.into_keys(),
-            store: Store::mount(flash),
+            store: StoreOf::mount(flash),
             protocol: Protocol::Report,
             leds: 0,
             layer: LayerNo::known(0),
@@ -145,8 +148,14 @@ impl Keyboard {
     }
 
     /// The keymap: that of the flash's image.
-    pub fn keymap(&self) -> &Keymap {
+    pub fn keymap(&self) -> &KeymapOf<D> {
         self.store.keymap()
+    }
+
+    /// Whether no page of the flash has a header yet: nothing was stored on it since it was erased.
+    /// A firmware that has settings of its own to store does so where this holds at its start.
+    pub fn is_first_start(&self) -> bool {
+        self.store.is_first_start()
     }
 
     /// The usages that the codes of the held keys name.

@@ -3,20 +3,20 @@
 
 use crate::parts::control_ep::DeviceReports;
 use crate::parts::key_reports::{IdleId, KeyReports, Protocol};
-use crate::parts::keymap_store::Store;
-use crate::parts::layers::{KeyNo, LayerNo};
+use crate::parts::keymap_store::StoreOf;
+use crate::parts::layers::{Defaults, KeyNo, LayerNo};
 
 /// The parts of a keyboard that a SETUP packet is answered from.
-pub(crate) struct Shown<'a> {
+pub(crate) struct Shown<'a, D: Defaults> {
     pub(crate) keys: &'a KeyReports,
-    pub(crate) store: &'a Store,
+    pub(crate) store: &'a StoreOf<D>,
     pub(crate) protocol: Protocol,
     pub(crate) leds: u8,
     pub(crate) layer: LayerNo,
     pub(crate) key: KeyNo,
 }
 
-impl<'a> DeviceReports for Shown<'a> {
+impl<'a, D: Defaults> DeviceReports for Shown<'a, D> {
     fn protocol(&self) -> Protocol {
         self.protocol
     }

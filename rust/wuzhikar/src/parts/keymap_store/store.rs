@@ -2,7 +2,7 @@
 //! The keymap in RAM and in flash.
 
 use wuzhikar_log::parts::flash_model::NorFlash;
-use crate::parts::layers::{Command, Keymap};
+use crate::parts::layers::{Command, Defaults, KeymapOf, Standard};
 use wuzhikar_log::parts::page_turnover::{Log, Step};
 
 /// What became of a command that was taken.
@@ -58,26 +58,29 @@ impl Job {
     pub(crate) const UNSTARTED: Self = Job::Turning { command: Command::UNSTARTED, from: 0 };
 }
 
-/// A keymap in RAM, kept equal to that of a flash's image.
+/// A keymap in RAM, kept equal to that of a flash's image, with these defaults.
 #[derive(Debug)]
-pub struct Store {
+pub struct StoreOf<D: Defaults> {
     log: Log,
-    keymap: Keymap,
+    keymap: KeymapOf<D>,
     job: Job,
 }
 
-impl Store {
+impl<D: Defaults> StoreOf<D> {
     /// Zeros, where memory waits for a keyboard to start there.
-    pub(crate) const UNSTARTED: Self = Store { log: <Log as wuzhikar_log::calls::Unstarted>::UNSTARTED, keymap: Keymap::UNSTARTED, job: Job::UNSTARTED };
+    pub(crate) const UNSTARTED: Self = StoreOf { log: <Log as wuzhikar_log::calls::Unstarted>::UNSTARTED, keymap: KeymapOf::UNSTARTED, job: Job::UNSTARTED };
 }
 
-impl Store {
+/// A store with the standard defaults.
+pub type Store = StoreOf<Standard>;
+
+impl<D: Defaults> StoreOf<D> {
     /// Reads log and keymap of a flash, and changes nothing.
-    pub fn mount<F: NorFlash>(flash: &F) -> Store {
+    pub fn mount<F: NorFlash>(flash: &F) -> StoreOf<D> {
         let log = Log::mount(flash);
-        let mut keymap = Keymap::standard();
+        let mut keymap = KeymapOf::standard();
         take_words(&mut keymap, &log, flash);
-        Store {
+        StoreOf {
             log,
             keymap,
             job: Job::Resting,
@@ -93,8 +96,13 @@ impl Store {
     }
 
     /// The keymap: that of the flash's image.
-    pub fn keymap(&self) -> &Keymap {
+    pub fn keymap(&self) -> &KeymapOf<D> {
         &self.keymap
+    }
+
+    /// Whether no page of the flash has a header yet: nothing was stored on it since it was erased.
+    pub fn is_first_start(&self) -> bool {
+        self.log.format().is_none()
     }
 
     /// Whether a command works.
@@ -205,7 +213,7 @@ fn go_on(job: &mut Job, from: u16) {
 
 /// Offers a waiting turn the next entry at or after a place that differs from the default, or its
 /// seal where there is none, and says from which place on the next one is looked for.
-fn offer_next(log: &mut Log, keymap: &Keymap, from: u16) -> u16 {
+fn offer_next<D: Defaults>(log: &mut Log, keymap: &KeymapOf<D>, from: u16) -> u16 {
     if !log.wants() {
         return from;
     }
@@ -223,7 +231,7 @@ fn offer_next(log: &mut Log, keymap: &Keymap, from: u16) -> u16 {
 }
 
 /// Takes the words of a log into the default keymap: it is then that of the flash's image.
-fn take_words<F: NorFlash>(keymap: &mut Keymap, log: &Log, flash: &F) {
+fn take_words<D: Defaults, F: NorFlash>(keymap: &mut KeymapOf<D>, log: &Log, flash: &F) {
     let format = log.format();
     for word in log.words(flash) {
         if let Some(command) = command_in(format, word) {

@@ -91,7 +91,7 @@ impl Code {
     pub const TRANSPARENT: Code = Code { bits: 0x0001 };
 
     /// The code with these bits; `BadCode` where they are none.
-    pub fn read(bits: u16) -> Result<Code, KeymapError> {
+    pub const fn read(bits: u16) -> Result<Code, KeymapError> {
         match bits {
             0x0000
             | 0x0001
@@ -103,8 +103,8 @@ impl Code {
         }
     }
 
-    /// The default code of the entry at a place, 96 times the layer plus the key.
-    pub(crate) fn default_at(place: usize) -> Code {
+    /// The standard default code of the entry at a place, 96 times the layer plus the key.
+    pub(crate) fn standard_at(place: usize) -> Code {
         match place {
             0..88 => Code {
                 bits: 0x0004 + place as u16,

@@ -3,7 +3,7 @@
 
 use crate::parts::layers::bits::{contains, insert, next_member, remove};
 use crate::parts::layers::code::{KEYS, LAYERS};
-use crate::parts::layers::{Code, KeyNo, Keymap, LayerNo, Usages};
+use crate::parts::layers::{Code, Defaults, KeyNo, KeymapOf, LayerNo, Usages};
 
 /// How many words of 32 bits hold the keys.
 const KEY_WORDS: usize = 3;
@@ -51,7 +51,7 @@ impl Held {
     /// Presses a key: its code is that of the keymap on the highest active layer where it is not
     /// transparent, with the layers that were active before; `Code::NONE` where it is transparent
     /// on each. A key that is held stays as it is.
-    pub fn press(&mut self, keymap: &Keymap, key: KeyNo) {
+    pub fn press<D: Defaults>(&mut self, keymap: &KeymapOf<D>, key: KeyNo) {
         if !self.holds(key) {
             self.name_usages();
             self.put(keymap, key);
@@ -64,7 +64,7 @@ impl Held {
     }
 
     /// Gives a key that is not held the code that it has now.
-    fn put(&mut self, keymap: &Keymap, key: KeyNo) {
+    fn put<D: Defaults>(&mut self, keymap: &KeymapOf<D>, key: KeyNo) {
         let place = key.number();
         let code = resolve(&self.active, keymap, key);
         self.codes[place as usize] = code;
@@ -135,7 +135,7 @@ fn no_layers() -> [bool; LAYERS] {
 }
 
 /// The code of a key on the highest active layer where it is not transparent.
-fn resolve(active: &[bool; LAYERS], keymap: &Keymap, key: KeyNo) -> Code {
+fn resolve<D: Defaults>(active: &[bool; LAYERS], keymap: &KeymapOf<D>, key: KeyNo) -> Code {
     for number in (0..layers_to_ask(active)).rev() {
         let code = code_where_active(active, keymap, LayerNo::known(number), key);
         if code != Code::TRANSPARENT {
@@ -155,7 +155,12 @@ fn layers_to_ask(active: &[bool; LAYERS]) -> u8 {
 }
 
 /// The code of a key on a layer that is active, transparent on another.
-fn code_where_active(active: &[bool; LAYERS], keymap: &Keymap, layer: LayerNo, key: KeyNo) -> Code {
+fn code_where_active<D: Defaults>(
+    active: &[bool; LAYERS],
+    keymap: &KeymapOf<D>,
+    layer: LayerNo,
+    key: KeyNo,
+) -> Code {
     if is_active(active, layer) {
         keymap.get(layer, key)
     } else {

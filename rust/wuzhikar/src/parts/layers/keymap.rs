@@ -2,24 +2,30 @@
 //! The table of codes.
 
 use crate::parts::layers::code::{ENTRIES, KEYS};
-use crate::parts::layers::{Code, Command, KeyNo, LayerNo};
+use crate::parts::layers::defaults::PhantomData;
+use crate::parts::layers::{Code, Command, Defaults, KeyNo, LayerNo, Standard};
 
-/// The code of each key on each layer.
+/// The code of each key on each layer, with these defaults.
 #[derive(Clone, Debug)]
-pub struct Keymap {
+pub struct KeymapOf<D: Defaults> {
     codes: [Code; ENTRIES],
+    defaults: PhantomData<D>,
 }
 
-impl Keymap {
+impl<D: Defaults> KeymapOf<D> {
     /// Zeros, where memory waits for a keyboard to start there.
-    pub(crate) const UNSTARTED: Self = Keymap { codes: [Code::UNSTARTED; ENTRIES] };
+    pub(crate) const UNSTARTED: Self = KeymapOf { codes: [Code::UNSTARTED; ENTRIES], defaults: PhantomData };
 }
 
-impl Keymap {
+/// A keymap with the standard defaults.
+pub type Keymap = KeymapOf<Standard>;
+
+impl<D: Defaults> KeymapOf<D> {
     /// The default keymap.
-    pub fn standard() -> Keymap {
-        let mut keymap = Keymap {
+    pub fn standard() -> KeymapOf<D> {
+        let mut keymap = KeymapOf {
             codes: [Code::TRANSPARENT; ENTRIES],
+            defaults: PhantomData,
         };
         keymap.set_standard();
         keymap
@@ -27,7 +33,7 @@ impl Keymap {
 
     /// Makes it the default keymap, where it lies.
     pub fn set_standard(&mut self) {
-        reset(&mut self.codes, 0, ENTRIES);
+        D::reset(&mut self.codes, 0, ENTRIES);
     }
 
     /// The code of a key on a layer.
@@ -41,9 +47,9 @@ impl Keymap {
             Command::SetKey { layer, key, code } => self.codes[place(layer, key)] = code,
             Command::ResetLayer(layer) => {
                 let first = KEYS * layer.number() as usize;
-                reset(&mut self.codes, first, first + KEYS);
+                D::reset(&mut self.codes, first, first + KEYS);
             }
-            Command::ResetAll => reset(&mut self.codes, 0, ENTRIES),
+            Command::ResetAll => D::reset(&mut self.codes, 0, ENTRIES),
         }
     }
 
@@ -53,9 +59,9 @@ impl Keymap {
             Command::SetKey { layer, key, code } => self.codes[place(layer, key)] != code,
             Command::ResetLayer(layer) => {
                 let first = KEYS * layer.number() as usize;
-                differs(&self.codes, first, first + KEYS)
+                differs::<D>(&self.codes, first, first + KEYS)
             }
-            Command::ResetAll => differs(&self.codes, 0, ENTRIES),
+            Command::ResetAll => differs::<D>(&self.codes, 0, ENTRIES),
         }
     }
 
@@ -64,7 +70,7 @@ impl Keymap {
     pub fn next_changed(&self, from: u16) -> Option<(u16, Command)> {
         for place in from..ENTRIES as u16 {
             let code = self.codes[place as usize];
-            if code != Code::default_at(place as usize) {
+            if code != D::code_at(place as usize) {
                 return Some((place, set_key_at(place, code)));
             }
         }
@@ -72,13 +78,13 @@ impl Keymap {
     }
 }
 
-impl PartialEq for Keymap {
-    fn eq(&self, other: &Keymap) -> bool {
+impl<D: Defaults> PartialEq for KeymapOf<D> {
+    fn eq(&self, other: &KeymapOf<D>) -> bool {
         self.codes == other.codes
     }
 }
 
-impl Eq for Keymap {
+impl<D: Defaults> Eq for KeymapOf<D> {
 }
 
 /// The command that gives the entry at a place this code.
@@ -95,43 +101,10 @@ fn place(layer: LayerNo, key: KeyNo) -> usize {
     KEYS * layer.number() as usize + key.number() as usize
 }
 
-/// Gives the entries from `start` up to `end` their default codes.
-fn reset(codes: &mut [Code], start: usize, end: usize) {
-    let middle = end_of_layer_0(start, end);
-    reset_layer_0(codes, start, middle);
-    make_transparent(codes, middle, end);
-}
-
-/// Where the entries of layer 0, the only ones that are not transparent by default, end between two
-/// places.
-fn end_of_layer_0(start: usize, end: usize) -> usize {
-    if end <= KEYS {
-        end
-    } else if start <= KEYS {
-        KEYS
-    } else {
-        start
-    }
-}
-
-/// `reset` for entries of layer 0.
-fn reset_layer_0(codes: &mut [Code], start: usize, end: usize) {
-    for place in start..end {
-        codes[place] = Code::default_at(place);
-    }
-}
-
-/// Makes the entries from `start` up to `end` transparent.
-fn make_transparent(codes: &mut [Code], start: usize, end: usize) {
-    for place in start..end {
-        codes[place] = Code::TRANSPARENT;
-    }
-}
-
 /// Whether some entry from `start` up to `end` is not its default code.
-fn differs(codes: &[Code], start: usize, end: usize) -> bool {
+fn differs<D: Defaults>(codes: &[Code], start: usize, end: usize) -> bool {
     for place in start..end {
-        if codes[place] != Code::default_at(place) {
+        if codes[place] != D::code_at(place) {
             return true;
         }
     }

@@ -1,12 +1,22 @@
-//! Reads a report so many times by a kept reader, or parses a descriptor, for a count of instructions: `count read HEX HEX
-//! TIMES`, `count details HEX TIMES`, `count parse HEX TIMES`.
+//! Reads a report so many times by a kept reader, writes one, or parses a descriptor, for a count of instructions: `count read
+//! HEX HEX TIMES`, `count write HEX TIMES`, `count details HEX TIMES`, `count parse HEX TIMES`.
 #![forbid(unsafe_code)]
 
 use std::hint::black_box;
-use wuzhikar_hid::{Kind, Reader, Within, details};
+use wuzhikar_hid::{Asked, Kind, Reader, Setting, Target, Within, details};
 
 fn bytes_of(hex: &str) -> Vec<u8> {
     (0..hex.len() / 2).map(|at| u8::from_str_radix(&hex[2 * at..2 * at + 2], 16).expect("hex")).collect()
+}
+
+/// The usages of the places of the first field of input reports, or as many as there are places of its list, each set to 1: the
+/// places of a Variable field by what they have, those of an Array by what is put into it.
+fn settings(reader: &Reader) -> Vec<Setting> {
+    let field = reader.descriptor().fields()[0];
+    let usage = |place: u16| reader.descriptor().usage(0, place.into()).expect("a usage");
+    (0..field.count)
+        .map(|place| Setting { target: Target::Usage { usage: usage(place), place: 0 }, asked: Asked::Value(1) })
+        .collect()
 }
 
 fn main() {
@@ -26,6 +36,13 @@ fn main() {
         return;
     }
     let reader = Reader::new(&text).expect("a descriptor");
+    if words[1] == "write" {
+        let settings = settings(&reader);
+        for _ in 0..times {
+            black_box(reader.write(Kind::Input, 0, black_box(&settings), None).expect("a report"));
+        }
+        return;
+    }
     let report = bytes_of(&words[3]);
     for _ in 0..times {
         let mut sum = 0;

@@ -1,28 +1,12 @@
-use Rattle.std.proofs.Common.{arith}
+use Rattle.std.proofs.Math.Logic.{∥∥₁_map, ∥∥₁_elim}
 use Rattle.std.proofs.Props.{props}
-use Rattle.std.proofs.Math.Logic.{∥∥₁_elim, ∥∥₁_map}
-use Rattle.descriptor_parse.proofs.ReadingLemmas.{ends_short, ends_open, ends_well, ends_known, ends_counted, ends_linkable}
 use Rattle.descriptor_parse.proofs.reading.Reading.finish.Goals as goal
 
-pub returns-then-has_bytes : goal.returns-then-has_bytes
-returns-then-has_bytes c = λ text s. ends_short text _ _ _ s.at s.short (rw c.deref.ensures.0 at c.if-has_bytes.ensures)
+pub end-requires-clause-short : goal.end-requires-clause-short
+end-requires-clause-short c = rw c.deref.ensures.0 (∥∥₁_elim c.requires (Prim.hlevel props) (λ p. p.2.short))
 
-pub returns-then-state-gt0 : goal.returns-then-state-gt0
-returns-then-state-gt0 c = λ text s. ends_open text _ _ _ s.at (rw c.deref.ensures.0 at c.if-has_bytes.ensures) c.if-state-gt0.true
-
-pub new-requires-clause-known : goal.new-requires-clause-known
-new-requires-clause-known c = rw c.into_reports.ensures (∥∥₁_map c.requires (λ p.
-    ends_known p.0 _ _ _ p.1 p.2.at (rw c.deref.ensures.0 at c.if-has_bytes.ensures) (omega (arith, c.if-state-gt0.false))))
-
-pub new-requires-clause-counted : goal.new-requires-clause-counted
-new-requires-clause-counted c = rw c.into_reports.ensures (∥∥₁_map c.requires (λ p.
-    ends_counted p.0 _ _ _ p.1 p.2.at (rw c.deref.ensures.0 at c.if-has_bytes.ensures) (omega (arith, c.if-state-gt0.false))))
-
-pub new-requires-clause-linkable : goal.new-requires-clause-linkable
-new-requires-clause-linkable c = rw c.into_reports.ensures (∥∥₁_elim c.requires (Prim.hlevel props) (λ p.
-    ends_linkable p.0 _ _ _ p.1 p.2.at (rw c.deref.ensures.0 at c.if-has_bytes.ensures) (omega (arith, c.if-state-gt0.false))))
+pub end-requires-clause-read : goal.end-requires-clause-read
+end-requires-clause-read c = rw c.deref.ensures.0 (∥∥₁_map c.requires (λ p. (p.0, p.1, p.2.at)))
 
 pub returns : goal.returns
-returns c = λ text s.
-    rw (c.new.ensures, c.into_reports.ensures)
-    (ends_well text _ _ _ s.at (rw c.deref.ensures.0 at c.if-has_bytes.ensures) (omega (arith, c.if-state-gt0.false)))
+returns c = λ text s. c.end.ensures text (rw c.deref.ensures.0 s.at)

@@ -2,7 +2,7 @@ use Rattle.std.proofs.Common.{refl, ap, ◌∙◌, sym, ◌≡◌, None}
 use Rattle.descriptor_parse.specs.Globals.{unsigned}
 use Rattle.descriptor_parse.specs.ties.StateStands.{fault_of_global}
 use Rattle.descriptor_parse.proofs.LocalLemmas.{stand_silent, is_silent}
-use Rattle.descriptor_parse.proofs.StateLemmas.{judged_global, stand_plain, global_no_collection, push_left, small_id}
+use Rattle.descriptor_parse.proofs.StateLemmas.{judged_global, stand_plain, global_no_collection, small_id}
 use Rattle.descriptor_parse.proofs.state.State.take_global.Goals as goal
 
 pub returns-clause-taken : goal.returns-clause-taken
@@ -10,5 +10,5 @@ returns-clause-taken c = λ before item e b s clean.
     let none : fault_of_global c.args.tag (unsigned item.bytes) c.args.self.now ≡ None = sym (judged_global before item c.args.tag _ e s) ∙ clean in
     let plain = global_no_collection item c.args.tag e in
     stand_plain before item c.args.self.now _ plain.0 plain.1
-    (c.in_ok-take.ensures.taken before item e b (push_left before c.args.tag (unsigned item.bytes) _ s none) (small_id c.args.tag (unsigned item.bytes) _ none) s.globals)
+    (c.in_ok-take_global.ensures.taken before item e b (small_id c.args.tag (unsigned item.bytes) _ none) s.globals)
     (stand_silent before item _ (ap is_silent e) s.locals) (c.note.ensures before item e s.reports) refl s

@@ -6,5 +6,5 @@ use Rattle.field_details.proofs.WalkLemmas.{usage_told}
 use Rattle.field_details.proofs.walk.Walk.collection.Goals as goal
 
 pub returns : goal.returns
-returns c = λ before item offset kind s.
-    rw (offset, kind, c.usage_on.ensures, c.innermost.ensures, s.usage, s.opened, s.globals.now, usage_told (usage_page before) (first_usage (since_main before))) refl
+returns c = λ items item offset kind st s.
+    rw (offset, kind, c.usage_on.ensures, c.innermost.ensures, s.usage, s.opened, c.globals.ensures items st, usage_told (usage_page items) (first_usage (since_main items))) refl

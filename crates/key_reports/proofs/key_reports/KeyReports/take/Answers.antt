@@ -7,7 +7,7 @@ use Rattle.key_reports.proofs.Standing.{stands-scanned, edges_of}
 use Rattle.key_reports.proofs.key_reports.KeyReports.take.Goals as goal
 
 pub returns : goal.returns
-returns c past scan fed =
+returns g c past scan fed =
     let s : IsFed scan c.args.flips.now past (record { debouncer = c.self.inside.matrix; held = c.self.inside.held; poller = c.self.inside.poller }) = rw c.self.view_is fed in
     let edges : Edges = record { released = c.released-released.result; pressed = c.pressed-pressed.result } in
     stands-scanned past scan c.args.flips.now c.args.keymap.now c.args.protocol (record { debouncer = c.self.inside.matrix; held = c.self.inside.held; poller = c.self.inside.poller })

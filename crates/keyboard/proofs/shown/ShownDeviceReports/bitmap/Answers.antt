@@ -3,4 +3,4 @@ use Rattle.keyboard.proofs.Viewing.{view_bitmap}
 use Rattle.keyboard.proofs.shown.ShownDeviceReports.bitmap.Goals as goal
 
 pub returns : goal.returns
-returns c view s = view_bitmap s.start s.past view _ s.view_is (c.bitmap.ensures (key_calls s.start s.past) s.keys)
+returns g c view s = view_bitmap g.D.Defaults.defaults s.start s.past view _ s.view_is (c.bitmap.ensures (key_calls g.D.Defaults.defaults s.start s.past) s.keys)

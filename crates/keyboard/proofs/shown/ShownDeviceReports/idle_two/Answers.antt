@@ -3,4 +3,4 @@ use Rattle.keyboard.proofs.Viewing.{view_idle_two}
 use Rattle.keyboard.proofs.shown.ShownDeviceReports.idle_two.Goals as goal
 
 pub returns : goal.returns
-returns c view s = view_idle_two s.start s.past view _ s.view_is (c.idle.ensures (key_calls s.start s.past) s.keys)
+returns g c view s = view_idle_two g.D.Defaults.defaults s.start s.past view _ s.view_is (c.idle.ensures (key_calls g.D.Defaults.defaults s.start s.past) s.keys)

@@ -7,7 +7,7 @@ use Rattle.layers.proofs.NamedUsages.{named_put}
 use Rattle.layers.proofs.held.Held.put.Goals as goal
 
 pub invariant_of-self : goal.invariant_of-self
-invariant_of-self c =
+invariant_of-self g c =
     let within : c.number-place.result < length c.self.inside.codes = rw c.self.invariant.0 c.number-place.ensures.a_key in
     let free : is_some (kept c.self.inside.codes c.self.inside.held c.number-place.result) ≡ false = rw (← c.self.view_is, ← c.number-place.ensures.value) at c.requires.free in (
       search rules,
@@ -19,7 +19,7 @@ invariant_of-self c =
     )
 
 pub returns : goal.returns
-returns c =
+returns g c =
     let within : c.number-place.result < length c.self.inside.codes = rw c.self.invariant.0 c.number-place.ensures.a_key in
     let is : c.resolve-code.result ≡ resolved (code_at c.args.keymap.now) (kept c.self.inside.codes c.self.inside.held) c.args.key =
     c.resolve-code.ensures (kept c.self.inside.codes c.self.inside.held) (c.self.invariant.3 (rw (← c.self.view_is) at c.requires.named)).layers in

@@ -5,10 +5,10 @@ use Rattle.usb_device.proofs.Moving.{handed, due_nak, due_else}
 use Rattle.usb_device.proofs.Resting.{hands}
 use Rattle.usb_device.proofs.control_buffers.ControlBuffers.confirm.Goals as goal
 
-pub returns-in-Packet : goal.returns-in-Packet
-returns-in-Packet g c = λ calls s h o.
+pub returns-in-Packet-clause-linked : goal.returns-in-Packet-clause-linked
+returns-in-Packet-clause-linked g c = λ calls s h o.
     let p = c.in-Packet.packet.items in
-    let i = c.hand_over.ensures in (
+    let i = c.hand_over.ensures.set in (
       In c.in_packet.result ∷ calls,
       c.in_packet.ensures calls s,
       rw c.in-Packet.is (handed i.0 i.1 _ _ Due p calls refl h i.2 i.3),
@@ -17,12 +17,12 @@ returns-in-Packet g c = λ calls s h o.
       refl,
     )
 
-pub returns-in-Nak : goal.returns-in-Nak
-returns-in-Nak g c = λ calls s h o.
+pub returns-in-Nak-clause-linked : goal.returns-in-Nak-clause-linked
+returns-in-Nak-clause-linked g c = λ calls s h o.
     (In c.in_packet.result ∷ calls, c.in_packet.ensures calls s, rw c.in-Nak.is (due_nak _ Due calls refl h), λ q. (rw c.in-Nak.is refl, o q), refl)
 
-pub returns-in-Ack : goal.returns-in-Ack
-returns-in-Ack g c = λ calls s h o.
+pub returns-in-Ack-clause-linked : goal.returns-in-Ack-clause-linked
+returns-in-Ack-clause-linked g c = λ calls s h o.
     let after = In c.in_packet.result ∷ calls in
     let r = c.refuse.ensures in
     (after, c.in_packet.ensures calls s, rw r.over (r.linked after (due_else _ Due c.in_packet.result calls refl h)), rw r.over (r.told after tt), refl)

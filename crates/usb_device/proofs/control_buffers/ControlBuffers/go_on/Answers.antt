@@ -6,42 +6,42 @@ use Rattle.usb_device.proofs.Moving.{opened, asking_due, closed_again, offered_a
 use Rattle.usb_device.proofs.Resting.{opens}
 use Rattle.usb_device.proofs.control_buffers.ControlBuffers.go_on.Goals as goal
 
-pub returns-in-Opening : goal.returns-in-Opening
-returns-in-Opening g c = λ calls s h r.
-    let o = c.open.ensures in
+pub returns-in-Opening-clause-linked : goal.returns-in-Opening-clause-linked
+returns-in-Opening-clause-linked g c = λ calls s h r.
+    let o = c.open.ensures.set in
     let t : c.args.self.now ≡ Opening = sym c.self.view_is ∙ ap transfer_view c.in-Opening.is in
     (calls, s, opened o.0 o.1 _ _ c.args.self.now calls o.2 o.3 t h, opens o.1 (g.C.Controller.bus c.open.new.controller) o.3, refl)
 
-pub returns-in-Ack : goal.returns-in-Ack
-returns-in-Ack g c = λ calls s h r.
+pub returns-in-Ack-clause-linked : goal.returns-in-Ack-clause-linked
+returns-in-Ack-clause-linked g c = λ calls s h r.
     let p = c.as_slice.result.now in
     let t : c.args.self.now ≡ Keeps p = sym c.self.view_is ∙ ap transfer_view c.in-Kept.is ∙ ap Keeps (sym c.as_slice.ensures.value) in
-    c.ask.ensures (Out p c.out.result ∷ calls) (c.out.ensures calls s) (rw c.in-Ack.is (offered_ack _ c.args.self.now p calls t h))
+    c.ask.ensures.linked (Out p c.out.result ∷ calls) (c.out.ensures calls s) (rw c.in-Ack.is (offered_ack _ c.args.self.now p calls t h))
 
-pub returns-in-Nak : goal.returns-in-Nak
-returns-in-Nak g c = λ calls s h r.
+pub returns-in-Nak-clause-linked : goal.returns-in-Nak-clause-linked
+returns-in-Nak-clause-linked g c = λ calls s h r.
     let p = c.as_slice.result.now in
     let t : c.args.self.now ≡ Keeps p = sym c.self.view_is ∙ ap transfer_view c.in-Kept.is ∙ ap Keeps (sym c.as_slice.ensures.value) in
     let later = Out p c.out.result ∷ calls in
     let R : TransferState → Type 0 = λ x. Rests x (g.C.Controller.bus c.args.controller.now) later in
     (later, c.out.ensures calls s, rw c.in-Nak.is (offered_nak _ c.args.self.now p calls t h), λ q. subst R (sym t) (rw c.in-Nak.is refl), refl)
 
-pub returns-in-Packet : goal.returns-in-Packet
-returns-in-Packet g c = λ calls s h r.
+pub returns-in-Packet-clause-linked : goal.returns-in-Packet-clause-linked
+returns-in-Packet-clause-linked g c = λ calls s h r.
     let p = c.as_slice.result.now in
     let t : c.args.self.now ≡ Keeps p = sym c.self.view_is ∙ ap transfer_view c.in-Kept.is ∙ ap Keeps (sym c.as_slice.ensures.value) in
     let after = Out p c.out.result ∷ calls in
     let e = c.refuse.ensures in
     (after, c.out.ensures calls s, rw e.over (e.linked after (offered_else _ c.args.self.now p c.out.result calls t h)), rw e.over (e.told after tt), refl)
 
-pub returns-in-Asking : goal.returns-in-Asking
-returns-in-Asking g c = λ calls s h r.
+pub returns-in-Asking-clause-linked : goal.returns-in-Asking-clause-linked
+returns-in-Asking-clause-linked g c = λ calls s h r.
     let t : c.args.self.now ≡ Asking = sym c.self.view_is ∙ ap transfer_view c.in-Asking.is in
-    c.ask-in-Asking.ensures calls s (asking_due c.args.self.now _ calls t h)
+    c.ask-in-Asking.ensures.linked calls s (asking_due c.args.self.now _ calls t h)
 
-pub returns-in-Closing : goal.returns-in-Closing
-returns-in-Closing g c = λ calls s h r.
-    let o = c.open-in-Closing.ensures in
+pub returns-in-Closing-clause-linked : goal.returns-in-Closing-clause-linked
+returns-in-Closing-clause-linked g c = λ calls s h r.
+    let o = c.open-in-Closing.ensures.set in
     let t : c.args.self.now ≡ Closing = sym c.self.view_is ∙ ap transfer_view c.in-Closing.is in
     let R : TransferState → Type 0 = λ x. Ready x (g.C.Controller.bus c.args.controller.now) calls in (
       calls,
@@ -51,8 +51,8 @@ returns-in-Closing g c = λ calls s h r.
       refl,
     )
 
-pub returns-in-Refused : goal.returns-in-Refused
-returns-in-Refused g c = λ calls s h r.
+pub returns-in-Refused-clause-linked : goal.returns-in-Refused-clause-linked
+returns-in-Refused-clause-linked g c = λ calls s h r.
     let t : c.args.self.now ≡ Refused = sym c.self.view_is ∙ ap transfer_view c.in-Refused.is in
     let T : TransferState → Type 0 = λ x. Link x (g.C.Controller.bus c.args.controller.now) calls in
     let R : TransferState → Type 0 = λ x. Ready x (g.C.Controller.bus c.args.controller.now) calls in

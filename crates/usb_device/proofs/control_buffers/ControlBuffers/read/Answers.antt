@@ -2,13 +2,14 @@ use Rattle.std.proofs.Common.{◌∷◌, refl}
 use Rattle.usb_device.specs.Calls.{In}
 use Rattle.usb_device.specs.Transfers.{Refused, Reads, ReadDue}
 use Rattle.usb_device.proofs.Moving.{read_answer, read_hands}
+use Rattle.usb_device.proofs.Addressing.{stays_then}
 use Rattle.usb_device.proofs.Resting.{hands, opens}
 use Rattle.usb_device.proofs.control_buffers.ControlBuffers.read.Goals as goal
 
-pub returns-after-len-eq8 : goal.returns-after-len-eq8
-returns-after-len-eq8 g c = λ calls s h.
-    let o = c.open.ensures in
-    let i = c.hand_over.ensures in
+pub returns-after-len-eq8-clause-linked : goal.returns-after-len-eq8-clause-linked
+returns-after-len-eq8-clause-linked g c = λ calls s h.
+    let o = c.open.ensures.set in
+    let i = c.hand_over.ensures.set in
     let left = c.if-len-eq8.left in
     let after = In c.in_packet.result ∷ calls in
     let p = c.in-Packet.packet.items in
@@ -21,12 +22,21 @@ returns-after-len-eq8 g c = λ calls s h.
       refl,
     )
 
-pub returns-in-Nak : goal.returns-in-Nak
-returns-in-Nak g c = λ calls s h.
+pub returns-in-Nak-clause-linked : goal.returns-in-Nak-clause-linked
+returns-in-Nak-clause-linked g c = λ calls s h.
     (In c.in_packet.result ∷ calls, c.in_packet.ensures calls s, read_answer c.args.left (ReadDue c.args.left) _ c.in_packet.result calls h, λ q. rw c.in-Nak.is refl, refl)
 
-pub returns-in-Ack : goal.returns-in-Ack
-returns-in-Ack g c = λ calls s h.
+pub returns-in-Ack-clause-linked : goal.returns-in-Ack-clause-linked
+returns-in-Ack-clause-linked g c = λ calls s h.
     let after = In c.in_packet.result ∷ calls in
     let r = c.refuse.ensures in
     (after, c.in_packet.ensures calls s, rw r.over (r.linked after (read_answer c.args.left Refused _ c.in_packet.result calls h)), rw r.over (r.told after tt), refl)
+
+pub returns-after-len-eq8-clause-stays : goal.returns-after-len-eq8-clause-stays
+returns-after-len-eq8-clause-stays g c =
+    let b = g.C.Controller.bus in
+    let a = g.C.Controller.address_of in
+    let old = c.args.controller.now in
+    let mid = c.open.new.controller in
+    let new = c.hand_over.new.controller in
+    stays_then (b old) (b mid) (b new) (a old) (a mid) (a new) c.open.ensures.stays c.hand_over.ensures.stays

@@ -1,12 +1,24 @@
-use Rattle.std.proofs.Common.{◌∙◌, inl, inr}
+use Rattle.std.proofs.Common.{Bool, ap, subst}
+use Rattle.usb_device.specs.Addresses.{StaysBy}
+use Rattle.usb_device.specs.Bus.{Met}
+use Rattle.usb_device.proofs.Addressing.{served_stays, kept_further, kept_or}
 use Rattle.usb_device.proofs.Linked.{goes}
 use Rattle.usb_device.proofs.Resting.{rest_goes}
 use Rattle.usb_device.proofs.control_buffers.ControlBuffers.serve.Goals as goal
 
 pub returns : goal.returns
 returns g c = λ calls s h r.
-    let w = c.waiting-met.ensures in
+    let w = c.waiting-met.ensures.met in
     let linked = goes w.0 c.args.self.now _ w.1 calls w.2 h in
     let taken = c.take.ensures w.1 calls s linked w.3 (rest_goes w.0 c.args.self.now (g.C.Controller.bus c.args.controller.now) w.1 calls w.2 r) in
-    let x = c.go_on.ensures taken.0 taken.1 (rw w.4 taken.2) (rw w.4 taken.3) in
-    (x.0, x.1, x.2, x.3, elim taken.4 [ inl e ↦ inl (x.4 ∙ e) | inr e ↦ inr (x.4 ∙ e) ])
+    let x = c.go_on.ensures.linked taken.0 taken.1 (rw w.4 taken.2) (rw w.4 taken.3) in
+    let kept = kept_further w.1.met.reset calls taken.0 x.0 taken.4 x.4 in
+    let S : Bool → Type 0 = λ y. StaysBy y (g.C.Controller.address_of c.args.controller.now) (g.C.Controller.address_of c.waiting-met.new.self) in
+    let stays = subst S (ap (λ (m : Met). m.reset) w.3) c.waiting-met.ensures.stays in (
+      x.0,
+      x.1,
+      x.2,
+      x.3,
+      kept_or w.1.met.reset calls x.0 kept,
+      served_stays w.1.met.reset (g.C.Controller.bus c.go_on.new.controller).met.reset calls x.0 (g.C.Controller.address_of c.args.controller.now) (g.C.Controller.address_of c.waiting-met.new.self) (g.C.Controller.address_of c.go_on.new.controller) stays c.go_on.ensures.stays.1 kept,
+    )

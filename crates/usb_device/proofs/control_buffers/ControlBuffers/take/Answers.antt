@@ -1,6 +1,7 @@
-use Rattle.std.proofs.Common.{List, ◌∷◌, Some, None, true, false, refl, inl, inr, sym, ap, ◌∙◌, ◌≡◌}
+use Rattle.std.proofs.Common.{Bool, subst, List, ◌∷◌, Some, None, true, false, refl, sym, ap, ◌∙◌, ◌≡◌}
 use Rattle.usb_device.specs.Calls.{EpCall, SetUp, BusReset}
 use Rattle.usb_device.specs.Bus.{Met, looked}
+use Rattle.usb_device.specs.Bus1.{KeptUnless}
 use Rattle.usb_device.specs.ties.Link.{transfer_view}
 use Rattle.usb_device.proofs.Moving.{begins, behind_reset, stood, kept_behind, same_behind, resets, not_pending}
 use Rattle.usb_device.proofs.Resting.{begun_ready}
@@ -26,11 +27,13 @@ pub returns-then-met : goal.returns-then-met
 returns-then-met g c = λ b calls s h e r.
     let n : b.met.setup ≡ None = sym (ap (λ (m : Met). m.setup) e) ∙ c.in-None.is in
     let q : b.met.reset ≡ true = sym (ap (λ (m : Met). m.reset) e) ∙ c.if-met.true in
-    (BusReset ∷ calls, c.bus_reset.ensures calls s, resets c.args.self.now b calls h q n, refl, inr refl)
+    let K : Bool → Type 0 = λ x. KeptUnless x calls (BusReset ∷ calls) in
+    (BusReset ∷ calls, c.bus_reset.ensures calls s, resets c.args.self.now b calls h q n, refl, subst K (sym q) refl)
 
 pub returns-else-met : goal.returns-else-met
 returns-else-met g c = λ b calls s h e r.
     let n : b.met.setup ≡ None = sym (ap (λ (m : Met). m.setup) e) ∙ c.in-None.is in
     let q : b.met.reset ≡ false = sym (ap (λ (m : Met). m.reset) e) ∙ c.if-met.false in
     let f = c.follow.ensures b calls s h q n (sym (ap (λ (m : Met). m.out) e)) (sym (ap (λ (m : Met). m.taken) e)) (r (not_pending b.met q n)) in
-    (f.0, f.1, f.2, f.3, inl f.4)
+    let K : Bool → Type 0 = λ x. KeptUnless x calls f.0 in
+    (f.0, f.1, f.2, f.3, subst K (sym q) f.4)

@@ -22,7 +22,7 @@ returns g c = λ calls p.
       (
         e.stands p.0 p.1 p.2.0,
         e.session p.0 p.1 p.2.0 p.2.1,
-        same_reports _ b (calls_of p.1) (In answer ∷ calls_of p.1) (c.follow.ensures.linked (calls_of p.1) p.2.2) refl,
+        same_reports _ b (calls_of p.1) (In answer ∷ calls_of p.1) (c.hold.ensures.linked b (calls_of p.1) (c.follow.ensures.linked (calls_of p.1) p.2.2)) refl,
         subst S same (c.follow.ensures.told (states_set p.0 p.1) p.2.3),
       ),
       ap (λ x. In answer ∷ x) p.3,

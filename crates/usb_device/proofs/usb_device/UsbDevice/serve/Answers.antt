@@ -7,17 +7,24 @@ use Rattle.usb_device.specs.ties.Link.{Link}
 use Rattle.usb_device.specs.ties.Link1.{NothingWithheld, may_send}
 use Rattle.usb_device.specs.ties.Layered.{is_ready}
 use Rattle.usb_device.proofs.Layering.{polled_once}
+use Rattle.usb_device.proofs.Linked.{goes}
+use Rattle.usb_device.proofs.Resting.{rest_goes}
+use Rattle.usb_device.proofs.Addressing.{reset_goes, reset_later}
 use Rattle.usb_device.proofs.usb_device.UsbDevice.serve.Goals as goal
 
 pub returns : goal.returns
 returns g c = λ calls lent past h.
     let a = c.serve.ensures calls (lent, past, h.2, h.3) h.0 h.1 in
-    let bus = g.C.Controller.bus c.serve.new.controller in
+    let bus = g.C.Controller.bus c.tell.new.controller in
     let b = g.B.Buffers.bus c.serve_reports.new.self.buffers in
     let settled = c.settle.ensures.stands a.1.0 a.1.1 a.1.2 in
     let r = c.serve_reports.ensures.stands a.1.0 a.1.1 settled in
-    let T : TransferState → Type 0 = λ x. Link x bus a.0 in
-    let N : TransferState → Type 0 = λ x. NothingWithheld0 x bus a.0 in
+    let T : TransferState → Type 0 = λ x. Link x (g.C.Controller.bus c.serve.new.controller) a.0 in
+    let N : TransferState → Type 0 = λ x. NothingWithheld0 x (g.C.Controller.bus c.serve.new.controller) a.0 in
+    let tell = c.tell.ensures.met in
+    let old = g.C.Controller.bus c.serve.new.controller in
+    let linked = goes tell.0 c.settle.new.self.control old bus a.0 tell.1 (subst T (sym c.settle.ensures.same) a.2) in
+    let rests = rest_goes tell.0 c.settle.new.self.control old bus a.0 tell.1 (subst N (sym c.settle.ensures.same) a.3) in
     let E : Endpoint1 → Type 0 = λ x. NothingWithheld (may_send (is_ready x) c.settle.new.self.device.reports.left) (room_of g.B.Buffers.two) c.serve_reports.new.self.reports b (calls_of r.0) in
     let L : ℕ → Type 0 =
     λ x. NothingWithheld (may_send (is_ready c.serve_reports.new.self.layer.endpoint) x) (room_of g.B.Buffers.two) c.serve_reports.new.self.reports b (calls_of r.0)
@@ -25,6 +32,7 @@ returns g c = λ calls lent past h.
       a.0,
       a.1.0,
       r.0,
-      (subst T (sym c.settle.ensures.same) a.2, subst N (sym c.settle.ensures.same) a.3, r.1, polled_once a.1.1 r.0 r.3 ∙ a.1.3),
+      (linked, rests, r.1, polled_once a.1.1 r.0 r.3 ∙ a.1.3),
       subst L (sym c.serve_reports.ensures.waits) (subst E (sym c.serve_reports.ensures.same) r.2),
+      (g.C.Controller.address_of c.serve.new.controller, reset_later old.met.reset bus.met.reset a.0 (g.C.Controller.address_of c.args.controller.now) (g.C.Controller.address_of c.serve.new.controller) (reset_goes tell.0 old bus tell.1) a.5, c.tell.ensures.told),
     )

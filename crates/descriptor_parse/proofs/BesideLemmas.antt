@@ -1,0 +1,76 @@
+-- A text whose items are taken twice, by the parser and beside it.
+use Rattle.std.proofs.Common.{◌≡◌, ℕ, ◌+◌, ◌<◌, ◌≤◌, List, [], ◌∷◌, ◌++◌, length, drop, length-drop, refl, arith, sym, ◌∙◌, ap, subst, inl, inr, append_assoc, Result, Ok, Err}
+use Rattle.std.specs.Prelude.{OnOk, false, is_err}
+use Rattle.std.proofs.lemmas.Bool.{cases_lt}
+use Rattle.std.proofs.lemmas.List.{append_cancel_left}
+use Rattle.descriptor_parse.specs.declared.fault.ParseError.{ParseError}
+use Rattle.descriptor_parse.specs.declared.state.State.{State}
+use Rattle.descriptor_parse.specs.Items.{ItemValue, items_at, item_size}
+use Rattle.descriptor_parse.specs.Faults.{onto, all_items}
+use Rattle.descriptor_parse.specs.ties.StateStands.{StateStands}
+use Rattle.descriptor_parse.specs.ties.Fed.{IsAt, IsFront}
+use Rattle.descriptor_parse.proofs.ItemLemmas.{size_pos, items_more, items_short, items_none}
+use Rattle.descriptor_parse.proofs.ReadingLemmas.{at_start, at_more, at_end}
+
+-- the whole items among these, newest first
+abbrev whole : List (Result ItemValue ParseError) → List ItemValue
+whole [] = []
+whole (Ok item ∷ more) = whole more ++ item ∷ []
+whole (Err e ∷ more) = []
+
+onto_whole : (more : List (Result ItemValue ParseError)) (before : List ItemValue) → onto before more ≡ whole more ++ before
+onto_whole [] before = refl
+onto_whole (Ok item ∷ more) before = onto_whole more (item ∷ before) ∙ sym (append_assoc (whole more) (item ∷ []) before)
+onto_whole (Err e ∷ more) before = refl
+
+-- The items of a text up to an offset are taken by the parser, and beside it.
+pub record AreTaken {B : Type 0} (S : List ItemValue → B → Type 0) (first now : B) (text rest : List ℕ) (offset : ℕ) (state : State) : Type 0 where
+  pub at : IsAt text rest offset state
+  pub before : List ItemValue
+  pub items : all_items text ≡ onto before (items_at offset rest)
+  pub stands : S [] first → S before now
+
+pub taken_none : {B : Type 0} (S : List ItemValue → B → Type 0) (first : B) (text : List ℕ) (state : State) → StateStands [] state → AreTaken S first first text text 0 state
+unfolding all_items
+taken_none S first text state s = record { at = at_more [] [] text 0 state (at_start state s); before = []; items = refl; stands = λ f. f }
+
+-- the state stands for just these items
+pub taken_state : {B : Type 0} (S : List ItemValue → B → Type 0) (first now : B) (text rest : List ℕ) (offset : ℕ) (state : State) (t : AreTaken S first now text rest offset state) → StateStands t.before state
+taken_state S first now text rest offset state t =
+    let r = at_end text rest offset state t.at in
+    let more = items_at offset rest in
+    let same : r.before ≡ t.before = append_cancel_left (whole more) r.before t.before (sym (onto_whole more r.before) ∙ sym r.items ∙ t.items ∙ onto_whole more t.before) in
+    subst (λ b. StateStands b state) same r.stands
+
+-- an item more
+pub taken_more : {B : Type 0} (S : List ItemValue → B → Type 0) (first old new : B) (text rest : List ℕ) (offset after : ℕ) (before later : State) (item : ItemValue)
+    (t : AreTaken S first old text rest offset before) → IsFront item rest offset → ((items : List ItemValue) → StateStands items before → S items old → S (item ∷ items) new)
+    → IsAt text (drop (item_size rest) rest) after later → AreTaken S first new text (drop (item_size rest) rest) after later
+taken_more S first old new text rest offset after before later item t f takes a =
+    let pos : 0 < item_size rest = size_pos rest in
+    let whole : item_size rest ≤ length rest = f.whole in
+    let place : offset + length rest ≡ length text = (at_end text rest offset before t.at).place in
+    let place' : after + length (drop (item_size rest) rest) ≡ length text = (at_end text (drop (item_size rest) rest) after later a).place in
+    let next : after ≡ offset + item_size rest = omega (arith, length-drop (item_size rest) rest) in
+    let is : items_at offset rest ≡ Ok item ∷ items_at after (drop (item_size rest) rest) = rw (f.is, next) (items_more offset rest (omega arith) f.whole) in
+    record {
+      at = a;
+      before = item ∷ t.before;
+      items = t.items ∙ ap (onto t.before) is;
+      stands = λ s. takes t.before (taken_state S first old text rest offset before t) (t.stands s);
+    }
+
+-- no whole item is left
+pub taken_all : {B : Type 0} (S : List ItemValue → B → Type 0) (first now : B) (text rest : List ℕ) (offset : ℕ) (state : State) → AreTaken S first now text rest offset state
+    → length rest < item_size rest → S [] first → S (all_items text) now
+taken_all S first now text rest offset state t short s =
+    let none : onto t.before (items_at offset rest) ≡ t.before = elim (cases_lt 0 (length rest)) [
+      | inl some ↦ ap (onto t.before) (items_short offset rest some short)
+      | inr none ↦ ap (onto t.before) (items_none offset rest (omega arith))
+    ] in
+    subst (λ items. S items now) (sym (t.items ∙ none)) (t.stands s)
+
+-- what holds where it went well
+pub went_well : {A E : Type 0} {P : Type 0} (r : Result A E) → is_err r ≡ false → OnOk r P → P
+went_well (Ok x) e p = p
+went_well (Err x) e p = cc

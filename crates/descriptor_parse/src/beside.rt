@@ -1,0 +1,67 @@
+//! A text that is parsed for more than its fields, in one walk over its items.
+
+ghost use Rattle.std.specs.Prelude.{◌≡◌, ◌≢◌, ◌≤◌, ℕ, List, [], ◌∷◌, length, OnOk, IfOk, IfErr};
+ghost use Rattle.descriptor_parse.specs.Items.{ItemValue};
+ghost use Rattle.descriptor_parse.specs.ItemViews.{item_view};
+ghost use Rattle.descriptor_parse.specs.Faults.{IsFaultless, all_items};
+ghost use Rattle.descriptor_parse.specs.Descriptor.{Describes};
+ghost use Rattle.descriptor_parse.specs.Beside.{IsRefusal};
+ghost use Rattle.descriptor_parse.specs.ties.StateStands.{StateStands};
+
+use crate::descriptor::Descriptor;
+use crate::fault::ParseError;
+use crate::items::{Item, cut};
+use crate::reading::{end, take_item};
+use crate::state::State;
+use std::alloc::{AllocError, Global};
+
+/// What is kept beside the fields.
+pub trait Beside {
+    /// It stands for the items before, newest first.
+    ghost stands: { List ItemValue → Self → Type 0 };
+
+    /// Takes an item, after those that this state stands for.
+    fn take(&mut self, item: &Item<'_>, before: &State) -> Result<(), AllocError>
+        requires few { item.now.prefix ≢ 254 → length item.now.bytes.now ≤ 4 }
+        requires not_three { item.now.prefix ≢ 254 → length item.now.bytes.now ≢ 3 }
+        ensures { OnOk result ((items : List ItemValue) → StateStands items before.now → stands items self.old → stands (item_view item.now ∷ items) self.new) };
+}
+
+/// Why a text is not parsed.
+#[derive(Clone, Copy, Debug, PartialEq, Eq)]
+pub enum Refusal {
+    /// The text is refused, or there was no memory for its fields.
+    Parse(ParseError),
+    /// There was no memory for what is kept beside.
+    Memory,
+}
+
+/// Parses a report descriptor as [`parse`](crate::parse) does, and gives each item to what is kept beside the fields.
+pub fn parse_beside<B: Beside>(
+    alloc: Global,
+    text: &[u8],
+    beside: &mut B,
+) -> Result<Descriptor, Refusal>
+    ensures faultless { IfOk result (λ d. IsFaultless text.now) }
+    ensures described { IfOk result (λ d. Describes (all_items text.now) d) }
+    ensures beside { OnOk result (B.stands [] beside.old → B.stands (all_items text.now) beside.new) }
+    ensures refused { IfErr result (IsRefusal text.now) }
+{
+    let mut state = State::new(alloc);
+    let mut at = 0;
+    let mut rest = text;
+    while let Some((item, after)) = cut(at, rest) {
+        if beside.take(&item, &state).is_err() {
+            return Err(Refusal::Memory);
+        }
+        match take_item(&mut state, &item, rest.len() - after.len()) {
+            Ok(offset) => at = offset,
+            Err(error) => return Err(Refusal::Parse(error)),
+        }
+        rest = after;
+    }
+    match end(state, rest, at) {
+        Ok(descriptor) => Ok(descriptor),
+        Err(error) => Err(Refusal::Parse(error)),
+    }
+}

@@ -1,0 +1,2 @@
+-- Only ties code to its definitions: the files of this folder.
+pub mod Stands

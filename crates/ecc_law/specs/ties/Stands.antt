@@ -1,0 +1,35 @@
+-- Only ties code to its definitions: a keyboard with its host, on a flash that has this image, stands for a history of the world.
+use Rattle.shapes.specs.Shapes.{Bytes}
+use Rattle.std.specs.Prelude.{◌≡◌, Option, None, List, ◌∷◌}
+use Rattle.flash_model.specs.Sim.{SimValue}
+use Rattle.host.specs.declared.gatherer.Host.{Host}
+use Rattle.layers.specs.Codes.{DefaultCodes}
+use Rattle.keyboard.specs.ties.Value.{KeyboardValue}
+use Rattle.world.specs.declared.bench.Operation.{Operation}
+use Rattle.world.specs.History.{flash_after}
+use Rattle.world.specs.Kinds.{Step}
+use Rattle.world.specs.ties.Stands as world
+use Rattle.ecc_law.specs.declared.board.Happening.{Happening}
+use Rattle.ecc_law.specs.declared.board.Told.{Told}
+use Rattle.ecc_law.specs.Happenings.{IsAs}
+
+module _ (defaults : DefaultCodes) where
+  -- so does a world with this keyboard and this host, whose flash has the same image, and of which nothing is armed
+  pub record StandsFor (start : SimValue) (past : List Step) (keyboard : KeyboardValue) (host : Host) (image : Bytes) : Type 0 where
+    pub asked : Option Operation
+    pub world : world.StandsFor defaults start past (record { keyboard = keyboard; host = host; flash = flash_after start past; asked = asked })
+    pub image_is : (flash_after start past).image ≡ image
+    pub unarmed : (flash_after start past).armed ≡ None
+
+  -- the history goes on by a step: it is what happened, with the answer that was told, and leaves this image
+  pub record GoesOn (start : SimValue) (past : List Step) (happening : Happening) (told : Told) (keyboard : KeyboardValue) (host : Host) (image : Bytes) : Type 0 where
+    pub step : Step
+    pub event_is : IsAs happening step.event
+    pub answer_is : step.answer ≡ told.answer
+    pub refused_is : step.refused ≡ told.refused
+    pub stands : StandsFor start (step ∷ past) keyboard host image
+
+  -- so from each history that keyboard, host and flash stood for
+  abbrev pub Takes : Happening → KeyboardValue → Host → Bytes → Told → KeyboardValue → Host → Bytes → Type 0
+  Takes happening keyboard host image told next_keyboard next_host next_image =
+      (start : SimValue) (past : List Step) → StandsFor start past keyboard host image → GoesOn start past happening told next_keyboard next_host next_image

@@ -1,0 +1,36 @@
+use Rattle.std.proofs.Common.{◌≡◌, refl, ap, sym, ◌∙◌}
+use Rattle.descriptor_parse.specs.ItemViews.{item_view}
+use Rattle.descriptor_parse.specs.Tags.{tag_of, is_main}
+use Rattle.descriptor_parse.specs.declared.tag.Tag.TheVariants.{Main, Global, Local, Skipped}
+use Rattle.field_details.specs.Collections.{is_usage}
+use Rattle.field_details.proofs.WalkLemmas.{stand_extents, long_skipped, on_ok}
+use Rattle.field_details.proofs.walk.WalkBeside.take.Goals as goal
+
+pub unsigned-requires : goal.unsigned-requires
+unsigned-requires c = c.requires.few (long_skipped c.args.item.now.prefix (Main c.in-Main.tag) (sym c.tag.ensures ∙ c.in-Main.is) (λ no. cc))
+
+pub take_local-requires-clause-few : goal.take_local-requires-clause-few
+take_local-requires-clause-few c = c.requires.few (long_skipped c.args.item.now.prefix (Local c.in-Local.tag) (sym c.tag.ensures ∙ c.in-Local.is) (λ no. cc))
+
+pub take_local-requires-clause-not_three : goal.take_local-requires-clause-not_three
+take_local-requires-clause-not_three c = c.requires.not_three (long_skipped c.args.item.now.prefix (Local c.in-Local.tag) (sym c.tag.ensures ∙ c.in-Local.is) (λ no. cc))
+
+pub returns-in-Main : goal.returns-in-Main
+returns-in-Main c =
+    let e : tag_of c.args.item.now.prefix ≡ Main c.in-Main.tag = sym c.tag.ensures ∙ c.in-Main.is in
+    on_ok c.take_main.result (λ taken items st s. taken items (item_view c.args.item.now) e refl (sym c.unsigned.ensures) st s) c.take_main.ensures
+
+pub returns-in-Global : goal.returns-in-Global
+returns-in-Global c =
+    let e : tag_of c.args.item.now.prefix ≡ Global c.in-Global.tag = sym c.tag.ensures ∙ c.in-Global.is in
+    on_ok c.take_global.result (λ taken items st s. stand_extents items (item_view c.args.item.now) c.args.self.now _ (ap is_main e) (ap is_usage e)
+    (taken items (item_view c.args.item.now) e s.extents) refl refl refl s) c.take_global.ensures
+
+pub returns-in-Local : goal.returns-in-Local
+returns-in-Local c = λ items st s. c.take_local.ensures items (item_view c.args.item.now) (sym c.tag.ensures ∙ c.in-Local.is) refl s
+
+pub returns-in-Skipped : goal.returns-in-Skipped
+returns-in-Skipped c =
+    let e : tag_of c.args.item.now.prefix ≡ Skipped = sym c.tag.ensures ∙ c.in-Skipped.is in
+    λ items st s. stand_extents items (item_view c.args.item.now) c.args.self.now _ (ap is_main e) (ap is_usage e)
+    (c.take_skipped.ensures items (item_view c.args.item.now) e refl refl s.extents) refl refl refl s

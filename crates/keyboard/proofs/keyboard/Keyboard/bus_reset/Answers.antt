@@ -1,9 +1,0 @@
-use Rattle.keyboard.specs.Keys.{key_calls}
-use Rattle.keyboard.specs.Endpoint.{ep_calls}
-use Rattle.keyboard.proofs.Standing.{stands_reset}
-use Rattle.keyboard.proofs.keyboard.Keyboard.bus_reset.Goals as goal
-
-pub returns-clause-stands : goal.returns-clause-stands
-returns-clause-stands c start past s =
-    let t = rw (← c.self.view_is) at s in
-    stands_reset start past c.reset.new.self c.bus_reset.new.self _ t (c.reset.ensures.stands (ep_calls start past) t.now.ep) (c.bus_reset.ensures (key_calls start past) t.now.keys)

@@ -1,9 +1,0 @@
-use Rattle.keyboard.specs.Calls.{image_after, keymap}
-use Rattle.keyboard.proofs.Standing.{stands_scan}
-use Rattle.keyboard.proofs.keyboard.Keyboard.scan.Goals as goal
-
-pub returns-clause-stands : goal.returns-clause-stands
-returns-clause-stands c start past s =
-    let t = rw (← c.self.view_is) at s in
-    stands_scan start past c.args.scan c.scan.new.self _ t
-    (c.scan.ensures.entries _ (keymap (image_after start past)) (c.keymap.ensures.stands (image_after start past) t.now.store) t.now.keys)

@@ -1,6 +1,0 @@
-use Rattle.keyboard.proofs.Starting.{stands_first}
-use Rattle.keyboard.proofs.keyboard.Keyboard.start_in.Goals as goal
-
-pub returns-clause-stands : goal.returns-clause-stands
-returns-clause-stands g c =
-    stands_first _ c.new.result c.into_keys.result c.mount.result _ _ c.new.ensures.stands c.into_keys.ensures c.mount.ensures.mirrors c.mount.ensures.rests c.known.ensures c.known-2.ensures

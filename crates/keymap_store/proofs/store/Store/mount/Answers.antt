@@ -1,5 +1,0 @@
-use Rattle.std.proofs.Common.{rules}
-use Rattle.keymap_store.proofs.store.Store.mount.Goals as goal
-
-pub returns-clause-mirrors : goal.returns-clause-mirrors
-returns-clause-mirrors g c = search rules

@@ -1,5 +1,0 @@
-use Rattle.std.proofs.Common.{rules}
-use Rattle.layers.proofs.keymap.Keymap.next_changed.Goals as goal
-
-pub loop-place-init : goal.loop-place-init
-loop-place-init c = search rules

@@ -1,6 +1,0 @@
-use Rattle.std.proofs.Common.{◌≡◌, ◌<◌, ◌≤◌, ℕ, slice_index}
-use Rattle.layers.specs.Codes.{default_at}
-use Rattle.layers.proofs.keymap.Keymap.next_changed.Given as goal
-
-abbrev pub invariant-loop-place : goal.invariant-loop-place
-invariant-loop-place l = (place : ℕ) → l.from ≤ place → place < l.place → slice_index l.self-inside.codes place ≡ default_at place

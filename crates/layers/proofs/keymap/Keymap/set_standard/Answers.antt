@@ -1,6 +1,0 @@
-use Rattle.std.proofs.Common.{arith, ◌∙◌}
-use Rattle.layers.proofs.Tables.{has_defaults, stands_at_first}
-use Rattle.layers.proofs.keymap.Keymap.set_standard.Goals as goal
-
-pub returns-clause-stands : goal.returns-clause-stands
-returns-clause-stands c format = stands_at_first _ (has_defaults _ (c.reset.auto.codes ∙ c.self.invariant) (λ place l. c.reset.ensures.inside place (omega arith) l)) format

@@ -1,0 +1,6 @@
+use Rattle.std.proofs.Common.{◌≡◌, ◌<◌, ◌≤◌, ℕ, slice_index}
+use Rattle.layers.specs.Codes.{default_at}
+use Rattle.layers.proofs.keymap.KeymapOf.next_changed.Given as goal
+
+abbrev pub invariant-loop-place : goal.invariant-loop-place
+invariant-loop-place g l = (place : ℕ) → l.from ≤ place → place < l.place → slice_index l.self-inside.codes place ≡ default_at g.D.Defaults.defaults place

@@ -1,0 +1,94 @@
+//! The codes that the entries have at first, and after a reset.
+
+ghost use Rattle.std.specs.Prelude.{◌≡◌, ◌<◌, ◌≤◌, ℕ, length, slice_index};
+ghost use Rattle.layers.specs.Codes.{keys, transparent, default_at, DefaultCodes};
+ghost use Rattle.layers.specs.Standard.{standard};
+
+use crate::Code;
+use crate::code::{ENTRIES, KEYS};
+// It names the defaults in a type that holds none of them.
+pub(crate) use std::marker::PhantomData;
+
+/// The default codes of a keymap: [`Standard`], or those that a maker chose.
+pub trait Defaults {
+    /// For proofs: these codes.
+    ghost defaults: { DefaultCodes };
+
+    /// The default code of the entry at a place, 96 times the layer plus the key.
+    fn code_at(place: usize) -> Code
+        requires { place < ENTRIES }
+        ensures { result ≡ default_at defaults place };
+
+    /// Gives the entries from `start` up to `end` their default codes.
+    fn reset(codes: &mut [Code], start: usize, end: usize)
+        requires whole { length codes.old ≡ ENTRIES }
+        requires ordered { start ≤ end }
+        requires within { end ≤ ENTRIES }
+        ensures inside { (place : ℕ) → start ≤ place → place < end → slice_index codes.new place ≡ default_at defaults place }
+        ensures below { (place : ℕ) → place < start → slice_index codes.new place ≡ slice_index codes.old place }
+        ensures above { (place : ℕ) → end ≤ place → slice_index codes.new place ≡ slice_index codes.old place };
+}
+
+/// On layer 0 the key usages 04h to 5Bh and, from key 88 on, the modifiers E0h to E7h; the other
+/// layers are transparent.
+#[derive(Clone, Copy, Debug, PartialEq, Eq)]
+pub struct Standard {}
+
+impl Defaults for Standard {
+    ghost defaults = { standard };
+
+    fn code_at(place: usize) -> Code {
+        Code::standard_at(place)
+    }
+
+    fn reset(codes: &mut [Code], start: usize, end: usize) {
+        let middle = end_of_layer_0(start, end);
+        reset_layer_0(codes, start, middle);
+        make_transparent(codes, middle, end);
+    }
+}
+
+/// Where the entries of layer 0, the only ones that are not transparent by default, end between two
+/// places.
+fn end_of_layer_0(start: usize, end: usize) -> usize
+    requires { start ≤ end }
+    ensures ordered { start ≤ result }
+    ensures within { result ≤ end }
+    ensures above { result < end → keys ≤ result }
+{
+    if end <= KEYS {
+        end
+    } else if start <= KEYS {
+        KEYS
+    } else {
+        start
+    }
+}
+
+/// `reset` of the standard ones, for entries of layer 0.
+fn reset_layer_0(codes: &mut [Code], start: usize, end: usize)
+    requires whole { length codes.old ≡ ENTRIES }
+    requires ordered { start ≤ end }
+    requires within { end ≤ ENTRIES }
+    ensures inside { (place : ℕ) → start ≤ place → place < end → slice_index codes.new place ≡ default_at standard place }
+    ensures below { (place : ℕ) → place < start → slice_index codes.new place ≡ slice_index codes.old place }
+    ensures above { (place : ℕ) → end ≤ place → slice_index codes.new place ≡ slice_index codes.old place }
+{
+    for place in start..end {
+        codes[place] = Code::standard_at(place);
+    }
+}
+
+/// Makes the entries from `start` up to `end` transparent.
+fn make_transparent(codes: &mut [Code], start: usize, end: usize)
+    requires whole { length codes.old ≡ ENTRIES }
+    requires ordered { start ≤ end }
+    requires within { end ≤ ENTRIES }
+    ensures inside { (place : ℕ) → start ≤ place → place < end → slice_index codes.new place ≡ transparent }
+    ensures below { (place : ℕ) → place < start → slice_index codes.new place ≡ slice_index codes.old place }
+    ensures above { (place : ℕ) → end ≤ place → slice_index codes.new place ≡ slice_index codes.old place }
+{
+    for place in start..end {
+        codes[place] = Code::TRANSPARENT;
+    }
+}

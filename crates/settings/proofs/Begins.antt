@@ -1,0 +1,165 @@
+-- Whether changes may begin, and what they need.
+use Rattle.std.proofs.Common.{◌≡◌, ◌≢◌, ◌∙◌, ◌↔◌, ℕ, ◌+◌, ◌-◌, ◌<◌, ◌≤◌, ◌^◌, refl, sym, ap, subst, arith, IsTrue, List, [], ◌∷◌, ◌++◌, length, take, get_or, Option, Some, None, inl, inr, MatchOption, IsSomeAnd, nat_le}
+use Rattle.std.proofs.lemmas.Bool.{cases_lt, cases_eq}
+use Rattle.std.proofs.lemmas.List.{append-nil}
+use Rattle.records.specs.declared.Slot.TheVariants.{Free}
+use Rattle.records.specs.Slots.{slot_of}
+use Rattle.flash_model.specs.Image.{slot_at}
+use Rattle.page_turnover.specs.declared.log.ActivePage.{ActivePage}
+use Rattle.page_turnover.specs.Active.{active, format}
+use Rattle.page_turnover.specs.Words.{words, IsTail, IsBlank, HasRoom}
+use Rattle.page_turnover.specs.Log.{HasTailRoom}
+use Rattle.page_turnover.specs.Value.{LogValue, Rest, Wait, Unread, Task}
+use Rattle.page_turnover.specs.Turn.{target_page, copies, offered, HasShortWord}
+use Rattle.page_turnover.specs.ties.Log.{Describes, IsHeld}
+use Rattle.page_turnover.proofs.Describing.{same_page, held_active, held_none, unsound_none, le_of, le_test}
+use Rattle.page_turnover.proofs.WordLists.{words_none}
+use Rattle.page_turnover.specs.Usable.{IsUsable}
+use Rattle.settings.specs.declared.change.Change.{Change}
+use Rattle.settings.specs.declared.store.Job.TheVariants.{Appending, Turning}
+use Rattle.settings.specs.Words.{words_of}
+use Rattle.settings.specs.Settings.{changed}
+use Rattle.settings.specs.Copies.{all_copies, copies_below}
+use Rattle.settings.specs.Begins.{HasRoomFor, IsAppended, alive}
+use Rattle.settings.specs.Left.{first_words, turn_left, target_of, Needs}
+use Rattle.settings.specs.ties.Store.{IsAppending, IsTurning, IsTurn, IsSeal, AreChanges, given_words, Stands}
+use Rattle.settings.specs.Store.{SettingsValue}
+use Rattle.settings.proofs.Packing.{some_words}
+use Rattle.settings.proofs.Naming.{copies_none}
+use Rattle.settings.proofs.Turning.{erases_left-ready, erases_left-used}
+
+-- a page has one tail
+tail_le : (image : List ℕ) (page a b : ℕ) → IsTail image page a → IsTail image page b → a ≤ b
+tail_le image page a b x y =
+    elim (cases_lt b a) [
+      | inr l ↦ l
+      | inl l ↦ (let m = y.low in let h = x.high in absurd (x.used (omega arith) (y.free (a - 1) (omega arith) (omega arith))))
+    ]
+
+pub same_tail : (image : List ℕ) (page a b : ℕ) → IsTail image page a → IsTail image page b → a ≡ b
+same_tail image page a b x y = let p = tail_le image page a b x y in let q = tail_le image page b a y x in omega arith
+
+-- the room for some words, by what a log holds
+pub room_for : (image : List ℕ) (log : LogValue) (tail words : ℕ) → Describes image log → HasTailRoom log → IsSomeAnd (active image) (λ place. IsTail image place.0 tail) → tail + words ≤ 512 → HasRoomFor image words
+room_for image log tail words d r t l = by_active log.active refl r
+  where
+    by_active : (held : Option ActivePage) → log.active ≡ held → IsSomeAnd held (λ a. (a.format ≡ 2) × (a.tail ≤ 511)) → HasRoomFor image words
+    by_active None e h = absurd h
+    by_active (Some a) e h =
+        let held = held_active image log a d e in
+        let T : Option (ℕ × ℕ) → Type 0 = λ x. IsSomeAnd x (λ place. IsTail image place.0 tail) in
+        record { page = a.page; seq = a.seq; is_active = held.is_active; current = rw (← h.0) held.format_is; tail = tail; is_tail = subst T held.is_active t; room = l }
+
+pub room_held : (image : List ℕ) (log : LogValue) (words : ℕ) → Describes image log → 0 < words → HasRoomFor image words → HasTailRoom log
+room_held image log words d n r = by_active log.active refl
+  where
+    by_active : (held : Option ActivePage) → log.active ≡ held → IsSomeAnd held (λ a. (a.format ≡ 2) × (a.tail ≤ 511))
+    by_active None e = let f = held_none image log d e in let g = r.is_active in cc
+    by_active (Some a) e =
+        let held = held_active image log a d e in
+        let p : a.page ≡ r.page = same_page image a.page a.seq r.page r.seq held.is_active r.is_active in
+        let t : a.tail ≡ r.tail = same_tail image r.page a.tail r.tail (rw p at held.is_tail) r.is_tail in
+        let f : Some a.format ≡ Some 2 = sym held.format_is ∙ r.current in
+        let l = r.room in
+        (cc, omega arith)
+
+pub room_test : (image : List ℕ) (log : LogValue) (tail words : ℕ) → Describes image log → HasTailRoom log → IsSomeAnd (active image) (λ place. IsTail image place.0 tail) → 1 ≤ words → words ≤ 64 → IsTrue (nat_le tail (512 - words)) ↔ HasRoomFor image words
+room_test image log tail words d r t l m = (
+  λ e. (let k : tail ≤ 512 - words = le_of tail (512 - words) e in room_for image log tail words d r t (omega arith)),
+  λ h. le_test tail (512 - words) (held h (active image) refl t),
+)
+  where
+    held : (h : HasRoomFor image words) (place : Option (ℕ × ℕ)) → active image ≡ place → IsSomeAnd place (λ p. IsTail image p.0 tail) → tail ≤ 512 - words
+    held h None e x = absurd x
+    held h (Some place) e x =
+        let f : Some (h.page, h.seq) ≡ Some place = sym h.is_active ∙ e in
+        let p : h.page ≡ place.0 = cc in
+        let s : tail ≡ h.tail = same_tail image h.page tail h.tail (rw p x) h.is_tail in
+        let room = h.room in
+        omega arith
+
+-- one change alone
+pub one_change : (changes : List Change) (change : Change) → 1 ≤ length changes → length changes < 2 → change ≡ get_or changes 0 change → changes ≡ change ∷ []
+one_change [] change l m e = absurd (omega arith)
+one_change (first ∷ []) change l m e = rw e refl
+one_change (first ∷ second ∷ rest) change l m e = absurd (omega arith)
+
+pub appended_one : (image : List ℕ) (changes : List Change) (change : Change) → changes ≡ change ∷ [] → (IsAppended image changes → HasRoomFor image (length (words_of change))) × (HasRoomFor image (length (words_of change)) → IsAppended image changes)
+appended_one image changes change e =
+    let A : List Change → Type 0 = λ cs. (IsAppended image cs → HasRoomFor image (length (words_of change))) × (HasRoomFor image (length (words_of change)) → IsAppended image cs) in
+    subst A (sym e) (λ h. h, λ h. h)
+
+pub appended_other : (image : List ℕ) (changes : List Change) → (length changes ≡ 1 → ⊥) → IsAppended image changes → ⊥
+appended_other image [] n a = a
+appended_other image (change ∷ []) n a = n refl
+appended_other image (change ∷ other ∷ rest) n a = a
+
+-- the words of one change are next
+pub begins_append : (image : List ℕ) (changes : List Change) (log : LogValue) → Describes image log → log.task ≡ Rest → IsUsable image → AreChanges changes → IsAppended image changes → IsAppending image changes log 0
+begins_append image [] log d t u c a = absurd a
+begins_append image (change ∷ other ∷ rest) log d t u c a = absurd a
+begins_append image (change ∷ []) log d t u c a = by_active log.active refl
+  where
+    by_active : (held : Option ActivePage) → log.active ≡ held → IsAppending image (change ∷ []) log 0
+    by_active None e = let f = held_none image log d e in let g = a.is_active in cc
+    by_active (Some place) e =
+        let held = held_active image log place d e in
+        let p : place.page ≡ a.page = same_page image place.page place.seq a.page a.seq held.is_active a.is_active in
+        let s : place.tail ≡ a.tail = same_tail image a.page place.tail a.tail (rw p at held.is_tail) a.is_tail in
+        let f : Some place.format ≡ Some 2 = sym held.format_is ∙ a.current in
+        let l = a.room in
+        record {
+          are_changes = c;
+          change = change;
+          one = refl;
+          first = words image;
+          words_are = sym (append-nil (words image));
+          more = some_words change;
+          rests = t;
+          usable = unsound_none image log d u;
+          place = place;
+          is_active = e;
+          current = cc;
+          room = omega (arith, s, l);
+        }
+
+pub stands_appending : (image : List ℕ) (changes : List Change) (log : LogValue) → Describes image log → log.task ≡ Rest → IsUsable image → AreChanges changes → IsAppended image changes → Stands image changes (record { log = log; job = Appending 0 })
+stands_appending image changes log d t u c a = record { log_is = d; job_is = begins_append image changes log d t u c a }
+
+none_below : (values : ℕ → Option (List ℕ)) → copies_below values 0 ≡ []
+unfolding copies_below
+none_below values = refl
+
+-- a turn that was given nothing
+pub stands_turning : (image : List ℕ) (changes : List Change) (before after : LogValue) → Describes image after → after ≡ record before { task = Wait Unread } → AreChanges changes → alive image changes ≤ 511 → Stands image changes (record { log = after; job = Turning 0 0 })
+stands_turning image changes before after d e c l =
+    let t : after.task ≡ Wait Unread = ap (λ (log : LogValue). log.task) e in
+    let T : Task → Type 0 = λ x. IsTurn x × (copies image x ++ offered x ≡ given_words (changed image changes) 0 0) × (IsSeal x → ⊥) × HasShortWord x in
+    let s = subst T (sym t) (tt, rw (words_none image (target_page image), none_below (changed image changes)) refl, (λ f. f), tt) in
+    record {
+      log_is = d;
+      job_is = record {
+        are_changes = c;
+        of_turn = s.0;
+        within = omega arith;
+        own = λ z. absurd (omega arith);
+        given = s.1;
+        all = λ f. absurd (s.2 f);
+        short = s.3;
+        fits = l;
+      };
+    }
+
+-- what each of them needs
+pub needs_append : (image : List ℕ) (changes : List Change) → IsAppended image changes → Needs image changes (first_words changes - 0)
+needs_append image changes a = record { appended = λ b. omega arith; blank = λ n. absurd (n a); used = λ n. absurd (n a) }
+
+pub needs_turn : (image : List ℕ) (changes : List Change) (before after : LogValue) → after ≡ record before { task = Wait Unread } → (IsAppended image changes → ⊥) → Needs image changes (turn_left image changes (target_of after.task))
+needs_turn image changes before after e n =
+    let t : after.task ≡ Wait Unread = ap (λ (log : LogValue). log.task) e in
+    let N : Task → Type 0 = λ x. Needs image changes (turn_left image changes (target_of x)) in
+    subst N (sym t) (record {
+      appended = λ a. absurd (n a);
+      blank = λ m b. rw (erases_left-ready image Unread b) (omega arith);
+      used = λ m u. rw (erases_left-used image u) (omega arith);
+    })

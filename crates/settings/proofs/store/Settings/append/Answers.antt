@@ -1,0 +1,66 @@
+use Rattle.std.proofs.Common.{◌≡◌, ◌∙◌, ◌+◌, ◌<◌, refl, sym, rules, arith, ap, inl, inr, length}
+use Rattle.std.proofs.lemmas.Bool.{cases_lt}
+use Rattle.page_turnover.proofs.Effects.{committed_rests}
+use Rattle.settings.specs.Words.{words_of}
+use Rattle.settings.proofs.Storing.{same_kept}
+use Rattle.settings.proofs.Appending.{appending, the_change, one_is_change, goes_on, keeps_values, changes_values, stands_more, stands_rest, gives_more, gives_last}
+use Rattle.settings.proofs.Cutting.{append_next, cut_append}
+use Rattle.settings.proofs.store.Settings.append.Goals as goal
+
+pub returns-in-Committed-clause-stands : goal.returns-in-Committed-clause-stands
+returns-in-Committed-clause-stands g c =
+    let old = g.F.NorFlash.image c.args.flash.now in
+    let new = g.F.NorFlash.image c.step.new.flash in
+    let a = appending old c.args.changes.now _ c.args.at (rw (← c.self.view_is) at c.requires.stands) (rw (← c.self.view_is) at c.requires.job) in
+    let e = the_change c.args.changes.now c.change-item.result a.change c.change-item.is a.one in
+    let made = c.in-Committed.is in
+    let ends = c.step.ensures.ends in
+    elim (cases_lt (c.args.at + 1) (length (words_of c.change-item.result))) [
+      | inl l ↦ stands_more new c.args.changes.now c.count.new.self c.step.new.self (c.args.at + 1) c.count.ensures.log (c.count.ensures.more l).1 ends.describes
+          (goes_on old c.args.changes.now _ c.begin_append.new.self c.args.at c.word_at.result c.step.result new c.step.new.self a c.begin_append.ensures.pending (rw e at c.word_at.ensures.word) made ends (c.step.ensures.committed made) (rw e at l))
+      | inr l ↦ stands_rest new c.args.changes.now c.count.new.self c.step.new.self c.count.ensures.log (c.count.ensures.last l).1 ends.describes (committed_rests old c.begin_append.new.self c.step.result new c.step.new.self made ends)
+    ]
+
+pub returns-in-Committed-clause-gives : goal.returns-in-Committed-clause-gives
+returns-in-Committed-clause-gives g c =
+    let old = g.F.NorFlash.image c.args.flash.now in
+    let new = g.F.NorFlash.image c.step.new.flash in
+    let a = appending old c.args.changes.now _ c.args.at (rw (← c.self.view_is) at c.requires.stands) (rw (← c.self.view_is) at c.requires.job) in
+    let e = the_change c.args.changes.now c.change-item.result a.change c.change-item.is a.one in
+    let w = rw e at c.word_at.ensures.word in
+    let done = c.step.ensures.committed c.in-Committed.is in
+    elim (cases_lt (c.args.at + 1) (length (words_of c.change-item.result))) [
+      | inl l ↦ gives_more old c.args.changes.now c.count.result new (c.count.ensures.more l).0 (keeps_values old c.args.changes.now _ c.begin_append.new.self c.args.at c.word_at.result new a (ap (λ log. log.task) c.begin_append.ensures.pending) w done (rw e at l))
+      | inr l ↦ gives_last old c.args.changes.now c.count.result new (c.count.ensures.last l).0 (changes_values old c.args.changes.now _ c.begin_append.new.self c.args.at c.word_at.result new a (ap (λ log. log.task) c.begin_append.ensures.pending) w done (rw e at l))
+    ]
+
+pub returns-in-Committed-clause-operation : goal.returns-in-Committed-clause-operation
+returns-in-Committed-clause-operation g c =
+    let old = g.F.NorFlash.image c.args.flash.now in
+    let s = rw (← c.self.view_is) at c.requires.stands in
+    let a = appending old c.args.changes.now _ c.args.at s (rw (← c.self.view_is) at c.requires.job) in
+    let e = the_change c.args.changes.now c.change-item.result a.change c.change-item.is a.one in
+    let t = ap (λ log. log.task) c.begin_append.ensures.pending in
+    let next = append_next old c.begin_append.new.self c.word_at.result a.place t (ap (λ log. log.active) c.begin_append.ensures.pending ∙ a.is_active) in
+    record {
+      operation = _;
+      made = c.step.ensures.operated next.operation next.is;
+      cut = λ left i m. cut_append old c.args.changes.now c.begin_append.new.self next a.first a.change c.args.at c.word_at.result left (c.begin_append.ensures.describes old s.log_is) t (rw e at c.word_at.ensures.word) a.one (one_is_change old c.args.changes.now _ c.args.at a) a.words_are a.more i m;
+    }
+
+pub returns-in-Failed-clause-gives : goal.returns-in-Failed-clause-gives
+returns-in-Failed-clause-gives g c = same_kept (g.F.NorFlash.image c.args.flash.now) (g.F.NorFlash.image c.step.new.flash) (c.step.ensures.ends.kept c.in-Failed.is)
+
+pub returns-in-Failed-clause-operation : goal.returns-in-Failed-clause-operation
+returns-in-Failed-clause-operation g c =
+    let old = g.F.NorFlash.image c.args.flash.now in
+    let s = rw (← c.self.view_is) at c.requires.stands in
+    let a = appending old c.args.changes.now _ c.args.at s (rw (← c.self.view_is) at c.requires.job) in
+    let e = the_change c.args.changes.now c.change-item.result a.change c.change-item.is a.one in
+    let t = ap (λ log. log.task) c.begin_append.ensures.pending in
+    let next = append_next old c.begin_append.new.self c.word_at.result a.place t (ap (λ log. log.active) c.begin_append.ensures.pending ∙ a.is_active) in
+    record {
+      operation = _;
+      made = c.step.ensures.operated next.operation next.is;
+      cut = λ left i m. cut_append old c.args.changes.now c.begin_append.new.self next a.first a.change c.args.at c.word_at.result left (c.begin_append.ensures.describes old s.log_is) t (rw e at c.word_at.ensures.word) a.one (one_is_change old c.args.changes.now _ c.args.at a) a.words_are a.more i m;
+    }

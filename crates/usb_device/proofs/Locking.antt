@@ -1,0 +1,182 @@
+-- What a guard keeps, call by call.
+use Rattle.std.proofs.Common.{◌≡◌, ℕ, ◌+◌, ◌-◌, ◌==◌, ◌&&◌, ◌||◌, nat_lt, not, Bool, true, false, List, [], ◌∷◌, Option, Some, refl, sym, ap, ◌∙◌, arith}
+use Rattle.usb_device.specs.declared.answer.EpAnswer.{EpAnswer}
+use Rattle.usb_device.specs.declared.answer.EpAnswer.TheVariants.{Ack, Nak, Packet, Stall}
+use Rattle.usb_device.specs.declared.guard.Guard.{Guard}
+use Rattle.usb_device.specs.Calls.{EpCall, SetUp, Out, In, Polled, BusReset}
+use Rattle.usb_device.specs.Guarding.{GuardCall, Met, Locked, Scanned, calls_met, is_feature, writes, is_command, is_locked, is_refused, scans_since, zero_if, Passage, Refuses, Waits, Passes, passage_by, passage, passed}
+use Rattle.usb_device.specs.ties.Guarded.{guard_of, is_taken, left_by, Guards}
+
+abbrev pub Stands : Type 0 → Type 1
+Stands E = List EpCall → E → Type 0
+
+pub begun : {E : Type 0} (stands : Stands E) (pace : ℕ) (behind : E) → stands [] behind
+    → Guards stands pace [] (record { pace = pace; locked = false; feature = false; refused = false; left = pace }) behind
+unfolding guard_of is_refused scans_since passed
+begun stands pace behind s =
+    let all : pace ≡ pace - 0 = omega arith in
+    record { answered = tt; kept = ap (λ (x : ℕ). record { pace = pace; locked = false; feature = false; refused = false; left = x }) all; session = s }
+
+pub on_lock : {E : Type 0} (stands : Stands E) (pace : ℕ) (past : List GuardCall) (on : Bool) (guard next : Guard) (behind : E) → next ≡ record guard { locked = on }
+    → Guards stands pace past guard behind → Guards stands pace (Locked on ∷ past) next behind
+unfolding guard_of is_refused scans_since passed
+on_lock stands pace past on guard next behind n g = record {
+  answered = (tt, g.answered);
+  kept = n ∙ ap (λ (x : Guard). record x { locked = on }) g.kept;
+  session = g.session;
+}
+
+less : (pace count : ℕ) → pace - count - 1 ≡ pace - (count + 1)
+less pace count = omega arith
+
+pub on_scan : {E : Type 0} (stands : Stands E) (pace : ℕ) (past : List GuardCall) (guard next : Guard) (behind new : E) → next ≡ record guard { left = guard.left - 1 }
+    → (stands (passed pace past) behind → stands (passed pace past) new) → Guards stands pace past guard behind → Guards stands pace (Scanned ∷ past) next new
+unfolding guard_of is_refused scans_since passed
+on_scan stands pace past guard next behind new n s g = record {
+  answered = (tt, g.answered);
+  kept = n ∙ ap (λ (x : Guard). record x { left = x.left - 1 }) g.kept ∙ ap (λ (x : ℕ). record (guard_of pace past) { left = x }) (less pace (scans_since past));
+  session = s g.session;
+}
+
+pub on_setup : {E : Type 0} (stands : Stands E) (pace : ℕ) (past : List GuardCall) (bytes : List ℕ) (guard next : Guard) (behind new : E)
+    → next ≡ record guard { feature = is_feature (Some bytes); refused = false }
+    → (stands (passed pace past) behind → stands (SetUp bytes ∷ passed pace past) new) → Guards stands pace past guard behind → Guards stands pace (Met (SetUp bytes) ∷ past) next new
+unfolding guard_of is_refused scans_since passed
+on_setup stands pace past bytes guard next behind new n s g = record {
+  answered = (tt, g.answered);
+  kept = n ∙ ap (λ (x : Guard). record x { feature = is_feature (Some bytes); refused = false }) g.kept;
+  session = s g.session;
+}
+
+pub on_reset : {E : Type 0} (stands : Stands E) (pace : ℕ) (past : List GuardCall) (guard next : Guard) (behind new : E) → next ≡ record guard { feature = false; refused = false }
+    → (stands (passed pace past) behind → stands (BusReset ∷ passed pace past) new) → Guards stands pace past guard behind → Guards stands pace (Met BusReset ∷ past) next new
+unfolding guard_of is_refused scans_since passed
+on_reset stands pace past guard next behind new n s g = record {
+  answered = (tt, g.answered);
+  kept = n ∙ ap (λ (x : Guard). record x { feature = false; refused = false }) g.kept;
+  session = s g.session;
+}
+
+pub on_poll : {E : Type 0} (stands : Stands E) (pace : ℕ) (past : List GuardCall) (answer : Option (List ℕ)) (guard : Guard) (behind new : E)
+    → (stands (passed pace past) behind → stands (Polled answer ∷ passed pace past) new) → Guards stands pace past guard behind → Guards stands pace (Met (Polled answer) ∷ past) guard new
+unfolding guard_of is_refused scans_since passed
+on_poll stands pace past answer guard behind new s g = record { answered = (tt, g.answered); kept = g.kept; session = s g.session }
+
+pub on_work : {E : Type 0} (stands : Stands E) (pace : ℕ) (past : List GuardCall) (guard : Guard) (behind new : E)
+    → (stands (passed pace past) behind → stands (passed pace past) new) → Guards stands pace past guard behind → Guards stands pace past guard new
+on_work stands pace past guard behind new s g = record { answered = g.answered; kept = g.kept; session = s g.session }
+
+refused_is : (pace : ℕ) (past : List GuardCall) (guard : Guard) → guard ≡ guard_of pace past → guard.refused ≡ is_refused past
+unfolding guard_of
+refused_is pace past guard k = ap (λ (x : Guard). x.refused) k
+
+-- an IN token of a transfer that is the guard's own
+pub on_in_refused : {E : Type 0} (stands : Stands E) (pace : ℕ) (past : List GuardCall) (guard : Guard) (behind : E) → guard.refused ≡ true
+    → Guards stands pace past guard behind → Guards stands pace (Met (In Stall) ∷ past) guard behind
+unfolding guard_of is_refused scans_since passed
+on_in_refused stands pace past guard behind r g =
+    let b : is_refused past ≡ true = sym (refused_is pace past guard g.kept) ∙ r in
+    record {
+      answered = (rw b refl, g.answered);
+      kept = g.kept;
+      session = rw b g.session;
+    }
+
+pub on_in : {E : Type 0} (stands : Stands E) (pace : ℕ) (past : List GuardCall) (answer : EpAnswer) (guard : Guard) (behind new : E) → guard.refused ≡ false
+    → (stands (passed pace past) behind → stands (In answer ∷ passed pace past) new) → Guards stands pace past guard behind → Guards stands pace (Met (In answer) ∷ past) guard new
+unfolding guard_of is_refused scans_since passed
+on_in stands pace past answer guard behind new r s g =
+    let b : is_refused past ≡ false = sym (refused_is pace past guard g.kept) ∙ r in
+    record {
+      answered = (rw b tt, g.answered);
+      kept = g.kept;
+      session = rw b (s g.session);
+    }
+
+-- ---- OUT packets
+
+still : (pace count : ℕ) → not (pace - count == 0) ≡ nat_lt count pace
+still pace count = grind arith
+
+-- what the guard says of a packet
+abbrev by : Guard → List ℕ → Passage
+by guard packet = passage_by (guard.refused || (guard.locked && (guard.feature && writes packet))) ((guard.feature && writes packet) && not (guard.left == 0))
+
+passage_is : (pace : ℕ) (past : List GuardCall) (packet : List ℕ) (guard : Guard) → guard ≡ guard_of pace past → by guard packet ≡ passage pace past packet
+unfolding guard_of passage is_command
+passage_is pace past packet guard k =
+    ap (λ (x : Guard). by x packet) k
+    ∙ ap (λ (x : Bool). passage_by (is_refused past || (is_locked past && is_command (calls_met past) packet)) (is_command (calls_met past) packet && x)) (still pace (scans_since past))
+
+refuses_by : (b w : Bool) → passage_by b w ≡ Refuses → b ≡ true
+refuses_by true w e = refl
+refuses_by false true e = cc
+refuses_by false false e = cc
+
+waits_by : (b w : Bool) → passage_by b w ≡ Waits → b ≡ false
+waits_by true w e = cc
+waits_by false true e = refl
+waits_by false false e = refl
+
+passes_by : (b w : Bool) → passage_by b w ≡ Passes → b ≡ false
+passes_by true w e = cc
+passes_by false true e = refl
+passes_by false false e = refl
+
+neither : (b c : Bool) → (b || c) ≡ false → (b || c) ≡ b
+neither true c e = cc
+neither false c e = e
+
+pub on_out_refused : {E : Type 0} (stands : Stands E) (pace : ℕ) (past : List GuardCall) (packet : List ℕ) (guard next : Guard) (behind : E) → by guard packet ≡ Refuses → next ≡ record guard { refused = true }
+    → Guards stands pace past guard behind → Guards stands pace (Met (Out packet Stall) ∷ past) next behind
+unfolding guard_of is_refused scans_since passed passage
+on_out_refused stands pace past packet guard next behind p n g =
+    let q : passage pace past packet ≡ Refuses = sym (passage_is pace past packet guard g.kept) ∙ p in
+    let b : Bool = is_refused past || (is_locked past && is_command (calls_met past) packet) in
+    let w : Bool = is_command (calls_met past) packet && nat_lt (scans_since past) pace in
+    record {
+      answered = (rw q refl, g.answered);
+      kept = n ∙ ap (λ (x : Guard). record x { refused = true }) g.kept ∙ ap (λ (x : Bool). record (guard_of pace past) { refused = x }) (sym (refuses_by b w q));
+      session = rw q g.session;
+    }
+
+pub on_out_waits : {E : Type 0} (stands : Stands E) (pace : ℕ) (past : List GuardCall) (packet : List ℕ) (guard : Guard) (behind : E) → by guard packet ≡ Waits
+    → Guards stands pace past guard behind → Guards stands pace (Met (Out packet Nak) ∷ past) guard behind
+unfolding guard_of is_refused scans_since passed passage
+on_out_waits stands pace past packet guard behind p g =
+    let q : passage pace past packet ≡ Waits = sym (passage_is pace past packet guard g.kept) ∙ p in
+    let b : Bool = is_refused past || (is_locked past && is_command (calls_met past) packet) in
+    let w : Bool = is_command (calls_met past) packet && nat_lt (scans_since past) pace in
+    record {
+      answered = (rw q refl, g.answered);
+      kept = g.kept ∙ ap (λ (x : Bool). record (guard_of pace past) { refused = x }) (sym (neither (is_refused past) (is_locked past && is_command (calls_met past) packet) (waits_by b w q)));
+      session = rw q g.session;
+    }
+
+left_is : (command : Bool) (pace count : ℕ) → left_by command pace (pace - count) ≡ pace - zero_if command count
+left_is true pace count = omega arith
+left_is false pace count = refl
+
+since_out : (past : List GuardCall) (packet : List ℕ) (answer : EpAnswer) → scans_since (Met (Out packet answer) ∷ past) ≡ zero_if (is_taken answer && is_command (calls_met past) packet) (scans_since past)
+unfolding scans_since
+since_out past packet Ack = refl
+since_out past packet Nak = refl
+since_out past packet (Packet bytes) = refl
+since_out past packet Stall = refl
+
+pub on_out : {E : Type 0} (stands : Stands E) (pace : ℕ) (past : List GuardCall) (packet : List ℕ) (answer : EpAnswer) (guard next : Guard) (behind new : E) → by guard packet ≡ Passes
+    → next ≡ record guard { left = left_by (is_taken answer && (guard.feature && writes packet)) guard.pace guard.left }
+    → (stands (passed pace past) behind → stands (Out packet answer ∷ passed pace past) new) → Guards stands pace past guard behind → Guards stands pace (Met (Out packet answer) ∷ past) next new
+unfolding guard_of is_refused passed passage is_command
+on_out stands pace past packet answer guard next behind new p n s g =
+    let q : passage pace past packet ≡ Passes = sym (passage_is pace past packet guard g.kept) ∙ p in
+    let b : Bool = is_refused past || (is_locked past && is_command (calls_met past) packet) in
+    let w : Bool = is_command (calls_met past) packet && nat_lt (scans_since past) pace in
+    record {
+      answered = (rw q tt, g.answered);
+      kept = n
+          ∙ ap (λ (x : Guard). record x { left = left_by (is_taken answer && (x.feature && writes packet)) x.pace x.left }) g.kept
+          ∙ ap (λ (x : ℕ). record (guard_of pace past) { left = x }) (left_is (is_taken answer && is_command (calls_met past) packet) pace (scans_since past) ∙ ap (λ (x : ℕ). pace - x) (sym (since_out past packet answer)))
+          ∙ ap (λ (x : Bool). record (guard_of pace past) { refused = x; left = pace - scans_since (Met (Out packet answer) ∷ past) }) (sym (neither (is_refused past) (is_locked past && is_command (calls_met past) packet) (passes_by b w q)));
+      session = rw q (s g.session);
+    }

@@ -1,0 +1,352 @@
+-- What a lock and a pace hold.
+use Rattle.std.proofs.Common.{◌≡◌, ℕ, ◌+◌, ◌*◌, ◌≤◌, ◌<◌, ◌&&◌, ◌||◌, nat_lt, Bool, true, false, List, [], ◌∷◌, ◌++◌, Some, refl, sym, ap, subst, ◌∙◌, inl, inr, arith}
+use Rattle.usb_device.specs.declared.answer.EpAnswer.{EpAnswer}
+use Rattle.usb_device.specs.declared.answer.EpAnswer.TheVariants.{Ack, Nak, Packet, Stall}
+use Rattle.usb_device.specs.Calls.{EpCall, SetUp, Out, In, Polled, BusReset}
+use Rattle.usb_device.specs.Confirmed.{asked_of, taken_of, confirmation, WasConfirmed}
+use Rattle.usb_device.specs.Guarding.{GuardCall, Met, Locked, Scanned, calls_met, scans, is_feature, writes, is_command, one_if, commands_shown, commands_taken, is_locked, is_refused, zero_if, scans_since, Passage, Refuses, Waits, Passes, passage_by, passage, OutAnswer, StallIf, IsGuarded, AllGuarded, call_by, call_unless, passed, StaysLocked, IsStatusStage}
+
+-- ---- what goes on to the device behind is of the same transfer
+
+asked_out : (p : Passage) (packet : List ℕ) (answer : EpAnswer) (calls : List EpCall) → asked_of (call_by p (Out packet answer) calls) ≡ asked_of calls
+asked_out Refuses packet answer calls = refl
+asked_out Waits packet answer calls = refl
+asked_out Passes packet answer calls = refl
+
+asked_in : (b : Bool) (answer : EpAnswer) (calls : List EpCall) → asked_of (call_unless b (In answer) calls) ≡ asked_of calls
+asked_in true answer calls = refl
+asked_in false answer calls = refl
+
+same_asked : (pace : ℕ) (past : List GuardCall) → asked_of (passed pace past) ≡ asked_of (calls_met past)
+unfolding passed
+same_asked pace [] = refl
+same_asked pace (Met (SetUp bytes) ∷ past) = refl
+same_asked pace (Met (Out packet answer) ∷ past) = asked_out (passage pace past packet) packet answer (passed pace past) ∙ same_asked pace past
+same_asked pace (Met (In answer) ∷ past) = asked_in (is_refused past) answer (passed pace past) ∙ same_asked pace past
+same_asked pace (Met (Polled answer) ∷ past) = same_asked pace past
+same_asked pace (Met BusReset ∷ past) = refl
+same_asked pace (Locked on ∷ past) = same_asked pace past
+same_asked pace (Scanned ∷ past) = same_asked pace past
+
+same_command : (pace : ℕ) (past : List GuardCall) (packet : List ℕ) → is_command (passed pace past) packet ≡ is_command (calls_met past) packet
+unfolding is_command
+same_command pace past packet = ap (λ x. is_feature x && writes packet) (same_asked pace past)
+
+-- ---- the lock
+
+locked_passage : (refused command : Bool) (waits : Bool) → command ≡ true → passage_by (refused || (true && command)) (command && waits) ≡ Refuses
+locked_passage true true waits e = refl
+locked_passage false true waits e = refl
+locked_passage refused false waits e = cc
+
+pub refused_if : (pace : ℕ) (past : List GuardCall) (packet : List ℕ) → is_locked past ≡ true → is_command (calls_met past) packet ≡ true → passage pace past packet ≡ Refuses
+unfolding passage
+refused_if pace past packet l c = rw l (locked_passage (is_refused past) (is_command (calls_met past) packet) (nat_lt (scans_since past) pace) c)
+
+stall_of : (p : Passage) (answer : EpAnswer) → p ≡ Refuses → OutAnswer p answer → answer ≡ Stall
+stall_of Refuses answer e a = a
+stall_of Waits answer e a = cc
+stall_of Passes answer e a = cc
+
+pub stalled : (pace : ℕ) (past : List GuardCall) (packet : List ℕ) (answer : EpAnswer) → AllGuarded pace (Met (Out packet answer) ∷ past) → is_locked past ≡ true → is_command (calls_met past) packet ≡ true
+    → answer ≡ Stall
+stalled pace past packet answer all l c = stall_of (passage pace past packet) answer (refused_if pace past packet l c) all.0
+
+passes_no : Passes ≡ Refuses → ⊥
+passes_no e = cc
+
+other : (b : Bool) (count : ℕ) → (b ≡ true → ⊥) → one_if b count ≡ count
+other true count n = absurd (n refl)
+other false count n = refl
+
+-- of a packet that is a command, where it is refused, nothing is counted; of any other packet neither
+shown_out : (p : Passage) (packet : List ℕ) (answer : EpAnswer) (calls : List EpCall) → (is_command calls packet ≡ true → p ≡ Refuses)
+    → commands_shown (call_by p (Out packet answer) calls) ≡ commands_shown calls
+shown_out Refuses packet answer calls r = refl
+shown_out Waits packet answer calls r = refl
+shown_out Passes packet answer calls r = other (is_command calls packet) (commands_shown calls) (λ e. passes_no (r e))
+
+shown_in : (b : Bool) (answer : EpAnswer) (calls : List EpCall) → commands_shown (call_unless b (In answer) calls) ≡ commands_shown calls
+shown_in true answer calls = refl
+shown_in false answer calls = refl
+
+taken_pass : (packet : List ℕ) (answer : EpAnswer) (calls : List EpCall) → (is_command calls packet ≡ true → ⊥) → commands_taken (Out packet answer ∷ calls) ≡ commands_taken calls
+taken_pass packet Ack calls n = other (is_command calls packet) (commands_taken calls) n
+taken_pass packet Nak calls n = refl
+taken_pass packet (Packet bytes) calls n = refl
+taken_pass packet Stall calls n = refl
+
+taken_out : (p : Passage) (packet : List ℕ) (answer : EpAnswer) (calls : List EpCall) → (is_command calls packet ≡ true → p ≡ Refuses)
+    → commands_taken (call_by p (Out packet answer) calls) ≡ commands_taken calls
+taken_out Refuses packet answer calls r = refl
+taken_out Waits packet answer calls r = refl
+taken_out Passes packet answer calls r = taken_pass packet answer calls (λ e. passes_no (r e))
+
+taken_in : (b : Bool) (answer : EpAnswer) (calls : List EpCall) → commands_taken (call_unless b (In answer) calls) ≡ commands_taken calls
+taken_in true answer calls = refl
+taken_in false answer calls = refl
+
+still_locked : (since before : List GuardCall) → is_locked before ≡ true → StaysLocked since → is_locked (since ++ before) ≡ true
+still_locked [] before l s = l
+still_locked (Met (SetUp bytes) ∷ since) before l s = still_locked since before l s
+still_locked (Met (Out packet answer) ∷ since) before l s = still_locked since before l s
+still_locked (Met (In answer) ∷ since) before l s = still_locked since before l s
+still_locked (Met (Polled answer) ∷ since) before l s = still_locked since before l s
+still_locked (Met BusReset ∷ since) before l s = still_locked since before l s
+still_locked (Locked on ∷ since) before l s = s.0
+still_locked (Scanned ∷ since) before l s = still_locked since before l s
+
+refused_of : (pace : ℕ) (past : List GuardCall) (packet : List ℕ) → is_locked past ≡ true → is_command (passed pace past) packet ≡ true → passage pace past packet ≡ Refuses
+refused_of pace past packet l c = refused_if pace past packet l (sym (same_command pace past packet) ∙ c)
+
+pub shown : (pace : ℕ) (since before : List GuardCall) → is_locked before ≡ true → StaysLocked since → commands_shown (passed pace (since ++ before)) ≡ commands_shown (passed pace before)
+unfolding passed
+shown pace [] before l s = refl
+shown pace (Met (SetUp bytes) ∷ since) before l s = shown pace since before l s
+shown pace (Met (Out packet answer) ∷ since) before l s =
+    let past = since ++ before in
+    shown_out (passage pace past packet) packet answer (passed pace past) (refused_of pace past packet (still_locked since before l s)) ∙ shown pace since before l s
+shown pace (Met (In answer) ∷ since) before l s = shown_in (is_refused (since ++ before)) answer (passed pace (since ++ before)) ∙ shown pace since before l s
+shown pace (Met (Polled answer) ∷ since) before l s = shown pace since before l s
+shown pace (Met BusReset ∷ since) before l s = shown pace since before l s
+shown pace (Locked on ∷ since) before l s = shown pace since before l s.1
+shown pace (Scanned ∷ since) before l s = shown pace since before l s
+
+pub taken : (pace : ℕ) (since before : List GuardCall) → is_locked before ≡ true → StaysLocked since → commands_taken (passed pace (since ++ before)) ≡ commands_taken (passed pace before)
+unfolding passed
+taken pace [] before l s = refl
+taken pace (Met (SetUp bytes) ∷ since) before l s = taken pace since before l s
+taken pace (Met (Out packet answer) ∷ since) before l s =
+    let past = since ++ before in
+    taken_out (passage pace past packet) packet answer (passed pace past) (refused_of pace past packet (still_locked since before l s)) ∙ taken pace since before l s
+taken pace (Met (In answer) ∷ since) before l s = taken_in (is_refused (since ++ before)) answer (passed pace (since ++ before)) ∙ taken pace since before l s
+taken pace (Met (Polled answer) ∷ since) before l s = taken pace since before l s
+taken pace (Met BusReset ∷ since) before l s = taken pace since before l s
+taken pace (Locked on ∷ since) before l s = taken pace since before l s.1
+taken pace (Scanned ∷ since) before l s = taken pace since before l s
+
+-- ---- what goes on
+
+no_command : (past : List GuardCall) (packet : List ℕ) → is_feature (asked_of (calls_met past)) ≡ false → is_command (calls_met past) packet ≡ false
+unfolding is_command
+no_command past packet e = rw e refl
+
+neither_and : (r l : Bool) (c : Bool) → r ≡ false → c ≡ false → (r || (l && c)) ≡ false
+neither_and r l true a b = cc
+neither_and false true false a b = refl
+neither_and false false false a b = refl
+neither_and true l false a b = cc
+
+pub not_refused : (past : List GuardCall) → is_feature (asked_of (calls_met past)) ≡ false → is_refused past ≡ false
+unfolding is_refused
+not_refused [] e = refl
+not_refused (Met (SetUp bytes) ∷ past) e = refl
+not_refused (Met (Out packet answer) ∷ past) e = neither_and (is_refused past) (is_locked past) (is_command (calls_met past) packet) (not_refused past e) (no_command past packet e)
+not_refused (Met (In answer) ∷ past) e = not_refused past e
+not_refused (Met (Polled answer) ∷ past) e = not_refused past e
+not_refused (Met BusReset ∷ past) e = refl
+not_refused (Locked on ∷ past) e = not_refused past e
+not_refused (Scanned ∷ past) e = not_refused past e
+
+pub goes_by : (pace : ℕ) (past : List GuardCall) (packet : List ℕ) → is_feature (asked_of (calls_met past)) ≡ false → passage pace past packet ≡ Passes
+unfolding passage
+goes_by pace past packet e =
+    let r = not_refused past e in
+    let c = no_command past packet e in
+    rw (neither_and (is_refused past) (is_locked past) (is_command (calls_met past) packet) r c, c) refl
+
+acked : (b w : Bool) → OutAnswer (passage_by b w) Ack → b ≡ false
+acked true w a = cc
+acked false w a = refl
+
+taken_not_refused : (pace : ℕ) (past : List GuardCall) (packet : List ℕ) → IsGuarded pace past (Met (Out packet Ack)) → is_refused (Met (Out packet Ack) ∷ past) ≡ false
+unfolding is_refused passage
+taken_not_refused pace past packet g =
+    acked (is_refused past || (is_locked past && is_command (calls_met past) packet)) (is_command (calls_met past) packet && nat_lt (scans_since past) pace) g
+
+pub status : (pace : ℕ) (since before : List GuardCall) (packet : List ℕ) → AllGuarded pace (Met (Out packet Ack) ∷ before) → IsStatusStage since → is_refused (since ++ Met (Out packet Ack) ∷ before) ≡ false
+unfolding is_refused
+status pace [] before packet all s = taken_not_refused pace before packet all.0
+status pace (Met (SetUp bytes) ∷ since) before packet all s = absurd s
+status pace (Met (Out other answer) ∷ since) before packet all s = absurd s
+status pace (Met (In answer) ∷ since) before packet all s = status pace since before packet all s
+status pace (Met (Polled answer) ∷ since) before packet all s = status pace since before packet all s
+status pace (Met BusReset ∷ since) before packet all s = absurd s
+status pace (Locked on ∷ since) before packet all s = status pace since before packet all s
+status pace (Scanned ∷ since) before packet all s = status pace since before packet all s
+
+-- ---- what was confirmed
+
+data_out : (p : Passage) (packet : List ℕ) (answer : EpAnswer) (calls met : List EpCall) → OutAnswer p answer → taken_of calls ≡ taken_of met → taken_of (call_by p (Out packet answer) calls) ≡ taken_of (Out packet answer ∷ met)
+data_out Passes packet Ack calls met a e = refl
+data_out Passes packet Nak calls met a e = e
+data_out Passes packet (Packet bytes) calls met a e = e
+data_out Passes packet Stall calls met a e = e
+data_out Refuses packet Ack calls met a e = cc
+data_out Refuses packet Nak calls met a e = e
+data_out Refuses packet (Packet bytes) calls met a e = e
+data_out Refuses packet Stall calls met a e = e
+data_out Waits packet Ack calls met a e = cc
+data_out Waits packet Nak calls met a e = e
+data_out Waits packet (Packet bytes) calls met a e = e
+data_out Waits packet Stall calls met a e = e
+
+data_in : (b : Bool) (answer : EpAnswer) (calls : List EpCall) → taken_of (call_unless b (In answer) calls) ≡ taken_of calls
+data_in true answer calls = refl
+data_in false answer calls = refl
+
+same_data : (pace : ℕ) (past : List GuardCall) → AllGuarded pace past → taken_of (passed pace past) ≡ taken_of (calls_met past)
+unfolding passed
+same_data pace [] all = refl
+same_data pace (Met (SetUp bytes) ∷ past) all = refl
+same_data pace (Met (Out packet answer) ∷ past) all = data_out (passage pace past packet) packet answer (passed pace past) (calls_met past) all.0 (same_data pace past all.1)
+same_data pace (Met (In answer) ∷ past) all = data_in (is_refused past) answer (passed pace past) ∙ same_data pace past all.1
+same_data pace (Met (Polled answer) ∷ past) all = same_data pace past all.1
+same_data pace (Met BusReset ∷ past) all = refl
+same_data pace (Locked on ∷ past) all = same_data pace past all.1
+same_data pace (Scanned ∷ past) all = same_data pace past all.1
+
+shown_deeper : (call : EpCall) (calls : List EpCall) (setup data_ : List ℕ) → WasConfirmed setup data_ calls → WasConfirmed setup data_ (call ∷ calls)
+shown_deeper call calls setup data_ w = inr w
+
+deeper_out : (p : Passage) (call : EpCall) (calls : List EpCall) (setup data_ : List ℕ) → WasConfirmed setup data_ calls → WasConfirmed setup data_ (call_by p call calls)
+deeper_out Refuses call calls setup data_ w = w
+deeper_out Waits call calls setup data_ w = w
+deeper_out Passes call calls setup data_ w = inr w
+
+deeper_in : (b : Bool) (call : EpCall) (calls : List EpCall) (setup data_ : List ℕ) → WasConfirmed setup data_ calls → WasConfirmed setup data_ (call_unless b call calls)
+deeper_in true call calls setup data_ w = w
+deeper_in false call calls setup data_ w = inr w
+
+confirmed_in : (b : Bool) (answer : EpAnswer) (calls : List EpCall) (setup data_ : List ℕ) → StallIf b answer → In answer ≡ confirmation → asked_of calls ≡ Some setup → taken_of calls ≡ Some data_
+    → WasConfirmed setup data_ (call_unless b (In answer) calls)
+confirmed_in true answer calls setup data_ a e s d = absurd (let x : answer ≡ Stall = a in let y = e in cc)
+confirmed_in false answer calls setup data_ a e s d = inl (e, s, d)
+
+pub confirmed : (pace : ℕ) (past : List GuardCall) (setup data_ : List ℕ) → AllGuarded pace past → WasConfirmed setup data_ (calls_met past) → WasConfirmed setup data_ (passed pace past)
+unfolding passed
+confirmed pace [] setup data_ all w = absurd w
+confirmed pace (Met (SetUp bytes) ∷ past) setup data_ all (inl w) = absurd (let e = w.0 in cc)
+confirmed pace (Met (SetUp bytes) ∷ past) setup data_ all (inr w) = inr (confirmed pace past setup data_ all.1 w)
+confirmed pace (Met (Out packet answer) ∷ past) setup data_ all (inl w) = absurd (let e = w.0 in cc)
+confirmed pace (Met (Out packet answer) ∷ past) setup data_ all (inr w) =
+    deeper_out (passage pace past packet) (Out packet answer) (passed pace past) setup data_ (confirmed pace past setup data_ all.1 w)
+confirmed pace (Met (In answer) ∷ past) setup data_ all (inl w) =
+    confirmed_in (is_refused past) answer (passed pace past) setup data_ all.0 w.0 (same_asked pace past ∙ w.1) (same_data pace past all.1 ∙ w.2)
+confirmed pace (Met (In answer) ∷ past) setup data_ all (inr w) = deeper_in (is_refused past) (In answer) (passed pace past) setup data_ (confirmed pace past setup data_ all.1 w)
+confirmed pace (Met (Polled answer) ∷ past) setup data_ all (inl w) = absurd (let e = w.0 in cc)
+confirmed pace (Met (Polled answer) ∷ past) setup data_ all (inr w) = inr (confirmed pace past setup data_ all.1 w)
+confirmed pace (Met BusReset ∷ past) setup data_ all (inl w) = absurd (let e = w.0 in cc)
+confirmed pace (Met BusReset ∷ past) setup data_ all (inr w) = inr (confirmed pace past setup data_ all.1 w)
+confirmed pace (Locked on ∷ past) setup data_ all w = confirmed pace past setup data_ all.1 w
+confirmed pace (Scanned ∷ past) setup data_ all w = confirmed pace past setup data_ all.1 w
+
+-- ---- the pace
+
+-- what an OUT packet does to the number of commands and to the scans since the last one
+data Counts (pace now since now_after since_after : ℕ) : Type 0 where
+  stays : now_after ≡ now → since_after ≡ since → Counts pace now since now_after since_after
+  counts : pace ≤ since → now_after ≡ now + 1 → since_after ≡ 0 → Counts pace now since now_after since_after
+
+count_if : (command : Bool) (pace now since : ℕ) → (command && nat_lt since pace) ≡ false → Counts pace now since (one_if command now) (zero_if command since)
+count_if false pace now since w = stays refl refl
+count_if true pace now since w = counts (grind (arith, w)) refl refl
+
+goes_on : (p : Passage) (b w : Bool) → passage_by b w ≡ p → p ≡ Passes → w ≡ false
+goes_on p true w e q = cc
+goes_on p false true e q = cc
+goes_on p false false e q = refl
+
+waits_no : (pace : ℕ) (past : List GuardCall) (packet : List ℕ) → passage pace past packet ≡ Passes → (is_command (calls_met past) packet && nat_lt (scans_since past) pace) ≡ false
+unfolding passage
+waits_no pace past packet q =
+    goes_on (passage pace past packet) (is_refused past || (is_locked past && is_command (calls_met past) packet)) (is_command (calls_met past) packet && nat_lt (scans_since past) pace) refl q
+
+counted : (pace : ℕ) (past : List GuardCall) (packet : List ℕ) (answer : EpAnswer) (p : Passage) → passage pace past packet ≡ p → OutAnswer p answer
+    → Counts pace (commands_taken (passed pace past)) (scans_since past) (commands_taken (call_by p (Out packet answer) (passed pace past))) (scans_since (Met (Out packet answer) ∷ past))
+unfolding scans_since
+counted pace past packet Ack Refuses q a = cc
+counted pace past packet Nak Refuses q a = stays refl refl
+counted pace past packet (Packet bytes) Refuses q a = stays refl refl
+counted pace past packet Stall Refuses q a = stays refl refl
+counted pace past packet Ack Waits q a = cc
+counted pace past packet Nak Waits q a = stays refl refl
+counted pace past packet (Packet bytes) Waits q a = stays refl refl
+counted pace past packet Stall Waits q a = stays refl refl
+counted pace past packet Ack Passes q a =
+    let P : Bool → Type 0 = λ x. Counts pace (commands_taken (passed pace past)) (scans_since past) (one_if x (commands_taken (passed pace past))) (zero_if (is_command (calls_met past) packet) (scans_since past)) in
+    subst P (sym (same_command pace past packet)) (count_if (is_command (calls_met past) packet) pace (commands_taken (passed pace past)) (scans_since past) (waits_no pace past packet q))
+counted pace past packet Nak Passes q a = stays refl refl
+counted pace past packet (Packet bytes) Passes q a = stays refl refl
+counted pace past packet Stall Passes q a = stays refl refl
+
+distrib_one : (now pace : ℕ) → (now + 1) * pace ≡ now * pace + pace
+distrib_one now pace = grind arith
+
+more_by : (pace now since total : ℕ) → now * pace + since ≤ total → pace ≤ since → (now + 1) * pace + 0 ≤ total
+more_by pace now since total h p =
+    let e : (now + 1) * pace ≡ now * pace + pace = distrib_one now pace in
+    rw e (omega (arith, h, p))
+
+tally_by : (pace now since now_after since_after total : ℕ) → Counts pace now since now_after since_after → now * pace + since ≤ total → now_after * pace + since_after ≤ total
+tally_by pace now since now_after since_after total (stays n s) h = rw (n, s) h
+tally_by pace now since now_after since_after total (counts p n s) h = rw (n, s) (more_by pace now since total h p)
+
+tally_in : (b : Bool) (answer : EpAnswer) (calls : List EpCall) (pace since total : ℕ) → commands_taken calls * pace + since ≤ total → commands_taken (call_unless b (In answer) calls) * pace + since ≤ total
+tally_in true answer calls pace since total h = h
+tally_in false answer calls pace since total h = h
+
+tally : (pace : ℕ) (past : List GuardCall) → AllGuarded pace past → commands_taken (passed pace past) * pace + scans_since past ≤ scans past
+unfolding passed scans_since
+tally pace [] all = omega arith
+tally pace (Met (SetUp bytes) ∷ past) all = tally pace past all.1
+tally pace (Met (Out packet answer) ∷ past) all =
+    tally_by pace _ _ _ _ (scans past) (counted pace past packet answer (passage pace past packet) refl all.0) (tally pace past all.1)
+tally pace (Met (In answer) ∷ past) all = tally_in (is_refused past) answer (passed pace past) pace (scans_since past) (scans past) (tally pace past all.1)
+tally pace (Met (Polled answer) ∷ past) all = tally pace past all.1
+tally pace (Met BusReset ∷ past) all = tally pace past all.1
+tally pace (Locked on ∷ past) all = tally pace past all.1
+tally pace (Scanned ∷ past) all = let h = tally pace past all.1 in omega (arith, h)
+
+pub since_start : (pace : ℕ) (past : List GuardCall) → AllGuarded pace past → commands_taken (passed pace past) * pace ≤ scans past
+since_start pace past all = let h = tally pace past all in omega (arith, h)
+
+-- none was counted in these calls, or one, and since then fewer scans than these calls brought
+data AtMostOne (first now since total : ℕ) : Type 0 where
+  none : now ≡ first → AtMostOne first now since total
+  one : now ≡ first + 1 → since ≤ total → AtMostOne first now since total
+
+at_most_by : (pace first now since now_after since_after total : ℕ) → total < pace → Counts pace now since now_after since_after → AtMostOne first now since total → AtMostOne first now_after since_after total
+at_most_by pace first now since now_after since_after total l (stays n s) (none e) = none (n ∙ e)
+at_most_by pace first now since now_after since_after total l (stays n s) (one e h) = one (n ∙ e) (rw s h)
+at_most_by pace first now since now_after since_after total l (counts p n s) (none e) = one (n ∙ ap (λ (x : ℕ). x + 1) e) (rw s (omega arith))
+at_most_by pace first now since now_after since_after total l (counts p n s) (one e h) = absurd (omega (arith, l, p, h))
+
+at_most_in : (b : Bool) (answer : EpAnswer) (calls : List EpCall) (first since total : ℕ) → AtMostOne first (commands_taken calls) since total → AtMostOne first (commands_taken (call_unless b (In answer) calls)) since total
+at_most_in true answer calls first since total h = h
+at_most_in false answer calls first since total h = h
+
+at_most_scan : (first now since total : ℕ) → AtMostOne first now since total → AtMostOne first now (since + 1) (total + 1)
+at_most_scan first now since total (none e) = none e
+at_most_scan first now since total (one e h) = one e (omega (arith, h))
+
+at_most_one : (pace : ℕ) (since before : List GuardCall) → AllGuarded pace (since ++ before) → scans since < pace
+    → AtMostOne (commands_taken (passed pace before)) (commands_taken (passed pace (since ++ before))) (scans_since (since ++ before)) (scans since)
+unfolding passed scans_since
+at_most_one pace [] before all l = none refl
+at_most_one pace (Met (SetUp bytes) ∷ since) before all l = at_most_one pace since before all.1 l
+at_most_one pace (Met (Out packet answer) ∷ since) before all l =
+    at_most_by pace _ _ _ _ _ (scans since) l (counted pace (since ++ before) packet answer (passage pace (since ++ before) packet) refl all.0) (at_most_one pace since before all.1 l)
+at_most_one pace (Met (In answer) ∷ since) before all l =
+    at_most_in (is_refused (since ++ before)) answer (passed pace (since ++ before)) (commands_taken (passed pace before)) (scans_since (since ++ before)) (scans since) (at_most_one pace since before all.1 l)
+at_most_one pace (Met (Polled answer) ∷ since) before all l = at_most_one pace since before all.1 l
+at_most_one pace (Met BusReset ∷ since) before all l = at_most_one pace since before all.1 l
+at_most_one pace (Locked on ∷ since) before all l = at_most_one pace since before all.1 l
+at_most_one pace (Scanned ∷ since) before all l = at_most_scan _ _ _ _ (at_most_one pace since before all.1 (omega (arith, l)))
+
+no_more : (first now since total : ℕ) → AtMostOne first now since total → now ≤ first + 1
+no_more first now since total (none e) = rw e (omega arith)
+no_more first now since total (one e h) = rw e (omega arith)
+
+pub between : (pace : ℕ) (since before : List GuardCall) → AllGuarded pace (since ++ before) → scans since < pace → commands_taken (passed pace (since ++ before)) ≤ commands_taken (passed pace before) + 1
+between pace since before all l = no_more _ _ _ _ (at_most_one pace since before all l)

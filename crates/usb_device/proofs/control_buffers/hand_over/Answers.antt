@@ -1,0 +1,5 @@
+use Rattle.usb_device.proofs.Addressing.{input_stays}
+use Rattle.usb_device.proofs.control_buffers.hand_over.Goals as goal
+
+pub returns-clause-stays : goal.returns-clause-stays
+returns-clause-stays g c = let e = c.input_0.ensures in input_stays e.set.0 _ e.set.1 _ _ _ _ e.set.2 e.set.3 e.stays

@@ -1,0 +1,9 @@
+use Rattle.usb_device.specs.Guarding.{passed}
+use Rattle.usb_device.proofs.Locking.{on_scan}
+use Rattle.usb_device.proofs.guarded.GuardedScansMatrix.scan.Goals as goal
+
+pub returns : goal.returns
+returns g c = record {
+  made = c.scan-2.ensures.made;
+  told = λ pace past s. on_scan g.E.Endpoints.stands pace past c.args.self.now.guard _ c.args.self.now.behind _ c.scan.ensures (c.scan-2.ensures.stands (passed pace past)) s;
+}

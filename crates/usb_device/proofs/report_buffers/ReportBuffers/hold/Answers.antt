@@ -1,0 +1,10 @@
+use Rattle.std.proofs.Common.{sym, subst}
+use Rattle.usb_device.specs.contracts.report_buffers.ReportBuffers.{the_view}
+use Rattle.usb_device.specs.ties.Link1.{ReportState, Link1}
+use Rattle.usb_device.proofs.Reporting.{left_same}
+use Rattle.usb_device.proofs.report_buffers.ReportBuffers.hold.Goals as goal
+
+pub returns-then-is_status-clause-linked : goal.returns-then-is_status-clause-linked
+returns-then-is_status-clause-linked c = λ b calls h.
+    let P : ReportState → Type 0 = λ x. Link1 x b calls in
+    left_same (the_view c.self.inside) 50 b calls (subst P (sym c.self.view_is) h)

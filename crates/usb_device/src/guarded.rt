@@ -1,0 +1,138 @@
+//! A maker's lock and pace of feature commands, as a device before a device.
+
+ghost use Rattle.std.specs.Prelude.{◌≡◌, ◌∷◌, [], ℕ, min, List};
+ghost use Rattle.std.specs.Option.{option_map};
+ghost use Rattle.usb_device.specs.Calls.{EpCall, SetUp, Out, In, Polled, BusReset};
+ghost use Rattle.usb_device.specs.Guarding.{GuardCall, Met, Locked, Scanned};
+ghost use Rattle.usb_device.specs.ties.Guarded.{Guards};
+
+use crate::guard::{Guard, Passage};
+use crate::{Endpoints, EpAnswer, Report, Works};
+
+/// The longest pace: a host waits 5 seconds for a status stage.
+const MOST_SCANS: u16 = 4000;
+
+/// A device that reads a matrix.
+pub trait ScansMatrix: Endpoints {
+    /// This is a scan with these rows.
+    ghost scans: { Self → List ℕ → Self → Type 0 };
+
+    /// A scan of the matrix, which is nothing to the bus.
+    fn scan(&mut self, rows: [u16; 6])
+        ensures made { scans self.old rows self.new }
+        ensures stands { (past : List EpCall) → Self.stands past self.old → Self.stands past self.new };
+}
+
+/// A device whose feature commands, operations 1 to 3 of SET_REPORT, a maker locks and slows down.
+///
+/// While the lock is set a command is stalled before the device behind sees it, and so is the rest of its transfer. Reading
+/// goes on, and so does a command that was acknowledged before. With a pace a command is put off by NAK until so many scans
+/// have come since the one before, or since the start.
+#[derive(Drop)]
+pub struct Guarded<E> {
+    guard: Guard,
+    pub(crate) behind: E,
+}
+
+impl<E: Endpoints> Guarded<E> {
+    /// The lock is off. The pace is a number of scans, at most 4,000, and 0 for none.
+    pub fn new(behind: E, pace: u16) -> Guarded<E>
+        ensures { E.stands [] behind → Guards E.stands (min pace 4000) [] result.guard result.behind }
+    {
+        Guarded {
+            guard: Guard::new(pace.min(MOST_SCANS)),
+            behind,
+        }
+    }
+
+    /// Sets the lock, or takes it away.
+    pub fn set_locked(&mut self, on: bool)
+        ensures { (pace : ℕ) (past : List GuardCall) → Guards E.stands pace past self.old.guard self.old.behind
+            → Guards E.stands pace (Locked on ∷ past) self.new.guard self.new.behind }
+    {
+        self.guard.set_locked(on);
+    }
+}
+
+impl<E: Endpoints> Endpoints for Guarded<E> {
+    ghost use Rattle.usb_device.specs.ties.Guarded.{StandsGuarded};
+
+    ghost stands = { λ calls g. StandsGuarded E.stands calls g.guard g.behind };
+
+    fn setup(&mut self, packet: [u8; 8])
+        ensures told { (pace : ℕ) (past : List GuardCall) → Guards E.stands pace past self.old.guard self.old.behind
+            → Guards E.stands pace (Met (SetUp packet) ∷ past) self.new.guard self.new.behind }
+    {
+        self.guard.setup(packet);
+        self.behind.setup(packet);
+    }
+
+    fn out(&mut self, packet: &[u8]) -> EpAnswer
+        ensures told { (pace : ℕ) (past : List GuardCall) → Guards E.stands pace past self.old.guard self.old.behind
+            → Guards E.stands pace (Met (Out packet.now result) ∷ past) self.new.guard self.new.behind }
+    {
+        match self.guard.passage(packet) {
+            Passage::Refuses => {
+                self.guard.refuse();
+                EpAnswer::Stall
+            }
+            Passage::Waits => EpAnswer::Nak,
+            Passage::Passes => {
+                let answer = self.behind.out(packet);
+                self.guard.note(packet, &answer);
+                answer
+            }
+        }
+    }
+
+    fn in_packet(&mut self) -> EpAnswer
+        ensures told { (pace : ℕ) (past : List GuardCall) → Guards E.stands pace past self.old.guard self.old.behind
+            → Guards E.stands pace (Met (In result) ∷ past) self.new.guard self.new.behind }
+    {
+        if self.guard.is_refused() {
+            EpAnswer::Stall
+        } else {
+            self.behind.in_packet()
+        }
+    }
+
+    fn poll(&mut self) -> Option<Report>
+        ensures told { (pace : ℕ) (past : List GuardCall) → Guards E.stands pace past self.old.guard self.old.behind
+            → Guards E.stands pace (Met (Polled (option_map (λ r. r.items) result)) ∷ past) self.new.guard self.new.behind }
+    {
+        self.behind.poll()
+    }
+
+    fn bus_reset(&mut self)
+        ensures told { (pace : ℕ) (past : List GuardCall) → Guards E.stands pace past self.old.guard self.old.behind
+            → Guards E.stands pace (Met BusReset ∷ past) self.new.guard self.new.behind }
+    {
+        self.guard.reset();
+        self.behind.bus_reset();
+    }
+}
+
+impl<E: Works> Works for Guarded<E> {
+    ghost works = { λ g n. E.works g.behind n.behind };
+
+    fn work(&mut self)
+        ensures made { E.works self.old.behind self.new.behind }
+        ensures told { (pace : ℕ) (past : List GuardCall) → Guards E.Endpoints.stands pace past self.old.guard self.old.behind
+            → Guards E.Endpoints.stands pace past self.new.guard self.new.behind }
+    {
+        self.behind.work();
+    }
+}
+
+impl<E: ScansMatrix> ScansMatrix for Guarded<E> {
+    ghost scans = { λ g rows n. E.scans g.behind rows n.behind };
+
+    fn scan(&mut self, rows: [u16; 6])
+        ensures made { E.scans self.old.behind rows self.new.behind }
+        ensures told { (pace : ℕ) (past : List GuardCall) → Guards E.Endpoints.stands pace past self.old.guard self.old.behind
+            → Guards E.Endpoints.stands pace (Scanned ∷ past) self.new.guard self.new.behind }
+    {
+        self.guard.scan();
+        self.behind.scan(rows);
+    }
+}

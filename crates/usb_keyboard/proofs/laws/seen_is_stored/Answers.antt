@@ -1,0 +1,22 @@
+use Rattle.std.proofs.Common.{List, sym, subst}
+use Rattle.usb_device.specs.Calls.{EpCall}
+use Rattle.usb_device.specs.Confirmed.{WasConfirmed}
+use Rattle.usb_device.specs.Guarding.{passed}
+use Rattle.usb_device.specs.Steps.{session}
+use Rattle.usb_device.specs.Through.{calls_of}
+use Rattle.usb_device.proofs.Behind.{seen_confirmed, behind_confirmed}
+use Rattle.usb_device.proofs.Layering.{confirmed_same}
+use Rattle.usb_device.proofs.Pacing as guard
+use Rattle.usb_keyboard.proofs.Seen.{stored}
+use Rattle.usb_keyboard.proofs.laws.seen_is_stored.Goals as goal
+
+pub returns-clause-direct : goal.returns-clause-direct
+returns-clause-direct c = λ t b calls lent past after before keyboard image setup data_ command h all e stands seen s w d brings.
+    let confirmed = behind_confirmed lent past setup data_ all (confirmed_same setup data_ calls (calls_of past) e (seen_confirmed t b calls after before setup data_ h seen s w d)) in
+    stored (session lent past) keyboard image setup data_ command stands confirmed brings
+
+pub returns-clause-guarded : goal.returns-clause-guarded
+returns-clause-guarded c = λ t b calls lent past after before pace met keyboard image setup data_ command h all e same guarded stands seen s w d brings.
+    let confirmed = behind_confirmed lent past setup data_ all (confirmed_same setup data_ calls (calls_of past) e (seen_confirmed t b calls after before setup data_ h seen s w d)) in
+    let P : List EpCall → Type 0 = λ x. WasConfirmed setup data_ x in
+    stored (passed pace met) keyboard image setup data_ command stands (guard.confirmed pace met setup data_ guarded (subst P (sym same) confirmed)) brings

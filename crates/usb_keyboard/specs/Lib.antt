@@ -1,0 +1,4 @@
+pub mod Plain
+pub mod Stored
+pub mod Whole
+pub mod ties

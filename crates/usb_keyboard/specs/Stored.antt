@@ -1,0 +1,58 @@
+-- Believed: a feature command on the bus, and the sessions of a keyboard between power losses.
+use Rattle.shapes.specs.Shapes.{Bytes}
+use Rattle.std.specs.Prelude.{◌≡◌, ℕ, Some, List, [], ◌∷◌, drop}
+use Rattle.std.specs.Result.{result_ok}
+use Rattle.flash_model.specs.Image.{IsImage}
+use Rattle.layers.specs.Standard.{standard}
+use Rattle.layers.specs.declared.command.Command.{Command}
+use Rattle.page_turnover.specs.Next.{MayMake}
+use Rattle.keymap_store.specs.declared.store.Work.{Work}
+use Rattle.control_ep.specs.Transfers.{FeatureData}
+use Rattle.keyboard.specs.Acknowledged.{NoneAcceptedWrites}
+use Rattle.keyboard.specs.Calls.{Call, image_after, keymap}
+use Rattle.keyboard.specs.Commands.{working}
+use Rattle.keyboard.specs.Effects.{report_named}
+use Rattle.keyboard.specs.Feature.{command_in}
+use Rattle.keyboard.specs.Lawful.{IsLawful}
+use Rattle.keyboard.specs.Operated.{Works}
+
+-- the SETUP packet is SET_REPORT of the feature report, and the data behind its ID are this command, of operation 1 to 3
+pub record Brings (setup data_ : Bytes) (command : Command) : Type 0 where
+  pub named : report_named (Some setup) ≡ Some FeatureData
+  pub read : result_ok (command_in (drop 1 data_)) ≡ Some command
+
+-- a session: the image that it began on, and its calls, newest first
+pub record Session : Type 0 where
+  pub start : Bytes
+  pub calls : List Call
+
+-- what a power loss behind these calls may leave: the flash as it is, or what the operation of the next step of the flash work may
+-- have made of it by then
+pub data Leaves (start : Bytes) (past : List Call) (image : Bytes) : Type 0 where
+  between : image ≡ image_after start past → Leaves start past image
+  inside : (command : Command) (work : Work) (new : Bytes) (works : Works standard start past command (image_after start past) work new)
+      → working standard start past ≡ Some command → IsImage image → MayMake (image_after start past) works.operation image → Leaves start past image
+
+abbrev pub Begins : Bytes → List Session → Type 0
+Begins start [] = Unit {0}
+Begins start (before ∷ earlier) = Leaves before.start before.calls start
+
+-- sessions, newest first: each began on what the power loss behind the one before it left
+abbrev pub Follow : List Session → Type 0
+Follow [] = Unit {0}
+Follow (session ∷ earlier) = IsLawful standard session.start session.calls × Begins session.start earlier × Follow earlier
+
+-- no command that was accepted in these sessions writes the entry
+abbrev pub NoneWrites : List Session → ℕ → ℕ → Type 0
+NoneWrites [] layer key = Unit {0}
+NoneWrites (session ∷ earlier) layer key = NoneAcceptedWrites standard session.calls [] layer key × NoneWrites earlier layer key
+
+-- the flash has the code in the entry, and still has it behind a power loss
+pub record Has (start : Bytes) (past : List Call) (layer key code : ℕ) : Type 0 where
+  pub now : keymap standard (image_after start past) layer key ≡ code
+  pub lost : (image : Bytes) → Leaves start past image → keymap standard image layer key ≡ code
+
+-- so behind the newest of these sessions
+abbrev pub HasNow : List Session → ℕ → ℕ → ℕ → Type 0
+HasNow [] layer key code = ⊥
+HasNow (session ∷ earlier) layer key code = Has session.start session.calls layer key code

@@ -1,0 +1,150 @@
+//! The keyboard with its flash, as a device behind the USB device layer.
+
+ghost use Rattle.std.specs.Prelude.{◌≡◌, ◌≤◌, ◌∷◌, [], ℕ, List, length};
+ghost use Rattle.std.specs.Option.{option_map};
+ghost use Rattle.control_ep.specs.declared.answer.EpAnswer.{EpAnswer as Answer};
+ghost use Rattle.keymap_store.specs.declared.store.Work.{Work};
+ghost use Rattle.usb_device.specs.Calls.{EpCall};
+ghost use Rattle.usb_device.specs.Calls as Eps;
+ghost use Rattle.keyboard.specs.Calls.{Call, SetUp, Out, In, Polled, Worked, BusReset};
+ghost use Rattle.usb_keyboard.specs.Plain.{plain};
+ghost use Rattle.usb_keyboard.specs.ties.Stands.{RunsSince};
+
+use arrayvec::ArrayVec;
+use keyboard::{Keyboard, NorFlash, Room, Scan, Work};
+use std::marker::Model;
+use usb_device::{Endpoints, EpAnswer, Report, ScansMatrix, Works};
+
+/// A keyboard with the flash that keeps its keymap.
+#[derive(Drop)]
+pub struct UsbKeyboard<F: NorFlash + Drop> {
+    keyboard: Keyboard,
+    flash: F,
+}
+
+// The keyboard runs on this flash.
+impl<F: NorFlash + Drop> Model for UsbKeyboard<F> {
+    ghost use Rattle.layers.specs.Standard.{standard};
+    ghost use Rattle.keyboard.specs.ties.Value.{KeyboardValue, RunsOn};
+
+    ghost Value = { KeyboardValue × F };
+
+    ghost view = { λ k. (k.keyboard, k.flash) };
+
+    ghost invariant = { λ k. RunsOn standard (F.image k.flash) k.keyboard };
+}
+
+/// An answer without the reason of a STALL, which a host does not see.
+fn plain(answer: keyboard::EpAnswer) -> EpAnswer
+    ensures { result ≡ plain answer }
+{
+    match answer {
+        keyboard::EpAnswer::Ack => EpAnswer::Ack,
+        keyboard::EpAnswer::Nak => EpAnswer::Nak,
+        keyboard::EpAnswer::Packet(packet) => EpAnswer::Packet(packet),
+        keyboard::EpAnswer::Stall(_) => EpAnswer::Stall,
+    }
+}
+
+/// The bytes of a report, of which there are at most 23.
+fn short(bytes: &[u8]) -> Report
+    ensures { length bytes.now ≤ 23 → result.items ≡ bytes.now }
+{
+    let mut report = ArrayVec::new();
+    let _full = report.try_extend_from_slice(bytes);
+    report
+}
+
+impl<F: NorFlash + Drop> UsbKeyboard<F> {
+    /// The power comes: the keyboard starts on this flash, whose keymap it reads.
+    pub fn start_in(room: Room, flash: F) -> UsbKeyboard<F>
+        ensures { RunsSince (F.image flash) [] result.0 (F.image result.1) }
+    {
+        let keyboard = Keyboard::start_in(room, &flash);
+        UsbKeyboard { keyboard, flash }
+    }
+
+    /// A step of the flash work, and what it came to.
+    pub fn step(&mut self) -> Work
+        ensures told { (start : List ℕ) (past : List Call) → RunsSince start past self.old.0 (F.image self.old.1)
+            → RunsSince start (Worked result (F.image self.new.1) ∷ past) self.new.0 (F.image self.new.1) }
+    {
+        self.keyboard.work(&mut self.flash)
+    }
+
+    /// The keyboard.
+    pub fn keyboard(&self) -> &Keyboard
+        ensures { result.now ≡ self.now.0 }
+    {
+        &self.keyboard
+    }
+}
+
+impl<F: NorFlash + Drop> Endpoints for UsbKeyboard<F> {
+    ghost use Rattle.usb_keyboard.specs.ties.Stands.{StandsForUsb};
+
+    ghost stands = { λ calls k. StandsForUsb calls k.0 (F.image k.1) };
+
+    fn setup(&mut self, packet: [u8; 8])
+        ensures told { (start : List ℕ) (past : List Call) → RunsSince start past self.old.0 (F.image self.old.1)
+            → RunsSince start (SetUp packet ∷ past) self.new.0 (F.image self.new.1) }
+        ensures stands { (calls : List EpCall) → StandsForUsb calls self.old.0 (F.image self.old.1) → StandsForUsb (Eps.SetUp packet ∷ calls) self.new.0 (F.image self.new.1) }
+    {
+        self.keyboard.setup(packet);
+    }
+
+    fn out(&mut self, packet: &[u8]) -> EpAnswer
+        ensures told { (start : List ℕ) (past : List Call) → RunsSince start past self.old.0 (F.image self.old.1)
+            → (answer : Answer) × RunsSince start (Out packet.now answer ∷ past) self.new.0 (F.image self.new.1) × (result ≡ plain answer) }
+        ensures stands { (calls : List EpCall) → StandsForUsb calls self.old.0 (F.image self.old.1) → StandsForUsb (Eps.Out packet.now result ∷ calls) self.new.0 (F.image self.new.1) }
+    {
+        plain(self.keyboard.out(packet))
+    }
+
+    fn in_packet(&mut self) -> EpAnswer
+        ensures told { (start : List ℕ) (past : List Call) → RunsSince start past self.old.0 (F.image self.old.1)
+            → (answer : Answer) × RunsSince start (In answer ∷ past) self.new.0 (F.image self.new.1) × (result ≡ plain answer) }
+        ensures stands { (calls : List EpCall) → StandsForUsb calls self.old.0 (F.image self.old.1) → StandsForUsb (Eps.In result ∷ calls) self.new.0 (F.image self.new.1) }
+    {
+        plain(self.keyboard.in_packet())
+    }
+
+    fn poll(&mut self) -> Option<Report>
+        ensures told { (start : List ℕ) (past : List Call) → RunsSince start past self.old.0 (F.image self.old.1)
+            → RunsSince start (Polled (option_map (λ r. r.items) result) ∷ past) self.new.0 (F.image self.new.1) }
+        ensures stands { (calls : List EpCall) → StandsForUsb calls self.old.0 (F.image self.old.1) → StandsForUsb (Eps.Polled (option_map (λ r. r.items) result) ∷ calls) self.new.0 (F.image self.new.1) }
+    {
+        match self.keyboard.poll() {
+            Some(report) => Some(short(&report)),
+            None => None,
+        }
+    }
+
+    fn bus_reset(&mut self)
+        ensures told { (start : List ℕ) (past : List Call) → RunsSince start past self.old.0 (F.image self.old.1)
+            → RunsSince start (BusReset ∷ past) self.new.0 (F.image self.new.1) }
+        ensures stands { (calls : List EpCall) → StandsForUsb calls self.old.0 (F.image self.old.1) → StandsForUsb (Eps.BusReset ∷ calls) self.new.0 (F.image self.new.1) }
+    {
+        self.keyboard.bus_reset();
+    }
+}
+
+impl<F: NorFlash + Drop> Works for UsbKeyboard<F> {
+    ghost use Rattle.usb_keyboard.specs.ties.Stands.{StepIs};
+
+    ghost works = { λ k n. StepIs k.0 (F.image k.1) n.0 (F.image n.1) };
+
+    fn work(&mut self) {
+        let _work = self.step();
+    }
+}
+
+impl<F: NorFlash + Drop> ScansMatrix for UsbKeyboard<F> {
+    ghost use Rattle.usb_keyboard.specs.ties.Stands.{ScanIs};
+
+    ghost scans = { λ k rows n. ScanIs k.0 (F.image k.1) rows n.0 (F.image n.1) };
+
+    fn scan(&mut self, rows: [u16; 6]) {
+        self.keyboard.scan(Scan { rows });
+    }
+}

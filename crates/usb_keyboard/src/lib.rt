@@ -1,0 +1,20 @@
+//! The keyboard on the bus: a command whose status stage the host saw is stored.
+//!
+//! `UsbKeyboard` is a keyboard with the flash that keeps its keymap, as the device behind the USB device layer
+//! (`usb_device::UsbDevice`), or behind a lock and a pace before it (`usb_device::Guarded`). `UsbKeyboard::write` makes a whole
+//! control write, for a stack that keeps endpoint 0 to itself. Each of its calls says how the session goes on, from the image
+//! that the keyboard started on.
+//!
+//! The guarantee: a feature command that the host saw the end of is in the flash, also behind every power loss, until a later
+//! command is accepted that writes the entry (`laws::seen_is_stored`, `laws::stored_until_written`). Behind a lock and a pace
+//! the keyboard accepts no command while the lock is set, and at most one for each pace (`laws::accepted_behind_a_guard`).
+//!
+//! What `UsbDevice` says of the device behind it names no first image. So that a session began on what the power loss before
+//! it left is said by the clauses of `UsbKeyboard`, and is a premise of `laws::stored_until_written`.
+#![tactic(auto)]
+
+mod device;
+pub mod laws;
+mod transfers;
+
+pub use device::UsbKeyboard;

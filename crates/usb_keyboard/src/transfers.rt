@@ -1,0 +1,71 @@
+//! Whole control transfers, for a stack that keeps endpoint 0 to itself.
+
+ghost use Rattle.std.specs.Prelude.{◌≡◌, ◌++◌, ℕ, List, MatchResult};
+ghost use Rattle.keyboard.specs.Calls.{Call};
+ghost use Rattle.usb_keyboard.specs.Whole.{IsWritten, Fails, Stores};
+ghost use Rattle.usb_keyboard.specs.ties.Stands.{RunsSince};
+ghost use Rattle.usb_keyboard.specs.ties.Whole.{is_ack, AreTaken, IsStatusStage};
+
+use crate::UsbKeyboard;
+use keyboard::NorFlash;
+use usb_device::{Endpoints, EpAnswer, Status, TransferError, Works, status_of};
+
+/// How often a status stage is asked for: a command takes at most 387 steps of the flash work.
+const MOST_ASKED: u16 = 388;
+
+/// Whether a packet was acknowledged.
+fn is_ack(answer: EpAnswer) -> bool
+    ensures { result ≡ is_ack answer }
+{
+    match answer {
+        EpAnswer::Ack => true,
+        EpAnswer::Nak | EpAnswer::Packet(_) | EpAnswer::Stall => false,
+    }
+}
+
+impl<F: NorFlash + Drop> UsbKeyboard<F> {
+    /// Makes a control write: its SETUP packet, its data, and the status stage, for which the flash work goes on.
+    ///
+    /// `Ok` says that the data were acknowledged and then confirmed: so what a feature command writes is in the flash. The
+    /// stack may then acknowledge the status stage, and on an error it stalls it.
+    pub fn write(&mut self, setup: [u8; 8], bytes: &[u8]) -> Result<(), TransferError>
+        ensures { (start : List ℕ) (past : List Call) → RunsSince start past self.old.0 (F.image self.old.1)
+            → (since : List Call) × RunsSince start (since ++ past) self.new.0 (F.image self.new.1)
+            × MatchResult result (λ _. IsWritten setup bytes.now since × Stores start (since ++ past) setup bytes.now) (λ e. Fails e since) }
+    {
+        self.setup(setup);
+        if self.takes(bytes) {
+            self.confirm()
+        } else {
+            Err(TransferError::Refused)
+        }
+    }
+
+    /// Hands over the data of a write, if there are any, and says whether they were acknowledged.
+    fn takes(&mut self, bytes: &[u8]) -> bool
+        ensures { (start : List ℕ) (past : List Call) → RunsSince start past self.old.0 (F.image self.old.1)
+            → (since : List Call) × RunsSince start (since ++ past) self.new.0 (F.image self.new.1) × AreTaken result bytes.now since }
+    {
+        if bytes.is_empty() {
+            true
+        } else {
+            is_ack(self.out(bytes))
+        }
+    }
+
+    /// Asks for the empty packet of the status stage.
+    fn confirm(&mut self) -> Result<(), TransferError>
+        ensures { (start : List ℕ) (past : List Call) → RunsSince start past self.old.0 (F.image self.old.1)
+            → (since : List Call) × RunsSince start (since ++ past) self.new.0 (F.image self.new.1)
+            × MatchResult result (λ _. IsStatusStage since) (λ e. Fails e since) }
+    {
+        for _asked in 0..MOST_ASKED {
+            match status_of(self.in_packet()) {
+                Status::Done => return Ok(()),
+                Status::Waits => self.work(),
+                Status::Refuses => return Err(TransferError::Refused),
+            }
+        }
+        Err(TransferError::Unfinished)
+    }
+}

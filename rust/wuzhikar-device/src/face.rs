@@ -1,0 +1,63 @@
+// SPDX-License-Identifier: MIT OR Apache-2.0
+
+//! What a loop reaches through the device behind buffers.
+
+use crate::keys::{HasKeyboard, Keys};
+use crate::{Buffers, Endpoint1, Endpoints, EpAnswer, Guarded, UsbDevice};
+use wuzhikar::usb::FEATURE_REPORT_LEN;
+use wuzhikar::{NorFlash, Scan, Work};
+
+impl<E, B> UsbDevice<'_, E, B> {
+    /// The device behind the layer, to be looked at.
+    pub fn behind(&self) -> &E {
+        &self.device.behind
+    }
+
+    /// The device behind the layer, for what is nothing to the bus.
+    ///
+    /// **Needs** that none of its calls of [`Endpoints`] is made. Nothing checks it.
+    pub fn behind_mut(&mut self) -> &mut E {
+        &mut self.device.behind
+    }
+
+    /// The power goes: the device behind the layer.
+    pub fn into_behind(self) -> E {
+        self.device.behind
+    }
+}
+
+impl<E: Endpoints, B: Buffers> UsbDevice<'_, E, B> {
+    /// What endpoint 1 is.
+    pub fn endpoint_1(&self) -> Endpoint1 {
+        self.device.layer.endpoint_1()
+    }
+}
+
+impl<E> Guarded<E> {
+    /// What is guarded, to be looked at.
+    pub fn behind(&self) -> &E {
+        &self.behind
+    }
+}
+
+impl<F: NorFlash, K: HasKeyboard, B: Buffers> UsbDevice<'_, Keys<F, K>, B> {
+    /// A scan of the matrix, a millisecond after the one before.
+    pub fn scan_keys(&mut self, scan: Scan) {
+        self.scan();
+        self.behind_mut().scan(scan);
+    }
+
+    /// A step of the flash work, at most one program or erase.
+    pub fn work(&mut self) -> Work {
+        self.behind_mut().work()
+    }
+
+    /// A command of the firmware's own, as at a chord of keys: feature report 3, whose operation 3 resets all keys
+    /// (`[3, 3, 0, 0, 0, 0]`). Behind `Ack` it is made by `work`, and is over when that answers other than `Working`.
+    ///
+    /// It never falls into a transfer of the host: `Nak` while one is under way or another command works, and then nothing
+    /// has come of it. `Stall` where it is refused, as operation 0 is, which would change what the host has selected.
+    pub fn command(&mut self, report: [u8; FEATURE_REPORT_LEN]) -> EpAnswer {
+        if self.control.is_over() { self.behind_mut().command(report) } else { EpAnswer::Nak }
+    }
+}

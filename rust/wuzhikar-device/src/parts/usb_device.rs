@@ -1,0 +1,49 @@
+// Exported from crates/usb_device/src/lib.rt by bin/export-rust. Edit that file instead.
+//! The USB device layer: what stands between a controller and a device that serves the class requests.
+//!
+//! `UsbDevice` is what a loop calls. `DeviceLayer` serves the standard requests of USB 2.0 chapter 9 in each state of the
+//! device, with descriptors and names that a maker lends (`Descriptors`), and hands everything else on to the device behind
+//! it (`Endpoints`). `ControlBuffers` and `ReportBuffers` hand the packets of endpoints 0 and 1 to a controller beforehand
+//! (`Controller`, `Buffers`). `write` makes a whole control write, for a stack that keeps endpoint 0 to itself. `Guarded` is a
+//! maker's lock and pace of feature commands. It takes no memory and needs no `unsafe`. Sections are those of
+//! USB 2.0.
+//!
+//! The guarantee: a control write that the host saw the end of was acknowledged, and then confirmed by the empty packet, in
+//! the session of the device behind, whatever acknowledgements were lost. Each answer of a standard request is that of tables 9-3 and 9-4 in the state that the
+//! events before give. The host takes as new the reports of the device, each whole, in
+//! their order: once, and at least once where endpoint 1 begins anew, whatever data toggle
+//! the host then wants. The controller is told of each change of endpoint 1 before the host. Endpoint 1 waits at most 50 scans
+//! for a host that does not take a status packet. Nothing else is withheld.
+//!
+//! The controller is told its address once the host has the status packet of SET_ADDRESS, and at no other time.
+//!
+//! Not yet here: suspend and remote wakeup.
+
+mod answer;
+mod control_buffers;
+mod controller;
+mod descriptors;
+mod device;
+mod device_layer;
+mod endpoints;
+mod guard;
+mod guarded;
+mod packets;
+mod report_buffers;
+mod request;
+mod strings;
+mod usb_device;
+mod whole_transfers;
+
+pub use answer::{Change, Endpoint1, EpAnswer, PollAnswer, Report};
+pub use control_buffers::ControlBuffers;
+pub use controller::{Controller, Input, Output, Waiting};
+pub use descriptors::Descriptors;
+pub use device::Device;
+pub use device_layer::DeviceLayer;
+pub use endpoints::Endpoints;
+pub use guarded::{Guarded, ScansMatrix};
+pub use report_buffers::{Buffers, PacketSize, ReportBuffers};
+pub use strings::string_descriptor;
+pub use usb_device::UsbDevice;
+pub use whole_transfers::{Status, TransferError, Works, status_of, write};

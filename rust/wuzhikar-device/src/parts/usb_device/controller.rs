@@ -1,0 +1,47 @@
+// Exported from crates/usb_device/src/controller.rt by bin/export-rust. Edit that file instead.
+//! What is asked of a controller that is handed packets beforehand: endpoint 0.
+
+use arrayvec::ArrayVec;
+
+/// What a controller has met since it was looked at before.
+pub struct Waiting {
+    /// The bus was reset. What stands beside it came behind it.
+    pub reset: bool,
+    /// The newest SETUP packet. What stands beside it, but for a reset, came before it.
+    pub setup: Option<[u8; 8]>,
+    /// The OUT packet that was acknowledged.
+    pub out: Option<ArrayVec<u8, 8>>,
+    /// Whether the host has taken the packet of endpoint 0, and acknowledged it.
+    pub taken: bool,
+}
+
+/// What the next IN tokens are answered.
+pub enum Input {
+    Nak,
+    Packet(ArrayVec<u8, 8>),
+    Stall,
+}
+
+/// What the next OUT packets are answered.
+#[derive(Clone, Copy, PartialEq, Eq)]
+pub enum Output {
+    Nak,
+    Take,
+    Stall,
+}
+
+/// A controller. Anything that its bus permits may happen before each call takes effect.
+pub trait Controller {
+    /// All that was met since the last call, which is then forgotten.
+    fn waiting(&mut self) -> Waiting;
+
+    /// Sets what IN tokens are answered. Without effect where a SETUP packet or a reset has come that `waiting` did not give.
+    fn input_0(&mut self, answer: Input);
+
+    /// Sets what OUT packets are answered, likewise.
+    fn output_0(&mut self, answer: Output);
+
+    /// It answers to this address, 0 to 127, from now on. The host has the status packet of SET_ADDRESS, and has 2 ms to wait
+    /// (section 9.2.6.3). The same may be told again. Without effect where a reset has come that `waiting` did not give.
+    fn set_address(&mut self, address: u8);
+}

@@ -1,0 +1,55 @@
+// Exported from crates/usb_device/src/descriptors.rt by bin/export-rust. Edit that file instead.
+//! The descriptors that a maker lends, and the bytes of a read.
+
+use crate::parts::usb_device::packets::packet_at;
+use crate::parts::usb_device::strings::string_descriptor;
+use arrayvec::ArrayVec;
+
+/// The descriptors that a maker lends: three that are finished, and names in UTF-16, of which an empty one is none.
+///
+/// Of a name that is longer than 126 units, as many whole characters are sent as these hold.
+#[derive(Clone, Copy, Debug)]
+pub struct Descriptors<'a> {
+    /// The device descriptor (section 9.6.1).
+    pub device: &'a [u8],
+    /// The configuration descriptor with those of its interface and endpoint (section 9.6.3).
+    pub configuration: &'a [u8],
+    /// The HID descriptor (HID 1.11 section 6.2.1).
+    pub hid: &'a [u8],
+    /// The maker's name: string 1.
+    pub manufacturer: &'a [u16],
+    /// The product's name: string 2.
+    pub product: &'a [u16],
+    /// The serial number: string 3.
+    pub serial_number: &'a [u16],
+}
+
+impl<'a> Descriptors<'a> {
+    /// Whether there is a name.
+    pub(crate) fn has_names(self) -> bool {
+        !self.manufacturer.is_empty() || !self.product.is_empty() || !self.serial_number.is_empty()
+    }
+}
+
+/// The bytes of a read.
+#[derive(Debug)]
+pub(crate) enum Data<'a> {
+    /// These bytes.
+    Lent(&'a [u8]),
+    /// The string descriptor of this text.
+    Text(&'a [u16]),
+    /// These one or two bytes.
+    Copied(ArrayVec<u8, 2>),
+}
+
+impl<'a> Data<'a> {
+    /// Packet `index` of a read that asked for `asked` bytes.
+    #[inline(never)]
+    pub(crate) fn packet_at(&self, asked: u16, index: u16) -> Option<ArrayVec<u8, 8>> {
+        match self {
+            Data::Lent(bytes) => packet_at(bytes, asked, index),
+            Data::Text(text) => packet_at(string_descriptor(text).as_slice(), asked, index),
+            Data::Copied(bytes) => packet_at(bytes.as_slice(), asked, index),
+        }
+    }
+}

@@ -1,0 +1,270 @@
+// Exported from crates/usb_device/src/report_buffers.rt by bin/export-rust. Edit that file instead.
+//! Endpoint 1 behind buffers: reports in packets, and data toggles.
+
+use crate::parts::usb_device::{Endpoint1, Report};
+use arrayvec::ArrayVec;
+
+/// The buffers of endpoint 1.
+pub trait Buffers {
+    /// Whether there are two.
+    fn has_two(&self) -> bool;
+
+    /// How many packets the host has taken, and acknowledged; told once.
+    fn taken_1(&mut self) -> usize;
+
+    /// Endpoint 1 is this from now on, with empty buffers and DATA0. Without effect after a reset that `forget` did not follow.
+    fn begin_anew(&mut self, state: Endpoint1);
+
+    /// The host has the status packet of the request behind the last `begin_anew`. Such a host has begun anew.
+    fn host_began(&mut self);
+
+    /// Follows a reset of the bus: endpoint 1 is off, with empty buffers and DATA0.
+    fn forget(&mut self);
+
+    /// Puts a packet into a free buffer; there is one. Without effect after a reset that `forget` did not follow.
+    fn input_1(&mut self, packet: Report);
+}
+
+/// The bytes of a packet of endpoint 1 (section 5.7.3).
+#[derive(Clone, Copy, Debug, PartialEq, Eq)]
+pub enum PacketSize {
+    Bytes8,
+    Bytes16,
+    Bytes32,
+    Bytes64,
+}
+
+impl PacketSize {
+    /// The number of bytes.
+    pub fn bytes(self) -> usize {
+        match self {
+            PacketSize::Bytes8 => 8,
+            PacketSize::Bytes16 => 16,
+            PacketSize::Bytes32 => 32,
+            PacketSize::Bytes64 => 64,
+        }
+    }
+}
+
+/// The scans, a millisecond each, in which a host that asks takes the packet of a status stage (section 9.2.6.4).
+const STATUS_SCANS: u8 = 50;
+
+/// Where the report under way stands.
+#[derive(Clone, Copy, PartialEq, Eq)]
+pub(crate) enum Course {
+    /// None is under way.
+    Rests,
+    /// It is to be handed over from its first packet on.
+    Begins,
+    /// Packets of it were handed over.
+    Goes,
+}
+
+/// What is known of the buffers, and the report under way.
+///
+/// A change of endpoint 1 is made before the host knows of it. So no packet is handed over until the host has taken the
+/// status packet, has begun another transfer, or has let 50 scans go by: the acknowledgement may be lost, and then the
+/// device never knows that the host has the packet (section 8.5.3.3). Then the host may want either data toggle, and drops a
+/// packet that has the other one. So the next report is handed over twice, and the host has it whole.
+pub struct ReportBuffers {
+    size: PacketSize,
+    course: Course,
+    report: Report,
+    rest: Report,
+    due: usize,
+    again: bool,
+    buffered: usize,
+    unsure: bool,
+    waits: u8,
+}
+
+/// How many buffers there are.
+fn room<B: Buffers>(buffers: &B) -> usize {
+    if buffers.has_two() { 2 } else { 1 }
+}
+
+/// At most 23 bytes, held.
+pub(crate) fn held(bytes: &[u8]) -> Report {
+    let mut held = ArrayVec::new();
+    let _full = held.try_extend_from_slice(bytes);
+    held
+}
+
+/// So many of at most 23 bytes, or all of fewer.
+fn first_bytes(bytes: &[u8], count: usize) -> Report {
+    held(&bytes[..bytes.len().min(count)])
+}
+
+/// The bytes behind these.
+fn behind(bytes: &[u8], count: usize) -> Report {
+    held(&bytes[bytes.len().min(count)..])
+}
+
+impl ReportBuffers {
+    /// Empty buffers that wait for nothing, behind a reset of the bus.
+    pub fn new(size: PacketSize) -> ReportBuffers {
+        ReportBuffers {
+            size,
+            course: Course::Rests,
+            report: ArrayVec::new(),
+            rest: ArrayVec::new(),
+            due: 0,
+            again: false,
+            buffered: 0,
+            unsure: false,
+            waits: 0,
+        }
+    }
+
+    /// The controller empties the buffers, and begins with DATA0: a request that sets endpoint 1 is answered by its status
+    /// packet. A report that the host has not whole begins anew, and nothing is handed over until `release` or 50 scans.
+    pub fn begin_anew(&mut self) {
+        self.unsure = true;
+        self.waits = STATUS_SCANS;
+        match self.course {
+            Course::Goes => self.course = Course::Begins,
+            Course::Rests | Course::Begins => {}
+        }
+    }
+
+    /// Where this is the status packet of a request, nothing is handed over until `release` or 50 scans: the host does not know
+    /// yet what the request has changed, as SET_PROTOCOL the reports (HID 1.11 section 7.2.6).
+    pub fn hold(&mut self, is_status: bool) {
+        if is_status {
+            self.waits = STATUS_SCANS;
+        }
+    }
+
+    /// A scan of the matrix, a millisecond after the one before.
+    pub fn scan(&mut self) {
+        self.waits = self.waits.saturating_sub(1);
+    }
+
+    /// The host has taken the status packet (`knows`), or has sent a SETUP packet, which may be instead. A host that has it
+    /// has begun anew with DATA0.
+    pub fn release(&mut self, knows: bool) {
+        self.waits = 0;
+        if knows {
+            self.unsure = false;
+        }
+    }
+
+    /// A reset of the bus. The report under way is dropped, as the host has forgotten what it knew.
+    pub fn reset(&mut self) {
+        self.course = Course::Rests;
+        self.unsure = false;
+        self.waits = 0;
+    }
+
+    /// So many packets were taken since this was told before.
+    pub fn taken(&mut self, count: usize) {
+        self.buffered = self.buffered.saturating_sub(count);
+        match self.course {
+            Course::Goes => {
+                if self.is_over() {
+                    self.course = Course::Rests;
+                }
+            }
+            Course::Rests | Course::Begins => {}
+        }
+    }
+
+    /// Whether the host has all packets of the report under way.
+    fn is_over(&self) -> bool {
+        self.buffered == 0 && !self.is_more()
+    }
+
+    /// Whether packets are still to be handed over, of the report under way.
+    fn is_more(&self) -> bool {
+        self.due > 0 || self.again
+    }
+
+    /// Whether nothing is waited for.
+    pub fn is_known(&self) -> bool {
+        self.waits == 0
+    }
+
+    /// Whether no report is under way.
+    pub fn is_free(&self) -> bool {
+        match self.course {
+            Course::Rests => true,
+            Course::Begins | Course::Goes => false,
+        }
+    }
+
+    /// A report that the device gave is under way. For buffers that are free.
+    pub fn begin(&mut self, report: Report) {
+        self.report = report;
+        self.course = Course::Begins;
+    }
+
+    /// Hands over packets of the report under way, while there are free buffers.
+    pub fn fill<B: Buffers>(&mut self, buffers: &mut B) {
+        match self.course {
+            Course::Rests => {}
+            Course::Begins => {
+                self.first(buffers);
+                self.more(buffers);
+            }
+            Course::Goes => {
+                self.more(buffers);
+                self.more(buffers);
+            }
+        }
+    }
+
+    /// Hands over the first packet of the report, which is to be handed over twice where the toggles may differ.
+    fn first<B: Buffers>(&mut self, buffers: &mut B) {
+        self.restart();
+        let packet = self.next_packet();
+        self.buffered = 1;
+        self.course = Course::Goes;
+        buffers.input_1(packet);
+    }
+
+    /// Hands over another packet of the report, where there is one, and a free buffer.
+    fn more<B: Buffers>(&mut self, buffers: &mut B) {
+        if self.buffered < room(buffers) && self.is_more() {
+            let packet = self.next_packet();
+            self.buffered += 1;
+            buffers.input_1(packet);
+        }
+    }
+
+    /// Begins the report: once more, where the toggles may differ.
+    fn restart(&mut self) {
+        self.rest = held(self.report.as_slice());
+        self.due = self.count();
+        self.again = self.unsure;
+        self.unsure = false;
+    }
+
+    /// How many packets the report has.
+    fn count(&self) -> usize {
+        self.report.len().saturating_sub(1) / self.size.bytes() + 1
+    }
+
+    /// The next packet of the report.
+    fn next_packet(&mut self) -> Report {
+        self.refill();
+        self.take_packet()
+    }
+
+    /// Begins the report once more where all of it was handed over.
+    fn refill(&mut self) {
+        if self.due == 0 {
+            self.rest = held(self.report.as_slice());
+            self.due = self.count();
+            self.again = false;
+        }
+    }
+
+    /// Takes a packet from what is to be handed over.
+    fn take_packet(&mut self) -> Report {
+        let size = self.size.bytes();
+        let packet = first_bytes(self.rest.as_slice(), size);
+        self.rest = behind(self.rest.as_slice(), size);
+        self.due = self.due.saturating_sub(1);
+        packet
+    }
+}

@@ -1,0 +1,185 @@
+// Exported from crates/usb_device/src/request.rt by bin/export-rust. Edit that file instead.
+//! What a SETUP packet asks for.
+
+use crate::parts::usb_device::descriptors::{Data, Descriptors};
+use crate::parts::usb_device::{Change, Endpoint1};
+use arrayvec::ArrayVec;
+
+/// The text of string 0: the languages (section 9.6.7). English of the United States is the one.
+const LANGUAGES: [u16; 1] = [0x0409];
+
+/// The fields of a SETUP packet (table 9-2).
+#[derive(Clone, Copy)]
+pub(crate) struct Request {
+    kind: u8,
+    code: u8,
+    value: u16,
+    index: u16,
+    pub(crate) length: u16,
+}
+
+/// What a request that is served begins.
+pub(crate) enum Served<'a> {
+    Reads(Data<'a>),
+    Sets(Change),
+}
+
+impl Endpoint1 {
+    /// Whether the device is configured.
+    pub(crate) fn is_configured(self) -> bool {
+        !matches!(self, Endpoint1::Off)
+    }
+}
+
+impl Request {
+    /// The fields of a SETUP packet's bytes.
+    pub(crate) fn read(setup: [u8; 8]) -> Request {
+        let [kind, code, v0, v1, i0, i1, l0, l1] = setup;
+        Request {
+            kind,
+            code,
+            value: u16::from_le_bytes([v0, v1]),
+            index: u16::from_le_bytes([i0, i1]),
+            length: u16::from_le_bytes([l0, l1]),
+        }
+    }
+
+    /// What the USB device layer serves it with; none where it is left to the device behind.
+    pub(crate) fn served<'a>(self, state: Endpoint1, lent: Descriptors<'a>) -> Option<Served<'a>> {
+        match (self.kind, self.code) {
+            (0x80, 0x00) => self.device_status(),
+            (0x81, 0x00) => self.interface_status(state),
+            (0x82, 0x00) => self.endpoint_status(state),
+            (0x02, 0x01) => self.halt(state, Endpoint1::Ready),
+            (0x02, 0x03) => self.halt(state, Endpoint1::Halted),
+            (0x00, 0x05) => self.set_address(state),
+            (0x80, 0x06) => self.descriptor(lent),
+            (0x81, 0x06) => self.hid_descriptor(lent),
+            (0x80, 0x08) => self.configuration(state),
+            (0x00, 0x09) => self.set_configuration(),
+            (0x81, 0x0A) => self.interface(state),
+            (0x01, 0x0B) => self.set_interface(state),
+            _ => None,
+        }
+    }
+
+    /// Whether wValue and wIndex are these.
+    fn names(self, value: u16, index: u16) -> bool {
+        self.value == value && self.index == index
+    }
+
+    fn device_status<'a>(self) -> Option<Served<'a>> {
+        if self.names(0, 0) { Some(two(0)) } else { None }
+    }
+
+    fn interface_status<'a>(self, state: Endpoint1) -> Option<Served<'a>> {
+        if state.is_configured() && self.names(0, 0) {
+            Some(two(0))
+        } else {
+            None
+        }
+    }
+
+    fn endpoint_status<'a>(self, state: Endpoint1) -> Option<Served<'a>> {
+        if self.names(0, 0) || self.names(0, 0x80) {
+            Some(two(0))
+        } else if state.is_configured() && self.names(0, 0x81) {
+            Some(two(if state == Endpoint1::Halted { 1 } else { 0 }))
+        } else {
+            None
+        }
+    }
+
+    fn halt<'a>(self, state: Endpoint1, next: Endpoint1) -> Option<Served<'a>> {
+        if state.is_configured() && self.names(0, 0x81) && self.length == 0 {
+            Some(Served::Sets(Change::Endpoint(next)))
+        } else {
+            None
+        }
+    }
+
+    fn set_address<'a>(self, state: Endpoint1) -> Option<Served<'a>> {
+        if self.value < 128 && !state.is_configured() && self.index == 0 && self.length == 0 {
+            Some(Served::Sets(Change::Address(self.value as u8)))
+        } else {
+            None
+        }
+    }
+
+    fn descriptor<'a>(self, lent: Descriptors<'a>) -> Option<Served<'a>> {
+        match self.value {
+            0x0100 => Some(Served::Reads(Data::Lent(lent.device))),
+            0x0200 => Some(Served::Reads(Data::Lent(lent.configuration))),
+            0x0300 if lent.has_names() => Some(Served::Reads(Data::Text(&LANGUAGES))),
+            0x0301 => self.string(lent.manufacturer),
+            0x0302 => self.string(lent.product),
+            0x0303 => self.string(lent.serial_number),
+            _ => None,
+        }
+    }
+
+    /// The string descriptor of a text in the language that is asked for.
+    fn string<'a>(self, text: &'a [u16]) -> Option<Served<'a>> {
+        if self.index == LANGUAGES[0] && !text.is_empty() {
+            Some(Served::Reads(Data::Text(text)))
+        } else {
+            None
+        }
+    }
+
+    fn hid_descriptor<'a>(self, lent: Descriptors<'a>) -> Option<Served<'a>> {
+        if self.names(0x2100, 0) {
+            Some(Served::Reads(Data::Lent(lent.hid)))
+        } else {
+            None
+        }
+    }
+
+    fn configuration<'a>(self, state: Endpoint1) -> Option<Served<'a>> {
+        if self.names(0, 0) {
+            Some(one(if state.is_configured() { 1 } else { 0 }))
+        } else {
+            None
+        }
+    }
+
+    fn set_configuration<'a>(self) -> Option<Served<'a>> {
+        if self.names(0, 0) && self.length == 0 {
+            Some(Served::Sets(Change::Endpoint(Endpoint1::Off)))
+        } else if self.names(1, 0) && self.length == 0 {
+            Some(Served::Sets(Change::Endpoint(Endpoint1::Ready)))
+        } else {
+            None
+        }
+    }
+
+    fn interface<'a>(self, state: Endpoint1) -> Option<Served<'a>> {
+        if state.is_configured() && self.names(0, 0) {
+            Some(one(0))
+        } else {
+            None
+        }
+    }
+
+    fn set_interface<'a>(self, state: Endpoint1) -> Option<Served<'a>> {
+        if state.is_configured() && self.names(0, 0) && self.length == 0 {
+            Some(Served::Sets(Change::Endpoint(Endpoint1::Ready)))
+        } else {
+            None
+        }
+    }
+}
+
+/// A read of this byte and a zero.
+fn two<'a>(first: u8) -> Served<'a> {
+    let mut bytes = ArrayVec::new();
+    let _full = bytes.try_extend_from_slice(&[first, 0]);
+    Served::Reads(Data::Copied(bytes))
+}
+
+/// A read of this byte.
+fn one<'a>(byte: u8) -> Served<'a> {
+    let mut bytes = ArrayVec::new();
+    let _full = bytes.try_extend_from_slice(&[byte]);
+    Served::Reads(Data::Copied(bytes))
+}

@@ -1,0 +1,60 @@
+// Exported from crates/usb_device/src/usb_device.rt by bin/export-rust. Edit that file instead.
+//! A device with its layer and its buffers, behind a controller: what a loop calls.
+
+use crate::parts::usb_device::report_buffers::Buffers;
+use crate::parts::usb_device::{ControlBuffers, Controller, Device, DeviceLayer, Endpoints, PacketSize};
+
+/// A device with its layer and its buffers, behind a controller that is handed packets beforehand.
+///
+/// A loop calls `serve` when an interrupt of the controller has come, and behind each scan; it may be called at any time.
+/// `scan` tells that a millisecond has gone by.
+pub struct UsbDevice<'a, E, B> {
+    pub(crate) control: ControlBuffers,
+    pub(crate) device: Device<'a, E, B>,
+}
+
+impl<'a, E: Endpoints, B: Buffers> UsbDevice<'a, E, B> {
+    /// The power comes: the device has no address and is not configured, and the buffers are empty.
+    pub fn new(
+        layer: DeviceLayer<'a>,
+        behind: E,
+        buffers: B,
+        size: PacketSize,
+    ) -> UsbDevice<'a, E, B> {
+        UsbDevice {
+            control: ControlBuffers::new(),
+            device: Device::new(layer, behind, buffers, size),
+        }
+    }
+
+    /// A scan of the matrix, a millisecond after the one before.
+    pub fn scan(&mut self) {
+        self.device.scan();
+    }
+
+    /// Takes what the controller has met, and fills its buffers.
+    ///
+    /// What a host saw the end of is confirmed by the device behind, and the host takes as new
+    /// the reports of the device behind, each whole, in their order. Nothing is withheld.
+    pub fn serve<C: Controller>(&mut self, controller: &mut C) {
+        self.control.serve(&mut self.device, controller);
+        self.settle();
+        self.device.serve_reports();
+        self.tell(controller);
+    }
+
+    /// The controller has the address once the host has the status packet that brings it.
+    fn tell<C: Controller>(&self, controller: &mut C) {
+        match self.device.address_due() {
+            Some(address) if self.control.is_done() => controller.set_address(address),
+            _ => {}
+        }
+    }
+
+    /// Endpoint 1 goes on once the host has the status packet.
+    fn settle(&mut self) {
+        if self.control.is_done() {
+            self.device.is_done();
+        }
+    }
+}

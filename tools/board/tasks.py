@@ -1,0 +1,152 @@
+"""What bin/board-test does in some minutes: sessions, calls, planted faults, cuts by a stride, hosts."""
+
+from typing import Callable, NamedTuple
+
+from faults import FAULTS, HARMLESS, is_found, plant
+from hosts import MISSING, Hosts, Over
+from rig import FIRMWARES, LOOPS, ROOT, NoTime, say
+from room import Failed
+
+CALLS = f"{ROOT}/bench/chip.tsv"
+HEAD = [
+    "# What calls of examples/chip_nrf51 take on a Cortex-M0: the most instructions between two looks at the line, which is the longest",
+    "# call of what is done; of a start all up to the first look; and the deepest stack. `bin/board-test --only calls --write` writes it.",
+]
+
+
+class Task(NamedTuple):
+    """What is done: its name, the seconds that a busy machine takes for it, and what does it, which tells."""
+
+    name: str
+    seconds: int
+    act: Callable[[], None]
+
+
+def allowed(kept):
+    """How much a call may take where so much is kept. What is between two looks depends a little on how the bytes come."""
+    return 1.1 * kept + 250
+
+
+def measure(bench, write):
+    """Compares what calls of each firmware take with what is kept, where the same rustc built it; or keeps it."""
+    version = bench.room.run([bench.more.get("RUSTC", "rustc"), "--version"]).decode().strip()
+    rows = [f"{name}\t{row}" for name, features in FIRMWARES.items() for row in bench.told(name, features, "measure").splitlines()]
+    if write:
+        with open(CALLS, "w", encoding="utf-8") as file:
+            file.write("\n".join([*HEAD, f"# {version}", "firmware\twhat\tcount", *rows, ""]))
+    with open(CALLS, encoding="utf-8") as file:
+        kept = file.read().splitlines()
+    if f"# {version}" not in kept:
+        say(f"calls are not compared: {version} is another rustc than that of bench/chip.tsv")
+        return
+    counts = dict(row.rsplit("\t", 1) for row in kept if not row.startswith("#"))
+    more = [f"{row}, and {counts.get(what)} is kept" for row in rows for what, count in [row.rsplit("\t", 1)]
+            if int(count) > allowed(int(counts.get(what, 0)))]
+    if more:
+        raise Failed("\n    ".join(["calls take more than is allowed by bench/chip.tsv (bin/board-test --only calls --write):", *more]))
+    say(f"{len(rows)} counts of instructions and bytes are those of bench/chip.tsv, or little more")
+
+
+def planted(bench, fault):
+    """Plants a fault, and runs its test: whether it passed, and what it told."""
+    path = bench.room.path(f"fault_{[*FAULTS, HARMLESS].index(fault)}.elf")
+    with bench.building:
+        mend = plant(bench.room.folder, fault)
+        try:
+            bench.build(fault.features, path)
+        finally:
+            mend()
+    return bench.session(path) if fault.test == ["session"] else bench.run(path, *fault.test)
+
+
+def find(bench, fault):
+    """Sees that a planted fault is found, or that what is none passes."""
+    passed, told = planted(bench, fault)
+    if fault is HARMLESS:
+        if not passed:
+            raise Failed(f"planted, no fault, and found: {fault.name}: {told}")
+        return
+    if not is_found(fault, passed, told):
+        raise Failed(f"planted, and not found: {fault.name}: {' '.join(fault.test)} tells {told}")
+    say(f"planted and found: {fault.name}")
+
+
+def session(bench, name, features):
+    """The session of a firmware that is told."""
+    passed, told = bench.session(bench.firmware(features))
+    if not passed:
+        raise Failed(f"{name}: {told}")
+    say(f"{name}: {told}")
+
+
+def cuts(features, seed):
+    """The words of the tests that cut a firmware by a stride, and the seconds of each."""
+    # With error correction an operation of the log is six of the flash, and a start takes five times as long.
+    strides = ["7993", "307"] if features == "ecc" else ["1597", "53"]
+    return [["instructions", strides[0]], ["operations", strides[1]], ["words", "8", "1"], ["random", "300", str(seed)]]
+
+
+class Typing:
+    """A stock Linux, a BIOS and UEFI type on both loops."""
+
+    def __init__(self, bench):
+        self.bench, self.hosts = bench, None
+
+    def act(self, name, features):
+        try:
+            self.hosts = self.hosts or Hosts(self.bench.room.path("hosts"), self.bench.clock.end())
+        except MISSING as lacks:
+            say(f"skipped: hosts that type on it: {lacks}")
+            return
+        board = self.bench.board(self.bench.firmware(features))
+        try:
+            differing = self.hosts.type_on(board, lambda text: say(f"{name}: {text}"))
+        except Over as error:
+            raise NoTime from error
+        if differing:
+            raise Failed("\n    ".join([f"{name}: a host finds otherwise than it should:", *differing]))
+
+
+def of_hosts(bench):
+    """The tasks of the hosts, one after the other: they wait for one another most of the time."""
+    typing = Typing(bench)
+    return [Task(f"{name}: hosts that type on it", 90, lambda name=name, features=features: typing.act(name, features))
+            for name, features in LOOPS.items()]
+
+
+def of_cuts(bench, seed):
+    """The tasks that cut, the firmwares in turn."""
+    told = lambda name, features, words: lambda: say(f"{name}: {bench.told(name, features, *words)}")  # noqa: E731
+    tasks = [Task(f"{name}: a session", 5, lambda name=name, features=features: session(bench, name, features))
+             for name, features in FIRMWARES.items()]
+    tasks += [Task(f"{name}: {words[0]}", 25, told(name, features, words))
+              for words in [["starved"]] for name, features in list(FIRMWARES.items())[:1]]
+    rows = [(name, features, cuts(features, seed)) for name, features in FIRMWARES.items()]
+    tasks += [Task(f"{name}: {' '.join(words[at])}", 25, told(name, features, words[at]))
+              for at in range(4) for name, features, words in rows]
+    return tasks
+
+
+def of_faults(bench):
+    """The tasks that plant."""
+    return [Task(f"planted: {fault.name}", 25, lambda fault=fault: find(bench, fault)) for fault in [*FAULTS, HARMLESS]]
+
+
+def run(bench, tasks):
+    """Runs tasks one after the other up to the first that fails, which is told at once: whether none did. What isn't reached in the
+    time that is left is named: a task may take as long as the longest before it."""
+    longest = 0
+    try:
+        for task in tasks:
+            begun = bench.clock.spent()
+            try:
+                if not bench.clock.allows(max(task.seconds, longest)):
+                    raise NoTime
+                task.act()
+            except NoTime:
+                say(f"not reached in {bench.clock.minutes} minutes: {task.name}")
+            longest = max(longest, bench.clock.spent() - begun)
+    except Failed as why:
+        say(f"FAILED: {why}")
+        return False
+    return True
