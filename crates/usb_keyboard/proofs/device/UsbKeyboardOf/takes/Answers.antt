@@ -2,7 +2,7 @@ use Rattle.std.proofs.Common.{◌∷◌, [], sym, ap, ◌∙◌}
 use Rattle.keyboard.specs.Calls.{Out}
 use Rattle.usb_keyboard.specs.ties.Whole.{is_ack}
 use Rattle.usb_keyboard.proofs.Writing.{taken_any}
-use Rattle.usb_keyboard.proofs.device.UsbKeyboard.takes.Goals as goal
+use Rattle.usb_keyboard.proofs.device.UsbKeyboardOf.takes.Goals as goal
 
 pub returns-else-is_empty : goal.returns-else-is_empty
 returns-else-is_empty g c = λ start past r.

@@ -2,7 +2,7 @@ use Rattle.std.proofs.Common.{◌++◌, ◌∷◌, [], sym, ap, ◌∙◌}
 use Rattle.usb_device.specs.Whole.{status_of}
 use Rattle.keyboard.specs.Calls.{In, Worked}
 use Rattle.usb_keyboard.proofs.Writing.{nothing_waited, waited_more, done_by, refused_by}
-use Rattle.usb_keyboard.proofs.device.UsbKeyboard.confirm.Goals as goal
+use Rattle.usb_keyboard.proofs.device.UsbKeyboardOf.confirm.Goals as goal
 
 pub loop-asked-init : goal.loop-asked-init
 loop-asked-init g c = λ start past r. ([], r, nothing_waited)
