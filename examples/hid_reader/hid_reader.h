@@ -345,7 +345,7 @@ typedef struct hidr_setting {
  * HIDR_NO_UNUSED with the field in *which; and with the number of the setting in *which HIDR_UNKNOWN_CONTROL, HIDR_TWICE,
  * HIDR_NO_NULL, HIDR_TOO_LARGE, HIDR_OUT_OF_RANGE; of a usage of an array HIDR_UNKNOWN_CONTROL, HIDR_NO_NULL,
  * HIDR_OUT_OF_RANGE where it is set to neither 0 nor 1, HIDR_TOO_LARGE, HIDR_OUT_OF_RANGE, HIDR_NO_ROOM where each place names
- * another usage, or none can name none, HIDR_TWICE. */
+ * another usage or is set, or none can name none, HIDR_TWICE. */
 hidr_status hidr_write(hidr_reader reader, uint8_t kind, uint8_t id, const hidr_setting *settings, size_t count,
                        const uint8_t *onto, size_t onto_length, uint8_t *into, size_t room, size_t *length, size_t *which);
 
