@@ -41,7 +41,7 @@ def operations(room, folder):
     for length, ids in VALUES:
         told = room.run([room.program("count"), str(length), str(ids), str(CHANGES)])
         every, longest, erases = map(int, told.split())
-        what = f"of {CHANGES:,} changes of {length} bytes, {ids} ids"
+        what = f"of {CHANGES:,} changes of {length} byte{'s' * (length > 1)}, {ids} ids"
         yield f"flash operations {what}", every
         yield f"flash operations of the longest call {what}", longest
         yield f"erases {what}", erases

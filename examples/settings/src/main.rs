@@ -1,5 +1,5 @@
 // SPDX-License-Identifier: MIT OR Apache-2.0
-//! A lamp on a flash in memory, which loses its power twice.
+//! A lamp on a flash in memory that loses its power twice.
 #![forbid(unsafe_code)]
 
 use settings::Lamp;
