@@ -115,16 +115,16 @@ fn a_full_store_says_so_and_can_be_emptied() {
     let mut settings = FlashSettings::mount(SimFlash::blank(2).expect("memory")).expect("2 pages");
     assert_eq!(settings.room_left(), 511);
     for id in 0..22 {
-        settings.set(id, &[id as u8; 64]).expect("23 words");
+        settings.set(id, [id as u8; 64]).expect("23 words");
     }
     assert_eq!(settings.room_left(), 511 - 22 * 23);
     let before = read(settings.flash());
-    assert_eq!(settings.set(22, &[1; 64]), Err(SettingsError::Full));
-    assert_eq!(settings.set(22, &[1; 65]), Err(SettingsError::TooLong));
+    assert_eq!(settings.set(22, [1; 64]), Err(SettingsError::Full));
+    assert_eq!(settings.set(22, [1; 65]), Err(SettingsError::TooLong));
     assert_eq!(read(settings.flash()), before);
-    settings.set(22, &[1; 12]).expect("5 words");
+    settings.set(22, [1; 12]).expect("5 words");
     assert_eq!(settings.room_left(), 0);
-    assert_eq!(settings.set(23, &[]), Err(SettingsError::Full));
+    assert_eq!(settings.set(23, []), Err(SettingsError::Full));
     settings.remove(5).expect("fewer words");
     settings.set(23, b"there is room").expect("room");
     assert!(settings.contains(23) && !settings.contains(5));
@@ -145,11 +145,11 @@ fn words_of_something_else_are_left() {
 #[test]
 fn what_is_dropped_on_the_way_is_forgotten() {
     let mut settings = FlashSettings::mount(SimFlash::blank(2).expect("memory")).expect("2 pages");
-    settings.set(1, &7u32.to_le_bytes()).expect("room");
+    settings.set(1, 7u32.to_le_bytes()).expect("room");
     let change = [Change { id: 1, value: Value::new(&[9; 64]) }];
     assert_eq!(settings.begin(&change).expect("room").step(), Work::Working);
     assert_eq!(settings.get(1).and_then(|value| value.as_u32()), Some(7));
-    settings.set(2, &[1]).expect("room");
+    settings.set(2, [1]).expect("room");
     assert_eq!(
         (settings.get(1).and_then(|value| value.as_u32()), settings.get(2).and_then(|value| value.as_bool())),
         (Some(7), Some(true))
