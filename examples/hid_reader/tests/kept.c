@@ -233,6 +233,17 @@ static void what_is_absent(hidr_reader r) {
     ANSWERS(HIDR_EQUAL_LIMITS, hidr_decimal(r, 3, 5, 1, to.text, 8, &to.count));
     ANSWERS(HIDR_INVERTED_LIMITS, hidr_physical(r, 4, 5, &to.fraction));
     ANSWERS(HIDR_TOO_LARGE, hidr_physical(r, 0, INT64_MAX, &to.fraction));
+    ANSWERS(HIDR_RESERVED_SYSTEM, hidr_unit_exponents(r, 4, to.exponents));
+    ANSWERS(HIDR_VENDOR_SYSTEM, hidr_unit_exponents(r, 5, to.exponents));
+    ANSWERS(HIDR_NO_SYSTEM, hidr_unit_exponents(r, 6, to.exponents));
+    ANSWERS(HIDR_RESERVED_DIGIT, hidr_unit_exponents(r, 7, to.exponents));
+    UNTOUCHED(to);
+}
+
+/* What is no value of a field. */
+static void no_values(hidr_reader r) {
+    struct outputs to;
+    FILL(to);
     ANSWERS(HIDR_ABSENT, hidr_value_of(r, 7, 90, 1, &to.raw));
     ANSWERS(HIDR_EQUAL_LIMITS, hidr_value_of(r, 3, 5, 0, &to.raw));
     ANSWERS(HIDR_INVERTED_LIMITS, hidr_value_of(r, 4, 5, 1, &to.raw));
@@ -240,10 +251,6 @@ static void what_is_absent(hidr_reader r) {
     ANSWERS(HIDR_NO_STEP, hidr_value_of(r, 0, 360, 1, &to.raw));
     ANSWERS(HIDR_NO_STEP, hidr_value_of(r, 0, 90, 0, &to.raw));
     ANSWERS(HIDR_NO_STEP, hidr_value_of(r, 0, INT64_MIN, UINT64_MAX, &to.raw));
-    ANSWERS(HIDR_RESERVED_SYSTEM, hidr_unit_exponents(r, 4, to.exponents));
-    ANSWERS(HIDR_VENDOR_SYSTEM, hidr_unit_exponents(r, 5, to.exponents));
-    ANSWERS(HIDR_NO_SYSTEM, hidr_unit_exponents(r, 6, to.exponents));
-    ANSWERS(HIDR_RESERVED_DIGIT, hidr_unit_exponents(r, 7, to.exponents));
     UNTOUCHED(to);
 }
 
@@ -429,6 +436,7 @@ int main(void) {
     null_pointers(reader);
     lengths_and_overlaps(reader);
     what_is_absent(reader);
+    no_values(reader);
     what_is_told(reader);
     what_changes(reader);
     names(reader);
