@@ -6,7 +6,7 @@ use clap::error::ErrorKind;
 use clap::{Arg, ArgAction, Command, ValueHint, value_parser};
 use std::fmt::Display;
 
-/// The forms of the text of a report descriptor, by the names of `kbsim::texts::Form`, and the word for the one that is found.
+/// The forms of the text of a report descriptor, by the names of `Form`, and the word for the one that is found.
 pub const FORMS: [&str; 11] =
     ["hex", "c", "rust", "loose", "xxd", "hexdump", "rdesc", "usbhid-dump", "hid-recorder", "bytes", AUTO];
 
