@@ -2,6 +2,7 @@
 //! it is repeated up to the offset of the next one. The characters may be missing; where they stand they are those of the bytes.
 
 use super::{Fault, Form, MOST, Why, digit, lines, pair, words};
+use alloc::vec::Vec;
 
 /// A tool that prints lines with offsets.
 #[derive(Clone, Copy, PartialEq, Eq)]
@@ -45,7 +46,7 @@ impl Dumped {
         let first = *self.first.get_or_insert(offset);
         let next = first.saturating_add(self.bytes.len() as u64);
         let missing = offset.checked_sub(next).ok_or(Fault { at, why: Why::WrongOffset(next) })?;
-        if std::mem::take(&mut self.is_repeated) {
+        if core::mem::take(&mut self.is_repeated) {
             let missing = usize::try_from(missing).unwrap_or(usize::MAX);
             if missing > MOST - self.bytes.len().min(MOST) {
                 return Err(Fault { at, why: Why::TooMany });
@@ -92,7 +93,7 @@ fn characters(bytes: &[u8]) -> Vec<u8> {
 /// The offset that a line begins with, and where what follows it begins.
 fn offset_of(line: &[u8], dump: Dump) -> Option<(u64, usize)> {
     let len = line.iter().take_while(|byte| digit(**byte).is_some()).count();
-    let offset = u64::from_str_radix(std::str::from_utf8(&line[..len]).ok()?, 16).ok()?;
+    let offset = u64::from_str_radix(core::str::from_utf8(&line[..len]).ok()?, 16).ok()?;
     let ends = match dump {
         Dump::Xxd => line.get(len) == Some(&b':'),
         Dump::Hexdump => len >= 7 && line.get(len).is_none_or(|byte| *byte == b' '),

@@ -4,7 +4,7 @@
 //! time linear in the text, and no more memory than [`MOST`] bytes and some times the text. By hand, tested and not proved.
 //!
 //! ```
-//! use kbsim::texts::{Form, taken};
+//! use wuzhikar_hid::texts::{Form, taken};
 //!
 //! let (form, bytes) = taken(b"R: 4 05 01 09 02\nE: 000000.000000 1 00\n").unwrap();
 //! assert_eq!((form, bytes.as_slice()), (Form::HidRecorder, &[5, 1, 9, 2][..]));
@@ -14,10 +14,13 @@
 mod arrays;
 mod dumps;
 mod recordings;
+mod sentences;
 
+use alloc::vec::Vec;
 use arrays::Language;
 use dumps::Dump;
 pub use recordings::{Line, line_of};
+pub use sentences::shown;
 
 /// The most bytes that a text may say.
 pub const MOST: usize = 1 << 20;
@@ -31,7 +34,7 @@ pub enum Form {
     C,
     /// An array of Rust.
     Rust,
-    /// Hex digits, or numbers as `0x05`, with comments between them, and with commas or without.
+    /// Hex digits, or numbers as `0x05` or `05h`, with comments between them, and with commas or without.
     Loose,
     /// The lines of `xxd`.
     Xxd,
@@ -164,7 +167,7 @@ impl Form {
 pub fn taken(text: &[u8]) -> Result<(Form, Vec<u8>), (Form, Fault)> {
     let in_form = |form: Form| form.read(text).map(|bytes| (form, bytes)).map_err(|fault| (form, fault));
     let has_controls = text.iter().any(|byte| byte.is_ascii_control() && !is_blank(*byte));
-    if has_controls || std::str::from_utf8(text).is_err() {
+    if has_controls || core::str::from_utf8(text).is_err() {
         return in_form(Form::Bytes);
     }
     if let Some(form) = marked(text) {

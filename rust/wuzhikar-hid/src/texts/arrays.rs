@@ -1,7 +1,8 @@
 //! Arrays as C and Rust write them: numbers with commas between them, also one behind the last, in braces or brackets, with a
 //! declaration before them, or without. What follows the closing one is not read.
 
-use super::{Fault, Form, Why, digits, is_blank};
+use super::{Fault, Form, Why, digits, is_blank, pair};
+use alloc::vec::Vec;
 
 /// A language of arrays.
 #[derive(Clone, Copy, PartialEq, Eq)]
@@ -39,16 +40,25 @@ pub fn read(text: &[u8], language: Language) -> Result<Vec<u8>, Fault> {
     }
 }
 
-/// The bytes of hex digits, or of numbers `0x05 0x01`, with comments, and with commas or without.
+/// The bytes of hex digits, or of numbers `0x05 0x01`, or `05h 01h`, with comments, also lines of `#`, and with commas or without.
 pub fn read_loose(text: &[u8]) -> Result<Vec<u8>, Fault> {
-    let text = without_comments(text)?;
-    if !text.windows(2).any(|two| two == b"0x" || two == b"0X") {
+    let mut text = text.to_vec();
+    let lines = text.split_mut(|byte| *byte == b'\n');
+    lines.filter(|line| line.trim_ascii_start().starts_with(b"#")).for_each(|line| line.fill(b' '));
+    let text = without_comments(&text)?;
+    let has = |marks: &[u8]| text.iter().any(|byte| marks.contains(byte));
+    if !has(b"xXhH,;") {
         return digits(&text);
     }
+    let is_c = text.windows(2).any(|two| two == b"0x" || two == b"0X");
+    let byte_at = |at: usize, word: &[u8]| {
+        let without_h = word.strip_suffix(b"h").or(word.strip_suffix(b"H")).unwrap_or(word);
+        if is_c { byte_of(word, Language::C) } else { pair(at, without_h).ok() }
+    };
     let (mut bytes, mut at) = (Vec::new(), 0);
     for word in text.split(|byte| is_blank(*byte) || matches!(byte, b',' | b';')) {
         if !word.is_empty() {
-            bytes.push(byte_of(word, Language::C).ok_or(Fault { at, why: Why::NoByte })?);
+            bytes.push(byte_at(at, word).ok_or(Fault { at, why: Why::NoByte })?);
         }
         at += word.len() + 1;
     }
@@ -161,7 +171,7 @@ fn word_at(text: &[u8], at: usize) -> &[u8] {
 /// The byte that a word writes: `0x` and hex digits, or decimal digits without a 0 in front. In Rust also binary and octal digits,
 /// a 0 in front, `_` between digits, and `u8` behind them.
 fn byte_of(word: &[u8], language: Language) -> Option<u8> {
-    let word = std::str::from_utf8(word).ok().filter(|word| !word.starts_with('+'))?;
+    let word = core::str::from_utf8(word).ok().filter(|word| !word.starts_with('+'))?;
     if language == Language::Rust {
         return rust_byte(word.strip_suffix("u8").unwrap_or(word));
     }

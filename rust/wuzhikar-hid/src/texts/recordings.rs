@@ -1,6 +1,7 @@
 //! What tells of a device on Linux: `rdesc`, `usbhid-dump` and `hid-recorder`.
 
 use super::{Fault, Why, digits, lines, pair, words};
+use alloc::vec::Vec;
 
 /// A line of a recording.
 #[derive(Clone, Debug, PartialEq, Eq)]
@@ -48,7 +49,7 @@ fn counted<'w>(mut all: impl Iterator<Item = (usize, &'w [u8])>, end: usize) -> 
     let (at, word) = all.next().ok_or(Fault { at: end, why: Why::NoPair })?;
     let bytes = all.map(|(at, word)| pair(at, word)).collect::<Result<Vec<u8>, Fault>>()?;
     let is_count = word.iter().all(u8::is_ascii_digit);
-    let count = std::str::from_utf8(word).ok().filter(|_| is_count).and_then(|word| word.parse::<usize>().ok());
+    let count = core::str::from_utf8(word).ok().filter(|_| is_count).and_then(|word| word.parse::<usize>().ok());
     if count == Some(bytes.len()) { Ok(bytes) } else { Err(Fault { at, why: Why::WrongCount(bytes.len()) }) }
 }
 
