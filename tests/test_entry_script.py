@@ -24,7 +24,7 @@ def hear_each():
         signal.signal(number, signal.SIG_DFL)
 
 
-class Door(unittest.TestCase):
+class EntryScript(unittest.TestCase):
     """A repository in small, and a folder of programs that stands for the PATH."""
 
     def setUp(self):
