@@ -14,3 +14,9 @@ abbrev pub IsBusy : Job → Type 0
 IsBusy Resting = ⊥
 IsBusy (Appending at) = Unit {0}
 IsBusy (Turning from at) = Unit {0}
+
+-- they take a turn
+abbrev pub TakesTurn : Job → Type 0
+TakesTurn Resting = ⊥
+TakesTurn (Appending at) = ⊥
+TakesTurn (Turning from at) = Unit {0}
