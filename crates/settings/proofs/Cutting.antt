@@ -1,5 +1,5 @@
 -- What a cut of the power inside the next operation leaves.
-use Rattle.std.proofs.Common.{◌≡◌, ◌∙◌, ℕ, ◌+◌, ◌<◌, ◌≤◌, ◌⊎◌, refl, sym, subst, arith, List, [], ◌∷◌, ◌++◌, length, take, get_or, Option, Some, None, inl, inr}
+use Rattle.std.proofs.Common.{◌≡◌, ◌∙◌, ℕ, ◌+◌, ◌<◌, ◌⊎◌, refl, subst, arith, List, [], ◌∷◌, ◌++◌, length, take, get_or, Option, Some, inl, inr}
 use Rattle.std.proofs.lemmas.Bool.{cases_eq, cases_lt, cases_Bool}
 use Rattle.records.specs.declared.Slot.{Slot}
 use Rattle.records.specs.declared.Slot.TheVariants.{Free, Good, Spoiled}
@@ -9,15 +9,15 @@ use Rattle.flash_model.specs.Image.{IsImage, slot_at}
 use Rattle.page_turnover.specs.declared.log.ActivePage.{ActivePage}
 use Rattle.page_turnover.specs.declared.operation.Operation.{Operation}
 use Rattle.page_turnover.specs.declared.operation.Operation.TheVariants.{Program, Erase}
-use Rattle.page_turnover.specs.Value.{LogValue, Target, Task, Rest, Append, Wait, Copy, Seal}
+use Rattle.page_turnover.specs.Value.{LogValue, Task, Rest, Append, Wait, Copy, Seal}
 use Rattle.page_turnover.specs.ties.Log.{Describes}
 use Rattle.page_turnover.specs.Blank.{is_blank}
 use Rattle.page_turnover.specs.Usable.{IsUsable}
 use Rattle.page_turnover.specs.Words.{words}
-use Rattle.page_turnover.specs.Turn.{copies, copied, target_page, next_seq, IsPending}
+use Rattle.page_turnover.specs.Turn.{copies, copied, next_seq, IsPending}
 use Rattle.page_turnover.specs.Header.{header_word}
 use Rattle.page_turnover.specs.Next.{next_operation, turn_operation, is_ready, on_flash, MayMake, ReadsBack}
-use Rattle.page_turnover.specs.Steps.{Keeps, CommitsWord, CommitsTurn, AttemptsNext, CountsAs}
+use Rattle.page_turnover.specs.Steps.{CommitsWord, AttemptsNext, CountsAs}
 use Rattle.page_turnover.specs.Leaves.{Leaves, IsEffect}
 use Rattle.page_turnover.proofs.Blanks.{blank_of, is_blank-blank}
 use Rattle.page_turnover.proofs.Leaving.{leaves}

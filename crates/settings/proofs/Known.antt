@@ -1,5 +1,5 @@
 -- Words that are those of settings.
-use Rattle.std.proofs.Common.{◌≡◌, ℕ, zero, suc, ◌+◌, ◌^◌, ◌<◌, ◌≤◌, refl, arith, IsTrue, List, [], ◌∷◌, ◌++◌, length, get_or, Option, Some, None, All, inl, inr}
+use Rattle.std.proofs.Common.{◌≡◌, ℕ, zero, suc, ◌^◌, ◌<◌, ◌≤◌, refl, arith, IsTrue, List, [], ◌∷◌, ◌++◌, length, Option, Some, None, All, inl}
 use Rattle.std.proofs.lemmas.List.Elements.{All-append}
 use Rattle.page_turnover.specs.Words.{words}
 use Rattle.page_turnover.specs.Steps.{Keeps}
@@ -7,7 +7,6 @@ use Rattle.page_turnover.specs.Usable.{IsUsable}
 use Rattle.settings.specs.declared.change.Change.{Change}
 use Rattle.settings.specs.Words.{data_word, value_word, removal_word, packed, is_known, words_of, words_with, IsValueIfSome, IsChange, AreValues}
 use Rattle.settings.specs.Copies.{kept_words, copies_below, all_copies}
-use Rattle.settings.specs.Begins.{IsKnown}
 use Rattle.settings.specs.Works.{IsBeforeOrAfter, IsBetween}
 use Rattle.settings.proofs.Formats.{is_data-data, is_data-value, is_data-removal, head_of-value, head_of-removal}
 use Rattle.settings.proofs.Gathering.{AreBytes}

@@ -1,5 +1,5 @@
 -- A call that comes back when all is stored.
-use Rattle.std.proofs.Common.{◌≡◌, ◌≢◌, ◌∙◌, ℕ, ◌+◌, ◌-◌, ◌%◌, ◌^◌, ◌<◌, ◌≤◌, refl, sym, ap, subst, arith, List, [], ◌∷◌, ◌++◌, length, Bool, true, false, inl, inr, Result, Ok, Err, IsOk, Option, Some}
+use Rattle.std.proofs.Common.{◌≡◌, ◌∙◌, ℕ, ◌+◌, ◌%◌, ◌^◌, ◌≤◌, refl, sym, arith, List, [], ◌∷◌, length, Bool, true, false, inl, inr, Ok, Err, Option, Some}
 use Rattle.flash_model.specs.FlashOperation.{FlashOperation}
 use Rattle.settings.specs.declared.change.Change.{Change}
 use Rattle.settings.specs.declared.store.SettingsError.{SettingsError}

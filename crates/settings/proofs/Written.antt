@@ -1,12 +1,12 @@
 -- Where changes are written, step by step.
-use Rattle.std.proofs.Common.{◌≡◌, ◌∙◌, ℕ, ◌+◌, ◌<◌, ◌≤◌, refl, sym, ap, subst, arith, List, [], ◌∷◌, ◌++◌, length, take, get_or, Option, Some, None, inl, inr, append_assoc}
+use Rattle.std.proofs.Common.{◌≡◌, ◌∙◌, ℕ, ◌+◌, ◌<◌, ◌≤◌, refl, sym, ap, subst, arith, List, [], ◌∷◌, ◌++◌, length, take, get_or, Some, inl, inr, append_assoc}
 use Rattle.std.proofs.lemmas.Bool.{cases_lt}
 use Rattle.std.proofs.lemmas.List.{append-nil, take_all}
 use Rattle.flash_model.specs.Image.{page_count}
 use Rattle.flash_model.proofs.Places.{page_count-one_slot, page_count-one_page}
 use Rattle.page_turnover.specs.declared.log.stepping.Step.{Step}
 use Rattle.page_turnover.specs.declared.log.stepping.Step.TheVariants.{Committed}
-use Rattle.page_turnover.specs.Active.{active, format}
+use Rattle.page_turnover.specs.Active.{active}
 use Rattle.page_turnover.specs.Operates.{Operates, programs, erases}
 use Rattle.page_turnover.specs.Steps.{Keeps, Commits, CommitsWord, EndsAs, Steps, StepsFor}
 use Rattle.page_turnover.specs.Turn.{copies, copied, target_page, next_seq}
@@ -25,9 +25,9 @@ use Rattle.settings.specs.declared.store.Work.TheVariants.{Working, Stored}
 use Rattle.settings.specs.Words.{words_of}
 use Rattle.settings.specs.Settings.{changed}
 use Rattle.settings.specs.Copies.{all_copies}
-use Rattle.settings.specs.Begins.{IsAppended, alive}
+use Rattle.settings.specs.Begins.{alive}
 use Rattle.settings.specs.Places.{own_words, Adds, IsCompacted, AreWritten}
-use Rattle.settings.specs.Store.{IsBusy, TakesTurn}
+use Rattle.settings.specs.Store.{IsBusy}
 use Rattle.settings.specs.Works.{IsBetween, IsBeforeOrAfter, GoesTo, Writes, WritesMore, WritesLast}
 use Rattle.settings.specs.ties.Store.{IsAppending, IsTurning, IsTurn, IsSeal}
 use Rattle.settings.specs.ties.Whole.{WrittenSoFar}

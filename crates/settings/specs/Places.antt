@@ -1,6 +1,6 @@
 -- Believed: where changes are written.
 use Rattle.shapes.specs.Shapes.{Bytes, SlotWords}
-use Rattle.std.specs.Prelude.{◌≡◌, ℕ, ◌+◌, Some, List, [], ◌∷◌, ◌++◌}
+use Rattle.std.specs.Prelude.{◌≡◌, ◌+◌, Some, List, [], ◌∷◌, ◌++◌}
 use Rattle.page_turnover.specs.Active.{active, format}
 use Rattle.page_turnover.specs.Turn.{target_page, next_seq}
 use Rattle.page_turnover.specs.Words.{words, IsTail}

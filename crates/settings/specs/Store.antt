@@ -1,5 +1,4 @@
 -- Believed where this crate is called: the parts of settings in flash, and whether changes are under way.
-use Rattle.std.specs.Prelude.{ℕ}
 use Rattle.page_turnover.specs.Value.{LogValue}
 use Rattle.settings.specs.declared.store.Job.{Job}
 use Rattle.settings.specs.declared.store.Job.TheVariants.{Resting, Appending, Turning}

@@ -1,6 +1,6 @@
 -- Believed: what a step does, and what a whole call leaves.
 use Rattle.shapes.specs.Shapes.{Bytes}
-use Rattle.std.specs.Prelude.{◌≡◌, ◌≢◌, ◌↔◌, ◌⊎◌, ℕ, ◌+◌, ◌%◌, ◌^◌, ◌<◌, ◌≤◌, List, [], ◌∷◌, slice_index, length, Result, Ok, Err, IsOk}
+use Rattle.std.specs.Prelude.{◌≡◌, ◌≢◌, ◌↔◌, ◌⊎◌, ℕ, ◌+◌, ◌%◌, ◌^◌, ◌<◌, ◌≤◌, List, [], ◌∷◌, slice_index, length, Result, Err, IsOk}
 use Rattle.flash_model.specs.FlashOperation.{FlashOperation}
 use Rattle.page_turnover.specs.Steps.{Keeps}
 use Rattle.page_turnover.specs.Turn.{target_page}
@@ -16,7 +16,7 @@ use Rattle.settings.specs.Settings.{settings_of, changed, Same}
 use Rattle.settings.specs.Begins.{IsKnown, IsAppended, IsRefused, IsAccepted}
 use Rattle.settings.specs.Places.{own_words, Adds, IsCompacted}
 use Rattle.settings.specs.Moments.{AtEachMoment, EndsInFault}
-use Rattle.settings.specs.Store.{SettingsValue, IsBusy, TakesTurn}
+use Rattle.settings.specs.Store.{IsBusy, TakesTurn}
 
 -- all values are as they were, or as they are after the changes
 abbrev pub IsBeforeOrAfter : Bytes → List Change → Bytes → Type 0

@@ -1,6 +1,6 @@
 -- Only ties code to its definitions: a step of a call that comes back when all is stored.
 use Rattle.shapes.specs.Shapes.{Bytes}
-use Rattle.std.specs.Prelude.{◌≡◌, ℕ, ◌+◌, ◌-◌, ◌%◌, ◌^◌, ◌<◌, ◌≤◌, Bool, true, false, List, take}
+use Rattle.std.specs.Prelude.{◌≡◌, ℕ, ◌+◌, ◌%◌, ◌^◌, ◌<◌, ◌≤◌, Bool, false, List, take}
 use Rattle.flash_model.specs.FlashOperation.{FlashOperation}
 use Rattle.page_turnover.specs.Steps.{Keeps}
 use Rattle.page_turnover.specs.Turn.{target_page}

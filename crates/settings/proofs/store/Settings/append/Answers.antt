@@ -1,4 +1,4 @@
-use Rattle.std.proofs.Common.{◌≡◌, ◌∙◌, ◌+◌, ◌<◌, refl, sym, rules, arith, ap, inl, inr, length}
+use Rattle.std.proofs.Common.{◌∙◌, ◌+◌, ap, inl, inr, length}
 use Rattle.std.proofs.lemmas.Bool.{cases_lt}
 use Rattle.page_turnover.proofs.Effects.{committed_rests}
 use Rattle.settings.specs.Words.{words_of}

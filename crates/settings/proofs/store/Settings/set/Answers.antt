@@ -1,4 +1,3 @@
-use Rattle.std.proofs.Common.{rules}
 use Rattle.settings.proofs.Whole.{never_long}
 use Rattle.settings.proofs.store.Settings.set.Goals as goal
 

@@ -1,4 +1,4 @@
-use Rattle.std.proofs.Common.{◌≡◌, refl, sym, arith, rules}
+use Rattle.std.proofs.Common.{refl}
 use Rattle.std.proofs.lemmas.Bool.{iff_false}
 use Rattle.settings.proofs.Whole.{so_far_none, so_far_more, stores_all, stores_none, stores_nothing, count_all}
 use Rattle.settings.proofs.Written.{written_all}

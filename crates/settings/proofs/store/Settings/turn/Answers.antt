@@ -1,4 +1,4 @@
-use Rattle.std.proofs.Common.{◌≡◌, refl, sym, arith, rules}
+use Rattle.std.proofs.Common.{refl}
 use Rattle.page_turnover.specs.Next.{on_flash}
 use Rattle.settings.specs.declared.store.Job.TheVariants.{Resting}
 use Rattle.settings.proofs.Storing.{same_kept}
