@@ -4,8 +4,8 @@
 
 use crate::keys::{HasKeyboard, Keys};
 use crate::{Buffers, Endpoint1, Endpoints, EpAnswer, Guarded, UsbDevice};
-use wuzhikar::usb::FEATURE_REPORT_LEN;
 use wuzhikar::NorFlash;
+use wuzhikar::usb::FEATURE_REPORT_LEN;
 
 impl<E, B> UsbDevice<'_, E, B> {
     /// The device behind the layer, to be looked at.
