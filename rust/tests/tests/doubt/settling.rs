@@ -4,13 +4,13 @@
 //! - At a start one page alone is shown: the newest whose header may be believed. Each other one reads as spoiled until it is
 //!   erased as a whole, since it may be in doubt everywhere, also where it reads as erased.
 //! - The newest header is believed where its page has a mark, is full, or begins with the copies of the page before: then no
-//!   erase that was torn has touched it, or none of what it touched reads otherwise. Where nothing lies behind the copies, they and
-//!   the header are programmed once more.
+//!   erase that was torn has touched it, or none of what it touched reads otherwise. Copies and header are then programmed once more.
 //! - The newest word of the page may be in doubt, even by bits that it wants set: it is written once more, three slots on, and
 //!   then spoiled. What lies behind it is spoiled first, also two slots that read as Free: bit 30 is cleared in both halves, and
 //!   no tear of that reads as another word.
-//! - Where no room is left for that, the keymap goes to the next page, as it is read now. The last slot is marked where less than
-//!   eight slots are left: so it is not in doubt where such a turn was begun, and what is read then looks like room.
+//! - Where no room is left for that, the keymap goes to the next page, as it is read now: first its newest word is programmed once
+//!   more, and what lies behind it is spoiled. The last slot is marked where less than eight slots are left: so it is not in doubt
+//!   where such a turn was begun, and what is read then looks like room.
 //! - Then a mark follows, which clears bit 31 in both halves: no tear of anything else reads so. Behind a mark a start takes three
 //!   slots, behind a word four. A slot is programmed twice at most, and once more for each cut and fault.
 
@@ -97,18 +97,22 @@ impl<F: NorFlash> Settling<F> {
         let before = headers.get(1).map(|header| header.1);
         let copies = before.map_or(Vec::new(), |page| self.copies(page, &self.slots(page)));
         let slots = self.slots(newest);
-        let settled = slots[LAST] != FREE || slots.iter().skip(1).any(|slot| is_mark(*slot));
+        let marked = slots[LAST] != FREE || slots.iter().skip(1).any(|slot| is_mark(*slot));
+        let settled = marked || !self.has(Rule::HeaderIsBelieved);
         let begins = slots[1..=copies.len()] == copies;
-        if settled || begins || !self.has(Rule::HeaderIsBelieved) {
+        if settled || begins {
             self.shown[newest] = true;
             let end = slots.iter().rposition(|slot| *slot != FREE).unwrap_or(0);
-            if settled || end > copies.len() {
-                return self.settle_end(newest, number, &slots, if settled { 0 } else { copies.len() }, end);
+            if settled {
+                return self.settle_end(newest, number, &slots, 0, end);
             }
             for (at, copy) in copies.iter().enumerate() {
                 self.program(newest, at + 1, *copy)?;
             }
             self.program(newest, 0, word_bytes(2 << 28 | number))?;
+            if end > copies.len() {
+                return self.settle_end(newest, number, &slots, copies.len(), end);
+            }
             return self.mark_behind(newest, copies.len());
         }
         if !self.has(Rule::HeaderStaysSound) {
@@ -172,9 +176,16 @@ impl<F: NorFlash> Settling<F> {
         let next = (page + 1) % self.flash.pages();
         let copies = self.copies(page, slots);
         self.shown[page] = false;
-        if word(slots[LAST]).is_some() {
-            self.program(page, LAST, slots[LAST])?;
-        } else {
+        let is_end = |slot: &usize| word(slots[*slot]).is_some() || is_mark(slots[*slot]);
+        let last = (1..=LAST).rev().find(is_end).unwrap_or(0);
+        if last > 0 && word(slots[last]).is_some() {
+            self.program(page, last, slots[last])?;
+        }
+        let end = slots.iter().rposition(|slot| *slot != FREE).unwrap_or(0);
+        for slot in (last + 1..LAST).take_while(|slot| *slot <= end + 2) {
+            self.spoil(page, slot)?;
+        }
+        if last < LAST {
             self.spoil(page, LAST)?;
         }
         self.erase_page(next)?;
@@ -217,14 +228,12 @@ impl<F: NorFlash> Settling<F> {
     /// A mark, behind the two slots that may be in doubt though they read as Free: that of a torn record, and the one behind it,
     /// which a start began to spoil where the record read as Good.
     fn mark_behind(&mut self, page: usize, end: usize) -> Result<(), FlashFault> {
-        if end + 3 > LAST {
-            return self.mark(page, LAST);
-        }
         if self.has(Rule::FreeTailIsSpoiled) {
-            self.spoil(page, end + 1)?;
-            self.spoil(page, end + 2)?;
+            for slot in (end + 1..=end + 2).filter(|slot| *slot < LAST) {
+                self.spoil(page, slot)?;
+            }
         }
-        self.mark(page, end + 3)
+        self.mark(page, LAST.min(end + 3))
     }
 
     fn mark(&mut self, page: usize, slot: usize) -> Result<(), FlashFault> {
