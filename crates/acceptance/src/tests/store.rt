@@ -2,7 +2,6 @@
 //! default, behind which a page is to be erased, copied into and begun.
 
 ghost use Rattle.std.specs.Prelude.{◌≡◌};
-ghost use Rattle.layers.specs.Standard.{standard};
 
 use super::asserts::same;
 use super::rows::image;
@@ -21,6 +20,7 @@ struct Device {
 
 impl Model for Device {
     ghost use Rattle.std.specs.Prelude.{ℕ, List};
+    ghost use Rattle.layers.specs.Standard.{standard};
     ghost use Rattle.keymap_store.specs.ties.Store.{Mirrors};
 
     ghost Value = { List ℕ };
