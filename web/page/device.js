@@ -61,9 +61,17 @@ export class Device {
         const started = fits && (paired ? this.calls.start_paired(image()) : typeof flash === "number" ? this.calls.start_blank(flash) : this.calls.start_image(image()));
         if (started !== 0) throw new RangeError("a flash has 2 to 8 whole pages of 4,096 bytes");
     }
+    /** Bytes of the memory. A call may move it, so that none stands between this one and its use. */
+    part(offset, length) {
+        return new Uint8Array(this.calls.memory.buffer, offset, length);
+    }
     /** The buffer. */
     bytes() {
-        return new Uint8Array(this.calls.memory.buffer, this.calls.buffer(), 8 * PAGE);
+        return this.part(this.calls.buffer(), 8 * PAGE);
+    }
+    /** The first bytes of the buffer, as many as a call has put there. @param {number} length */
+    first(length) {
+        return this.bytes().slice(0, length);
     }
     /** @param {ArrayLike<number>} bytes */
     put(bytes) {
@@ -72,7 +80,7 @@ export class Device {
     }
     /** @returns {Answer} */
     answered(number) {
-        if (number >= 0) return { kind: "data", bytes: this.bytes().slice(0, number) };
+        if (number >= 0) return { kind: "data", bytes: this.first(number) };
         return number === -1 ? NAKED : { kind: "stall", why: -100 - number };
     }
     /** @param {ArrayLike<number>} packet 8 bytes */
@@ -92,7 +100,7 @@ export class Device {
     /** The report of a poll, or null where it is answered by NAK. */
     poll() {
         const number = this.calls.poll();
-        return number < 0 ? null : this.bytes().slice(0, number);
+        return number < 0 ? null : this.first(number);
     }
     /**
      * So many scans, a millisecond each, with these keys closed.
@@ -131,15 +139,15 @@ export class Device {
     }
     /** The code of each entry, layer by layer. */
     keymap() {
-        return new Uint16Array(this.bytes().slice(0, this.calls.keymap()).buffer);
+        return new Uint16Array(this.first(this.calls.keymap()).buffer);
     }
     /** The flash's bytes as they are now; a later call may change them. With error correction nine for each unit. */
     raw() {
-        return new Uint8Array(this.calls.memory.buffer, this.calls.flash(), this.calls.flash_length());
+        return this.part(this.calls.flash(), this.calls.flash_length());
     }
     /** What the slots read as; a later call may change it. */
     image() {
-        return this.paired ? this.bytes().slice(0, this.calls.slots()) : this.raw();
+        return this.paired ? this.first(this.calls.slots()) : this.raw();
     }
     pages() {
         return this.calls.pages();
@@ -169,6 +177,8 @@ export class Device {
     }
     /** @param {Uint8Array} memory of the same module */
     restore(memory) {
-        new Uint8Array(this.calls.memory.buffer).set(memory);
+        const lacking = memory.length - this.calls.memory.buffer.byteLength;
+        if (lacking > 0) this.calls.memory.grow(lacking / 65536);
+        this.part(0, memory.length).set(memory);
     }
 }

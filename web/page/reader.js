@@ -28,17 +28,20 @@ export class Instance {
         /** @type {any} */
         this.calls = new WebAssembly.Instance(core, {}).exports;
     }
-    /** A copy of the first bytes that the module handed over. */
+    /** A copy of the first bytes that the module handed over. A call may move the memory, so the offset comes first. */
     bytes(length) {
-        return new Uint8Array(this.calls.memory.buffer, this.calls.buffer(), length).slice();
+        const offset = this.calls.buffer();
+        return new Uint8Array(this.calls.memory.buffer, offset, length).slice();
     }
     view(length) {
-        return new DataView(this.calls.memory.buffer, this.calls.buffer(), length);
+        const offset = this.calls.buffer();
+        return new DataView(this.calls.memory.buffer, offset, length);
     }
     /** @param {ArrayLike<number>} bytes */
     put(bytes) {
         if (bytes.length > ROOM) throw new Refused(`more than ${ROOM.toLocaleString("en")} bytes are no report descriptor`);
-        new Uint8Array(this.calls.memory.buffer, this.calls.buffer(), ROOM).set(bytes);
+        const offset = this.calls.buffer();
+        new Uint8Array(this.calls.memory.buffer, offset, ROOM).set(bytes);
         return bytes.length;
     }
 }
