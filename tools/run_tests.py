@@ -85,7 +85,7 @@ STEPS = [
     Step("the page in a browser", ["bin/page-test"], needs("chromium")),
     Step("what the documents show", [*PYTHON, "tests/test_documents.py", "--quiet"], needs_cargo("cc", "make", "pkg-config")),
     Step("settings outlive each cut", ["tests/settings-test"], needs_cargo(crates=["arrayvec"])),
-    Step("a keyboard outlives cuts on flash with error correction", ["tools/keyboard-cuts/run"], needs_cargo(crates=["arrayvec"])),
+    Step("a keyboard outlives cuts on flash with error correction", ["tools/keyboard-cuts/run"], needs_cargo()),
     Step("a chip that is cut at any instruction", ["bin/board-test"], needs_cargo(crates=["arrayvec"])),
     Step("examples that meet a host", [*PYTHON, "tests/test_hosts.py"], needs_cargo(crates=["arrayvec"])),
     Step("mutants of the USB device by hand are killed", [*PYTHON, "tests/wrong_fronts.py"], needs_cargo()),

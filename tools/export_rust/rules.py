@@ -130,13 +130,14 @@ DETAILS = Rules(
 
 SIMULATOR = Rules(
     name="kbsim",
-    crates=("host", "world", "text_io", "script", "kbsim", "parse_lines", "explanations"),
+    crates=("host", "world", "ecc_law", "text_io", "script", "kbsim", "parse_lines", "explanations"),
     below=(KEYBOARD, LOG, READER),
     allocs=True,
     hidden=frozenset({("world", "WorldOf::new"), ("host", "Host::new")}),
     fallible_clones=frozenset({("host", "UsageList"), ("host", "Reading")}),
-    derives={("kbsim", "Outcome"): ("Debug",), ("kbsim", "Step"): ("Debug",)},
+    derives={("ecc_law", "Told"): ("Debug",), ("kbsim", "Outcome"): ("Debug",), ("kbsim", "Step"): ("Debug",)},
     docs={("host", ""): [("`descriptor_parse::Parser` and `host_extract`", "`wuzhikar_reader::Parser` and `wuzhikar_reader::extract`")],
+          ("ecc_law", ""): [("in two units each (`image_of`).", "in two units each.")],
           ("kbsim", ""): [("The program `kbsim_cli` calls it", "The program of this crate calls it")],
           ("parse_lines", ""): [("The program `kbsim_cli` calls them", "The program of this crate calls them")]},
 )

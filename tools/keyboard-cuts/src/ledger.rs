@@ -1,7 +1,9 @@
 // SPDX-License-Identifier: MIT OR Apache-2.0
 //! What the keymap has to be, by the commands that were settled.
 
-use wuzhikar::{Code, KeyNo, Keymap, LayerNo};
+use kbsim::Answer;
+use kbsim::parts::ecc_law::Happening;
+use wuzhikar::{KeyNo, LayerNo};
 
 /// A command that sets an entry.
 #[derive(Clone, Copy, Debug, PartialEq, Eq)]
@@ -20,17 +22,18 @@ impl Sets {
 }
 
 /// The codes of all entries.
-#[derive(Clone, Debug, PartialEq, Eq)]
+#[derive(Clone, Debug, Default, PartialEq, Eq)]
 pub struct Ledger(Vec<u16>);
 
 const KEYS: usize = 96;
 
 impl Ledger {
-    /// What a keymap says.
-    pub fn of(keymap: &Keymap) -> Ledger {
+    /// What looks at all entries are answered.
+    pub fn of(mut take: impl FnMut(Happening) -> Answer) -> Ledger {
         let layers = (0..).map_while(|layer| LayerNo::read(layer).ok());
-        let entries = layers.flat_map(|layer| keys().map(move |key| (layer, key)));
-        Ledger(entries.map(|(layer, key)| code_bits(keymap.get(layer, key))).collect())
+        let looks = layers.flat_map(|layer| keys().map(move |key| Happening::Entry(layer, key)));
+        let code = |look| if let Answer::EntryIs(code) = take(look) { code.bits() } else { u16::MAX };
+        Ledger(looks.map(code).collect())
     }
 
     /// Takes what a command sets.
@@ -45,8 +48,4 @@ impl Ledger {
 
 fn keys() -> impl Iterator<Item = KeyNo> {
     (0..).map_while(|key| KeyNo::read(key).ok())
-}
-
-fn code_bits(code: Code) -> u16 {
-    code.bits()
 }

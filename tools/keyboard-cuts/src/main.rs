@@ -1,11 +1,12 @@
 // SPDX-License-Identifier: MIT OR Apache-2.0
-//! A keyboard on flash with error correction, over units of 8, 16 and 32 bytes: commands that look random, operations that are
-//! torn and told, or torn and told as done, and cuts of the power inside operations, by a mask over all cells of a unit.
+//! A keyboard and its host on flash with error correction, over units of 8, 16 and 32 bytes: commands that look random, operations
+//! that are torn and told, or torn and told as done, and cuts of the power inside operations, by a mask over all cells of a unit.
 //!
-//! `keyboard_cuts EVENTS` makes so many calls of keyboards. After each start the whole keymap has to be the one that the settled
-//! commands gave, but for the command that the cut caught, which may have changed it or not; a command that the host was told is
-//! stored has to be settled; no command takes more than 387 steps; and on each flash no more commands fail than are settled.
-//! `keyboard_cuts wrong` does the same with adapters that are wrong in one point each, and says what is found.
+//! `keyboard_cuts EVENTS` has `ecc_law::take`, whose contract is the theorem on such flash, take so many events. After each start
+//! the whole keymap has to be the one that the settled commands gave, but for the command that the cut caught, which may have
+//! changed it or not, and the host has to read a key as its code; a command that the host was told is stored has to be settled; no
+//! command takes more than 387 steps; and on each flash no more commands fail than are settled.
+//! `keyboard_cuts wrong` does the same with units that are wrong in one point each, and says what is found.
 //! `tools/keyboard-cuts/run` builds and runs it.
 
 #[allow(dead_code)]
@@ -27,14 +28,14 @@ mod wrong;
 use ecc::EccChip;
 use power::Power;
 use random::Random;
-use session::{Counts, on_flash};
+use session::{Board, Counts};
 use wrong::{WAYS, Way, Wrong};
-use wuzhikar_log::{PairedFlash, UnitFlash};
+use wuzhikar_log::UnitFlash;
 
 /// Pages that the keymap is kept on.
 const PAGES: usize = 2;
 
-/// How many flashes a wrong adapter is tried on.
+/// How many flashes wrong units are tried on.
 const TRIES: u64 = 60;
 
 fn main() {
@@ -55,7 +56,7 @@ fn main() {
     }
 }
 
-/// The adapter, over flashes until so many calls were made.
+/// Units as they should be, over flashes until so many calls were made.
 fn right(events: u64) -> Result<String, String> {
     let mut counts = Counts::default();
     let mut seed = 34;
@@ -85,17 +86,17 @@ fn new_flash<const WRITE: usize, const ERASE: usize>(
 }
 
 fn paired<const WRITE: usize, const ERASE: usize>(seed: u64, counts: &mut Counts) -> Result<(), String> {
-    let (units, power, mut random) = new_flash::<WRITE, ERASE>(seed)?;
-    on_flash(PairedFlash::mount(units), |_| (), &power, &mut random, counts)
+    let (units, power, random) = new_flash::<WRITE, ERASE>(seed)?;
+    Board::new(units, power, random, counts).sessions()
 }
 
-/// Each wrong adapter: what the runs find of it.
+/// Wrong units of each way: what the runs find of them.
 fn wrong_ways() -> Result<String, String> {
     let mut lines = Vec::new();
     for way in WAYS {
         let found = (0..TRIES).find_map(|seed| tried(seed, way).err().map(|how| format!("flash {seed}: {how}")));
         if (way == Way::Nothing) && found.is_some() {
-            return Err(format!("the right adapter: {found:?}"));
+            return Err(format!("the right units: {found:?}"));
         }
         lines.push(format!("{way:?}: {}", found.unwrap_or_else(|| "nothing is found".to_string())));
     }
@@ -103,6 +104,6 @@ fn wrong_ways() -> Result<String, String> {
 }
 
 fn tried(seed: u64, way: Way) -> Result<(), String> {
-    let (flash, power, mut random) = new_flash::<8, 2048>(seed)?;
-    on_flash(Wrong { flash, way }, Wrong::mount, &power, &mut random, &mut Counts::default())
+    let (units, power, random) = new_flash::<8, 2048>(seed)?;
+    Board::new(Wrong::new(units, way), power, random, &mut Counts::default()).sessions()
 }
