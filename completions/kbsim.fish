@@ -18,6 +18,7 @@ complete -c kbsim -n "__fish_seen_subcommand_from read" -l names -d 'Usages by t
 complete -c kbsim -n "__fish_seen_subcommand_from read" -l json -d 'An object of JSON a line; docs/reader.md has the schema'
 complete -c kbsim -n "__fish_seen_subcommand_from read" -l changes -d 'The usages that a report presses and releases, in place of its values'
 complete -c kbsim -n "__fish_seen_subcommand_from read" -l raw -d 'The reports are bytes, and not lines'
+complete -c kbsim -n "__fish_seen_subcommand_from read" -l live -d 'DESCRIPTOR is a hidraw device, of which the descriptor and the reports are read'
 complete -c kbsim -n "__fish_seen_subcommand_from read" -s h -l help -d 'Print help information (use `--help` for more detail)'
 complete -c kbsim -n "__fish_seen_subcommand_from write" -l kind -d 'The kind of the report' -r -f -a "{input	,output	,feature	}"
 complete -c kbsim -n "__fish_seen_subcommand_from write" -l onto -d 'The report whose other bits stay' -r

@@ -15,6 +15,10 @@ static const uint8_t text[] = {
 /* Left Shift, A and B. */
 static const uint8_t report[] = {0x02, 0x00, 0x04, 0x05, 0x00, 0x00, 0x00, 0x00};
 
+/* A dial of 0 to 15 for 0 to 270 degrees. */
+static const uint8_t dial[] = {0x05, 0x01, 0x09, 0x37, 0xa1, 0x01, 0x09, 0x37, 0x25, 0x0f, 0x46, 0x0e, 0x01,
+                               0x65, 0x14, 0x75, 0x08, 0x95, 0x01, 0x81, 0x02, 0xc0};
+
 /* The descriptor of the text, or 0, and why. */
 static hidr_descriptor read_in_packets(void) {
     hidr_parser parser;
@@ -59,6 +63,21 @@ static void show_report(hidr_descriptor descriptor) {
         printf("  %08" PRIx32 "\n", on[number]);
 }
 
+/* A value in its unit, and back. */
+static void show_degrees(void) {
+    hidr_reader reader;
+    hidr_fraction exact;
+    int64_t raw;
+    if (hidr_reader_open(dial, sizeof dial, &reader, NULL) != HIDR_OK)
+        return;
+    if (hidr_physical(reader, 0, 5, &exact) == HIDR_OK)
+        printf("5 of the dial: %" PRId64 "/%" PRId64 "e%" PRId64 " degrees\n", exact.numerator, exact.denominator, exact.exponent);
+    if (hidr_value_of(reader, 0, 90, 1, &raw) == HIDR_OK)
+        printf("90 degrees: %" PRId64 " of the dial\n", raw);
+    printf("91 degrees: %s\n", hidr_status_name(hidr_value_of(reader, 0, 91, 1, &raw)));
+    hidr_close(reader);
+}
+
 int main(void) {
     static const uint8_t wrong[] = {0x05, 0x01, 0xc0};
     hidr_descriptor descriptor = read_in_packets(), other;
@@ -68,6 +87,7 @@ int main(void) {
         return 1;
     show_fields(descriptor);
     show_report(descriptor);
+    show_degrees();
 
     /* What is refused is told, and nothing has changed. */
     printf("a short report: %s\n", hidr_status_name(hidr_pressed(descriptor, report, 3, NULL, 0, &count)));

@@ -70,7 +70,8 @@ enum {
     HIDR_NO_SYSTEM = 25,       /* the unit has exponents, and no system */
     HIDR_RESERVED_SYSTEM = 26, /* the system of the unit is reserved: 5 to 14 */
     HIDR_VENDOR_SYSTEM = 27,   /* the system of the unit is the vendor's: 15 */
-    HIDR_OVERLAP = 28          /* what is read and what is written share memory, and may not */
+    HIDR_OVERLAP = 28,         /* what is read and what is written share memory, and may not */
+    HIDR_NO_STEP = 29          /* no value of the field is just so much in its unit, or several are */
 };
 
 /* The first fault of a text: 1 to 16, which hidr_fault_name names, and the offset in bytes of the item that it falls on. */
@@ -154,8 +155,9 @@ hidr_status hidr_extract(hidr_descriptor descriptor, const uint8_t *report, size
 hidr_status hidr_pressed(hidr_descriptor descriptor, const uint8_t *report, size_t length, uint32_t *into, size_t room,
                          size_t *count);
 
-/* ---- A reader: what fields mean, values, and reports from values. What a descriptor declares, a value in its unit and a
- * report that is written come from a proved source; the values of a report, names, and this edge to C are tested, not proved.
+/* ---- A reader: what fields mean, values, and reports from values. What a descriptor declares, a value in its unit, the
+ * values of a report and a report that is written come from a proved source; names, the value that is so much in a unit, and this
+ * edge to C are tested, not proved.
  * ---- */
 
 /* The reader of a whole text of at most 4,096 bytes: a handle, to be closed. HIDR_FAULT with the first fault of the text in
@@ -317,9 +319,14 @@ typedef struct hidr_fraction {
  * of extents that are very wide. */
 hidr_status hidr_physical(hidr_reader reader, size_t field, int64_t raw, hidr_fraction *into);
 
-/* The same as a decimal, cut off after so many digits behind the point, at most 18, as a text like a name's: at most 63
- * characters. With `e` and the power of ten behind it where that is beyond 18 either way, or the whole would have more than 38
- * digits. HIDR_ABSENT; HIDR_EQUAL_LIMITS, HIDR_INVERTED_LIMITS. */
+/* The value within the logical extents that is just numerator / denominator in the unit, without a power of ten: hidr_physical
+ * of it, times its power, is that. HIDR_ABSENT; HIDR_EQUAL_LIMITS, HIDR_INVERTED_LIMITS; HIDR_NO_STEP where there is none, or not
+ * one alone, or the denominator is 0. */
+hidr_status hidr_value_of(hidr_reader reader, size_t field, int64_t numerator, uint64_t denominator, int64_t *raw);
+
+/* What hidr_physical gives as a decimal, cut off after so many digits behind the point, at most 18, as a text like a name's: at
+ * most 63 characters. With `e` and the power of ten behind it where that is beyond 18 either way, or the whole would have more
+ * than 38 digits. HIDR_ABSENT; HIDR_EQUAL_LIMITS, HIDR_INVERTED_LIMITS. */
 hidr_status hidr_decimal(hidr_reader reader, size_t field, int64_t raw, uint32_t digits, char *into, size_t room, size_t *length);
 
 /* Which control a setting is about: that which has this usage, the page in the high half, where `place` counts what in the
@@ -345,7 +352,7 @@ typedef struct hidr_setting {
  * HIDR_NO_UNUSED with the field in *which; and with the number of the setting in *which HIDR_UNKNOWN_CONTROL, HIDR_TWICE,
  * HIDR_NO_NULL, HIDR_TOO_LARGE, HIDR_OUT_OF_RANGE; of a usage of an array HIDR_UNKNOWN_CONTROL, HIDR_NO_NULL,
  * HIDR_OUT_OF_RANGE where it is set to neither 0 nor 1, HIDR_TOO_LARGE, HIDR_OUT_OF_RANGE, HIDR_NO_ROOM where each place names
- * another usage, or none can name none, HIDR_TWICE. */
+ * another usage or is set, or none can name none, HIDR_TWICE. */
 hidr_status hidr_write(hidr_reader reader, uint8_t kind, uint8_t id, const hidr_setting *settings, size_t count,
                        const uint8_t *onto, size_t onto_length, uint8_t *into, size_t room, size_t *length, size_t *which);
 

@@ -157,7 +157,8 @@ class Writer:
         if not asked and unused(item) is None:
             raise NotWritten("no-room", number)
         if asked:
-            free = [place for place, name in enumerate(named) if name is None or name & 0xFFFF == 0]
+            none = [place for place, name in enumerate(named) if name is None or name & 0xFFFF == 0]
+            free = [place for place in none if (place_of_field, place) not in self.set]
             having = (having or free)[:1]
             if not having:
                 raise NotWritten("no-room", number)

@@ -18,6 +18,7 @@ import lines
 import rattle
 import reading
 import results
+import storing
 from comparing import say
 
 FILE = f"{builds.BENCH}/results.tsv"
@@ -31,7 +32,7 @@ def measured_chips(target):
     return chips.Keyboards(builds.room(), target).rows()
 
 
-OTHERS = {**rattle.SECTIONS, **lines.SECTIONS, **reading.SECTIONS}
+OTHERS = {**rattle.SECTIONS, **lines.SECTIONS, **reading.SECTIONS, **storing.SECTIONS}
 
 
 def measured_elsewhere(name):

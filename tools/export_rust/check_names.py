@@ -22,12 +22,14 @@ from by_hand import RUST
 KNOWN = {"None", "Some", "Ok", "Err", "Display", "Debug", "Clone", "no_std", "unsafe", "std::simd", "cargo test", "clap",
          "embedded_storage", "embedded_storage::nor_flash", "embedded_storage::nor_flash::NorFlash", "AlreadyExists", "u64::MAX"}
 
-# What stands in backticks and names nothing of Rust, by crate: parts of lines that are printed or read, words of them, and programs
-# whose output is read.
+# Programs and files of Linux, whose output is read.
+LINUX = {"hexdump", "od", "rdesc", "xxd"}
+
+# What stands in backticks and names nothing of Rust, by crate: parts of lines that are printed or read, and words of them.
 WORDS = {
-    "kbsim": {"array", "bound", "feature", "first-last", "input", "most", "negative", "output", "packet", "variable", "count",
-              "hexdump", "od", "rdesc", "xxd"},
+    "kbsim": LINUX | {"array", "bound", "feature", "first-last", "input", "most", "negative", "output", "packet", "variable", "count"},
     "wuzhikar-device": {"ack"},
+    "wuzhikar-hid": LINUX,
     "wuzhikar-reader": {"_in", "try_"},
 }
 

@@ -14,11 +14,13 @@ NARROW = "i686-unknown-linux-gnu"
 # What to install where a library can't be made.
 SOURCES = "Debian: rustc-web and rust-web-src, of 1.96; the sources of 1.85 have no compiler_builtins"
 
-# Of each program for chips: its folder in examples/, its targets, and bytes of text that it is no smaller than.
+# Of each program for chips: its folder in examples/, its targets, and bytes of text that it is no smaller than: nine tenths of what
+# it takes. What no interrupt can ask for the compiler leaves out: without the mailbox of settings_stm32g0 no call stores, and 1,812
+# bytes are left.
 PROGRAMS = {
-    "firmware": ("firmware", BARE, 10_000),
-    "chip_nrf51": ("chip_nrf51", ("thumbv6m-none-eabi",), 10_000),
-    "settings_stm32g0": ("settings", ("thumbv6m-none-eabi",), 1_500),
+    "firmware": ("firmware", BARE, 13_000),
+    "chip_nrf51": ("chip_nrf51", ("thumbv6m-none-eabi",), 13_800),
+    "settings_stm32g0": ("settings", ("thumbv6m-none-eabi",), 6_300),
 }
 
 
@@ -50,7 +52,7 @@ def build_bare(room, name, target, more):
     told = room.run(["size", room.program(name, target)]).decode().split("\n")[1]
     text, initialized = map(int, told.split()[:2])
     if text < least:
-        raise Failed(f"{name} for {target} has {text} bytes of text, which is no firmware")
+        raise Failed(f"{name} for {target} has {text} bytes of text, and should have {least}: does anything leave a request?")
     if initialized:
         raise Failed(f"{name} for {target} has {initialized} bytes of initialized data: what it keeps in RAM is to begin as zeros, "
                      "by `unstarted` in tools/export_rust/rules.py")

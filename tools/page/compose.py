@@ -10,7 +10,7 @@ from . import core
 ROOT = core.ROOT
 FOLDER = ROOT / "web/page"
 PAGE = ROOT / "web/wuzhikar.html"
-LIMIT = 300_000
+LIMIT = 340_000
 FIRST = "app.js"
 BUILT = "built.js"
 IMPORT = re.compile(r'^import \{([^}]*)\} from "\./([a-z_]+\.js)";\n', re.M)

@@ -11,7 +11,7 @@ import tempfile
 ROOT = pathlib.Path(__file__).resolve().parent.parent.parent
 CORE = ROOT / "web/core"
 SOURCES = ROOT / "web/SOURCES"
-CRATES = ["rust/wuzhikar", "rust/wuzhikar-log", "rust/wuzhikar-reader"]
+CRATES = ["rust/wuzhikar", "rust/wuzhikar-hid", "rust/wuzhikar-log", "rust/wuzhikar-reader"]
 TARGET = "wasm32-unknown-unknown"
 REGISTRY = pathlib.Path("/usr/share/cargo/registry")
 HEAD = "# What the WebAssembly module of web/wuzhikar.html was made from, written by bin/build-page.\n"

@@ -84,9 +84,9 @@ def tests(text):
 def stated_by(path, text):
     """What a file states: pairs of a kind and a name."""
     parts = path.split("/")
-    if path.startswith("tests/") and path != "tests/extremes.txt" and not path.endswith(".edit"):
+    if path.startswith("tests/") and path != "tests/extremes.txt" and not path.endswith((".edit", ".rs")):
         yield from (("row", line.strip()) for line in text.split("\n"))
-    if path.startswith("rust/tests/") and path.endswith(".rs"):
+    if path.startswith(("rust/tests/", "tests/")) and path.endswith(".rs"):
         yield from (("test", name) for name in tests(text))
         yield from (("row", line.strip()) for line in texts_in(text))
     if parts[0] != "crates" or len(parts) < 3:

@@ -6,7 +6,7 @@ import { Device } from "./device.js";
 import { $, chooser, h, set } from "./dom.js";
 import { reportPicture, reportsOf } from "./bits_view.js";
 import { itemLines } from "./items.js";
-import { bytesOfFile, bytesOfText } from "./paste.js";
+import { bytesOfFile, bytesOfReport, bytesOfText } from "./paste.js";
 import { Descriptor, FAULTS, bootDescriptor, itemsOf } from "./reader.js";
 import { usageName } from "./usages.js";
 
@@ -16,6 +16,20 @@ const MOST_ITEMS = 1000, MOST_REPORTS = 64, MOST_FOUND = 256;
 
 /** Bytes in rows of 16. */
 const rows = (bytes) => bytesHex(bytes).replace(/(..)/g, "$1 ").replace(/(.{48})/g, "$1\n").trim();
+
+/**
+ * The values of a report as they are shown: those of variable places, and the usages that arrays name.
+ * @param {Descriptor} descriptor
+ * @param {Uint8Array} report
+ */
+function valuesOf(descriptor, report) {
+    const isNamed = ({ field, usage }) => !descriptor.fields[field].array || (usage !== null && usage % 0x10000 !== 0);
+    return descriptor.read(report).filter(isNamed).map(({ field, place, usage, value, within }) => {
+        const number = descriptor.fields[field].array ? 1 : value;
+        const says = within === "null" ? "null" : within === "out" ? `${number} (out of range)` : String(number);
+        return { name: usage === null ? `f${field}[${place}]` : usageName(usage), code: usage === null ? "" : hex(usage, 8), says, on: within !== "null" && number !== 0 };
+    });
+}
 
 /** The view of a report descriptor. */
 export function describeView() {
@@ -66,9 +80,9 @@ export function describeView() {
         if (!text) return say("Paste an input report in hex.", "");
         if (!descriptor) return say("A report is read by a descriptor without a fault.", "bad");
         try {
-            const bytes = bytesOfText(text), found = descriptor.read(bytes), on = found.filter(({ value }) => value !== 0).length;
-            const shown = [...found].sort((one, other) => Number(other.value !== 0) - Number(one.value !== 0)).slice(0, MOST_FOUND);
-            $("found").replaceChildren(...shown.map(({ usage, value }) => h("li", { class: value ? "on" : "" }, h("b", {}, String(value)), ` ${usageName(usage)} `, h("code", {}, hex(usage, 8)))));
+            const bytes = bytesOfReport(text), found = valuesOf(descriptor, bytes), on = found.filter((value) => value.on).length;
+            const shown = [...found].sort((one, other) => Number(other.on) - Number(one.on)).slice(0, MOST_FOUND);
+            $("found").replaceChildren(...shown.map(({ name, code, says, on }) => h("li", { class: on ? "on" : "" }, h("b", {}, says), ` ${name} `, ...(code ? [h("code", {}, code)] : []))));
             const rest = bytes.length - descriptor.reportLength(1, descriptor.usesIds ? bytes[0] : 0);
             const more = rest > 0 ? ` ${counted(rest, "byte")} behind its end ${rest === 1 ? "is" : "are"} no part of it.` : "";
             say(`${counted(found.length, "value")}, ${on} not 0.${more}`, "good");

@@ -12,20 +12,25 @@ export const FAULTS = [
     "MixedIds: data items with and without a Report ID", "CollectionOpen: the text ends within a collection", "TooLong: the text has more than 4,096 bytes",
     "Memory: there was no memory for it",
 ];
-const REFUSALS = ["", "a report has a byte at least", "no input report has the ID that it begins with", "it is shorter than the descriptor says", "there was no memory for it"];
+const REFUSALS = ["", "a report has a byte at least", "the descriptor has no such input report", "it is shorter than the descriptor says", "there was no memory for it"];
 export const KINDS = ["", "input", "output", "feature"];
+const WITHIN = ["range", "null", "out"];
 /** The most bytes that the module takes, and hands over at once. */
-const ROOM = 8 * 4096;
+export const ROOM = 8 * 4096;
 
 /**
  * A field as the reader gives it.
  * @typedef {{number: number, kind: number, id: number, array: boolean, size: number, bit: number, count: number, min: number, max: number}} Field
  */
 
-class Instance {
+export class Instance {
     constructor() {
         /** @type {any} */
         this.calls = new WebAssembly.Instance(core, {}).exports;
+    }
+    /** A copy of the first bytes that the module handed over. */
+    bytes(length) {
+        return new Uint8Array(this.calls.memory.buffer, this.calls.buffer(), length).slice();
     }
     view(length) {
         return new DataView(this.calls.memory.buffer, this.calls.buffer(), length);
@@ -58,7 +63,7 @@ export function itemsOf(text) {
 /** The report descriptor by which a computer reads boot reports. */
 export function bootDescriptor() {
     const instance = new Instance();
-    return new Uint8Array(instance.calls.memory.buffer, instance.calls.buffer(), instance.calls.boot_descriptor()).slice();
+    return instance.bytes(instance.calls.boot_descriptor());
 }
 
 export class Descriptor {
@@ -110,11 +115,14 @@ export class Descriptor {
         }
     }
     /**
-     * The usages of an input report with their values. Throws `Refused` for a report that the descriptor does not declare.
+     * The values of an input report, in its order; `usage` is null where there is none. Throws `Refused` for a report that the descriptor does not declare.
      * @param {Uint8Array} report
      */
     read(report) {
-        return this.found(report, this.instance.calls.read, 12, (view, at) => ({ usage: view.getUint32(at, true), value: Number(view.getBigInt64(at + 4, true)) }));
+        return this.found(report, this.instance.calls.read, 18, (view, at) => ({
+            field: view.getUint16(at, true), place: view.getUint16(at + 2, true), usage: view.getUint8(at + 16) ? view.getUint32(at + 4, true) : null,
+            value: Number(view.getBigInt64(at + 8, true)), within: WITHIN[view.getUint8(at + 17)],
+        }));
     }
     /**
      * The usages that are on in an input report, rising.

@@ -60,9 +60,16 @@ class Described(PageTest):
         array = "/* a mouse */ static const uint8_t mouse[] PROGMEM = {\n" + ", ".join(f"0x{pair.upper()}" for pair in pairs) + ", // the end\n};"
         decimal = "{ " + ", ".join(str(byte) for byte in bytes_) + " }"
         rows = [bytes_[at:at + 16] for at in range(0, len(bytes_), 16)]
-        xxd = "".join(f"{16 * n:08x}: {' '.join(row[at:at + 2].hex() for at in range(0, len(row), 2)):<39}  {'.' * len(row)}\n" for n, row in enumerate(rows))
-        dump = "".join(f"{16 * n:08x}  {row[:8].hex(' ')}  {row[8:].hex(' ')}  |{'.' * len(row)}|\n" for n, row in enumerate(rows)) + f"{len(bytes_):08x}\n"
-        for text in ("".join(pairs), MOUSE.replace(" ", ", "), "0x" + " 0x".join(pairs), " ".join(f"{pair}h" for pair in pairs), array, decimal, xxd, dump, "# a comment\n" + MOUSE):
+        shown = ["".join(chr(byte) if 32 <= byte < 127 else "." for byte in row) for row in rows]
+        xxd = "".join(f"{16 * n:08x}: {' '.join(row[at:at + 2].hex() for at in range(0, len(row), 2)):<39}  {shown[n]}\n" for n, row in enumerate(rows))
+        dump = "".join(f"{16 * n:08x}  {row[:8].hex(' ')}  {row[8:].hex(' ')}  |{shown[n]}|\n" for n, row in enumerate(rows)) + f"{len(bytes_):08x}\n"
+        rust = f"const MOUSE: [u8; {len(bytes_)}] = [" + ", ".join(f"0x{pair}" for pair in pairs) + ",];"
+        rdesc = f"{MOUSE} \n\n  INPUT[INPUT]\n    Field(0)\n      Application(GenericDesktop.Mouse)\n"
+        usbhid_dump = "001:002:000:DESCRIPTOR         1303325321.298640\n" + "".join(f" {row.hex(' ').upper()}\n" for row in rows) + "\n"
+        recorder = f"D: 0\nR: {len(bytes_)} {MOUSE}\nN: a mouse\nP: usb-0\nI: 3 046d c077\nE: 000000.000000 3 01 05 fd\n"
+        written = ("".join(pairs), MOUSE.replace(" ", ", "), "0x" + " 0x".join(pairs), " ".join(f"{pair}h" for pair in pairs), array, decimal, xxd, dump,
+                   "# a comment\n" + MOUSE, rust, rdesc, usbhid_dump, recorder)
+        for text in written:
             with self.subTest(text[:40]):
                 self.describe("05", re.compile("Fault 1 at byte 0 .*"))
                 self.describe(text, IS_MOUSE)
@@ -82,12 +89,22 @@ class Described(PageTest):
         self.shows("#report-said", "A report is read by a descriptor without a fault.")
 
     def test_what_is_no_text_of_bytes(self):
-        for text, why in (("", "there is no byte in it"), ("05 zz", '"zz" is no byte'), ("{ 0x05, 300 }", '"300" is no byte'), ("5 1", '"5" is no byte')):
+        for text, why in (("", "there is no byte in it"), ("05 zz", "line 1, column 4: z is no hex digit"), ("5 1 0", "line 1, column 5: the text has 3 hex digits, and a byte takes two"),
+                          ("{ 0x05,\n300 }", "line 2, column 1: 300 is no byte; those are 0x0 to 0xff, or 0 to 255 without a 0 in front"),
+                          ("05 01 \u00e9", "it has characters that no form of bytes has"), ("R: 3 05 01\n", "line 1, column 4: 3 is not the number of the bytes, which is 2")):
             self.describe(text, f"This is no report descriptor: {why}.")
+
+    def test_a_value_that_is_none(self):
+        """A hat of 1 to 8 with Null State, four bits without a usage, and a place of 0 to 9."""
+        self.describe("05 01 09 39 15 01 25 08 75 04 95 01 81 42 15 00 25 0f 81 02 09 30 25 09 75 08 81 02", re.compile(".*3 fields, 1 report. No fault."))
+        self.b.choose("#report", "30 0a")
+        self.shows("#report-said", "3 values, 2 not 0.")
+        found = self.b.js("[...document.querySelectorAll('#found li')].map((one) => one.textContent)")
+        self.assertEqual(found, ["3 f1[0] ", "10 (out of range) X 00010030", "null Hat Switch 00010039"])
 
     def test_reports_that_are_refused(self):
         self.b.click("#own-descriptor")
-        for report, why in (("09 00", "no input report has the ID that it begins with"), ("01 02", "it is shorter than the descriptor says"), ("xy", '"xy" is no byte')):
+        for report, why in (("09 00", "the descriptor has no such input report"), ("01 02", "it is shorter than the descriptor says"), ("xy", "line 1, column 1: x is no hex digit")):
             self.b.choose("#report", report)
             self.shows("#report-said", f"This report is not read: {why}.")
 

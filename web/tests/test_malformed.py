@@ -111,10 +111,10 @@ class Malformed(PageTest):
                         try {{ page.bytesOfText(text); }} catch (fault) {{ said = fault instanceof page.Refused ? fault.message : String(fault); }}
                         return [said, performance.now() - begun];
                     }})()""")
-                    self.assertRegex(said, "^$|no byte|at most 4,096")
+                    self.assertRegex(said, r"^$|no byte|at most 4,096|^line \d+, column \d+: |no form of bytes")
                     self.assertLess(took, 5000)
         self.assertEqual(self.b.js("page.bytesHex(page.bytesOfText('05 /* a // b */ 01 // c /*\\n 09 06 // */'))"), "05010906")
-        self.assertEqual(self.b.js("[...page.bytesOfText('00000000 ' + '05 '.repeat(30000))].length"), 30000)
+        self.assertEqual(self.b.js("[...page.bytesOfText('05 '.repeat(30000))].length"), 30000)
 
     def test_a_descriptor_with_the_most_of_all(self):
         """256 fields of 1,024 places: drawn as far as it says, and quickly."""
@@ -156,7 +156,7 @@ class NoHtml(PageTest):
         self.view("Describe")
         for text in (HTML, f"05 01 {HTML}", "{ " + HTML + " }"):
             self.b.choose("#descriptor", text)
-            self.shows("#described", re.compile(".*is no byte\\."))
+            self.shows("#described", re.compile(".*is no (hex digit|byte; .+)\\."))
         self.b.click("#own-descriptor")
         self.b.choose("#report", HTML)
         self.frame()

@@ -99,7 +99,7 @@ impl ControlEp {
     ghost use Rattle.control_ep.specs.Stands.{is_offered};
     ghost use Rattle.control_ep.specs.ties.Stands.{StandsFor};
 
-    /// An endpoint at its start: no transfer is under way, and an IN or OUT packet is answered by
+    /// Makes an endpoint at its start: no transfer is under way, and an IN or OUT packet is answered by
     /// `Stall(WrongStage)` until a SETUP packet comes.
     #[tactic(auto, using(crate::proofs::Moves::nothing_begun))]
     pub fn new() -> ControlEp
@@ -124,7 +124,8 @@ impl ControlEp {
         self.setup_from(setup, view);
     }
 
-    /// `setup` for a device that is asked for what is read, and for nothing else.
+    /// Takes a SETUP packet as `setup` does, for a device that is asked for what is read, and for nothing
+    /// else.
     #[tactic(auto, using(crate::proofs::Next::next_setup))]
     pub fn setup_from<D: DeviceReports>(&mut self, setup: [u8; 8], device: &D)
         ensures stands { (view : DeviceView) (past : List EpCall) → D.shows device.now view → StandsFor past self.old
@@ -175,11 +176,11 @@ impl ControlEp {
         self.answer_out(packet)
     }
 
-    /// The answer to the packet that `out` has just offered; to be called next after the offer. `Done`
-    /// and `Working` are `Ack`, `Busy` is `Nak` and leaves the report to be sent again, and `Refused` is
-    /// a `Stall` with its reason, which leaves the transfer stalled. Where no feature report is due the
-    /// verdict is out of place: a `Stall` with the reason of a transfer that is stalled already, else
-    /// with `WrongStage`, which stalls the transfer.
+    /// Answers the packet that `out` has just offered, and is to be called next after the offer. `Done`
+    /// and `Working` are `Ack`, `Busy` is `Nak` and leaves the report to be sent again, and `Refused` is a
+    /// `Stall` with its reason, which leaves the transfer stalled. Where no feature report is due the
+    /// verdict is out of place: a `Stall` with the reason of a transfer that is stalled already, else with
+    /// `WrongStage`, which stalls the transfer.
     #[tactic(auto, using(crate::proofs::Next::next_verdict, crate::proofs::Next::feature_due))]
     pub fn verdict(&mut self, verdict: Verdict) -> EpAnswer
         ensures answer { result ≡ verdict_answer self.old verdict }
@@ -190,7 +191,7 @@ impl ControlEp {
         self.judge(verdict)
     }
 
-    /// The command that works has settled: the status packet of its transfer is due, if the transfer
+    /// Tells that the command at work is stored: the status packet of its transfer is due, if the transfer
     /// still waits for it. Any other transfer stays as it is.
     #[tactic(auto, using(crate::proofs::Moves::settled))]
     pub fn settle(&mut self)
@@ -201,8 +202,8 @@ impl ControlEp {
         self.end_command(Stage::Status(Effect::Nothing));
     }
 
-    /// The command that works has failed: its transfer is stalled with `FlashFault`, if it still waits
-    /// for it. Any other transfer stays as it is.
+    /// Tells that the command at work has failed: its transfer is stalled with `FlashFault`, if it still
+    /// waits for it. Any other transfer stays as it is.
     #[tactic(auto, using(crate::proofs::Moves::failed))]
     pub fn fail(&mut self)
         ensures stands { (past : List EpCall) → StandsFor past self.old
@@ -212,7 +213,8 @@ impl ControlEp {
         self.end_command(Stage::Stalled(Why::FlashFault));
     }
 
-    /// A bus reset (USB 2.0 section 7.1.7.5): no transfer is under way, as in an endpoint at its start.
+    /// Takes a bus reset (USB 2.0 section 7.1.7.5): no transfer is under way, as in an endpoint at its
+    /// start.
     #[tactic(auto, using(crate::proofs::Next::next_reset))]
     pub fn reset(&mut self)
         ensures stands { (past : List EpCall) → StandsFor past self.old

@@ -21,7 +21,7 @@ pub struct Edges {
 }
 
 impl Edges {
-    /// Whether no key changed.
+    /// Returns whether no key changed.
     pub fn is_none(&self) -> bool
         ensures released { result ≡ true → (key : ℕ) → key < 96 → has self.now.released key ≡ false }
         ensures pressed { result ≡ true → (key : ℕ) → key < 96 → has self.now.pressed key ≡ false }
@@ -59,7 +59,7 @@ impl Model for Debouncer {
 impl Debouncer {
     ghost use Rattle.debounce.specs.ties.Stands.{StandsFor};
 
-    /// Every key up, before the first scan.
+    /// Makes a debouncer before its first scan: every key is up.
     pub fn new() -> Debouncer
         ensures { StandsFor [] result }
     {
@@ -85,7 +85,7 @@ impl Debouncer {
         }
     }
 
-    /// Whether a key, one of 0 to 95, is down.
+    /// Returns whether a key, one of 0 to 95, is down.
     pub fn is_down(&self, key: u8) -> bool
         requires { key < 96 }
         ensures { (scans : List Scan) → StandsFor scans self.now → result ≡ down scans key }
@@ -93,8 +93,8 @@ impl Debouncer {
         self.matrix.is_down(key)
     }
 
-    /// The planes of the counts: bit c of row r of plane p is bit p of how many of the latest samples
-    /// of key 16 * r + c are equal, counted to five.
+    /// Returns the planes of the counts: bit c of row r of plane p is bit p of how many of the latest
+    /// samples of key 16 * r + c are equal, counted to five.
     pub fn planes(&self) -> &[[u16; 6]; 3]
         ensures { (scans : List Scan) → StandsFor scans self.now → (plane key : ℕ) → plane < 3 → key < 96
             → bit_at (slice_index (slice_index_or result.now plane []) (key / 16)) (key % 16)

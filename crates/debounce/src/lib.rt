@@ -35,7 +35,7 @@ impl Scan {
     /// A scan with no key pressed.
     pub const NONE: Scan = Scan { rows: [0; 6] };
 
-    /// Whether this scan has a key, one of 0 to 95.
+    /// Returns whether this scan has a key, one of 0 to 95.
     #[tactic(auto, unfolding(crate::specs::Scans::has))]
     pub fn has(&self, key: u8) -> bool
         requires { key < 96 }
@@ -44,14 +44,14 @@ impl Scan {
         (self.rows[key as usize / 16] >> (key % 16)) & 1 == 1
     }
 
-    /// The numbers of its keys, in rising order, at most 96.
+    /// Returns the numbers of its keys, in rising order, at most 96.
     pub fn keys(&self) -> Keys
         ensures { result ≡ set_keys self.now }
     {
         KeySet::of(self).keys()
     }
 
-    /// This scan, with a key, one of 0 to 95, too where `on` says so.
+    /// Returns this scan, with a key, one of 0 to 95, too where `on` says so.
     #[tactic(auto, unfolding(crate::specs::Scans::has))]
     pub fn with(self, key: u8, on: bool) -> Scan
         requires { key < 96 }

@@ -45,7 +45,7 @@ pub enum ParseFault {
 }
 
 impl ParseFault {
-    /// The number of the fault, 1 to 17.
+    /// Returns the number of the fault, 1 to 17.
     pub fn number(self) -> u8
         ensures { result ≡ number_of self }
     {

@@ -18,14 +18,15 @@ pub struct FieldUsages<'a> {
 }
 
 impl<'a> FieldUsages<'a> {
-    /// The usages one by one.
+    /// Returns the usages one by one.
     pub fn usages(&self) -> Usages<'a>
         ensures { result ≡ usage_list self.now.ranges.now }
     {
         Usages::new(self.ranges)
     }
 
-    /// The usage of a place of a variable field, or usage `place` of an array's list; `None` for what does not exist.
+    /// Returns the usage of a place of a variable field, or usage `place` of an array's list; `None` for what does not
+    /// exist.
     ///
     /// In a variable field the last usage serves the places that are left (HID 1.11, 6.2.2.8). The time grows with the
     /// logarithm of the number of ranges.
@@ -35,7 +36,7 @@ impl<'a> FieldUsages<'a> {
         place_usage(&self.field, self.ranges, self.counts, place)
     }
 
-    /// The usage with this number in the list that the ranges make, whatever the field is.
+    /// Returns the usage with this number in the list that the ranges make, whatever the field is.
     ///
     /// The time grows with the logarithm of the number of ranges.
     #[inline(always)]

@@ -22,7 +22,7 @@ pub struct Item<'a> {
 }
 
 impl Item<'_> {
-    /// What the item is, by its prefix.
+    /// Returns what the item is, by its prefix.
     pub fn tag(&self) -> Tag
         ensures { result ≡ tag_of self.now.prefix }
     {
@@ -50,7 +50,7 @@ impl<'a> Model for Items<'a> {
 }
 
 impl<'a> Items<'a> {
-    /// The items of `text`.
+    /// Cuts a text into its items.
     pub fn new(text: &'a [u8]) -> Items<'a>
         ensures { result ≡ items_at 0 text.now }
     {

@@ -26,7 +26,7 @@ impl Parser {
     ghost use Rattle.descriptor_parse.specs.Parse.{Answers, MayGoOn};
     ghost use Rattle.descriptor_parse.specs.ties.StandsFor.{StandsFor, HasRefused};
 
-    /// A parser that was fed nothing; it takes no memory yet.
+    /// Makes a parser that was fed nothing. It takes no memory yet.
     pub fn new(alloc: Global) -> Parser
         ensures { StandsFor [] result }
     {

@@ -67,12 +67,12 @@ pub trait EccFlash {
     /// each flash's own: of one whose power fails, that nothing is made behind that.
     ghost operates: { Self → UnitOperation → Self → Type 0 };
 
-    /// How many pages there are, 2 to 8.
+    /// Returns how many pages there are, 2 to 8.
     fn pages(&self) -> usize
         ensures count { result ≡ page_total self.now }
         ensures range { (2 ≤ page_total self.now) × (page_total self.now ≤ 8) };
 
-    /// What unit `unit`, 0 to 1,023, of page `page` reads as; `None` where that is an error.
+    /// Returns what unit `unit`, 0 to 1,023, of page `page` reads as; `None` where that is an error.
     fn read_unit(&self, page: usize, unit: usize) -> Option<[u8; UNIT_BYTES]>
         requires in_pages { page < page_total self.now }
         requires in_page { unit < PAGE_UNITS }

@@ -40,8 +40,8 @@ impl<F: EccFlash + Drop> Model for PairedFlash<F> {
 }
 
 impl<F: EccFlash + Drop> PairedFlash<F> {
-    /// The adapter of a flash that `format` made, and that nothing but such an adapter wrote to since.
-    /// It writes nothing; both counts are 0.
+    /// Makes the adapter of a flash that `format` made, and that nothing but such an adapter wrote to
+    /// since. It writes nothing; both counts are 0.
     pub fn mount(flash: F) -> PairedFlash<F>
         requires { AllKept (F.units flash) (F.page_total flash) }
         ensures { result ≡ (flash, 0, 0) }
@@ -54,7 +54,7 @@ impl<F: EccFlash + Drop> PairedFlash<F> {
         }
     }
 
-    /// The adapter of any flash, whatever it holds: all of it is erased, and what it held is lost.
+    /// Erases all of a flash, whatever it holds, and makes its adapter. What it held is lost.
     ///
     /// `FlashFault`: a page does not read as erased, or the flash told of a fault. On a healthy flash
     /// that does not come.
@@ -69,7 +69,7 @@ impl<F: EccFlash + Drop> PairedFlash<F> {
         Ok(PairedFlash::mount(flash))
     }
 
-    /// The flash, with what was written to it.
+    /// Returns the flash, with what was written to it.
     pub fn into_flash(self) -> F
         ensures same { result ≡ self.0 }
         ensures kept { AllKept (F.units result) (F.page_total result) }

@@ -57,12 +57,12 @@ pub trait NorFlash {
     /// counts is each flash's own: of a simulated one, by which mask it was torn.
     ghost operates: { Self → FlashOperation → Self → Type 0 };
 
-    /// How many pages there are, 2 to 8.
+    /// Returns how many pages there are, 2 to 8.
     fn pages(&self) -> usize
         ensures count { result ≡ page_count (image self.now) }
         ensures whole { IsImage (image self.now) };
 
-    /// The eight bytes of slot `slot`, 0 to 511, of page `page`, below `pages()`.
+    /// Reads the eight bytes of slot `slot`, 0 to 511, of page `page`, below `pages()`.
     fn read_slot(&self, page: usize, slot: usize) -> [u8; SLOT_BYTES]
         requires in_pages { page < page_count (image self.now) }
         requires in_page { slot < PAGE_SLOTS }

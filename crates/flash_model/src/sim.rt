@@ -50,7 +50,8 @@ impl Model for SimFlash {
 }
 
 impl SimFlash {
-    /// A blank flash of `pages` pages, every byte FFh, with nothing armed and no operation counted.
+    /// Makes a blank flash of `pages` pages, every byte FFh, with nothing armed and no operation
+    /// counted.
     ///
     /// `PageCount` where `pages` is not 2 to 8, asked first; `Memory` where there was no memory for
     /// the 4,096 bytes of each page.
@@ -73,7 +74,7 @@ impl SimFlash {
         }
     }
 
-    /// A flash that holds these bytes, with nothing armed and no operation counted.
+    /// Makes a flash that holds these bytes, with nothing armed and no operation counted.
     ///
     /// `ImageSize` where they are not 2 to 8 whole pages of 4,096 bytes; the bytes are then dropped.
     pub fn from_image(bytes: Vec<u8>) -> Result<SimFlash, FlashError>
@@ -93,7 +94,7 @@ impl SimFlash {
         })
     }
 
-    /// The bytes of the pages, one page after the other.
+    /// Returns the bytes of the pages, one page after the other.
     pub fn image(&self) -> &[u8]
         ensures { result.now ≡ self.now.image }
     {

@@ -31,7 +31,7 @@ impl Host {
     ghost use Rattle.host.specs.Reads.{Reads, text_by};
     ghost use Rattle.host.specs.ties.StandsFor.{StandsFor};
 
-    /// A host that keeps no descriptor.
+    /// Makes a host that keeps no descriptor.
     pub fn new(alloc: Global) -> Host
         ensures { StandsFor [] result }
     {

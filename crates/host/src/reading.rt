@@ -27,7 +27,7 @@ impl UsageList {
         UsageList { usages }
     }
 
-    /// The usages.
+    /// Returns the usages.
     pub fn as_slice(&self) -> &[u32]
         ensures { result.now ≡ self.now }
     {

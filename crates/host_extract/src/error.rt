@@ -24,7 +24,7 @@ pub enum ExtractError {
 }
 
 impl ExtractError {
-    /// The number of the refusal, 1 to 4.
+    /// Returns the number of the refusal, 1 to 4.
     pub fn number(self) -> u8
         ensures { result ≡ number_of self }
     {

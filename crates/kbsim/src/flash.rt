@@ -15,7 +15,7 @@ use text_io::{ReadError, read_whole};
 /// The length of the largest image in bytes.
 const LARGEST: usize = 8 * PAGE_BYTES;
 
-/// A blank flash of this many pages of 4,096 bytes: every bit is set, and nothing is armed.
+/// Makes a blank flash of this many pages of 4,096 bytes: every bit is set, and nothing is armed.
 ///
 /// `PageCount` comes where there are not 2 to 8 pages, and else `Memory` where there is no memory
 /// for them.
@@ -31,8 +31,8 @@ pub fn blank_flash(alloc: Global, pages: usize) -> Result<SimFlash, RunError>
     }
 }
 
-/// A flash that holds the bytes that a reader gives, page after page, with nothing armed. At most
-/// 32,769 bytes are taken from the reader.
+/// Makes a flash that holds the bytes that a reader gives, page after page, with nothing armed. At
+/// most 32,769 bytes are taken from the reader.
 ///
 /// `Input` comes at the first fault of the reader, an interruption too, and `Memory` where a
 /// request for memory is refused. Then comes `Image` where the bytes are not those of 2 to 8 whole

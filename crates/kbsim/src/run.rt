@@ -101,7 +101,7 @@ pub fn run_on<R: Read, W: Write>(
     run_with(alloc, flash, reader, writer, &mut Silent)
 }
 
-/// Does what `run_on` does, and tells a sink of each event and each line.
+/// Runs a script as `run_on` does, and tells a sink of each event and each line.
 pub fn run_with<R: Read, W: Write, S: Sink>(
     alloc: Global,
     flash: SimFlash,

@@ -62,9 +62,9 @@ impl<D: Defaults> KeyboardOf<D> {
     ghost use Rattle.keyboard.specs.ties.Value.{RunsOn, at_work};
     ghost use Rattle.keyboard.specs.ties.Stands.{StandsFor};
 
-    /// A keyboard as it starts on a flash, whose keymap it reads: report protocol, no LED on, every key
-    /// up, nothing sent, entry (0, 0) selected, and no transfer. `AllocError` where there was no room for
-    /// the reports that wait (`Room::take`); no other call takes memory.
+    /// Starts a keyboard on a flash, whose keymap it reads: report protocol, no LED on, every key up,
+    /// nothing sent, entry (0, 0) selected, and no transfer. `AllocError` where there was no room for the
+    /// reports that wait (`Room::take`); no other call takes memory.
     pub fn start<F: NorFlash>(alloc: Global, flash: &F) -> Result<KeyboardOf<D>, AllocError>
         // it stands for no call, on this image
         ensures stands { IfOk result (λ keyboard. StandsFor D.defaults (F.image flash.now) [] keyboard) }
@@ -75,7 +75,7 @@ impl<D: Defaults> KeyboardOf<D> {
         Ok(KeyboardOf::start_in(room, flash))
     }
 
-    /// A keyboard as `start` gives it, in room that was taken before. Takes no memory, and nothing
+    /// Starts a keyboard as `start` does, in room that was taken before. Takes no memory, and nothing
     /// refuses it.
     pub fn start_in<F: NorFlash>(room: Room, flash: &F) -> KeyboardOf<D>
         // it stands for no call, on this image
@@ -94,7 +94,8 @@ impl<D: Defaults> KeyboardOf<D> {
         }
     }
 
-    /// Leaves what `start` gives on this flash. Takes no memory.
+    /// Starts the keyboard over on this flash, as after a power loss: it is then what `start` gives. Takes
+    /// no memory.
     pub fn restart<F: NorFlash>(&mut self, flash: &F)
         // it stands for no call, on this image
         ensures stands { StandsFor D.defaults (F.image flash.now) [] self.new }
@@ -196,9 +197,9 @@ impl<D: Defaults> KeyboardOf<D> {
         answer
     }
 
-    /// The answer to a poll of endpoint 1: the report that has waited longest. Where none waits, the
-    /// report of the protocol whose bytes are not those last sent, else one whose idle time has passed
-    /// since then, or `None`. It then counts as sent.
+    /// Answers a poll of endpoint 1 with a report of 8, 9 or 23 bytes, or with `None`, which is NAK: the
+    /// report that has waited longest. Where none waits, the report of the protocol whose bytes are not
+    /// those last sent, else one whose idle time has passed since then, or `None`. It then counts as sent.
     pub fn poll(&mut self) -> Option<Report>
         // it stands for this call after those before it
         ensures stands { (start : List ℕ) (past : List Call) → StandsFor D.defaults start past self.old
@@ -212,10 +213,10 @@ impl<D: Defaults> KeyboardOf<D> {
         self.keys.poll(self.protocol)
     }
 
-    /// A step of the flash work: makes the one flash operation that the command at work needs next, or
-    /// none where no command works. A command is settled or fails by the 387th step. `Settled` lets
-    /// the status stage of its transfer follow, and `Failed` stalls it, if the transfer still waits.
-    /// The flash has to be the one that the keyboard started on.
+    /// Makes the one flash operation that the command at work needs next, or none where no command works.
+    /// A command is settled or fails by the 387th step. `Settled` lets the status stage of its transfer
+    /// follow, and `Failed` stalls it, if the transfer still waits. The flash has to be the one that the
+    /// keyboard started on.
     pub fn work<F: NorFlash>(&mut self, flash: &mut F) -> Work
         requires { RunsOn D.defaults (F.image flash.old) self.old }
         // it stands for this call after those before it
@@ -248,8 +249,8 @@ impl<D: Defaults> KeyboardOf<D> {
         work
     }
 
-    /// A bus reset (USB 2.0 section 7.1.7.5): the transfer ends, report protocol is in force, no LED is
-    /// on, nothing counts as sent, nothing waits, and the idle values are those of the start. The
+    /// Takes a bus reset (USB 2.0 section 7.1.7.5): the transfer ends, report protocol is in force, no LED
+    /// is on, nothing counts as sent, nothing waits, and the idle values are those of the start. The
     /// keymap, the flash work, the keys and the selected entry stay.
     pub fn bus_reset(&mut self)
         // it stands for this call after those before it
@@ -264,7 +265,7 @@ impl<D: Defaults> KeyboardOf<D> {
         self.leds = 0;
     }
 
-    /// The keymap: that of the flash's image.
+    /// Returns the keymap: that of the flash's image.
     pub fn keymap(&self) -> &KeymapOf<D>
         ensures of_image { (start : List ℕ) (past : List Call) → StandsFor D.defaults start past self.now
             → HasEntries (keymap D.defaults (image_after start past)) result.now }
@@ -275,8 +276,8 @@ impl<D: Defaults> KeyboardOf<D> {
         self.store.keymap()
     }
 
-    /// Whether no page of the flash has a header yet: nothing was stored on it since it was erased.
-    /// A firmware that has settings of its own to store does so where this holds at its start.
+    /// Returns whether no page of the flash has a header yet: nothing was stored on it since it was
+    /// erased. A firmware that has settings of its own to store does so where this holds at its start.
     pub fn is_first_start(&self) -> bool
         ensures { (start : List ℕ) (past : List Call) → StandsFor D.defaults start past self.now
             → result ≡ is_none (format (image_after start past)) }
@@ -284,7 +285,7 @@ impl<D: Defaults> KeyboardOf<D> {
         self.store.is_first_start()
     }
 
-    /// The usages that the codes of the held keys name.
+    /// Returns the usages that the codes of the held keys name.
     pub fn usages(&self) -> Usages
         // the usages of page 07h
         ensures keys { (start : List ℕ) (past : List Call) (usage : ℕ) → StandsFor D.defaults start past self.now
@@ -296,7 +297,7 @@ impl<D: Defaults> KeyboardOf<D> {
         self.keys.usages()
     }
 
-    /// The protocol in force (HID 1.11 section 7.2.5).
+    /// Returns the protocol in force (HID 1.11 section 7.2.5).
     pub fn protocol(&self) -> Protocol
         ensures { (start : List ℕ) (past : List Call) → StandsFor D.defaults start past self.now
             → result ≡ protocol_after past }
@@ -304,7 +305,7 @@ impl<D: Defaults> KeyboardOf<D> {
         self.protocol
     }
 
-    /// The LEDs: usages 01h to 05h of page 08h in bits 0 to 4.
+    /// Returns the LEDs: usages 01h to 05h of page 08h in bits 0 to 4.
     pub fn leds(&self) -> u8
         ensures { (start : List ℕ) (past : List Call) → StandsFor D.defaults start past self.now
             → result ≡ leds_after past }

@@ -181,7 +181,7 @@ impl Code {
         }
     }
 
-    /// The bits of the code.
+    /// Returns the bits of the code.
     pub fn bits(self) -> u16
         ensures value { result ≡ self }
         ensures a_code { IsTrue (is_code result) }
@@ -220,7 +220,7 @@ impl LayerNo {
         }
     }
 
-    /// The number of the layer, 0 to 3.
+    /// Returns the number of the layer, 0 to 3.
     pub fn number(self) -> u8
         ensures value { result ≡ self }
         ensures a_layer { result < layers }
@@ -258,7 +258,7 @@ impl KeyNo {
         }
     }
 
-    /// The number of the key, 0 to 95.
+    /// Returns the number of the key, 0 to 95.
     pub fn number(self) -> u8
         ensures value { result ≡ self }
         ensures a_key { result < keys }

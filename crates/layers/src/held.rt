@@ -120,7 +120,8 @@ impl Held {
         }
     }
 
-    /// Whether a layer is active: layer 0 is, another while a key with its momentary code is held.
+    /// Returns whether a layer is active: layer 0 is, another while a key with its momentary code is
+    /// held.
     pub fn active(&self, layer: LayerNo) -> bool
         ensures { (past : List HeldCall) → HeldStandsFor past self.now → result ≡ active past layer }
     {
@@ -132,7 +133,7 @@ impl Held {
         }
     }
 
-    /// The code of a key, fixed at its press; None while it is not held.
+    /// Returns the code of a key, fixed at its press; None while it is not held.
     pub fn code(&self, key: KeyNo) -> Option<Code>
         ensures { (past : List HeldCall) → HeldStandsFor past self.now → result ≡ code past key }
     {
@@ -143,7 +144,7 @@ impl Held {
         }
     }
 
-    /// The usages that the codes of the held keys name.
+    /// Returns the usages that the codes of the held keys name.
     pub fn usages(&self) -> Usages
         ensures keys { (past : List HeldCall) (usage : ℕ) → HeldStandsFor past self.now → has_key result usage ≡ key_usages past usage }
         ensures consumer { (past : List HeldCall) (usage : ℕ) → HeldStandsFor past self.now → has_consumer result usage ≡ consumer_usages past usage }
@@ -156,7 +157,7 @@ impl Held {
         }
     }
 
-    /// The same usages, lent, where they were named.
+    /// Returns the same usages, lent, where they were named.
     pub fn lent(&self) -> &Usages
         requires { self.now.named ≡ true }
         ensures keys { (past : List HeldCall) (usage : ℕ) → HeldStandsFor past self.now → has_key result.now usage ≡ key_usages past usage }

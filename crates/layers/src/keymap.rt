@@ -37,7 +37,7 @@ impl<D: Defaults> Model for KeymapOf<D> {
 }
 
 impl<D: Defaults> KeymapOf<D> {
-    /// The default keymap.
+    /// Returns the default keymap.
     pub fn standard() -> KeymapOf<D>
         ensures entries { HasEntries (default_code D.defaults) result }
         ensures stands { (format : ℕ) → StandsFor D.defaults format [] result }
@@ -58,7 +58,7 @@ impl<D: Defaults> KeymapOf<D> {
         D::reset(&mut self.codes, 0, ENTRIES);
     }
 
-    /// The code of a key on a layer.
+    /// Returns the code of a key on a layer.
     pub fn get(&self, layer: LayerNo, key: KeyNo) -> Code
         ensures value { result ≡ code_at self.now layer key }
         ensures entry { (entries : ℕ → ℕ → ℕ) → HasEntries entries self.now → result ≡ entries layer key }
@@ -81,7 +81,7 @@ impl<D: Defaults> KeymapOf<D> {
         }
     }
 
-    /// Whether some entry would differ after the command.
+    /// Returns whether some entry would differ after the command.
     pub fn changes(&self, command: Command) -> bool
         ensures table { MatchBool result (ChangesSome D.defaults (code_at self.now) command) (ChangesNothing D.defaults (code_at self.now) command) }
         ensures entries { (entries : ℕ → ℕ → ℕ) → HasEntries entries self.now → MatchBool result (ChangesSome D.defaults entries command) (ChangesNothing D.defaults entries command) }
@@ -96,8 +96,8 @@ impl<D: Defaults> KeymapOf<D> {
         }
     }
 
-    /// The first place at or after `from` whose entry differs from the default, with the command
-    /// that sets that entry; a place is 96 times the layer plus the key.
+    /// Returns the first place at or after `from` whose entry differs from the default, with the
+    /// command that sets that entry; a place is 96 times the layer plus the key.
     pub fn next_changed(&self, from: u16) -> Option<(u16, Command)>
         ensures table { MatchOption result (IsDefaultFrom D.defaults (code_at self.now) from) (λ r. IsNextChanged D.defaults (code_at self.now) from r.0 r.1) }
         ensures entries { (entries : ℕ → ℕ → ℕ) → HasEntries entries self.now → MatchOption result (IsDefaultFrom D.defaults entries from) (λ r. IsNextChanged D.defaults entries from r.0 r.1) }

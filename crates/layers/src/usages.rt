@@ -39,7 +39,7 @@ impl Model for Usages {
 }
 
 impl Usages {
-    /// No usage.
+    /// Makes a set without a usage.
     pub fn none() -> Usages
         ensures no_keys { (usage : ℕ) → has_key result usage ≡ false }
         ensures no_consumer { (usage : ℕ) → has_consumer result usage ≡ false }
@@ -69,21 +69,21 @@ impl Usages {
         insert_consumer(&mut self.consumer, &mut self.occupied, code);
     }
 
-    /// Whether a usage of page 07h is in the set.
+    /// Returns whether a usage of page 07h is in the set.
     pub fn has_key(&self, usage: u8) -> bool
         ensures { result ≡ has_key self.now usage }
     {
         contains(&self.keys, usage as u16)
     }
 
-    /// The modifiers in the set: bit i is usage E0h + i of page 07h.
+    /// Returns the modifiers in the set: bit i is usage E0h + i of page 07h.
     pub fn modifiers(&self) -> u8
         ensures { (i : ℕ) → i < 8 → (bit_at result i == 1) ≡ has_key self.now (0xE0 + i) }
     {
         (self.keys[0xE0 / 32] % 0x100) as u8
     }
 
-    /// The set of page 07h as bits: bit i of word w is usage 32 * w + i.
+    /// Returns the set of page 07h as bits: bit i of word w is usage 32 * w + i.
     pub fn key_words(&self) -> &[u32; 8]
         ensures size { length result.now ≡ 8 }
         ensures bits { (usage : ℕ) → has_bit 32 result.now usage ≡ has_key self.now usage }
@@ -91,7 +91,7 @@ impl Usages {
         &self.keys
     }
 
-    /// The least usage of page 07h in the set that is at or after `from`, if there is one.
+    /// Returns the least usage of page 07h in the set that is at or after `from`, if there is one.
     pub fn next_key(&self, from: u8) -> Option<u16>
         ensures next { MatchOption result (PassesNoneFrom (has_key self.now) from) (λ usage. IsNext (has_key self.now) from usage) }
         ensures within { IfSome result (λ usage. usage < 0x100) }
@@ -99,14 +99,14 @@ impl Usages {
         next_member(&self.keys, from as u16)
     }
 
-    /// Whether a usage of page 0Ch is in the set.
+    /// Returns whether a usage of page 0Ch is in the set.
     pub fn has_consumer(&self, usage: u16) -> bool
         ensures { result ≡ has_consumer self.now usage }
     {
         usage < 0x400 && contains(&self.consumer, usage)
     }
 
-    /// The least usage of page 0Ch in the set that is at or after `from`, if there is one.
+    /// Returns the least usage of page 0Ch in the set that is at or after `from`, if there is one.
     pub fn next_consumer(&self, from: u16) -> Option<u16>
         ensures next { MatchOption result (HasNoConsumerFrom self.now from) (λ usage. IsNextConsumer self.now from usage) }
         ensures within { IfSome result (λ usage. usage < 0x400) }

@@ -111,7 +111,7 @@ impl Log {
         }
     }
 
-    /// The active page and its sequence number of 28 bits, if a page has a header.
+    /// Returns the active page and its sequence number of 28 bits, if a page has a header.
     pub fn active(&self) -> Option<(usize, u32)>
         ensures { (image : List ℕ) → Describes image self.now → result ≡ active image }
     {
@@ -121,8 +121,9 @@ impl Log {
         }
     }
 
-    /// The format of the active page, 1 or 2, if a page has a header. Only pages of format 2 are
-    /// written; the words of one of format 1 are read, and the next turn copies them into format 2.
+    /// Returns the format of the active page, 1 or 2, if a page has a header. Only pages of format 2
+    /// are written; the words of one of format 1 are read, and the next turn copies them into format
+    /// 2.
     pub fn format(&self) -> Option<u8>
         ensures { (image : List ℕ) → Describes image self.now → result ≡ format image }
     {
@@ -132,7 +133,8 @@ impl Log {
         }
     }
 
-    /// Whether slot 0 of each page is sound. If not, `Unsound` has the lowest page where it is not.
+    /// Returns whether anything may be written: slot 0 of each page is sound. If not, `Unsound` has
+    /// the lowest page where it is not.
     pub fn usable(&self) -> Result<(), Unsound>
         ensures sound { (image : List ℕ) → Describes image self.now → MatchResult result (λ _. IsUsable image) (λ e. IsFirstUnsound image e.page) }
         ensures held { IsOk result ↔ (self.now.unsound ≡ None) }
@@ -143,8 +145,8 @@ impl Log {
         }
     }
 
-    /// Whether there is an active page of format 2 whose tail, one more than its greatest slot that is
-    /// not Free, is at most 511.
+    /// Returns whether there is an active page of format 2 whose tail, one more than its greatest slot
+    /// that is not Free, is at most 511.
     pub fn room(&self) -> bool
         ensures room { (image : List ℕ) → Describes image self.now → (IsTrue result ↔ HasRoom image) }
         ensures held { IsTrue result ↔ HasTailRoom self.now }
@@ -155,7 +157,8 @@ impl Log {
         }
     }
 
-    /// The tail of the active page: one more than its greatest slot that is not Free, 1 to 512.
+    /// Returns the tail of the active page: one more than its greatest slot that is not Free, 1 to
+    /// 512.
     pub fn tail(&self) -> Option<usize>
         ensures { (image : List ℕ) → Describes image self.now → MatchOption result (active image ≡ None) (λ tail. IsSomeAnd (active image) (λ place. IsTail image place.0 tail)) }
     {
@@ -165,7 +168,7 @@ impl Log {
         }
     }
 
-    /// Whether an append or a turn is under way.
+    /// Returns whether an append or a compaction is in progress.
     pub fn busy(&self) -> bool
         ensures { (result ≡ false) ↔ (self.now.task ≡ Rest) }
     {
@@ -175,7 +178,7 @@ impl Log {
         }
     }
 
-    /// The Good words of slots 1 to 511 of the active page, in rising order of the slots; none
+    /// Returns the Good words of slots 1 to 511 of the active page, in rising order of the slots; none
     /// without an active page.
     pub fn words<'a, F: NorFlash>(&self, flash: &'a F) -> Words<'a, F>
         requires { Describes (F.image flash.now) self.now }

@@ -4,7 +4,7 @@ ghost use Rattle.std.specs.Prelude.{◌≡◌, ◌≢◌, ℕ, ◌↔◌, Contai
 ghost use Rattle.std.specs.List.Sorted.{IsStrictlyIncreasing};
 ghost use Rattle.report_read.specs.declared.error.ReadingError.{ReadingError};
 ghost use Rattle.report_read.specs.Refusals.{refusal};
-ghost use Rattle.report_read.specs.Changes.{control, is_of_array, on_by, on_by_all, on_in, AreRising, AreOnlyIn, changes_refusal};
+ghost use Rattle.report_read.specs.Changes.{control, is_of_array, counts, on_by, on_by_all, on_in, AreRising, AreOnlyIn, changes_refusal};
 ghost use Rattle.report_read.specs.ties.Listed.{is_listed, listed};
 
 use crate::error::ReadingError;
@@ -12,6 +12,7 @@ use crate::reader::ReportReader;
 use crate::reading::Reading;
 use crate::value::Value;
 use descriptor_parse::{Descriptor, Kind};
+use field_values::Within;
 use std::alloc::{AllocError, Global};
 
 /// The usages in which two reports differ, each list rising, and each usage once.
@@ -24,7 +25,11 @@ pub struct Changed {
 }
 
 /// The usages that are on in a report of a kind, rising, each once: those that Arrays name, and those of Variable fields
-/// whose value isn't 0. One whose low half is 0 is none.
+/// whose value isn't 0. Values outside the logical extents count for none, nulls among them, and a usage whose low half is 0
+/// is none.
+///
+/// 07:01 to 07:03 of a keyboard (ErrorRollOver, POSTFail, ErrorUndefined) are told as any usage. They are no keys: a report
+/// with one of them does not tell which keys are down.
 ///
 /// The errors are those of [`ReportReader::read`], and then `Memory`.
 pub fn pressed(
@@ -93,10 +98,20 @@ fn gather(
 fn usage_on(descriptor: &Descriptor, value: &Value) -> Option<u32>
     ensures { listed result ≡ on_by descriptor.now value.now }
 {
-    if is_of_array(descriptor, value) || value.raw != 0 {
+    if counts(value.within) && (is_of_array(descriptor, value) || value.raw != 0) {
         control(value.usage)
     } else {
         None
+    }
+}
+
+/// Whether a value is within the logical extents.
+fn counts(within: Within) -> bool
+    ensures { result ≡ counts within }
+{
+    match within {
+        Within::Range => true,
+        Within::Null | Within::Out => false,
     }
 }
 

@@ -41,7 +41,7 @@ pub on_too_large : (f : Field) (usages bytes marks : List ℕ) (usage number lis
 on_too_large f usages bytes marks usage number listed value i v h =
     ap (on_refusal f usages bytes marks usage number) (listed_first usages usage listed i)
     ∙ too_large (is_held f.min f.size (f.min +ℤ pos listed)) (int_lt f.max (f.min +ℤ pos listed)) (Some (TooLarge number)) (Some (OutOfRange number))
-    (taken_place f marks number (place_for f usages bytes usage)) (sym (ap (is_held f.min f.size) v) ∙ h)
+    (taken_place f marks number (place_for f usages bytes marks usage)) (sym (ap (is_held f.min f.size) v) ∙ h)
 
 pub on_out_of_range : (f : Field) (usages bytes marks : List ℕ) (usage number listed : ℕ) (value : ℤ) → IsFirst usages usage listed
     → value ≡ f.min +ℤ pos listed → is_held f.min f.size value ≡ true → int_lt f.max value ≡ true
@@ -49,16 +49,16 @@ pub on_out_of_range : (f : Field) (usages bytes marks : List ℕ) (usage number 
 on_out_of_range f usages bytes marks usage number listed value i v h o =
     ap (on_refusal f usages bytes marks usage number) (listed_first usages usage listed i)
     ∙ out_of_range (is_held f.min f.size (f.min +ℤ pos listed)) (int_lt f.max (f.min +ℤ pos listed)) (Some (TooLarge number)) (Some (OutOfRange number))
-    (taken_place f marks number (place_for f usages bytes usage)) (sym (ap (is_held f.min f.size) v) ∙ h) (sym (ap (int_lt f.max) v) ∙ o)
+    (taken_place f marks number (place_for f usages bytes marks usage)) (sym (ap (is_held f.min f.size) v) ∙ h) (sym (ap (int_lt f.max) v) ∙ o)
 
 -- by the place that is taken
 pub on_place : (f : Field) (usages bytes marks : List ℕ) (usage number listed : ℕ) (value : ℤ) (place : Option ℕ) → IsFirst usages usage listed
-    → value ≡ f.min +ℤ pos listed → is_held f.min f.size value ≡ true → int_lt f.max value ≡ false → place ≡ place_for f usages bytes usage
+    → value ≡ f.min +ℤ pos listed → is_held f.min f.size value ≡ true → int_lt f.max value ≡ false → place ≡ place_for f usages bytes marks usage
     → on_refusal f usages bytes marks usage number (number_of usages usage) ≡ taken_place f marks number place
 on_place f usages bytes marks usage number listed value place i v h o p =
     ap (on_refusal f usages bytes marks usage number) (listed_first usages usage listed i)
     ∙ goes_on (is_held f.min f.size (f.min +ℤ pos listed)) (int_lt f.max (f.min +ℤ pos listed)) (Some (TooLarge number)) (Some (OutOfRange number))
-    (taken_place f marks number (place_for f usages bytes usage)) (sym (ap (is_held f.min f.size) v) ∙ h) (sym (ap (int_lt f.max) v) ∙ o)
+    (taken_place f marks number (place_for f usages bytes marks usage)) (sym (ap (is_held f.min f.size) v) ∙ h) (sym (ap (int_lt f.max) v) ∙ o)
     ∙ sym (ap (taken_place f marks number) p)
 
 pub taken_twice : (f : Field) (marks : List ℕ) (number place : ℕ) → is_set f marks place ≡ true → taken_place f marks number (Some place) ≡ Some (Twice number)

@@ -21,13 +21,15 @@ use Rattle.report_write.specs.Puts.{IsPut, IsMarked, ArePut, is_set}
 abbrev pub names : Field → UsageList → Bytes → ℕ → ℕ → Bool
 names field usages bytes usage place = is_usage usage (usage_read field usages place (value_at field bytes place))
 
--- a place names none
-abbrev pub is_free : Field → UsageList → Bytes → ℕ → Bool
-is_free field usages bytes place = is_no_control (usage_read field usages place (value_at field bytes place))
+-- a place names none, and no setting has set it
+abbrev pub is_free : Field → UsageList → Bytes → Bytes → ℕ → Bool
+is_free field usages bytes marks place =
+    is_no_control (usage_read field usages place (value_at field bytes place)) && not (is_set field marks place)
 
--- where a usage is put: the first place that names it, or else the first that names none
-abbrev pub place_for : Field → UsageList → Bytes → ℕ → Option ℕ
-place_for field usages bytes usage = option_or (first (names field usages bytes usage) field.count) (first (is_free field usages bytes) field.count)
+-- where a usage is put: the first place that names it, or else the first that is free
+abbrev pub place_for : Field → UsageList → Bytes → Bytes → ℕ → Option ℕ
+place_for field usages bytes marks usage =
+    option_or (first (names field usages bytes usage) field.count) (first (is_free field usages bytes marks) field.count)
 
 -- why it is not put there, if it is not
 abbrev pub taken_place : Field → Bytes → ℕ → Option ℕ → Option WriteError
@@ -40,7 +42,7 @@ on_refusal field usages bytes marks usage number None = Some (Unknown number)
 on_refusal field usages bytes marks usage number (Some listed) =
     if not (is_held field.min field.size (field.min +ℤ pos listed)) then Some (TooLarge number) else
     (if int_lt field.max (field.min +ℤ pos listed) then Some (OutOfRange number) else
-    taken_place field marks number (place_for field usages bytes usage))
+    taken_place field marks number (place_for field usages bytes marks usage))
 
 -- why a usage is not taken out, if it is not: no value says that there is none, or a place that names it is set already
 abbrev pub off_refusal : Field → UsageList → Bytes → Bytes → ℕ → ℕ → Option ℤ → Option WriteError
@@ -59,7 +61,7 @@ usage_refusal field usages bytes marks usage number (Value value) =
 pub record IsOn (field : Field) (usages : UsageList) (usage : ℕ) (old new marks_old marks_new : Bytes) : Type 0 where
   pub place : ℕ
   pub listed : ℕ
-  pub chosen : place_for field usages old usage ≡ Some place
+  pub chosen : place_for field usages old marks_old usage ≡ Some place
   pub number : number_of usages usage ≡ Some listed
   pub put : IsPut field place (field.min +ℤ pos listed) old new
   pub marked : IsMarked field place marks_old marks_new

@@ -55,7 +55,7 @@ pub(crate) fn set_usage(
     }
 }
 
-/// Puts a usage into the place that names it already, or else into the first that names none.
+/// Puts a usage into the place that names it already, or else into the first that is free.
 fn put_in(
     declared: &FieldUsages<'_>,
     usage: u32,
@@ -80,7 +80,7 @@ fn put_in(
     if value > declared.field.max {
         return Err(WriteError::OutOfRange(number));
     }
-    let place = match place_for(declared, bytes, usage) {
+    let place = match place_for(declared, bytes, marks, usage) {
         None => return Err(WriteError::NoRoom(number)),
         Some(place) => place,
     };
@@ -92,15 +92,15 @@ fn put_in(
     Ok(())
 }
 
-/// The first place that names a usage, or else the first that names none.
-fn place_for(declared: &FieldUsages<'_>, bytes: &[u8], usage: u32) -> Option<u16>
+/// The first place that names a usage, or else the first that is free.
+fn place_for(declared: &FieldUsages<'_>, bytes: &[u8], marks: &[u8], usage: u32) -> Option<u16>
     requires { FitsReading declared.now.field }
-    ensures place { result ≡ place_for declared.now.field (usage_list declared.now.ranges.now) bytes.now usage }
+    ensures place { result ≡ place_for declared.now.field (usage_list declared.now.ranges.now) bytes.now marks.now usage }
     ensures within { IfSome result (λ place. place < declared.now.field.count) }
 {
     match first_named(declared, bytes, usage) {
         Some(place) => Some(place),
-        None => first_free(declared, bytes),
+        None => first_free(declared, bytes, marks),
     }
 }
 
@@ -118,14 +118,14 @@ fn first_named(declared: &FieldUsages<'_>, bytes: &[u8], usage: u32) -> Option<u
     None
 }
 
-/// The first place that names no usage.
-fn first_free(declared: &FieldUsages<'_>, bytes: &[u8]) -> Option<u16>
+/// The first place that is free.
+fn first_free(declared: &FieldUsages<'_>, bytes: &[u8], marks: &[u8]) -> Option<u16>
     requires { FitsReading declared.now.field }
-    ensures place { result ≡ first (is_free declared.now.field (usage_list declared.now.ranges.now) bytes.now) declared.now.field.count }
+    ensures place { result ≡ first (is_free declared.now.field (usage_list declared.now.ranges.now) bytes.now marks.now) declared.now.field.count }
     ensures within { IfSome result (λ place. place < declared.now.field.count) }
 {
     for place in 0..declared.field.count {
-        if is_free(declared, bytes, place) {
+        if is_free(declared, bytes, marks, place) {
             return Some(place);
         }
     }
@@ -141,13 +141,14 @@ fn is_named(declared: &FieldUsages<'_>, bytes: &[u8], usage: u32, place: u16) ->
     is_usage(read_place(declared, false, bytes, place).usage, usage)
 }
 
-/// Whether a place names no usage, or one whose low half is 0.
-fn is_free(declared: &FieldUsages<'_>, bytes: &[u8], place: u16) -> bool
+/// Whether a place names no usage, or one whose low half is 0, and no setting has set it.
+fn is_free(declared: &FieldUsages<'_>, bytes: &[u8], marks: &[u8], place: u16) -> bool
     requires fits { FitsReading declared.now.field }
     requires within { place < declared.now.field.count }
-    ensures { result ≡ is_free declared.now.field (usage_list declared.now.ranges.now) bytes.now place }
+    ensures { result ≡ is_free declared.now.field (usage_list declared.now.ranges.now) bytes.now marks.now place }
 {
     is_no_control(read_place(declared, false, bytes, place).usage)
+        && !is_set(&declared.field, marks, place)
 }
 
 /// Takes a usage out of each place that names it.

@@ -68,7 +68,7 @@ pub enum WriteError {
     /// The value is outside the logical extents, or is neither 0 nor 1 for a usage of an Array.
     #[error("setting {0}: the value is out of range")]
     OutOfRange(usize),
-    /// Each place of the Array names another usage, or none can say that it names no usage.
+    /// Each place of the Array names another usage or is set, or none can say that it names no usage.
     #[error("setting {0}: the array has no room")]
     NoRoom(usize),
     /// There was no memory.

@@ -1,8 +1,7 @@
 -- A change whose words are appended.
-use Rattle.std.proofs.Common.{◌≡◌, ◌≢◌, ◌∙◌, ℕ, ◌+◌, ◌-◌, ◌<◌, ◌≤◌, refl, sym, subst, arith, List, [], ◌∷◌, ◌++◌, length, take, get_or, Option, Some, None}
-use Rattle.page_turnover.specs.declared.log.ActivePage.{ActivePage}
+use Rattle.std.proofs.Common.{◌≡◌, ◌∙◌, ℕ, ◌+◌, ◌<◌, ◌≤◌, refl, sym, subst, arith, List, [], ◌∷◌, ◌++◌, length, take, get_or, Some}
 use Rattle.page_turnover.specs.declared.log.stepping.Step.{Step}
-use Rattle.page_turnover.specs.declared.log.stepping.Step.TheVariants.{Committed, Failed}
+use Rattle.page_turnover.specs.declared.log.stepping.Step.TheVariants.{Committed}
 use Rattle.page_turnover.specs.Value.{LogValue, Task, Rest, Append}
 use Rattle.page_turnover.specs.Words.{words}
 use Rattle.page_turnover.specs.Steps.{CommitsWord, Commits, EndsAs, Appends, StepsFor}
@@ -11,7 +10,6 @@ use Rattle.page_turnover.specs.ties.Log.{Describes}
 use Rattle.settings.specs.declared.store.Work.{Work}
 use Rattle.settings.specs.declared.store.Work.TheVariants.{Working, Stored}
 use Rattle.settings.specs.Works.{Gives}
-use Rattle.settings.specs.declared.store.Job.{Job}
 use Rattle.settings.specs.declared.store.Job.TheVariants.{Resting, Appending}
 use Rattle.settings.specs.Words.{words_of, IsChange}
 use Rattle.settings.specs.Settings.{settings_of, changed, Same}

@@ -1,17 +1,14 @@
 -- Whether changes may begin, and what they need.
-use Rattle.std.proofs.Common.{◌≡◌, ◌≢◌, ◌∙◌, ◌↔◌, ℕ, ◌+◌, ◌-◌, ◌<◌, ◌≤◌, ◌^◌, refl, sym, ap, subst, arith, IsTrue, List, [], ◌∷◌, ◌++◌, length, take, get_or, Option, Some, None, inl, inr, MatchOption, IsSomeAnd, nat_le}
-use Rattle.std.proofs.lemmas.Bool.{cases_lt, cases_eq}
+use Rattle.std.proofs.Common.{◌≡◌, ◌∙◌, ◌↔◌, ℕ, ◌+◌, ◌-◌, ◌<◌, ◌≤◌, refl, sym, ap, subst, arith, IsTrue, List, [], ◌∷◌, ◌++◌, length, get_or, Option, Some, None, inl, inr, IsSomeAnd, nat_le}
+use Rattle.std.proofs.lemmas.Bool.{cases_lt}
 use Rattle.std.proofs.lemmas.List.{append-nil}
-use Rattle.records.specs.declared.Slot.TheVariants.{Free}
-use Rattle.records.specs.Slots.{slot_of}
-use Rattle.flash_model.specs.Image.{slot_at}
 use Rattle.page_turnover.specs.declared.log.ActivePage.{ActivePage}
-use Rattle.page_turnover.specs.Active.{active, format}
-use Rattle.page_turnover.specs.Words.{words, IsTail, IsBlank, HasRoom}
+use Rattle.page_turnover.specs.Active.{active}
+use Rattle.page_turnover.specs.Words.{words, IsTail}
 use Rattle.page_turnover.specs.Log.{HasTailRoom}
 use Rattle.page_turnover.specs.Value.{LogValue, Rest, Wait, Unread, Task}
 use Rattle.page_turnover.specs.Turn.{target_page, copies, offered, HasShortWord}
-use Rattle.page_turnover.specs.ties.Log.{Describes, IsHeld}
+use Rattle.page_turnover.specs.ties.Log.{Describes}
 use Rattle.page_turnover.proofs.Describing.{same_page, held_active, held_none, unsound_none, le_of, le_test}
 use Rattle.page_turnover.proofs.WordLists.{words_none}
 use Rattle.page_turnover.specs.Usable.{IsUsable}
@@ -19,13 +16,11 @@ use Rattle.settings.specs.declared.change.Change.{Change}
 use Rattle.settings.specs.declared.store.Job.TheVariants.{Appending, Turning}
 use Rattle.settings.specs.Words.{words_of}
 use Rattle.settings.specs.Settings.{changed}
-use Rattle.settings.specs.Copies.{all_copies, copies_below}
+use Rattle.settings.specs.Copies.{copies_below}
 use Rattle.settings.specs.Begins.{HasRoomFor, IsAppended, alive}
 use Rattle.settings.specs.Left.{first_words, turn_left, target_of, Needs}
-use Rattle.settings.specs.ties.Store.{IsAppending, IsTurning, IsTurn, IsSeal, AreChanges, given_words, Stands}
-use Rattle.settings.specs.Store.{SettingsValue}
+use Rattle.settings.specs.ties.Store.{IsAppending, IsTurn, IsSeal, AreChanges, given_words, Stands}
 use Rattle.settings.proofs.Packing.{some_words}
-use Rattle.settings.proofs.Naming.{copies_none}
 use Rattle.settings.proofs.Turning.{erases_left-ready, erases_left-used}
 
 -- a page has one tail

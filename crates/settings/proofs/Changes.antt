@@ -1,10 +1,10 @@
 -- The changes that some words hold, after more words.
-use Rattle.std.proofs.Common.{◌≡◌, ◌∙◌, ℕ, zero, suc, ◌+◌, ◌*◌, ◌/◌, ◌^◌, ◌<◌, ◌≤◌, true, false, refl, sym, ap, arith, List, [], ◌∷◌, ◌++◌, length, take, get_or, Option, Some, None, append_assoc, ◌==◌, if◌then◌else◌}
-use Rattle.std.proofs.lemmas.List.{append-nil, length-append, length-take-le, take_all}
+use Rattle.std.proofs.Common.{◌≡◌, ◌∙◌, ℕ, zero, suc, ◌+◌, ◌/◌, ◌^◌, ◌<◌, true, false, refl, sym, arith, List, [], ◌∷◌, ◌++◌, length, take, Option, Some, None, append_assoc, ◌==◌, if◌then◌else◌}
+use Rattle.std.proofs.lemmas.List.{append-nil, length-take-le, take_all}
 use Rattle.settings.specs.declared.words.Head.{Head}
 use Rattle.settings.specs.declared.change.Change.{Change}
 use Rattle.settings.specs.Words.{data_word, value_word, removal_word, packed, is_data, head_of, words_of, words_with, IsValue, IsChange}
-use Rattle.settings.specs.Settings.{gathered, given, change_with, change_at, changes_in, after}
+use Rattle.settings.specs.Settings.{gathered, change_with, change_at, changes_in, after}
 use Rattle.settings.proofs.Formats.{is_data-data, head_of-data, head_of-value, head_of-removal, is_data-value, is_data-removal}
 use Rattle.settings.proofs.Packing.{length-packed}
 use Rattle.settings.proofs.Gathering.{gathered-stop, gathered-few, gathered-packed, AreBytes}

@@ -1,9 +1,8 @@
 -- What the words of a compaction stand for.
-use Rattle.std.proofs.Common.{◌≡◌, ◌∙◌, ℕ, zero, suc, ◌+◌, ◌^◌, ◌<◌, ◌≤◌, true, false, refl, sym, ap, arith, List, [], ◌∷◌, ◌++◌, Option, Some, None, ◌==◌, if◌then◌else◌, inl, inr}
+use Rattle.std.proofs.Common.{◌≡◌, ◌∙◌, ℕ, zero, suc, ◌^◌, ◌<◌, ◌≤◌, refl, ap, arith, List, ◌++◌, Option, Some, None, ◌==◌, if◌then◌else◌, inl, inr}
 use Rattle.std.proofs.lemmas.Bool.{cases_eq, eq-eqb, ne_eqb}
 use Rattle.std.proofs.lemmas.List.{append-nil}
-use Rattle.settings.specs.declared.change.Change.{Change}
-use Rattle.settings.specs.Words.{words_of, IsValueIfSome, IsChange, AreValues}
+use Rattle.settings.specs.Words.{IsValueIfSome, IsChange, AreValues}
 use Rattle.settings.specs.Settings.{changes_in, after, settled}
 use Rattle.settings.specs.Copies.{kept_words, copies_below, all_copies}
 use Rattle.settings.proofs.Changes.{whole, after-last, changes_in-none}

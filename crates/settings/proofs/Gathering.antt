@@ -1,8 +1,8 @@
 -- The bytes of a value from its words.
-use Rattle.std.proofs.Common.{◌≡◌, ◌∙◌, ℕ, zero, suc, ◌+◌, ◌*◌, ◌^◌, ◌<◌, ◌≤◌, true, false, refl, sym, ap, arith, List, [], ◌∷◌, ◌++◌, length, take, get_or, Option, Some, None, nat_le, inl, inr, append_assoc}
+use Rattle.std.proofs.Common.{◌≡◌, ◌∙◌, ℕ, suc, ◌+◌, ◌*◌, ◌^◌, ◌<◌, ◌≤◌, true, false, refl, sym, ap, arith, List, [], ◌∷◌, ◌++◌, length, take, get_or, Some, None, nat_le, inl, inr, append_assoc}
 use Rattle.std.proofs.lemmas.Bool.{cases_Bool}
 use Rattle.std.proofs.lemmas.Bool.Decides.{nat_tests}
-use Rattle.std.proofs.lemmas.List.{append-nil, length-append, take_all, take_at}
+use Rattle.std.proofs.lemmas.List.{append-nil, length-append, take_all}
 use Rattle.page_turnover.proofs.Describing.{le_test}
 use Rattle.settings.specs.Words.{data_word, packed, is_data, word_bytes}
 use Rattle.settings.specs.Settings.{gathered}

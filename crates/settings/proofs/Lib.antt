@@ -7,9 +7,11 @@ pub mod Reading
 pub mod Naming
 pub mod Values
 pub mod Storing
+pub mod Known
 pub mod Given
 pub mod Cutting
 pub mod Appending
 pub mod Turning
 pub mod Begins
+pub mod Written
 pub mod Whole

@@ -1,15 +1,13 @@
 -- Values after some changes, and ids that nothing names.
-use Rattle.std.proofs.Common.{◌≡◌, ◌∙◌, ℕ, zero, suc, ◌+◌, ◌-◌, ◌^◌, ◌<◌, ◌≤◌, true, false, refl, sym, ap, arith, List, [], ◌∷◌, ◌++◌, length, take, drop, get_or, Option, Some, None, ◌==◌, if◌then◌else◌, inl, inr}
+use Rattle.std.proofs.Common.{◌≡◌, ◌∙◌, ℕ, zero, suc, ◌+◌, ◌-◌, ◌<◌, ◌≤◌, refl, sym, ap, arith, List, [], ◌∷◌, ◌++◌, length, take, drop, get_or, Option, Some, None, inl, inr}
 use Rattle.std.proofs.lemmas.Bool.{eq-eqb, ne_eqb, cases_lt}
 use Rattle.std.proofs.lemmas.List.{append-nil, length-append, take_all}
 use Rattle.page_turnover.specs.Words.{words}
-use Rattle.settings.specs.declared.words.Head.{Head}
 use Rattle.settings.specs.declared.change.Change.{Change}
 use Rattle.settings.specs.Words.{head_of, words_of}
-use Rattle.settings.specs.Settings.{changes_in, after, settled, settings_of, changed}
-use Rattle.settings.specs.Copies.{kept_words, copies_below, all_copies, NoneBetween, IsNext}
+use Rattle.settings.specs.Settings.{changes_in, after, settings_of, changed}
+use Rattle.settings.specs.Copies.{kept_words, copies_below, NoneBetween, IsNext}
 use Rattle.settings.proofs.Changes.{after-append, changes_in-word, changes_in-none}
-use Rattle.settings.proofs.Reading.{after_other}
 
 pub settings_of-is : (image : List ℕ) (id : ℕ) → settings_of image id ≡ after None (changes_in (words image)) id
 unfolding settings_of

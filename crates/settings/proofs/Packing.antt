@@ -1,5 +1,5 @@
 -- The words of some bytes.
-use Rattle.std.proofs.Common.{◌≡◌, ◌∙◌, ℕ, zero, suc, ◌+◌, ◌-◌, ◌*◌, ◌/◌, ◌^◌, ◌<◌, refl, sym, arith, List, [], ◌∷◌, length, get_or, Option, Some, None}
+use Rattle.std.proofs.Common.{◌≡◌, ℕ, zero, suc, ◌+◌, ◌-◌, ◌*◌, ◌/◌, ◌<◌, refl, sym, arith, List, [], ◌∷◌, length, get_or, Option, Some, None}
 use Rattle.settings.specs.declared.change.Change.{Change}
 use Rattle.settings.specs.Words.{data_word, value_word, removal_word, packed, words_of, words_with}
 

@@ -1,16 +1,15 @@
 -- What the words so far say of an id, after one word more.
-use Rattle.std.proofs.Common.{◌≡◌, ◌∙◌, ℕ, zero, suc, ◌+◌, ◌/◌, ◌%◌, ◌^◌, ◌<◌, ◌≤◌, true, false, refl, sym, ap, arith, List, [], ◌∷◌, ◌++◌, length, take, set, Option, Some, None, append_assoc, ◌==◌, if◌then◌else◌, inl, inr, nat_le}
-use Rattle.std.proofs.lemmas.Bool.{eq-eqb, ne_eqb, cases_Bool, and_parts, leb-true}
-use Rattle.std.proofs.lemmas.List.{append-nil, length-append, length-take-le, length-set, take_more_set, take-take}
-use Rattle.page_turnover.proofs.Describing.{le_of}
+use Rattle.std.proofs.Common.{◌≡◌, ◌∙◌, ℕ, ◌+◌, ◌≤◌, true, false, refl, sym, ap, arith, List, [], ◌∷◌, ◌++◌, length, take, set, Option, Some, None, append_assoc}
+use Rattle.std.proofs.lemmas.Bool.{eq-eqb, ne_eqb}
+use Rattle.std.proofs.lemmas.List.{length-append, length-take-le, length-set, take_more_set, take-take}
 use Rattle.settings.specs.declared.words.Head.{Head}
 use Rattle.settings.specs.declared.change.Change.{Change}
 use Rattle.settings.specs.declared.lookup.Partial.{Partial}
 use Rattle.settings.specs.declared.lookup.Reading.{Reading}
 use Rattle.settings.specs.Words.{is_data, head_of, word_bytes}
-use Rattle.settings.specs.Settings.{gathered, given, change_with, change_at, changes_in, after, settled, settings_of}
+use Rattle.settings.specs.Settings.{gathered, given, change_with, changes_in, after, settings_of}
 use Rattle.page_turnover.specs.Words.{words}
-use Rattle.settings.specs.ties.Reading.{IsPartial, IsLen, or_before, closed, outcome}
+use Rattle.settings.specs.ties.Reading.{IsPartial, or_before, closed, outcome}
 use Rattle.settings.proofs.Gathering.{gathered-enough, gathered-more, gathered-other, gathered-end}
 use Rattle.settings.proofs.Changes.{changes_in-word, changes_in-data, changes_in-none}
 

@@ -1,15 +1,14 @@
 -- The values of an image after its words were changed, and while they are.
-use Rattle.std.proofs.Common.{◌≡◌, ◌∙◌, ℕ, zero, suc, ◌+◌, ◌-◌, ◌^◌, ◌<◌, ◌≤◌, refl, sym, ap, subst, arith, List, [], ◌∷◌, ◌++◌, length, take, get_or, Option, Some, None, inl, inr, append_assoc}
+use Rattle.std.proofs.Common.{◌≡◌, ◌∙◌, ℕ, ◌+◌, ◌<◌, refl, sym, ap, arith, List, [], ◌∷◌, ◌++◌, length, take, get_or, Option, append_assoc}
 use Rattle.std.proofs.lemmas.List.{take_all, take_more}
 use Rattle.page_turnover.specs.Words.{words}
-use Rattle.page_turnover.specs.Steps.{Keeps, CommitsWord, CommitsTurn}
+use Rattle.page_turnover.specs.Steps.{Keeps, CommitsTurn}
 use Rattle.page_turnover.specs.Value.{Target, Seal}
 use Rattle.page_turnover.specs.Turn.{copies}
 use Rattle.settings.specs.declared.change.Change.{Change}
 use Rattle.settings.specs.Words.{words_of, IsChange, AreValues}
-use Rattle.settings.specs.Settings.{changes_in, after, settled, settings_of, changed, Same}
+use Rattle.settings.specs.Settings.{changes_in, after, settings_of, changed, Same}
 use Rattle.settings.specs.Copies.{all_copies}
-use Rattle.settings.specs.ties.Store.{AreChanges}
 use Rattle.settings.proofs.Changes.{absent, whole}
 use Rattle.settings.proofs.Compacting.{all_of_them}
 use Rattle.settings.proofs.Naming.{settings_of-is, changed-is}

@@ -1,5 +1,5 @@
 -- A turn to the words of all values.
-use Rattle.std.proofs.Common.{◌≡◌, ◌≢◌, ◌∙◌, ℕ, zero, suc, ◌+◌, ◌-◌, ◌^◌, ◌<◌, ◌≤◌, refl, sym, ap, subst, arith, List, [], ◌∷◌, ◌++◌, length, take, get_or, Option, Some, None, inl, inr}
+use Rattle.std.proofs.Common.{◌≡◌, ◌∙◌, ℕ, ◌+◌, ◌^◌, ◌<◌, ◌≤◌, refl, sym, ap, subst, arith, List, [], ◌∷◌, ◌++◌, length, get_or, Option, inl, inr}
 use Rattle.std.proofs.lemmas.Bool.{cases_Bool, cases_lt}
 use Rattle.std.proofs.lemmas.List.{append-nil, length-append}
 use Rattle.page_turnover.specs.declared.log.stepping.Step.{Step}
@@ -10,9 +10,8 @@ use Rattle.page_turnover.specs.ties.Turn.{UnderWay}
 use Rattle.page_turnover.specs.Turn.{copies, offered, copied, target_page, IsWaiting, IsPending, CanOffer, HasShortWord, with_copy, with_seal}
 use Rattle.page_turnover.specs.Words.{IsBlank}
 use Rattle.page_turnover.specs.Blank.{is_blank}
-use Rattle.page_turnover.specs.Steps.{IsReady, StepsFor, Steps, Keeps, Moves, Commits, CommitsTurn, EndsAs}
+use Rattle.page_turnover.specs.Steps.{IsReady, StepsFor, Steps, Keeps, Moves, Commits, EndsAs}
 use Rattle.page_turnover.proofs.Endings.{waiting_count}
-use Rattle.page_turnover.proofs.WordLists.{words_none}
 use Rattle.page_turnover.proofs.Blanks.{is_blank-blank, is_blank-used}
 use Rattle.settings.specs.declared.change.Change.{Change}
 use Rattle.settings.specs.declared.store.Work.TheVariants.{Working, Stored, Failed}
@@ -21,11 +20,11 @@ use Rattle.settings.specs.declared.store.Job.{Job}
 use Rattle.settings.specs.declared.store.Job.TheVariants.{Turning}
 use Rattle.settings.specs.Words.{words_of, AreValues}
 use Rattle.settings.specs.Settings.{settings_of, changed, Same}
-use Rattle.settings.specs.Copies.{copies_below, all_copies, NoneBetween, IsNext}
+use Rattle.settings.specs.Copies.{all_copies, NoneBetween, IsNext}
 use Rattle.settings.specs.Begins.{alive}
 use Rattle.settings.specs.Left.{erases_left, target_of, turn_left, left}
 use Rattle.settings.specs.Store.{SettingsValue}
-use Rattle.settings.specs.ties.Store.{Stands, IsTurning, IsTurn, IsSeal, IsOffered, given_words, AreChanges}
+use Rattle.settings.specs.ties.Store.{Stands, IsTurning, IsTurn, IsSeal, IsOffered, given_words}
 use Rattle.settings.proofs.Storing.{changed_kept, stored_turn}
 use Rattle.settings.proofs.Values.{are_values}
 use Rattle.settings.proofs.Given.{Owns, kept_is, next_inside, given_more, given_last, given_all, given_few, given_fewer}

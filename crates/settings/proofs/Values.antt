@@ -1,12 +1,12 @@
 -- Each id has a value or none, whatever the words and the changes are.
-use Rattle.std.proofs.Common.{◌≡◌, ◌∙◌, ℕ, zero, suc, ◌+◌, ◌*◌, ◌/◌, ◌%◌, ◌^◌, ◌<◌, ◌≤◌, true, false, refl, sym, ap, subst, arith, List, [], ◌∷◌, ◌++◌, length, take, get_or, Option, Some, None, nat_le, inl, inr, All, ◌==◌, if◌then◌else◌, ◌||◌, ◌&&◌}
+use Rattle.std.proofs.Common.{◌≡◌, ℕ, zero, suc, ◌/◌, ◌%◌, ◌^◌, ◌<◌, ◌≤◌, refl, arith, List, [], ◌∷◌, ◌++◌, length, take, Option, Some, None, nat_le, inl, inr, ◌==◌, ◌&&◌}
 use Rattle.std.proofs.lemmas.Bool.{cases_Bool, and_parts}
-use Rattle.std.proofs.lemmas.List.{length-append, length-take-le}
+use Rattle.std.proofs.lemmas.List.{length-take-le}
 use Rattle.page_turnover.proofs.Describing.{le_of}
 use Rattle.page_turnover.specs.Words.{words}
 use Rattle.settings.specs.declared.words.Head.{Head}
 use Rattle.settings.specs.declared.change.Change.{Change}
-use Rattle.settings.specs.Words.{is_data, word_bytes, head_of, IsValue, IsValueIfSome, IsChange, AreValues}
+use Rattle.settings.specs.Words.{is_data, word_bytes, head_of, IsValueIfSome, IsChange, AreValues}
 use Rattle.settings.specs.Settings.{gathered, given, change_with, change_at, changes_in, after, changed}
 use Rattle.settings.specs.ties.Store.{AreChanges}
 use Rattle.settings.proofs.Gathering.{AreBytes}

@@ -1,19 +1,19 @@
 -- A call that comes back when all is stored.
-use Rattle.std.proofs.Common.{◌≡◌, ◌≢◌, ◌∙◌, ℕ, ◌+◌, ◌-◌, ◌%◌, ◌^◌, ◌<◌, ◌≤◌, refl, sym, ap, subst, arith, List, [], ◌∷◌, ◌++◌, length, Bool, true, false, inl, inr, Result, Ok, Err, IsOk}
+use Rattle.std.proofs.Common.{◌≡◌, ◌∙◌, ℕ, ◌+◌, ◌%◌, ◌^◌, ◌≤◌, refl, sym, arith, List, [], ◌∷◌, length, Bool, true, false, inl, inr, Ok, Err, Option, Some}
 use Rattle.flash_model.specs.FlashOperation.{FlashOperation}
 use Rattle.settings.specs.declared.change.Change.{Change}
 use Rattle.settings.specs.declared.store.SettingsError.{SettingsError}
 use Rattle.settings.specs.declared.store.SettingsError.TheVariants.{TooLong, Full, Unsound, Foreign, Worn, Fault}
 use Rattle.settings.specs.declared.store.Job.{Job}
 use Rattle.settings.specs.declared.store.Job.TheVariants.{Resting, Appending, Turning}
-use Rattle.settings.specs.Words.{words_of}
+use Rattle.settings.specs.Words.{words_of, IsValue, IsValueIfSome}
 use Rattle.settings.specs.Settings.{changes_in, settings_of, changed, Same}
 use Rattle.settings.specs.Begins.{IsRefused, IsAccepted}
-use Rattle.settings.specs.Left.{left, first_words}
-use Rattle.settings.specs.Moments.{IsOperation, AtEachMoment, begins, goes_on}
+use Rattle.settings.specs.Left.{left, first_words, Needs}
+use Rattle.settings.specs.Moments.{IsOperation, IsFault, AtEachMoment, begins, goes_on}
 use Rattle.settings.specs.Store.{SettingsValue, IsBusy}
-use Rattle.settings.specs.Works.{IsBeforeOrAfter, Stores}
-use Rattle.settings.specs.ties.Store.{Stands, IsAppending}
+use Rattle.settings.specs.Works.{IsBeforeOrAfter, IsBetween, GoesTo, WritesMore, WritesLast, HasMade, Stores}
+use Rattle.settings.specs.ties.Store.{Stands, IsAppending, AreChanges}
 use Rattle.settings.specs.ties.Whole.{Makes, SoFar}
 use Rattle.std.proofs.lemmas.Bool.{cases_eq}
 use Rattle.std.proofs.lemmas.List.{append-nil}
@@ -21,6 +21,8 @@ use Rattle.page_turnover.specs.Words.{words}
 use Rattle.settings.proofs.Naming.{changed-is, after-own, after-skip, after-end}
 use Rattle.settings.proofs.Storing.{changed_same}
 use Rattle.settings.proofs.Turning.{few_turn}
+use Rattle.settings.proofs.Values.{are_values}
+use Rattle.settings.proofs.Written.{written_none, written_step}
 
 -- never more than an erase, 511 words and a header
 few_for : (job : Job) (image : List ℕ) (changes : List Change) (settings : SettingsValue) → settings.job ≡ job → Stands image changes settings → left image changes settings ≤ 513
@@ -42,16 +44,27 @@ both : (old middle : List ℕ) (changes : List Change) (new : List ℕ) → Same
 both old middle changes new k (inl s) = inl (λ id l. s id l ∙ k id l)
 both old middle changes new k (inr s) = inr (λ id l. s id l ∙ changed_same old middle changes k id l)
 
+between_none : (image : List ℕ) (changes : List Change) → IsBetween image changes image
+between_none image changes = record { values = inl (λ id l. refl); usable = λ u. u; known = λ h. h }
+
+between_both : (old middle : List ℕ) (changes : List Change) (new : List ℕ) → Same (settings_of middle) (settings_of old) → IsBetween old changes middle → IsBetween middle changes new → IsBetween old changes new
+between_both old middle changes new k a b = record { values = both old middle changes new k b.values; usable = λ u. b.usable (a.usable u); known = λ h. b.known (a.known h) }
+
 pub so_far_none : {F : Type 0} (image : F → List ℕ) (operations : F → ℕ) (operates : F → FlashOperation → F → Type 0) (is_faultless : F → Type 0) (changes : List Change) (old : F) (settings : SettingsValue)
-    → Stands (image old) changes settings → IsBusy settings.job → SoFar image operations operates is_faultless changes (left (image old) changes settings) old settings old
-so_far_none image operations operates is_faultless changes old settings s b = record {
+    → Stands (image old) changes settings → IsBusy settings.job → GoesTo (image old) changes settings.job → Needs (image old) changes (left (image old) changes settings) → SoFar image operations operates is_faultless changes (left (image old) changes settings) old settings old
+so_far_none image operations operates is_faultless changes old settings s b g n = record {
   stands = s;
   kept = λ x id l. refl;
   stored = λ x. absurd (x b);
-  moments = begins (inl (λ id l. refl));
+  moments = begins (between_none (image old) changes);
+  ends = between_none (image old) changes;
+  written = written_none (image old) changes settings.job g;
+  needed = left (image old) changes settings;
+  needs = n;
+  most = few_left (image old) changes settings s;
   count = 0;
   counted = let z : operations old + 0 ≡ operations old = omega arith in rw z refl;
-  few = let l = few_left (image old) changes settings s in omega (arith, l);
+  all = omega arith;
   faultless = λ f. f;
 }
 
@@ -59,58 +72,84 @@ so_far_none image operations operates is_faultless changes old settings s b = re
 one_more : (a b x : ℕ) → b ≡ (a + 1) % 2 ^ 64 → a % 2 ^ 64 ≡ x % 2 ^ 64 → b % 2 ^ 64 ≡ (x + 1) % 2 ^ 64
 one_more a b x e f = omega arith
 
-moments_more : {F : Type 0} (image : F → List ℕ) (operates : F → FlashOperation → F → Type 0) (changes : List Change) (old middle new : F) → Same (settings_of (image middle)) (settings_of (image old)) → AtEachMoment image operates (IsBeforeOrAfter (image old) changes) old middle
-    → IsOperation image operates (IsBeforeOrAfter (image middle) changes) middle new → IsBeforeOrAfter (image middle) changes (image new) → AtEachMoment image operates (IsBeforeOrAfter (image old) changes) old new
-moments_more image operates changes old middle new k m o b =
-    goes_on middle new m (record { operation = o.operation; made = o.made; cut = λ cut i may. both (image old) (image middle) changes cut k (o.cut cut i may) }) (both (image old) (image middle) changes (image new) k b)
+moments_more : {F : Type 0} (image : F → List ℕ) (operates : F → FlashOperation → F → Type 0) (changes : List Change) (old middle new : F) → Same (settings_of (image middle)) (settings_of (image old)) → AtEachMoment image operates (IsBetween (image old) changes) old middle
+    → IsBetween (image old) changes (image middle) → IsOperation image operates (IsBetween (image middle) changes) middle new → IsBetween (image middle) changes (image new) → AtEachMoment image operates (IsBetween (image old) changes) old new
+moments_more image operates changes old middle new k m e o b =
+    goes_on middle new m (record { operation = o.operation; made = o.made; cut = λ cut i may. between_both (image old) (image middle) changes cut k e (o.cut cut i may) }) (between_both (image old) (image middle) changes (image new) k e b)
 
 pub so_far_more : {F : Type 0} (image : F → List ℕ) (operations : F → ℕ) (operates : F → FlashOperation → F → Type 0) (is_faultless : F → Type 0) (changes : List Change) (failed : Bool) (first last : ℕ) (old : F) (before : SettingsValue) (middle : F) (after : SettingsValue) (new : F)
     → SoFar image operations operates is_faultless changes first old before middle → IsBusy before.job → Makes image operations operates is_faultless changes failed first last middle new → Stands (image new) changes after → failed ≡ false
-    → (IsBusy after.job → Same (settings_of (image new)) (settings_of (image middle))) → ((IsBusy after.job → ⊥) → Same (settings_of (image new)) (changed (image middle) changes)) → IsBeforeOrAfter (image middle) changes (image new)
+    → (IsBusy after.job → Same (settings_of (image new)) (settings_of (image middle))) → ((IsBusy after.job → ⊥) → Same (settings_of (image new)) (changed (image middle) changes))
+    → (IsBusy after.job → WritesMore before.job (image middle) changes (image new) after.job) → ((IsBusy after.job → ⊥) → WritesLast before.job (image middle) changes (image new))
     → SoFar image operations operates is_faultless changes last old after new
-so_far_more image operations operates is_faultless changes failed first last old before middle after new s b m t f kept stored is =
+so_far_more image operations operates is_faultless changes failed first last old before middle after new s b m t f kept stored more ending =
     let k = s.kept b in
-    let fewer = m.fewer in
-    let few = s.few in
+    let one = m.one f in
+    let all = s.all in
     record {
       stands = t;
       kept = λ x id l. kept x id l ∙ k id l;
       stored = λ x id l. stored x id l ∙ changed_same (image old) (image middle) changes k id l;
-      moments = moments_more image operates changes old middle new k s.moments m.operation is;
+      moments = moments_more image operates changes old middle new k s.moments s.ends m.operation m.ends;
+      ends = between_both (image old) (image middle) changes (image new) k s.ends m.ends;
+      written = written_step (image old) (image middle) (image new) changes before.job after.job s.written more ending;
+      needed = s.needed;
+      needs = s.needs;
+      most = s.most;
       count = s.count + 1;
       counted = let z : operations old + (s.count + 1) ≡ operations old + s.count + 1 = omega arith in rw z (one_more (operations middle) (operations new) (operations old + s.count) m.counted s.counted);
-      few = omega arith;
+      all = omega arith;
       faultless = λ h. (m.faultless (s.faultless h)).0;
     }
 
 -- all is stored
-pub stores_all : {F T : Type 0} (image : F → List ℕ) (operations : F → ℕ) (operates : F → FlashOperation → F → Type 0) (is_faultless : F → Type 0) (changes : List Change) (rest : ℕ) (value : T) (old : F) (settings : SettingsValue) (new : F)
-    → SoFar image operations operates is_faultless changes rest old settings new → (IsBusy settings.job → ⊥) → Stores {F = F} {T = T} image operations operates is_faultless changes (Ok value) old new
-stores_all image operations operates is_faultless changes rest value old settings new s b =
-    let few = s.few in
+pub stores_all : {F T : Type 0} (image : F → List ℕ) (operations faults : F → ℕ) (operates : F → FlashOperation → F → Type 0) (is_faultless : F → Type 0) (changes : List Change) (rest : ℕ) (value : T) (old : F) (settings : SettingsValue) (new : F)
+    → SoFar image operations operates is_faultless changes rest old settings new → (IsBusy settings.job → ⊥) → Stores {F = F} {T = T} image operations faults operates is_faultless changes (Ok value) old new
+stores_all image operations faults operates is_faultless changes rest value old settings new s b =
+    let all = s.all in
+    let most = s.most in
     record {
       stored = λ x. s.stored b;
       kept = λ x. absurd (x refl);
       any_moment = s.moments;
-      few = record { count = s.count; few = omega arith; counted = s.counted };
+      ends = s.ends;
+      few = record { count = s.count; is = omega arith; counted = s.counted };
       refused = λ why e. cc;
+      fault = λ e. cc;
       progress = λ h. (s.faultless h, λ a. refl);
     }
 
+nothing_left : (job : Job) (image : List ℕ) (changes : List Change) (settings : SettingsValue) → settings.job ≡ job → (IsBusy job → ⊥) → left image changes settings ≡ 0
+nothing_left Resting image changes settings e b = rw e refl
+nothing_left (Appending at) image changes settings e b = absurd (b tt)
+nothing_left (Turning from at) image changes settings e b = absurd (b tt)
+
+-- by as many operations as were needed
+pub count_all : {F : Type 0} (image : F → List ℕ) (operations : F → ℕ) (operates : F → FlashOperation → F → Type 0) (is_faultless : F → Type 0) (changes : List Change) (old : F) (settings : SettingsValue) (new : F)
+    → SoFar image operations operates is_faultless changes (left (image new) changes settings) old settings new → (IsBusy settings.job → ⊥) → HasMade (Needs (image old) changes) (operations old) (operations new)
+count_all image operations operates is_faultless changes old settings new s b =
+    let z : left (image new) changes settings ≡ 0 = nothing_left settings.job (image new) changes settings refl b in
+    let all = s.all in
+    let e : s.count ≡ s.needed = omega arith in
+    record { count = s.count; is = rw e s.needs; counted = s.counted }
+
 -- a step failed
-pub stores_none : {F T : Type 0} (image : F → List ℕ) (operations : F → ℕ) (operates : F → FlashOperation → F → Type 0) (is_faultless : F → Type 0) (changes : List Change) (failed : Bool) (first last : ℕ) (old : F) (before : SettingsValue) (middle : F) (new : F)
+pub stores_none : {F T : Type 0} (image : F → List ℕ) (operations faults : F → ℕ) (operates : F → FlashOperation → F → Type 0) (is_faultless : F → Type 0) (changes : List Change) (failed : Bool) (first last : ℕ) (old : F) (before : SettingsValue) (middle : F) (new : F)
     → SoFar image operations operates is_faultless changes first old before middle → IsBusy before.job → Makes image operations operates is_faultless changes failed first last middle new → failed ≡ true
-    → Same (settings_of (image new)) (settings_of (image middle)) → Stores {F = F} {T = T} image operations operates is_faultless changes (Err Fault) old new
-stores_none image operations operates is_faultless changes failed first last old before middle new s b m f same =
+    → Same (settings_of (image new)) (settings_of (image middle)) → IsFault image faults operates middle new → Stores {F = F} {T = T} image operations faults operates is_faultless changes (Err Fault) old new
+stores_none image operations faults operates is_faultless changes failed first last old before middle new s b m f same why =
     let k = s.kept b in
     let fewer = m.fewer in
-    let few = s.few in
+    let all = s.all in
+    let most = s.most in
     record {
       stored = λ x. (let f : ⊥ = cc in absurd f);
       kept = λ x id l. same id l ∙ k id l;
-      any_moment = moments_more image operates changes old middle new k s.moments m.operation (inl same);
-      few = record { count = s.count + 1; few = omega arith; counted = let z : operations old + (s.count + 1) ≡ operations old + s.count + 1 = omega arith in rw z (one_more (operations middle) (operations new) (operations old + s.count) m.counted s.counted) };
+      any_moment = moments_more image operates changes old middle new k s.moments s.ends m.operation m.ends;
+      ends = between_both (image old) (image middle) changes (image new) k s.ends m.ends;
+      few = record { count = s.count + 1; is = omega arith; counted = let z : operations old + (s.count + 1) ≡ operations old + s.count + 1 = omega arith in rw z (one_more (operations middle) (operations new) (operations old + s.count) m.counted s.counted) };
       refused = λ why e n. absurd (n cc);
+      fault = λ e. record { flash = middle; before = s.moments; fault = why };
       progress = λ h. let g = (m.faultless (s.faultless h)).1 in cc;
     }
 
@@ -123,24 +162,18 @@ not_both Full image changes r a = let l = a.fits r.2 in let m = r.3 in absurd (o
 not_both Worn image changes r a = a.numbered r.2 r.4
 not_both Fault image changes r a = r
 
-pub stores_nothing : {F T : Type 0} (image : F → List ℕ) (operations : F → ℕ) (operates : F → FlashOperation → F → Type 0) (is_faultless : F → Type 0) (changes : List Change) (why : SettingsError) (old : F)
-    → IsRefused (image old) changes why → Stores {F = F} {T = T} image operations operates is_faultless changes (Err why) old old
-stores_nothing image operations operates is_faultless changes why old r = record {
+pub stores_nothing : {F T : Type 0} (image : F → List ℕ) (operations faults : F → ℕ) (operates : F → FlashOperation → F → Type 0) (is_faultless : F → Type 0) (changes : List Change) (why : SettingsError) (old : F)
+    → IsRefused (image old) changes why → Stores {F = F} {T = T} image operations faults operates is_faultless changes (Err why) old old
+stores_nothing image operations faults operates is_faultless changes why old r = record {
   stored = λ x. (let f : ⊥ = cc in absurd f);
   kept = λ x id l. refl;
-  any_moment = begins (inl (λ id l. refl));
-  few = record { count = 0; few = omega arith; counted = let z : operations old + 0 ≡ operations old = omega arith in rw z refl };
+  any_moment = begins (between_none (image old) changes);
+  ends = between_none (image old) changes;
+  few = record { count = 0; is = omega arith; counted = let z : operations old + 0 ≡ operations old = omega arith in rw z refl };
   refused = λ other e n. (let s : why ≡ other = cc in rw (← s) r, refl);
+  fault = λ e. absurd (let s : why ≡ Fault = cc in rw s at r);
   progress = λ h. (h, λ a. absurd (not_both why (image old) changes r a));
 }
-
-now_by : (job : Job) (old : List ℕ) (changes : List Change) (new : List ℕ) → (IsBusy job → Same (settings_of new) (settings_of old)) → ((IsBusy job → ⊥) → Same (settings_of new) (changed old changes)) → IsBeforeOrAfter old changes new
-now_by Resting old changes new k s = inr (s (λ b. b))
-now_by (Appending at) old changes new k s = inl (k tt)
-now_by (Turning from at) old changes new k s = inl (k tt)
-
-pub now_is : (old : List ℕ) (changes : List Change) (new : List ℕ) (settings : SettingsValue) → (IsBusy settings.job → Same (settings_of new) (settings_of old)) → ((IsBusy settings.job → ⊥) → Same (settings_of new) (changed old changes)) → IsBeforeOrAfter old changes new
-now_is old changes new settings k s = now_by settings.job old changes new k s
 
 -- a change that gives an id the value that it has
 changes_none : (image : List ℕ) (change : Change) → settings_of image change.id ≡ change.value → Same (settings_of image) (changed image (change ∷ []))
@@ -151,14 +184,16 @@ changes_none image change e id l =
       | inr n ↦ sym (after-end (settings_of image id) id) ∙ after-skip (settings_of image id) change [] id n ∙ changed-is image (change ∷ []) id
     ]
 
-pub stores_same : {F T : Type 0} (image : F → List ℕ) (operations : F → ℕ) (operates : F → FlashOperation → F → Type 0) (is_faultless : F → Type 0) (change : Change) (value : T) (old : F)
-    → settings_of (image old) change.id ≡ change.value → Stores {F = F} {T = T} image operations operates is_faultless (change ∷ []) (Ok value) old old
-stores_same image operations operates is_faultless change value old e = record {
+pub stores_same : {F T : Type 0} (image : F → List ℕ) (operations faults : F → ℕ) (operates : F → FlashOperation → F → Type 0) (is_faultless : F → Type 0) (change : Change) (value : T) (old : F)
+    → settings_of (image old) change.id ≡ change.value → Stores {F = F} {T = T} image operations faults operates is_faultless (change ∷ []) (Ok value) old old
+stores_same image operations faults operates is_faultless change value old e = record {
   stored = λ x. changes_none (image old) change e;
   kept = λ x. absurd (x refl);
-  any_moment = begins (inl (λ id l. refl));
-  few = record { count = 0; few = omega arith; counted = let z : operations old + 0 ≡ operations old = omega arith in rw z refl };
+  any_moment = begins (between_none (image old) (change ∷ []));
+  ends = between_none (image old) (change ∷ []);
+  few = record { count = 0; is = omega arith; counted = let z : operations old + 0 ≡ operations old = omega arith in rw z refl };
   refused = λ other f n. cc;
+  fault = λ f. cc;
   progress = λ h. (h, λ a. refl);
 }
 
@@ -166,3 +201,13 @@ stores_same image operations operates is_faultless change value old e = record {
 pub changed_nothing : (image : List ℕ) → changed image [] ≡ settings_of image
 unfolding changed settings_of
 changed_nothing image = rw (append-nil (changes_in (words image))) refl
+
+-- no id has a value of more than 64 bytes
+no_changes : AreChanges []
+no_changes k d l = absurd (omega arith)
+
+is_short : (value : Option (List ℕ)) (bytes : List ℕ) → IsValueIfSome value → value ≡ Some bytes → length bytes ≤ 64
+is_short value bytes v e = let w : IsValue bytes = rw e at v in w.short
+
+pub never_long : (image : List ℕ) (id : ℕ) (bytes : List ℕ) → settings_of image id ≡ Some bytes → length bytes ≤ 64
+never_long image id bytes e = is_short (changed image [] id) bytes (are_values image [] no_changes id) (rw (changed_nothing image) e)

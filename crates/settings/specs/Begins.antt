@@ -1,6 +1,6 @@
 -- Believed: when changes are refused, and where they go.
 use Rattle.shapes.specs.Shapes.{Bytes}
-use Rattle.std.specs.Prelude.{◌≡◌, ℕ, ◌+◌, ◌-◌, ◌^◌, ◌≤◌, ◌<◌, IsTrue, All, List, [], ◌∷◌, Option, Some, None, Result, Ok, Err, length}
+use Rattle.std.specs.Prelude.{◌≡◌, ℕ, ◌+◌, ◌-◌, ◌^◌, ◌≤◌, ◌<◌, IsTrue, All, List, [], ◌∷◌, Some, length}
 use Rattle.page_turnover.specs.Active.{active, format}
 use Rattle.page_turnover.specs.Words.{words, IsTail}
 use Rattle.page_turnover.specs.Usable.{IsUsable}

@@ -1,6 +1,6 @@
 -- Believed: the words that a compaction writes.
 use Rattle.shapes.specs.Shapes.{Bytes, SlotWords}
-use Rattle.std.specs.Prelude.{◌≡◌, ℕ, ◌<◌, ◌≤◌, ◌^◌, zero, suc, Option, Some, None, List, [], ◌++◌, length}
+use Rattle.std.specs.Prelude.{◌≡◌, ℕ, ◌<◌, ◌≤◌, ◌^◌, zero, suc, Option, Some, None, [], ◌++◌}
 use Rattle.settings.specs.declared.change.Change.{Change}
 use Rattle.settings.specs.Words.{words_of}
 

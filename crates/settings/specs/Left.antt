@@ -1,6 +1,6 @@
 -- Believed: how many flash operations the changes under way still need.
 use Rattle.shapes.specs.Shapes.{Bytes}
-use Rattle.std.specs.Prelude.{◌≡◌, ℕ, ◌+◌, ◌-◌, List, [], ◌∷◌, if◌then◌else◌, length}
+use Rattle.std.specs.Prelude.{◌≡◌, ℕ, ◌+◌, ◌-◌, List, if◌then◌else◌, length}
 use Rattle.page_turnover.specs.Value.{LogValue, Target, Unread, Holds, Task, Wait, Copy, Seal}
 use Rattle.page_turnover.specs.Words.{IsBlank}
 use Rattle.page_turnover.specs.Blank.{is_blank}
@@ -8,8 +8,8 @@ use Rattle.page_turnover.specs.Turn.{target_page, copied}
 use Rattle.settings.specs.declared.change.Change.{Change}
 use Rattle.settings.specs.declared.store.Job.{Job}
 use Rattle.settings.specs.declared.store.Job.TheVariants.{Resting, Appending, Turning}
-use Rattle.settings.specs.Words.{words_of}
 use Rattle.settings.specs.Begins.{IsAppended, alive}
+use Rattle.settings.specs.Places.{own_words}
 use Rattle.settings.specs.Store.{SettingsValue}
 
 -- 1 where the target of a turn has to be erased: it was not read yet, and is not blank; else 0
@@ -28,10 +28,9 @@ target_of _ = Unread
 abbrev pub turn_left : Bytes → List Change → Target → ℕ
 turn_left image changes target = erases_left image target + (alive image changes - copied target) + 1
 
--- the words of one change
+-- how many words one change has
 abbrev pub first_words : List Change → ℕ
-first_words [] = 0
-first_words (change ∷ rest) = length (words_of change)
+first_words changes = length (own_words changes)
 
 abbrev pub left_for : Bytes → List Change → LogValue → Job → ℕ
 left_for image changes log Resting = 0

@@ -3,6 +3,7 @@ pub mod Settings
 pub mod Copies
 pub mod Store
 pub mod Begins
+pub mod Places
 pub mod Left
 pub mod Moments
 pub mod Works

@@ -1,5 +1,4 @@
 -- Believed where this crate is called: the parts of settings in flash, and whether changes are under way.
-use Rattle.std.specs.Prelude.{ℕ}
 use Rattle.page_turnover.specs.Value.{LogValue}
 use Rattle.settings.specs.declared.store.Job.{Job}
 use Rattle.settings.specs.declared.store.Job.TheVariants.{Resting, Appending, Turning}
@@ -14,3 +13,9 @@ abbrev pub IsBusy : Job → Type 0
 IsBusy Resting = ⊥
 IsBusy (Appending at) = Unit {0}
 IsBusy (Turning from at) = Unit {0}
+
+-- they take a turn
+abbrev pub TakesTurn : Job → Type 0
+TakesTurn Resting = ⊥
+TakesTurn (Appending at) = ⊥
+TakesTurn (Turning from at) = Unit {0}

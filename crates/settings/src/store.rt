@@ -87,14 +87,14 @@ impl Model for Settings {
 
 impl Settings {
     ghost use Rattle.settings.specs.Store.{IsBusy};
-    ghost use Rattle.settings.specs.ties.Store.{Stands, StandsFor};
+    ghost use Rattle.settings.specs.ties.Store.{Stands, StandsFor, IsOffered};
     ghost use Rattle.settings.specs.Begins.{alive, IsRefused, IsAccepted};
     ghost use Rattle.settings.specs.Left.{left, Needs};
-    ghost use Rattle.settings.specs.Works.{IsBeforeOrAfter, Gives, GoesOn, CountsDown, Stores};
+    ghost use Rattle.settings.specs.Works.{IsBetween, Gives, GoesTo, GoesOn, Writes, WritesMore, WritesLast, CountsDown, HasMade, Stores};
+    ghost use Rattle.settings.specs.Places.{AreWritten, IsCompacted};
     ghost use Rattle.settings.specs.ties.Whole.{Makes};
-    ghost use Rattle.settings.specs.Moments.{IsOperation};
+    ghost use Rattle.settings.specs.Moments.{IsOperation, IsFault};
     ghost use Rattle.page_turnover.specs.Steps.{CountsAs};
-    ghost use Rattle.settings.specs.ties.Store.{IsOffered};
 
     /// Reads the log of a flash, and changes nothing.
     pub fn mount<F: NorFlash>(flash: &F) -> Settings
@@ -166,7 +166,10 @@ impl Settings {
     ) -> Result<(), SettingsError>
         requires { StandsFor (F.image flash.old) self.old }
         ensures stands { StandsFor (F.image flash.new) self.new }
-        ensures stores { length bytes.now ≤ 64 → Stores F.image F.operations F.operates F.is_faultless (record { id = id; value = Some bytes.now } ∷ []) result flash.old flash.new }
+        ensures stores { length bytes.now ≤ 64 → Stores F.image F.operations F.faults F.operates F.is_faultless (record { id = id; value = Some bytes.now } ∷ []) result flash.old flash.new }
+        ensures same { settings_of (F.image flash.old) id ≡ Some bytes.now → IsOk result × (flash.new ≡ flash.old) }
+        ensures written { settings_of (F.image flash.old) id ≢ Some bytes.now → IsOk result → AreWritten (F.image flash.old) (record { id = id; value = Some bytes.now } ∷ []) (F.image flash.new) }
+        ensures count { settings_of (F.image flash.old) id ≢ Some bytes.now → IsOk result → HasMade (Needs (F.image flash.old) (record { id = id; value = Some bytes.now } ∷ [])) (F.operations flash.old) (F.operations flash.new) }
         ensures too_long { 64 < length bytes.now → (result ≡ Err SettingsError.TooLong) × (flash.new ≡ flash.old) }
     {
         match Value::new(bytes) {
@@ -185,7 +188,10 @@ impl Settings {
     pub fn remove<F: NorFlash>(&mut self, flash: &mut F, id: u16) -> Result<(), SettingsError>
         requires { StandsFor (F.image flash.old) self.old }
         ensures stands { StandsFor (F.image flash.new) self.new }
-        ensures stores { Stores F.image F.operations F.operates F.is_faultless (record { id = id; value = None } ∷ []) result flash.old flash.new }
+        ensures stores { Stores F.image F.operations F.faults F.operates F.is_faultless (record { id = id; value = None } ∷ []) result flash.old flash.new }
+        ensures same { settings_of (F.image flash.old) id ≡ None → IsOk result × (flash.new ≡ flash.old) }
+        ensures written { settings_of (F.image flash.old) id ≢ None → IsOk result → AreWritten (F.image flash.old) (record { id = id; value = None } ∷ []) (F.image flash.new) }
+        ensures count { settings_of (F.image flash.old) id ≢ None → IsOk result → HasMade (Needs (F.image flash.old) (record { id = id; value = None } ∷ [])) (F.operations flash.old) (F.operations flash.new) }
     {
         self.store(flash, Change { id, value: None })
     }
@@ -195,7 +201,9 @@ impl Settings {
     pub fn compact<F: NorFlash>(&mut self, flash: &mut F) -> Result<(), SettingsError>
         requires { StandsFor (F.image flash.old) self.old }
         ensures stands { StandsFor (F.image flash.new) self.new }
-        ensures stores { Stores F.image F.operations F.operates F.is_faultless [] result flash.old flash.new }
+        ensures stores { Stores F.image F.operations F.faults F.operates F.is_faultless [] result flash.old flash.new }
+        ensures compacted { IsOk result → IsCompacted (F.image flash.old) [] (F.image flash.new) }
+        ensures count { IsOk result → HasMade (Needs (F.image flash.old) []) (F.operations flash.old) (F.operations flash.new) }
     {
         self.transaction(flash, &[])
     }
@@ -204,7 +212,10 @@ impl Settings {
     fn store<F: NorFlash>(&mut self, flash: &mut F, change: Change) -> Result<(), SettingsError>
         requires { StandsFor (F.image flash.old) self.old }
         ensures stands { StandsFor (F.image flash.new) self.new }
-        ensures stores { Stores F.image F.operations F.operates F.is_faultless (change ∷ []) result flash.old flash.new }
+        ensures stores { Stores F.image F.operations F.faults F.operates F.is_faultless (change ∷ []) result flash.old flash.new }
+        ensures same { settings_of (F.image flash.old) change.id ≡ change.value → IsOk result × (flash.new ≡ flash.old) }
+        ensures written { settings_of (F.image flash.old) change.id ≢ change.value → IsOk result → AreWritten (F.image flash.old) (change ∷ []) (F.image flash.new) }
+        ensures count { settings_of (F.image flash.old) change.id ≢ change.value → IsOk result → HasMade (Needs (F.image flash.old) (change ∷ [])) (F.operations flash.old) (F.operations flash.new) }
     {
         if holds(&self.log, flash, &change) {
             return Ok(());
@@ -224,6 +235,7 @@ impl Settings {
         ensures refused { MatchResult result (λ _. IsAccepted (F.image flash.now) changes.now) (λ why. IsRefused (F.image flash.now) changes.now why) }
         ensures stands { Stands (F.image flash.now) changes.now self.new }
         ensures busy { IsOk result ↔ IsBusy self.new.job }
+        ensures goes_to { IsOk result → GoesTo (F.image flash.now) changes.now self.new.job }
         ensures needs { IsOk result → Needs (F.image flash.now) changes.now (left (F.image flash.now) changes.now self.new) }
     {
         self.rest(flash);
@@ -260,7 +272,9 @@ impl Settings {
     ) -> Result<(), SettingsError>
         requires { StandsFor (F.image flash.old) self.old }
         ensures stands { StandsFor (F.image flash.new) self.new }
-        ensures stores { Stores F.image F.operations F.operates F.is_faultless changes.now result flash.old flash.new }
+        ensures stores { Stores F.image F.operations F.faults F.operates F.is_faultless changes.now result flash.old flash.new }
+        ensures written { IsOk result → AreWritten (F.image flash.old) changes.now (F.image flash.new) }
+        ensures count { IsOk result → HasMade (Needs (F.image flash.old) changes.now) (F.operations flash.old) (F.operations flash.new) }
     {
         if let Err(why) = self.begin(flash, changes) {
             return Err(why);
@@ -282,6 +296,9 @@ impl Settings {
         ensures kept { IsBusy self.new.job → Same (settings_of (F.image flash.new)) (settings_of (F.image flash.old)) }
         ensures failed { IsTrue result → Same (settings_of (F.image flash.new)) (settings_of (F.image flash.old)) }
         ensures stored { result ≡ false → (IsBusy self.new.job → ⊥) → Same (settings_of (F.image flash.new)) (changed (F.image flash.old) changes.now) }
+        ensures more { IsBusy self.new.job → WritesMore self.old.job (F.image flash.old) changes.now (F.image flash.new) self.new.job }
+        ensures last { result ≡ false → (IsBusy self.new.job → ⊥) → WritesLast self.old.job (F.image flash.old) changes.now (F.image flash.new) }
+        ensures fault { IsTrue result → IsFault F.image F.faults F.operates flash.old flash.new }
     {
         match self.step(flash, changes) {
             Work::Failed => true,
@@ -312,8 +329,11 @@ impl Settings {
         // what the answer means for the values and the changes
         ensures gives { Gives (F.image flash.old) changes.now result (F.image flash.new) }
         ensures goes_on { GoesOn self.old.job result self.new.job }
+        ensures writes { Writes self.old.job result (F.image flash.old) changes.now (F.image flash.new) self.new.job }
+        ensures between { IsBetween (F.image flash.old) changes.now (F.image flash.new) }
+        ensures fault { result ≡ Work.Failed → IsFault F.image F.faults F.operates flash.old flash.new }
         // one operation; where the power is cut inside it the values are as before, or all changes are in force
-        ensures operation { result ≢ Work.Idle → IsOperation F.image F.operates (IsBeforeOrAfter (F.image flash.old) changes.now) flash.old flash.new }
+        ensures operation { result ≢ Work.Idle → IsOperation F.image F.operates (IsBetween (F.image flash.old) changes.now) flash.old flash.new }
         ensures untouched { result ≡ Work.Idle → flash.new ≡ flash.old }
         ensures counts { CountsAs (result ≡ Work.Idle) (result ≡ Work.Failed) (F.operations flash.old) (F.operations flash.new) (F.faults flash.old) (F.faults flash.new) }
         ensures down { CountsDown result (left (F.image flash.old) changes.now self.old) (left (F.image flash.new) changes.now self.new) }
@@ -333,7 +353,10 @@ impl Settings {
         ensures stands { Stands (F.image flash.new) changes.now self.new }
         ensures gives { Gives (F.image flash.old) changes.now result (F.image flash.new) }
         ensures goes_on { GoesOn self.old.job result self.new.job }
-        ensures operation { IsOperation F.image F.operates (IsBeforeOrAfter (F.image flash.old) changes.now) flash.old flash.new }
+        ensures writes { Writes self.old.job result (F.image flash.old) changes.now (F.image flash.new) self.new.job }
+        ensures between { IsBetween (F.image flash.old) changes.now (F.image flash.new) }
+        ensures fault { result ≡ Work.Failed → IsFault F.image F.faults F.operates flash.old flash.new }
+        ensures operation { IsOperation F.image F.operates (IsBetween (F.image flash.old) changes.now) flash.old flash.new }
         ensures counts { CountsAs (result ≡ Work.Idle) (result ≡ Work.Failed) (F.operations flash.old) (F.operations flash.new) (F.faults flash.old) (F.faults flash.new) }
         ensures down { CountsDown result (left (F.image flash.old) changes.now self.old) (left (F.image flash.new) changes.now self.new) }
         ensures faultless { F.is_faultless flash.old → F.is_faultless flash.new × (result ≢ Work.Failed) }
@@ -374,7 +397,10 @@ impl Settings {
         ensures stands { Stands (F.image flash.new) changes.now self.new }
         ensures gives { Gives (F.image flash.old) changes.now result (F.image flash.new) }
         ensures goes_on { GoesOn self.old.job result self.new.job }
-        ensures operation { IsOperation F.image F.operates (IsBeforeOrAfter (F.image flash.old) changes.now) flash.old flash.new }
+        ensures writes { Writes self.old.job result (F.image flash.old) changes.now (F.image flash.new) self.new.job }
+        ensures between { IsBetween (F.image flash.old) changes.now (F.image flash.new) }
+        ensures fault { result ≡ Work.Failed → IsFault F.image F.faults F.operates flash.old flash.new }
+        ensures operation { IsOperation F.image F.operates (IsBetween (F.image flash.old) changes.now) flash.old flash.new }
         ensures counts { CountsAs (result ≡ Work.Idle) (result ≡ Work.Failed) (F.operations flash.old) (F.operations flash.new) (F.faults flash.old) (F.faults flash.new) }
         ensures down { CountsDown result (left (F.image flash.old) changes.now self.old) (left (F.image flash.new) changes.now self.new) }
         ensures faultless { F.is_faultless flash.old → F.is_faultless flash.new × (result ≢ Work.Failed) }
@@ -461,7 +487,7 @@ fn has_room_for(log: &Log, words: usize) -> bool
 /// Whether an id has the value already that a change gives it.
 fn holds<F: NorFlash>(log: &Log, flash: &F, change: &Change) -> bool
     requires { Describes (F.image flash.now) log.now }
-    ensures { IsTrue result → settings_of (F.image flash.now) change.now.id ≡ change.now.value }
+    ensures { IsTrue result ↔ (settings_of (F.image flash.now) change.now.id ≡ change.now.value) }
 {
     let held = value_in(log, flash, change.id);
     match &change.value {

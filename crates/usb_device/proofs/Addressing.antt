@@ -1,9 +1,9 @@
 -- The address of the controller: told, or set to 0 by a reset.
-use Rattle.std.proofs.Common.{◌≡◌, ℕ, Bool, true, false, List, [], ◌∷◌, refl, ap, ◌∙◌, inl, inr}
+use Rattle.std.proofs.Common.{◌≡◌, ℕ, Bool, true, false, List, [], ◌∷◌, Option, Some, None, refl, sym, ap, subst, ◌∙◌, inl, inr}
 use Rattle.usb_device.specs.Calls.{EpCall}
-use Rattle.usb_device.specs.Addresses.{StaysBy, Stays, StaysOrReset}
+use Rattle.usb_device.specs.Addresses.{StaysBy, Stays, StaysOrReset, Tells, Addressed}
 use Rattle.usb_device.specs.Bus.{Bus, InMode, OutMode, Happens, sets_up, takes_in, loses_ack, brings_out, stalls, resets, Goes, is_pending, unless_pending, with_input, with_output}
-use Rattle.usb_device.specs.Bus1.{reports_of, KeptOrReset, KeptUnless}
+use Rattle.usb_device.specs.Bus1.{beside, KeptOrReset, KeptUnless}
 
 was_reset : (b next c : Bus) → next ≡ c → (b.met.reset ≡ true → c.met.reset ≡ true) → b.met.reset ≡ true → next.met.reset ≡ true
 was_reset b next c e h r = ap (λ (x : Bus). x.met.reset) e ∙ h r
@@ -26,29 +26,42 @@ set_reset false b next e r = ap (λ m. m.reset) e ∙ r
 
 pub input_stays : (steps : List Bus) (b mid new : Bus) (mode : InMode) (x y : ℕ) → Goes steps b mid → new ≡ with_input mid mode → StaysBy new.met.reset x y → Stays b new x y
 input_stays steps b mid new mode x y g e s =
-    ((λ r. ap (λ (n : Bus). n.met.reset) e ∙ set_reset (is_pending mid.met) mid _ refl (reset_goes steps b mid g r)), s)
+    ((λ r. ap (λ (n : Bus). n.met.reset) e ∙ set_reset (is_pending mid.met) mid _ refl (reset_goes steps b mid g r)), λ _. s)
 
 pub output_stays : (steps : List Bus) (b mid new : Bus) (mode : OutMode) (x y : ℕ) → Goes steps b mid → new ≡ with_output mid mode → StaysBy new.met.reset x y → Stays b new x y
 output_stays steps b mid new mode x y g e s =
-    ((λ r. ap (λ (n : Bus). n.met.reset) e ∙ set_reset (is_pending mid.met) mid _ refl (reset_goes steps b mid g r)), s)
+    ((λ r. ap (λ (n : Bus). n.met.reset) e ∙ set_reset (is_pending mid.met) mid _ refl (reset_goes steps b mid g r)), λ _. s)
 
 -- one behind the other
+zeroed : (r : Bool) (x y : ℕ) → StaysBy r x y → r ≡ true → y ≡ 0
+zeroed true x y s e = s
+zeroed false x y s e = absurd (let t : false ≡ true = e in cc)
+
+then_by : (r q : Bool) (x y z : ℕ) → (r ≡ true → q ≡ true) → StaysBy r x y → StaysBy q y z → StaysBy q x z
+then_by r true x y z m s t = t
+then_by true false x y z m s t = absurd (let e : false ≡ true = m refl in cc)
+then_by false false x y z m s t = t ∙ s
+
 pub stays_then : (b c d : Bus) (x y z : ℕ) → Stays b c x y → Stays c d y z → Stays b d x z
-stays_then b c d x y z (m, inl e) (n, inl f) = ((λ r. n (m r)), inl (f ∙ e))
-stays_then b c d x y z (m, inr (q, e)) (n, inl f) = ((λ r. n (m r)), inr (n q, f ∙ e))
-stays_then b c d x y z (m, s) (n, inr p) = ((λ r. n (m r)), inr p)
+stays_then b c d x y z (m, f) (n, k) =
+    ((λ r. n (m r)), λ o. then_by c.met.reset d.met.reset x y z n (f o) (k (λ r. zeroed c.met.reset x y (f o) r)))
+
+still_by : (r : Bool) (x : ℕ) → (r ≡ true → x ≡ 0) → StaysBy r x x
+still_by true x o = o refl
+still_by false x o = refl
 
 pub stays_still : (b : Bus) (x : ℕ) → Stays b b x x
-stays_still b x = ((λ r. r), inl refl)
+stays_still b x = ((λ r. r), λ o. still_by b.met.reset x o)
 
 -- a look at what was met, and what was done behind it
-pub served_stays : (reset now : Bool) (calls later : List EpCall) (x y z : ℕ) → StaysBy reset x y → StaysBy now y z → KeptUnless reset calls later → StaysOrReset now later x z
-served_stays reset now calls later x y z (inl e) (inl f) k = inl (inl (f ∙ e))
-served_stays true now calls later x y z (inr (q, e)) (inl f) k = inr (f ∙ e, k)
-served_stays false now calls later x y z (inr (q, e)) (inl f) k = absurd (let r : false ≡ true = q in cc)
-served_stays reset now calls later x y z s (inr p) k = inl (inr p)
+pub served_stays : (reset now : Bool) (calls later : List EpCall) (x y z : ℕ) → StaysBy reset x y → StaysBy now y z → KeptUnless reset calls later
+    → StaysOrReset now calls later x z
+served_stays true true calls later x y z s t k = inr (k, t)
+served_stays true false calls later x y z s t k = inr (k, t ∙ s)
+served_stays false true calls later x y z s t k = inl (k, t)
+served_stays false false calls later x y z s t k = inl (k, t ∙ s)
 
-pub kept_further : (reset : Bool) (calls mid later : List EpCall) → KeptUnless reset calls mid → reports_of later ≡ reports_of mid → KeptUnless reset calls later
+pub kept_further : (reset : Bool) (calls mid later : List EpCall) → KeptUnless reset calls mid → beside later ≡ beside mid → KeptUnless reset calls later
 kept_further true calls mid later k e = e ∙ k
 kept_further false calls mid later k e = e ∙ k
 
@@ -56,8 +69,16 @@ pub kept_or : (reset : Bool) (calls later : List EpCall) → KeptUnless reset ca
 kept_or true calls later k = inr k
 kept_or false calls later k = inl k
 
--- a reset that was met stays
-pub reset_later : (reset now : Bool) (calls : List EpCall) (x y : ℕ) → (reset ≡ true → now ≡ true) → StaysOrReset reset calls x y → StaysOrReset now calls x y
-reset_later reset now calls x y m (inl (inl e)) = inl (inl e)
-reset_later reset now calls x y m (inl (inr p)) = inl (inr (m p.0, p.1))
-reset_later reset now calls x y m (inr p) = inr p
+-- then the address is told, or nothing
+untold : (b next : Bus) (calls later : List EpCall) (x y z : ℕ) → (next ≡ b) × (z ≡ y) → StaysOrReset b.met.reset calls later x y
+    → StaysOrReset next.met.reset calls later x z
+untold b next calls later x y z (e, f) s =
+    let P : Bus → Type 0 = λ c. StaysOrReset c.met.reset calls later x z in
+    let Q : ℕ → Type 0 = λ n. StaysOrReset b.met.reset calls later x n in
+    subst P (sym e) (subst Q (sym f) s)
+
+pub addressed : (done : Bool) (due : Option ℕ) (b next : Bus) (calls later : List EpCall) (x y z : ℕ) → Tells done due b next y z
+    → StaysOrReset b.met.reset calls later x y → Addressed done due next.met.reset calls later x z
+addressed true (Some address) b next calls later x y z t s = t
+addressed true None b next calls later x y z t s = untold b next calls later x y z t s
+addressed false due b next calls later x y z t s = untold b next calls later x y z t s

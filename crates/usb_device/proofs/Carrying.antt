@@ -1,8 +1,8 @@
 -- What packets a host took as new, and what reports they are.
-use Rattle.std.proofs.Common.{◌≡◌, ℕ, ◌+◌, Bool, true, false, not, List, [], ◌∷◌, ◌++◌, length, refl, sym, ap, subst, ◌∙◌, ◌⊎◌, inl, inr, arith}
+use Rattle.std.proofs.Common.{◌≡◌, ℕ, ◌+◌, Bool, true, false, not, List, [], ◌∷◌, ◌++◌, length, drop, zero, suc, refl, sym, ap, subst, ◌∙◌, ◌⊎◌, inl, inr, arith}
 use Rattle.usb_device.specs.declared.answer.Endpoint1.{Endpoint1}
-use Rattle.usb_device.specs.Bus1.{Got, New, Anew, same, received}
-use Rattle.usb_device.specs.Reports.{packets_of, with_new, IsPacket, ArePieces, HasAnew, Carries, Begun}
+use Rattle.usb_device.specs.Bus1.{Got, New, Anew, GivenUp, same, received, Sent, Reported, Changed, is_old, newest}
+use Rattle.usb_device.specs.Reports.{cut, packets_of, with_new, IsPacket, ArePieces, HasAnew, HasNew, MayRepeat, CarriesBy, Carries, Begun}
 use Rattle.usb_device.specs.ties.Link1.{copies, new_of, ArePackets}
 
 pub true_false : true ≡ false → ⊥
@@ -25,6 +25,10 @@ pieces_new size report (x ∷ xs) pieces a p = pieces_new size report xs (New x 
 pub has_new : (xs : List (List ℕ)) (pieces : List Got) → HasAnew pieces → HasAnew (with_new xs pieces)
 has_new [] pieces h = h
 has_new (x ∷ xs) pieces h = has_new xs (New x ∷ pieces) h
+
+may_still : (xs : List (List ℕ)) (pieces before : List Got) → MayRepeat pieces before → MayRepeat (with_new xs pieces) before
+may_still xs pieces before (inl h) = inl (has_new xs pieces h)
+may_still xs pieces before (inr h) = inr h
 
 pub own : (size : ℕ) (report : List ℕ) (xs : List (List ℕ)) → ((x : List ℕ) → IsPacket x xs → IsPacket x (packets_of size report)) → ArePackets size report xs
 own size report [] k = tt
@@ -57,30 +61,75 @@ pub snoc-length : {A : Type 0} (xs : List A) (x : A) → length (xs ++ x ∷ [])
 snoc-length [] x = omega arith
 snoc-length (z ∷ xs) x = let e = snoc-length xs x in omega (arith, e)
 
-pub marked_carries : (state : Endpoint1) (size : ℕ) (got : List Got) (sent : List (List ℕ)) → Carries size got sent → Carries size (Anew state ∷ got) sent
-marked_carries state size got [] c = c
-marked_carries state size got (r ∷ earlier) c = (Anew state ∷ c.0, c.1, c.2, ap (λ x. Anew state ∷ x) c.3, c.4, c.5, c.6, c.7)
+pub marked_carries : (state : Endpoint1) (old : Bool) (size : ℕ) (got : List Got) (sent : List Sent) → CarriesBy old size got sent
+    → CarriesBy old size (Anew state ∷ got) sent
+marked_carries state old size got [] c = c
+marked_carries state old size got (Changed ∷ earlier) c = marked_carries state true size got earlier c
+marked_carries state old size got (Reported r ∷ earlier) (inl c) = inl (Anew state ∷ c.0, c.1, c.2, ap (λ x. Anew state ∷ x) c.3, c.4, c.5, c.6, c.7)
+marked_carries state old size got (Reported r ∷ earlier) (inr c) =
+    inr (c.0, Anew state ∷ c.1, c.2, c.3, ap (λ x. Anew state ∷ x) c.4, c.5, c.6, c.7)
 
-pub whole : (size : ℕ) (report : List ℕ) (got pieces before : List Got) (earlier : List (List ℕ)) → got ≡ pieces ++ before → ArePieces size report pieces
-    → (pieces ≡ []) ⊎ HasAnew pieces → Carries size before earlier → Carries size (with_new (packets_of size report) got) (report ∷ earlier)
-whole size report got pieces before earlier e a o k = ([], pieces, before, ap (λ x. with_new (packets_of size report) x) e, tt, a, o, k)
+-- what the host has, it has also where the protocol was set behind it
+pub any_carries : (size : ℕ) (got : List Got) (sent : List Sent) → Carries size got sent → CarriesBy true size got sent
+any_carries size got [] c = c
+any_carries size got (Changed ∷ earlier) c = c
+any_carries size got (Reported r ∷ earlier) (inl c) = inl c
+any_carries size got (Reported r ∷ earlier) (inr c) = absurd (true_false (sym c.0))
+
+-- a report that came whole counts, whether or not the protocol was set behind it
+pub newest_carries : (old : Bool) (size : ℕ) (got : List Got) (sent : List Sent) → Carries size got (newest sent) → CarriesBy old size got sent
+newest_carries old size got [] c = c
+newest_carries old size got (Changed ∷ earlier) c = newest_carries true size got earlier c
+newest_carries old size got (Reported r ∷ earlier) (inl c) = inl c
+newest_carries old size got (Reported r ∷ earlier) (inr c) = absurd (true_false (sym c.0))
+
+-- where the protocol was set the newest report may be given up
+given_by : (o : Bool) (size : ℕ) (report : List ℕ) (sent earlier : List Sent) (pieces before : List Got) → o ≡ true → newest sent ≡ Reported report ∷ earlier
+    → ArePieces size report pieces → Carries size before earlier → CarriesBy o size (GivenUp ∷ (pieces ++ before)) sent
+given_by o size report [] earlier pieces before t n a c = cc
+given_by o size report (Changed ∷ sent) earlier pieces before t n a c = given_by true size report sent earlier pieces before refl n a c
+given_by o size report (Reported r ∷ sent) earlier pieces before t n a c =
+    let R : report ≡ r = let x = n in cc in
+    let E : earlier ≡ sent = let x = n in cc in
+    let A : List ℕ → Type 0 = λ x. ArePieces size x pieces in
+    let C : List Sent → Type 0 = λ x. Carries size before x in
+    inr (t, [], pieces, before, refl, tt, subst A R a, subst C E c)
+
+pub gives_up : (size : ℕ) (report : List ℕ) (sent earlier : List Sent) (got : List Got) (b : Begun size report got earlier) → is_old sent ≡ true
+    → newest sent ≡ Reported report ∷ earlier → Carries size (GivenUp ∷ got) sent
+gives_up size report [] earlier got b o n = absurd (true_false (sym o))
+gives_up size report (Changed ∷ sent) earlier got b o n =
+    let P : List Got → Type 0 = λ x. CarriesBy true size (GivenUp ∷ x) sent in
+    subst P (sym b.got_is) (given_by true size report sent earlier b.pieces b.before refl n b.are b.carried)
+gives_up size report (Reported r ∷ sent) earlier got b o n = absurd (true_false (sym o))
+
+-- where it was not set
+pub newest_now : (sent : List Sent) → is_old sent ≡ false → newest sent ≡ sent
+newest_now [] o = refl
+newest_now (Changed ∷ sent) o = absurd (true_false o)
+newest_now (Reported r ∷ sent) o = refl
+
+pub whole : (size : ℕ) (report : List ℕ) (got pieces before : List Got) (earlier : List Sent) → got ≡ pieces ++ before → ArePieces size report pieces
+    → (pieces ≡ []) ⊎ MayRepeat pieces before → Carries size before earlier → Carries size (with_new (packets_of size report) got) (Reported report ∷ earlier)
+whole size report got pieces before earlier e a o k = inl ([], pieces, before, ap (λ x. with_new (packets_of size report) x) e, tt, a, o, k)
 
 -- behind other packets of the report
-pub whole_behind : (size : ℕ) (report : List ℕ) (xs : List (List ℕ)) (got pieces before : List Got) (earlier : List (List ℕ)) → ArePackets size report xs
-    → got ≡ pieces ++ before → ArePieces size report pieces → HasAnew pieces → Carries size before earlier
-    → Carries size (with_new (xs ++ packets_of size report) got) (report ∷ earlier)
+pub whole_behind : (size : ℕ) (report : List ℕ) (xs : List (List ℕ)) (got pieces before : List Got) (earlier : List Sent) → ArePackets size report xs
+    → got ≡ pieces ++ before → ArePieces size report pieces → MayRepeat pieces before → Carries size before earlier
+    → Carries size (with_new (xs ++ packets_of size report) got) (Reported report ∷ earlier)
 whole_behind size report xs got pieces before earlier x e a o k =
-    let C : List Got → Type 0 = λ y. Carries size y (report ∷ earlier) in
+    let C : List Got → Type 0 = λ y. Carries size y (Reported report ∷ earlier) in
     subst C (sym (with_new-append xs (packets_of size report) got))
     (whole size report (with_new xs got) (with_new xs pieces) before earlier (ap (λ y. with_new xs y) e ∙ with_new-behind xs pieces before)
-    (pieces_new size report xs pieces x a) (inr (has_new xs pieces o)) k)
+    (pieces_new size report xs pieces x a) (inr (may_still xs pieces before o)) k)
 
 -- what is to be handed over brings the report whole, once more where the toggles may differ
-pub will : (unsure a : Bool) (size : ℕ) (report : List ℕ) (got pieces before : List Got) (earlier : List (List ℕ)) → got ≡ pieces ++ before
-    → ArePieces size report pieces → (pieces ≡ []) ⊎ HasAnew pieces → (unsure ≡ true → HasAnew pieces) → (unsure ≡ false → a ≡ true) → Carries size before earlier
-    → Carries size (with_new (new_of a (packets_of size report ++ copies unsure (packets_of size report))) got) (report ∷ earlier)
+pub will : (unsure a : Bool) (size : ℕ) (report : List ℕ) (got pieces before : List Got) (earlier : List Sent) → got ≡ pieces ++ before
+    → ArePieces size report pieces → (pieces ≡ []) ⊎ MayRepeat pieces before → (unsure ≡ true → MayRepeat pieces before) → (unsure ≡ false → a ≡ true)
+    → Carries size before earlier
+    → Carries size (with_new (new_of a (packets_of size report ++ copies unsure (packets_of size report))) got) (Reported report ∷ earlier)
 will false true size report got pieces before earlier e p o u s k =
-    let C : List (List ℕ) → Type 0 = λ y. Carries size (with_new y got) (report ∷ earlier) in
+    let C : List (List ℕ) → Type 0 = λ y. Carries size (with_new y got) (Reported report ∷ earlier) in
     subst C (sym (nil-right (packets_of size report))) (whole size report got pieces before earlier e p o k)
 will false false size report got pieces before earlier e p o u s k = absurd (true_false (sym (s refl)))
 will true true size report got pieces before earlier e p o u s k =
@@ -88,7 +137,7 @@ will true true size report got pieces before earlier e p o u s k =
 will true false size report got pieces before earlier e p o u s k =
     whole_behind size report (new_of false (packets_of size report)) got pieces before earlier (all_own size report).1 e p (u refl) k
 
-pub received_begun : (a : Bool) (size : ℕ) (report packet : List ℕ) (got : List Got) (earlier : List (List ℕ)) → IsPacket packet (packets_of size report)
+pub received_begun : (a : Bool) (size : ℕ) (report packet : List ℕ) (got : List Got) (earlier : List Sent) → IsPacket packet (packets_of size report)
     → Begun size report got earlier → Begun size report (received a packet got) earlier
 received_begun true size report packet got earlier i b = record {
   pieces = New packet ∷ b.pieces;
@@ -98,6 +147,22 @@ received_begun true size report packet got earlier i b = record {
   carried = b.carried;
 }
 received_begun false size report packet got earlier i b = b
+
+-- the host has a packet, where it takes this one as new or has one already
+pub received_has : (a : Bool) (size : ℕ) (report packet : List ℕ) (got : List Got) (earlier : List Sent) (i : IsPacket packet (packets_of size report))
+    (b : Begun size report got earlier) → (a ≡ true) ⊎ HasNew b.pieces → HasNew (received_begun a size report packet got earlier i b).pieces
+unfolding received_begun
+received_has true size report packet got earlier i b h = tt
+received_has false size report packet got earlier i b (inl e) = absurd (true_false (sym e))
+received_has false size report packet got earlier i b (inr h) = h
+
+pub length-append : {A : Type 0} (xs ys : List A) → length (xs ++ ys) ≡ length xs + length ys
+length-append [] ys = omega arith
+length-append (x ∷ xs) ys = let e = length-append xs ys in omega (arith, e)
+
+pub length-cut : (size count : ℕ) (bytes : List ℕ) → length (cut size count bytes) ≡ count
+length-cut size zero bytes = refl
+length-cut size (suc count) bytes = let e = length-cut size count (drop size bytes) in omega (arith, e)
 
 pub received_will : (a : Bool) (packet : List ℕ) (rest : List (List ℕ)) (got : List Got) → with_new (new_of a (packet ∷ rest)) got ≡ with_new rest (received a packet got)
 received_will true packet rest got = refl

@@ -3,45 +3,74 @@ use Rattle.std.proofs.Common.{◌==◌, ◌≡◌, ℕ, ◌+◌, Bool, true, fal
 use Rattle.usb_device.specs.declared.report_buffers.Course.{Course}
 use Rattle.usb_device.specs.declared.report_buffers.Course.TheVariants.{Rests, Begins, Goes}
 use Rattle.usb_device.specs.Calls.{EpCall, Polled}
-use Rattle.usb_device.specs.Bus1.{Bus1, blank, agree, Goes1, unless_reset, filled, room_of}
-use Rattle.usb_device.specs.Reports.{cut, count_of, packets_of, with_new, Carries}
+use Rattle.usb_device.specs.Bus1.{Bus1, Reported, newest, is_old, blank, agree, Goes1, unless_reset, filled, room_of}
+use Rattle.usb_device.specs.Reports.{cut, count_of, packets_of, with_new, HasNew, Carries}
 use Rattle.usb_device.specs.ties.Link1.{may_send, IsHeld, NothingWithheld, all_handed, all_full, was_reset, has_none, ReportState, is_more, to_hand, copies, new_of, ArePackets, Agrees, Beginning, Going, Now1, Link1}
-use Rattle.usb_device.proofs.Carrying.{true_false, all_own, own-append, own_copies, snoc-append, snoc_some, snoc-length, will}
+use Rattle.usb_device.proofs.Carrying.{true_false, all_own, own-append, own_copies, snoc-append, snoc_some, snoc-length, length-append, length-cut, will}
 use Rattle.usb_device.proofs.Reporting.{goes1, lt_true, positive, lt_suc, bool_cases}
 
 -- a packet is put into a buffer
 pub set_full : Bus1 → List ℕ → Bus1
 set_full b packet = record { got = b.got; host = b.host; device = b.device; slots = b.slots ++ packet ∷ []; taken = b.taken; opened = false; reset = b.reset }
 
-pub agrees_sure : (unsure : Bool) (b : Bus1) → Agrees unsure b → unsure ≡ false → agree b ≡ true
-agrees_sure true b a e = absurd (true_false e)
-agrees_sure false b a e = a.0
+pub agrees_sure : (unsure lost : Bool) (b : Bus1) → Agrees unsure lost b → unsure ≡ false → agree b ≡ true
+agrees_sure true lost b a e = absurd (true_false e)
+agrees_sure false lost b a e = a.0
+
+-- all packets of a report that begins are left; once more, where the toggles may differ
+first_last : (unsure : Bool) (size : ℕ) (report : List ℕ) (xs : List (List ℕ)) → xs ≡ packets_of size report ++ copies unsure (packets_of size report)
+    → length xs ≤ count_of size report → unsure ≡ false
+first_last false size report xs e l = refl
+first_last true size report xs e l =
+    let p = packets_of size report in
+    let x = ap (λ (y : List (List ℕ)). length y) e in
+    let a = length-append p p in
+    let c = length-cut size (count_of size report) report in
+    let some : 0 < count_of size report = omega arith in
+    absurd (omega (arith, x, a, c, l, some))
+
+first_fewer : (unsure : Bool) (size : ℕ) (report : List ℕ) (xs : List (List ℕ)) → xs ≡ packets_of size report ++ copies unsure (packets_of size report)
+    → length xs < count_of size report → ⊥
+first_fewer unsure size report xs e l =
+    let p = packets_of size report in
+    let x = ap (λ (y : List (List ℕ)). length y) e in
+    let a = length-append p (copies unsure p) in
+    let c = length-cut size (count_of size report) report in
+    omega (arith, x, a, c, l)
 
 pub first_going : (s : ReportState) (b : Bus1) (calls : List EpCall) (packet rest : List ℕ) (due : ℕ) (again : Bool)
     → packets_of s.size s.report ++ copies s.unsure (packets_of s.size s.report) ≡ packet ∷ (cut s.size due rest ++ copies again (packets_of s.size s.report))
-    → Beginning s b calls → Going (record s { rest = rest; due = due; again = again; unsure = false; course = Goes; buffered = 1 }) (set_full b packet) calls
+    → Beginning s b calls → Going (record s { rest = rest; due = due; again = again; unsure = false; lost = false; old = false; course = Goes; buffered = 1 }) (set_full b packet) calls
 unfolding set_full
 first_going s b calls packet rest due again e h =
     let p = packets_of s.size s.report in
     let hand = cut s.size due rest ++ copies again p in
     let empty = sym h.free.empty in
-    let W : List (List ℕ) → Type 0 = λ x. Carries s.size (with_new (new_of (agree b) x) b.got) (s.report ∷ h.earlier) in
-    let X : List (List ℕ) → Type 0 = λ x. Carries s.size (with_new (new_of (agree b) ((x ++ packet ∷ []) ++ hand)) b.got) (s.report ∷ h.earlier) in
+    let W : List (List ℕ) → Type 0 = λ x. Carries s.size (with_new (new_of (agree b) x) b.got) (Reported s.report ∷ h.earlier) in
+    let X : List (List ℕ) → Type 0 = λ x. Carries s.size (with_new (new_of (agree b) ((x ++ packet ∷ []) ++ hand)) b.got) (Reported s.report ∷ h.earlier) in
     let O : List (List ℕ) → Type 0 = λ x. ArePackets s.size s.report x in
     let Q : List (List ℕ) → Type 0 = λ x. ArePackets s.size s.report ((x ++ packet ∷ []) ++ hand) in
     let L : List (List ℕ) → Type 0 = λ x. 1 ≡ length (x ++ packet ∷ []) + b.taken in
     let told = h.free.told in
+    let sure : s.unsure ≡ false → agree b ≡ true = λ x. agrees_sure s.unsure s.lost b h.free.agrees x in
+    let xs = (b.slots ++ packet ∷ []) ++ hand in
+    let E : List (List ℕ) → Type 0 = λ x. (x ++ packet ∷ []) ++ hand ≡ p ++ copies s.unsure p in
+    let left : xs ≡ p ++ copies s.unsure p = subst E empty (sym e) in
     record {
       counted = subst L empty (omega (arith, told));
       closed = refl;
       sure = refl;
       earlier = h.earlier;
-      sent = h.sent;
+      sent = ap (λ x. newest x) h.sent;
+      old = ap (λ x. is_old x) h.sent;
       begun = h.begun;
-      will = subst X empty (subst W e (will s.unsure (agree b) s.size s.report b.got h.begun.pieces h.begun.before h.earlier h.begun.got_is h.begun.are h.once h.marked (agrees_sure s.unsure b h.free.agrees) h.begun.carried));
+      has = λ o. absurd (true_false (sym o));
+      will = subst X empty (subst W e (will s.unsure (agree b) s.size s.report b.got h.begun.pieces h.begun.before h.earlier h.begun.got_is h.begun.are h.once h.marked sure h.begun.carried));
       ours = subst Q empty (subst O e (own-append s.size s.report p (copies s.unsure p) (all_own s.size s.report) (own_copies s.size s.report s.unsure)));
       even = λ n. absurd (snoc_some b.slots packet n);
       busy = λ _. refl;
+      last = λ l. inl (sure (first_last s.unsure s.size s.report xs left l));
+      fewer = λ l. absurd (first_fewer s.unsure s.size s.report xs left l);
     }
 
 pub more_going : (s : ReportState) (b : Bus1) (calls : List EpCall) (packet rest : List ℕ) (due : ℕ) (again : Bool)
@@ -51,8 +80,10 @@ unfolding set_full
 more_going s b calls packet rest due again e h =
     let hand = cut s.size due rest ++ copies again (packets_of s.size s.report) in
     let same : b.slots ++ to_hand s ≡ (b.slots ++ packet ∷ []) ++ hand = ap (λ x. b.slots ++ x) e ∙ sym (snoc-append b.slots packet hand) in
-    let W : List (List ℕ) → Type 0 = λ x. Carries s.size (with_new (new_of (agree b) x) b.got) (s.report ∷ h.earlier) in
+    let W : List (List ℕ) → Type 0 = λ x. Carries s.size (with_new (new_of (agree b) x) b.got) (Reported s.report ∷ h.earlier) in
     let O : List (List ℕ) → Type 0 = λ x. ArePackets s.size s.report x in
+    let F : List (List ℕ) → Type 0 = λ x. length x ≤ count_of s.size s.report → (agree b ≡ true) ⊎ HasNew h.begun.pieces in
+    let G : List (List ℕ) → Type 0 = λ x. length x < count_of s.size s.report → HasNew h.begun.pieces in
     let counted = h.counted in
     let longer = snoc-length b.slots packet in
     record {
@@ -61,20 +92,24 @@ more_going s b calls packet rest due again e h =
       sure = h.sure;
       earlier = h.earlier;
       sent = h.sent;
+      old = h.old;
       begun = h.begun;
+      has = h.has;
       will = subst W same h.will;
       ours = subst O same h.ours;
       even = λ n. absurd (snoc_some b.slots packet n);
       busy = λ _. positive s.buffered;
+      last = subst F same h.last;
+      fewer = subst G same h.fewer;
     }
 
-pub filled_by : (reset : Bool) (s n : ReportState) (b : Bus1) (calls : List EpCall) (packet : List ℕ) → b.reset ≡ reset → Link1 s b calls
+pub filled_by : (reset : Bool) (s n : ReportState) (b : Bus1) (calls : List EpCall) (packet : List ℕ) → b.reset ≡ reset → n.protocol ≡ s.protocol → Link1 s b calls
     → n.course ≡ Goes → (b.reset ≡ false → Going n (set_full b packet) calls) → Link1 n (unless_reset reset b (set_full b packet)) calls
 unfolding set_full
-filled_by true s n b calls packet e h c k = record { fresh = h.fresh; current = λ r. absurd (true_false (sym e ∙ r)) }
-filled_by false s n b calls packet e h c k =
+filled_by true s n b calls packet e a h c k = record { asked = a ∙ h.asked; fresh = h.fresh; current = λ r. absurd (true_false (sym e ∙ r)) }
+filled_by false s n b calls packet e a h c k =
     let M : Course → Type 0 = λ x. Now1 x n (set_full b packet) calls in
-    record { fresh = λ r. absurd (true_false (sym r ∙ e)); current = λ r. subst M (sym c) (k e) }
+    record { asked = a ∙ h.asked; fresh = λ r. absurd (true_false (sym r ∙ e)); current = λ r. subst M (sym c) (k e) }
 
 pub slots_of_blank : (b : Bus1) → b ≡ blank true → b.slots ≡ []
 slots_of_blank b e = ap (λ (y : Bus1). y.slots) e
@@ -85,7 +120,7 @@ one_room false = omega arith
 
 -- the first packet of a report
 pub first_link : (s r n : ReportState) (steps : List Bus1) (b mid new : Bus1) (calls : List EpCall) (packet : List ℕ) (two : Bool) → s.course ≡ Begins
-    → r ≡ record s { rest = s.report; due = count_of s.size s.report; again = s.unsure; unsure = false }
+    → r ≡ record s { rest = s.report; due = count_of s.size s.report; again = s.unsure; unsure = false; lost = false; old = false }
     → n ≡ record r { rest = n.rest; due = n.due; again = n.again } → (is_more r ≡ true → to_hand r ≡ packet ∷ to_hand n)
     → Goes1 steps b mid → (length mid.slots < room_of two → new ≡ filled mid packet) → Link1 s b calls
     → Link1 (record n { course = Goes; buffered = 1 }) new calls
@@ -93,7 +128,7 @@ unfolding set_full
 first_link s r n steps b mid new calls packet two c er en p g f h =
     let m = goes1 steps s b mid calls g h in
     let N : Course → Type 0 = λ x. Now1 x s mid calls in
-    let start : ReportState = record s { rest = s.report; due = count_of s.size s.report; again = s.unsure; unsure = false } in
+    let start : ReportState = record s { rest = s.report; due = count_of s.size s.report; again = s.unsure; unsure = false; lost = false; old = false } in
     let M : ReportState → Type 0 = λ x. is_more x ≡ true in
     let more : is_more r ≡ true = subst M (sym er) (ap (λ x. x || s.unsure) (lt_suc _)) in
     let end : ReportState = record start { rest = n.rest; due = n.due; again = n.again } in
@@ -108,7 +143,7 @@ first_link s r n steps b mid new calls packet two c er en p g f h =
     let R : List (List ℕ) → Type 0 = λ x. length x < room_of two in
     let P : Bus1 → Type 0 = λ x. Link1 (record n { course = Goes; buffered = 1 }) x calls in
     subst P (sym (f (subst R (sym empty) (one_room two))))
-    (subst L (sym same) (filled_by mid.reset s (record end { course = Goes; buffered = 1 }) mid calls packet refl m refl
+    (subst L (sym same) (filled_by mid.reset s (record end { course = Goes; buffered = 1 }) mid calls packet refl refl m refl
     (λ x. first_going s mid calls packet n.rest n.due n.again handed (subst N c (m.current x)))))
 
 -- another packet of it
@@ -130,7 +165,7 @@ more_link s n steps b mid new calls packet two c en p room g f h =
     ] in
     let P : Bus1 → Type 0 = λ x. Link1 (record n { buffered = n.buffered + 1 }) x calls in
     subst P (sym (f fits))
-    (subst L (sym en) (filled_by mid.reset s (record end { buffered = s.buffered + 1 }) mid calls packet refl m c
+    (subst L (sym en) (filled_by mid.reset s (record end { buffered = s.buffered + 1 }) mid calls packet refl refl m c
     (λ x. more_going s mid calls packet n.rest n.due n.again (subst F en p) (subst N c (m.current x)))))
 
 -- two packets more fill the buffers, or all are handed over

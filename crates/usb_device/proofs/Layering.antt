@@ -7,7 +7,7 @@ use Rattle.usb_device.specs.Confirmed.{asked_of, taken_of, WasConfirmed}
 use Rattle.usb_device.specs.Events.{Event}
 use Rattle.usb_device.specs.Through.{calls_of}
 use Rattle.usb_device.specs.ties.Layered.{PolledOnce}
-use Rattle.usb_device.specs.Bus1.{Got, Bus1, agree, received, Happens1, takes, loses, host_begins, resets1, Goes1, told, unless_reset, filled, anew, begun_if, with_host_anew, states_told, no_polls}
+use Rattle.usb_device.specs.Bus1.{Got, Bus1, agree, received, Happens1, takes, loses, host_begins, resets1, Goes1, told, unless_reset, filled, given_up, anew, begun_if, with_host_anew, states_told, no_polls}
 use Rattle.usb_device.specs.ties.Link1.{ReportState, Link1, InStep}
 use Rattle.usb_device.proofs.Carrying.{true_false}
 use Rattle.usb_device.proofs.Reporting.{step1, goes1}
@@ -36,6 +36,13 @@ unless_in_step false states others b other e h k = k refl
 pub filled_in_step : (steps : List Bus1) (states : List Endpoint1) (b mid new : Bus1) (packet : List ℕ) → Goes1 steps b mid → new ≡ filled mid packet
     → InStep states b → InStep states new
 filled_in_step steps states b mid new packet g e h =
+    let P : Bus1 → Type 0 = λ x. InStep states x in
+    let m = goes_in_step steps states b mid g h in
+    subst P (sym e) (unless_in_step mid.reset states states mid _ refl m (λ _. m))
+
+pub given_up_in_step : (steps : List Bus1) (states : List Endpoint1) (b mid new : Bus1) → Goes1 steps b mid → new ≡ given_up mid
+    → InStep states b → InStep states new
+given_up_in_step steps states b mid new g e h =
     let P : Bus1 → Type 0 = λ x. InStep states x in
     let m = goes_in_step steps states b mid g h in
     subst P (sym e) (unless_in_step mid.reset states states mid _ refl m (λ _. m))

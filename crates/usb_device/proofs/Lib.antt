@@ -7,6 +7,7 @@ pub mod Behind
 pub mod Stating
 pub mod Carrying
 pub mod Reporting
+pub mod Emptying
 pub mod Handing
 pub mod Characters
 pub mod Scans

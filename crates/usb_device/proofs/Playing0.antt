@@ -3,7 +3,8 @@ use Rattle.std.proofs.Common.{◌≡◌, ℕ, Bool, true, false, List, [], ◌�
 use Rattle.usb_device.specs.declared.controller.Input.{Input}
 use Rattle.usb_device.specs.declared.controller.Input.TheVariants as Inputs
 use Rattle.usb_device.specs.Bus.{Bus, Seen, SetupSent, OutTaken, WasReset, InMode, Naks, Sends, NaksOut, Takes, got, mode_of, sets_up, takes_in, loses_ack, brings_out, resets}
-use Rattle.usb_device.specs.ties.Played0.{Moved0, mode_by}
+use Rattle.usb_device.specs.ties.Played0.{Moved0, mode_by, address_by}
+use Rattle.usb_device.specs.Addresses.{StaysBy}
 
 pub fresh_mode : (answer : Input) → mode_by answer false ≡ mode_of answer
 fresh_mode Inputs.Nak = refl
@@ -50,3 +51,22 @@ brought b packet seen out o p e = (
     refl,
   ),
 )
+
+-- the address
+pub address_stays : (r q : Bool) (x y : ℕ) → q ≡ r → y ≡ x → StaysBy q (address_by r x) (address_by q y)
+address_stays r true x y e f = refl
+address_stays true false x y e f = absurd (let t : false ≡ true = e in cc)
+address_stays false false x y e f = f
+
+pub address_zero : (r q : Bool) (x y : ℕ) → q ≡ true → StaysBy q (address_by r x) (address_by q y)
+address_zero r true x y e = refl
+address_zero r false x y e = absurd (let t : false ≡ true = e in cc)
+
+pub address_looked : (m q : Bool) (x y z : ℕ) → q ≡ false → StaysBy m x (address_by m y) → (m ≡ true → z ≡ 0) → (m ≡ false → z ≡ y) → StaysBy m x (address_by q z)
+address_looked m true x y z e s a b = absurd (let t : true ≡ false = e in cc)
+address_looked true false x y z e s a b = a refl
+address_looked false false x y z e s a b = b refl ∙ s
+
+pub address_told : (r : Bool) (a b : ℕ) → (r ≡ true → b ≡ 0) → (r ≡ false → b ≡ a) → StaysBy r a (address_by r b)
+address_told true a b f g = refl
+address_told false a b f g = g refl

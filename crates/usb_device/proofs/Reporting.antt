@@ -2,12 +2,12 @@
 use Rattle.std.proofs.Common.{◌≡◌, ℕ, ◌+◌, Bool, true, false, not, List, [], ◌∷◌, ◌++◌, length, ◌-◌, ◌==◌, ◌&&◌, ◌||◌, ◌<◌, zero, Some, None, refl, sym, ap, subst, ◌∙◌, ◌⊎◌, inl, inr, nat_lt, arith, suc}
 use Rattle.usb_device.specs.declared.report_buffers.Course.{Course}
 use Rattle.usb_device.specs.declared.report_buffers.Course.TheVariants.{Rests, Begins, Goes}
-use Rattle.usb_device.specs.Calls.{EpCall, Polled}
-use Rattle.usb_device.specs.declared.answer.Endpoint1.{Endpoint1}
-use Rattle.usb_device.specs.Bus1.{Got, Anew, Bus1, blank, same, agree, received, with_taken1, with_lost1, with_host_anew, Happens1, takes, loses, host_begins, resets1, Goes1, told, unless_reset, anew, reports_of}
-use Rattle.usb_device.specs.Reports.{cut, packets_of, with_new, Carries, Begun, GotInOrder, all, but_one}
+use Rattle.usb_device.specs.Calls.{EpCall, SetUp, Polled}
+use Rattle.usb_device.specs.Confirmed.{asked_of}
+use Rattle.usb_device.specs.Bus1.{Got, Sent, Reported, sent_of, is_old, newest, sets_protocol, Bus1, blank, same, agree, received, with_taken1, with_lost1, with_host_anew, Happens1, takes, loses, host_begins, resets1, Goes1, told, anew}
+use Rattle.usb_device.specs.Reports.{cut, HasNew, packets_of, with_new, Carries, GotInOrder, all, but_one}
 use Rattle.usb_device.specs.ties.Link1.{ReportState, is_more, is_over, to_hand, copies, new_of, ArePackets, Agrees, Free, Resting, Beginning, Going, Now1, Link1}
-use Rattle.usb_device.proofs.Carrying.{true_false, marked_carries, received_begun, received_will, same_self, same_not}
+use Rattle.usb_device.proofs.Carrying.{true_false, newest_carries, received_has, received_begun, received_will, same_self, same_not}
 
 -- a packet is with the host
 pub taken_step : (s : ReportState) (b : Bus1) (calls : List EpCall) (packet : List ℕ) (rest : List (List ℕ)) → b.slots ≡ packet ∷ rest → Going s b calls
@@ -16,23 +16,29 @@ taken_step s b calls packet rest e h =
     let hand = to_hand s in
     let agrees = same_self (not b.device) in
     let O : List (List ℕ) → Type 0 = λ x. ArePackets s.size s.report (x ++ hand) in
-    let W : List (List ℕ) → Type 0 = λ x. Carries s.size (with_new (new_of (agree b) (x ++ hand)) b.got) (s.report ∷ h.earlier) in
-    let C : List Got → Type 0 = λ x. Carries s.size x (s.report ∷ h.earlier) in
-    let K : Bool → Type 0 = λ x. Carries s.size (with_new (new_of x (rest ++ hand)) (received (agree b) packet b.got)) (s.report ∷ h.earlier) in
+    let W : List (List ℕ) → Type 0 = λ x. Carries s.size (with_new (new_of (agree b) (x ++ hand)) b.got) (Reported s.report ∷ h.earlier) in
+    let C : List Got → Type 0 = λ x. Carries s.size x (Reported s.report ∷ h.earlier) in
+    let K : Bool → Type 0 = λ x. Carries s.size (with_new (new_of x (rest ++ hand)) (received (agree b) packet b.got)) (Reported s.report ∷ h.earlier) in
     let ours = subst O e h.ours in
     let lengths = ap (λ (x : List (List ℕ)). length x) e in
+    let fewer : length (b.slots ++ hand) ≡ suc (length (rest ++ hand)) = ap (λ (x : List (List ℕ)). length (x ++ hand)) e in
     let counted = h.counted in
+    let host = λ (k : (agree b ≡ true) ⊎ HasNew h.begun.pieces). received_has (agree b) s.size s.report packet b.got h.earlier ours.0 h.begun k in
     record {
       counted = grind (arith, counted, lengths);
       closed = h.closed;
       sure = h.sure;
       earlier = h.earlier;
       sent = h.sent;
+      old = h.old;
       begun = received_begun (agree b) s.size s.report packet b.got h.earlier ours.0 h.begun;
+      has = λ o. host (inr (h.has o));
       will = subst K (sym agrees) (subst C (received_will (agree b) packet (rest ++ hand) b.got) (subst W e h.will));
       ours = ours.1;
       even = λ _. agrees;
       busy = h.busy;
+      last = λ _. inl agrees;
+      fewer = λ l. host (h.last (omega (arith, l, fewer)));
     }
 
 pub lost_step : (s : ReportState) (b : Bus1) (calls : List EpCall) (packet : List ℕ) (rest : List (List ℕ)) → b.slots ≡ packet ∷ rest → Going s b calls
@@ -41,34 +47,40 @@ lost_step s b calls packet rest e h =
     let hand = to_hand s in
     let differs = same_not b.device in
     let O : List (List ℕ) → Type 0 = λ x. ArePackets s.size s.report (x ++ hand) in
-    let W : List (List ℕ) → Type 0 = λ x. Carries s.size (with_new (new_of (agree b) (x ++ hand)) b.got) (s.report ∷ h.earlier) in
-    let C : List Got → Type 0 = λ x. Carries s.size x (s.report ∷ h.earlier) in
-    let K : List (List ℕ) → Type 0 = λ x. Carries s.size (with_new (new_of false (x ++ hand)) (received (agree b) packet b.got)) (s.report ∷ h.earlier) in
-    let L : Bool → Type 0 = λ x. Carries s.size (with_new (new_of x (b.slots ++ hand)) (received (agree b) packet b.got)) (s.report ∷ h.earlier) in
+    let W : List (List ℕ) → Type 0 = λ x. Carries s.size (with_new (new_of (agree b) (x ++ hand)) b.got) (Reported s.report ∷ h.earlier) in
+    let C : List Got → Type 0 = λ x. Carries s.size x (Reported s.report ∷ h.earlier) in
+    let K : List (List ℕ) → Type 0 = λ x. Carries s.size (with_new (new_of false (x ++ hand)) (received (agree b) packet b.got)) (Reported s.report ∷ h.earlier) in
+    let L : Bool → Type 0 = λ x. Carries s.size (with_new (new_of x (b.slots ++ hand)) (received (agree b) packet b.got)) (Reported s.report ∷ h.earlier) in
+    let host = λ (k : (agree b ≡ true) ⊎ HasNew h.begun.pieces). received_has (agree b) s.size s.report packet b.got h.earlier (subst O e h.ours).0 h.begun k in
     record {
       counted = h.counted;
       closed = h.closed;
       sure = h.sure;
       earlier = h.earlier;
       sent = h.sent;
+      old = h.old;
       begun = received_begun (agree b) s.size s.report packet b.got h.earlier (subst O e h.ours).0 h.begun;
+      has = λ o. host (inr (h.has o));
       will = subst L (sym differs) (subst K (sym e) (subst C (received_will (agree b) packet (rest ++ hand) b.got) (subst W e h.will)));
       ours = h.ours;
       even = λ n. absurd (let x : [] ≡ packet ∷ rest = sym n ∙ e in cc);
       busy = h.busy;
+      last = λ l. inr (host (h.last l));
+      fewer = λ l. host (inr (h.fewer l));
     }
 
 -- the host begins anew
-pub host_agrees : (unsure : Bool) (b : Bus1) → b.opened ≡ true → Agrees unsure b → Agrees unsure (with_host_anew b)
-host_agrees true b o a = a
-host_agrees false b o a = let S : Bool → Type 0 = λ x. same false x ≡ true in (subst S (sym (a.1 o)) refl, a.1)
+pub host_agrees : (unsure lost : Bool) (b : Bus1) → b.opened ≡ true → Agrees unsure lost b → Agrees unsure lost (with_host_anew b)
+host_agrees true true b o a = a
+host_agrees true false b o a = a
+host_agrees false lost b o a = let S : Bool → Type 0 = λ x. same false x ≡ true in (subst S (sym (a.1 o)) refl, a.1)
 
-pub host_free : (unsure : Bool) (b : Bus1) → b.opened ≡ true → Free unsure b → Free unsure (with_host_anew b)
-host_free unsure b o f = record { empty = f.empty; told = f.told; agrees = host_agrees unsure b o f.agrees }
+pub host_free : (unsure lost : Bool) (b : Bus1) → b.opened ≡ true → Free unsure lost b → Free unsure lost (with_host_anew b)
+host_free unsure lost b o f = record { empty = f.empty; told = f.told; agrees = host_agrees unsure lost b o f.agrees }
 
 pub host_now : (course : Course) (s : ReportState) (b : Bus1) (calls : List EpCall) → b.opened ≡ true → Now1 course s b calls → Now1 course s (with_host_anew b) calls
-host_now Rests s b calls o h = record { free = host_free s.unsure b o h.free; carried = h.carried; marked = h.marked }
-host_now Begins s b calls o h = record { free = host_free s.unsure b o h.free; earlier = h.earlier; sent = h.sent; begun = h.begun; once = h.once; marked = h.marked }
+host_now Rests s b calls o h = record { free = host_free s.unsure s.lost b o h.free; carried = h.carried; marked = h.marked }
+host_now Begins s b calls o h = record { free = host_free s.unsure s.lost b o h.free; earlier = h.earlier; sent = h.sent; begun = h.begun; once = h.once; marked = h.marked }
 host_now Goes s b calls o h = absurd (true_false (sym o ∙ h.closed))
 
 pub took_now : (course : Course) (s : ReportState) (b : Bus1) (calls : List EpCall) (packet : List ℕ) (rest : List (List ℕ)) → b.slots ≡ packet ∷ rest
@@ -84,24 +96,27 @@ pub step1 : (s : ReportState) (b next : Bus1) (calls : List EpCall) → Happens1
 step1 s b next calls (takes packet rest i e) h =
     let P : Bus1 → Type 0 = λ x. Link1 s x calls in
     subst P (sym e) (record {
+      asked = h.asked;
       fresh = λ r. absurd (blank_slots b packet rest (h.fresh r) i);
       current = λ r. (took_now s.course s b calls packet rest i (h.current r)).0;
     })
 step1 s b next calls (loses packet rest i e) h =
     let P : Bus1 → Type 0 = λ x. Link1 s x calls in
     subst P (sym e) (record {
+      asked = h.asked;
       fresh = λ r. absurd (blank_slots b packet rest (h.fresh r) i);
       current = λ r. (took_now s.course s b calls packet rest i (h.current r)).1;
     })
 step1 s b next calls (host_begins o e) h =
     let P : Bus1 → Type 0 = λ x. Link1 s x calls in
     subst P (sym e) (record {
+      asked = h.asked;
       fresh = λ r. absurd (true_false (sym o ∙ ap (λ (y : Bus1). y.opened) (h.fresh r)));
       current = λ r. host_now s.course s b calls o (h.current r);
     })
 step1 s b next calls (resets1 e) h =
     let P : Bus1 → Type 0 = λ x. Link1 s x calls in
-    subst P (sym e) (record { fresh = λ r. refl; current = λ r. absurd (true_false r) })
+    subst P (sym e) (record { asked = h.asked; fresh = λ r. refl; current = λ r. absurd (true_false r) })
 
 pub goes1 : (steps : List Bus1) (s : ReportState) (b next : Bus1) (calls : List EpCall) → Goes1 steps b next → Link1 s b calls → Link1 s next calls
 goes1 [] s b next calls e h = let P : Bus1 → Type 0 = λ x. Link1 s x calls in subst P (sym e) h
@@ -117,173 +132,147 @@ left_now Goes s left b calls h = record {
   sure = h.sure;
   earlier = h.earlier;
   sent = h.sent;
+  old = h.old;
   begun = h.begun;
+  has = h.has;
   will = h.will;
   ours = h.ours;
   even = h.even;
   busy = h.busy;
+  last = h.last;
+  fewer = h.fewer;
 }
 
 pub left_same : (s : ReportState) (left : ℕ) (b : Bus1) (calls : List EpCall) → Link1 s b calls → Link1 (record s { left = left }) b calls
-left_same s left b calls h = record { fresh = h.fresh; current = λ r. left_now s.course s left b calls (h.current r) }
+left_same s left b calls h = record { asked = h.asked; fresh = h.fresh; current = λ r. left_now s.course s left b calls (h.current r) }
 
 -- nothing of endpoint 0 changes it
-pub sent_now : (course : Course) (s : ReportState) (b : Bus1) (calls later : List EpCall) → reports_of later ≡ reports_of calls → Now1 course s b calls → Now1 course s b later
+pub sent_now : (course : Course) (s : ReportState) (b : Bus1) (calls later : List EpCall) → sent_of later ≡ sent_of calls → Now1 course s b calls → Now1 course s b later
 sent_now Rests s b calls later e h =
-    let C : List (List ℕ) → Type 0 = λ x. Carries s.size b.got x in
-    let M : List (List ℕ) → Type 0 = λ x. s.unsure ≡ true → (state : Endpoint1) × (before : List Got) × (b.got ≡ Anew state ∷ before) × Carries s.size before x in
-    record { free = h.free; carried = subst C (sym e) h.carried; marked = subst M (sym e) h.marked }
+    let C : List Sent → Type 0 = λ x. Carries s.size b.got x in
+    record { free = h.free; carried = subst C (sym e) h.carried; marked = h.marked }
 sent_now Begins s b calls later e h = record { free = h.free; earlier = h.earlier; sent = e ∙ h.sent; begun = h.begun; once = h.once; marked = h.marked }
 sent_now Goes s b calls later e h = record {
   counted = h.counted;
   closed = h.closed;
   sure = h.sure;
   earlier = h.earlier;
-  sent = e ∙ h.sent;
+  sent = ap (λ x. newest x) e ∙ h.sent;
+  old = ap (λ x. is_old x) e ∙ h.old;
   begun = h.begun;
+  has = h.has;
   will = h.will;
   ours = h.ours;
   even = h.even;
   busy = h.busy;
+  last = h.last;
+  fewer = h.fewer;
 }
 
-pub same_reports : (s : ReportState) (b : Bus1) (calls later : List EpCall) → Link1 s b calls → reports_of later ≡ reports_of calls → Link1 s b later
-same_reports s b calls later h e = record { fresh = h.fresh; current = λ r. sent_now s.course s b calls later e (h.current r) }
-
--- the device begins anew
-pub anew_course : Course → Course
-anew_course Rests = Rests
-anew_course Begins = Begins
-anew_course Goes = Begins
-
-pub anew_begun : (state : Endpoint1) (size : ℕ) (report : List ℕ) (got : List Got) (earlier : List (List ℕ)) → Begun size report got earlier → Begun size report (Anew state ∷ got) earlier
-anew_begun state size report got earlier b = record {
-  pieces = Anew state ∷ b.pieces;
-  before = b.before;
-  got_is = ap (λ x. Anew state ∷ x) b.got_is;
-  are = b.are;
-  carried = b.carried;
+pub same_reports : (s : ReportState) (b : Bus1) (calls later : List EpCall) → Link1 s b calls → sent_of later ≡ sent_of calls
+    → asked_of later ≡ asked_of calls → Link1 s b later
+same_reports s b calls later h e a = record {
+  asked = h.asked ∙ ap (λ x. sets_protocol x) (sym a);
+  fresh = h.fresh;
+  current = λ r. sent_now s.course s b calls later e (h.current r);
 }
 
-pub set_anew : Bus1 → Endpoint1 → Bus1
-set_anew b state = record { got = Anew state ∷ b.got; host = b.host; device = false; slots = []; taken = 0; opened = true; reset = b.reset }
-
-pub anew_now : (course : Course) (s : ReportState) (left : ℕ) (state : Endpoint1) (b : Bus1) (calls : List EpCall) → Now1 course s b calls
-    → Now1 (anew_course course) (record s { course = anew_course course; unsure = true; left = left }) (set_anew b state) calls
-unfolding anew_course set_anew anew_begun
-anew_now Rests s left state b calls h = record {
-  free = record { empty = refl; told = refl; agrees = (refl, refl) };
-  carried = marked_carries state s.size b.got (reports_of calls) h.carried;
-  marked = λ _. (state, b.got, refl, h.carried);
-}
-anew_now Begins s left state b calls h = record {
-  free = record { empty = refl; told = refl; agrees = (refl, refl) };
+-- a SETUP packet
+protocol_now : (course : Course) (s : ReportState) (protocol : Bool) (b : Bus1) (calls : List EpCall) → Now1 course s b calls
+    → Now1 course (record s { protocol = protocol }) b calls
+protocol_now Rests s protocol b calls h = record { free = h.free; carried = h.carried; marked = h.marked }
+protocol_now Begins s protocol b calls h = record { free = h.free; earlier = h.earlier; sent = h.sent; begun = h.begun; once = h.once; marked = h.marked }
+protocol_now Goes s protocol b calls h = record {
+  counted = h.counted;
+  closed = h.closed;
+  sure = h.sure;
   earlier = h.earlier;
   sent = h.sent;
-  begun = anew_begun state s.size s.report b.got h.earlier h.begun;
-  once = inr tt;
-  marked = λ _. tt;
-}
-anew_now Goes s left state b calls h = record {
-  free = record { empty = refl; told = refl; agrees = (refl, refl) };
-  earlier = h.earlier;
-  sent = h.sent;
-  begun = anew_begun state s.size s.report b.got h.earlier h.begun;
-  once = inr tt;
-  marked = λ _. tt;
+  old = h.old;
+  begun = h.begun;
+  has = h.has;
+  will = h.will;
+  ours = h.ours;
+  even = h.even;
+  busy = h.busy;
+  last = h.last;
+  fewer = h.fewer;
 }
 
-pub anew_by : (reset : Bool) (s : ReportState) (left : ℕ) (state : Endpoint1) (b : Bus1) (calls : List EpCall) → b.reset ≡ reset → Link1 s b calls
-    → Link1 (record s { course = anew_course s.course; unsure = true; left = left }) (unless_reset reset b (set_anew b state)) calls
-unfolding set_anew
-anew_by true s left state b calls e h = record { fresh = h.fresh; current = λ r. absurd (true_false (sym e ∙ r)) }
-anew_by false s left state b calls e h = record { fresh = λ r. absurd (true_false (sym r ∙ e)); current = λ r. anew_now s.course s left state b calls (h.current e) }
-
-pub anew_link : (s : ReportState) (left : ℕ) (state : Endpoint1) (b : Bus1) (calls : List EpCall) → Link1 s b calls
-    → Link1 (record s { course = anew_course s.course; unsure = true; left = left }) (anew b state) calls
-unfolding set_anew
-anew_link s left state b calls h = anew_by b.reset s left state b calls refl h
-
-pub anew_went : (s : ReportState) (left : ℕ) (state : Endpoint1) (b : Bus1) (calls : List EpCall) → s.course ≡ Goes → Link1 s b calls
-    → Link1 (record s { course = Begins; unsure = true; left = left }) (anew b state) calls
-unfolding anew_course
-anew_went s left state b calls e h =
-    let P : Course → Type 0 = λ x. Link1 (record s { course = x; unsure = true; left = left }) (anew b state) calls in
-    subst P (ap (λ x. anew_course x) e) (anew_link s left state b calls h)
-
-pub anew_rested : (s : ReportState) (left : ℕ) (state : Endpoint1) (b : Bus1) (calls : List EpCall) → s.course ≡ Rests → Link1 s b calls
-    → Link1 (record s { unsure = true; left = left }) (anew b state) calls
-unfolding anew_course
-anew_rested s left state b calls e h =
-    let P : Course → Type 0 = λ x. Link1 (record s { course = x; unsure = true; left = left }) (anew b state) calls in
-    subst P (ap (λ x. anew_course x) e ∙ sym e) (anew_link s left state b calls h)
-
-pub anew_begins : (s : ReportState) (left : ℕ) (state : Endpoint1) (b : Bus1) (calls : List EpCall) → s.course ≡ Begins → Link1 s b calls
-    → Link1 (record s { unsure = true; left = left }) (anew b state) calls
-unfolding anew_course
-anew_begins s left state b calls e h =
-    let P : Course → Type 0 = λ x. Link1 (record s { course = x; unsure = true; left = left }) (anew b state) calls in
-    subst P (ap (λ x. anew_course x) e ∙ sym e) (anew_link s left state b calls h)
+pub set_up : (s : ReportState) (left : ℕ) (protocol : Bool) (packet : List ℕ) (b : Bus1) (calls : List EpCall) → protocol ≡ sets_protocol (Some packet)
+    → Link1 s b calls → Link1 (record s { left = left; protocol = protocol }) b (SetUp packet ∷ calls)
+set_up s left protocol packet b calls e h =
+    let n : ReportState = record s { left = left } in
+    record {
+      asked = e;
+      fresh = h.fresh;
+      current = λ r. protocol_now s.course n protocol b (SetUp packet ∷ calls) (sent_now s.course n b calls (SetUp packet ∷ calls) refl (left_now s.course s left b calls (h.current r)));
+    }
 
 -- the host is known to have begun anew
-pub sure_agrees : (unsure : Bool) (b : Bus1) → (b.opened ≡ true → b.host ≡ false) → Agrees unsure b → Agrees false b
-sure_agrees true b k a =
+pub sure_agrees : (unsure lost : Bool) (b : Bus1) → lost ≡ false → (b.opened ≡ true → b.host ≡ false) → Agrees unsure lost b → Agrees false false b
+sure_agrees true true b l k a = absurd (true_false l)
+sure_agrees true false b l k a =
     let S : Bool → Type 0 = λ x. same x b.device ≡ true in
     let T : Bool → Type 0 = λ x. same false x ≡ true in
     (subst S (sym (k a.0)) (subst T (sym a.1) refl), λ _. a.1)
-sure_agrees false b k a = a
+sure_agrees false lost b l k a = a
 
-pub sure_free : (unsure : Bool) (b : Bus1) → (b.opened ≡ true → b.host ≡ false) → Free unsure b → Free false b
-sure_free unsure b k f = record { empty = f.empty; told = f.told; agrees = sure_agrees unsure b k f.agrees }
+pub sure_free : (unsure lost : Bool) (b : Bus1) → lost ≡ false → (b.opened ≡ true → b.host ≡ false) → Free unsure lost b → Free false lost b
+sure_free unsure lost b l k f = record { empty = f.empty; told = f.told; agrees = sure_agrees unsure lost b l k f.agrees }
 
-pub sure_now : (course : Course) (s : ReportState) (left : ℕ) (b : Bus1) (calls : List EpCall) → (b.opened ≡ true → b.host ≡ false) → Now1 course s b calls
+pub sure_now : (course : Course) (s : ReportState) (left : ℕ) (b : Bus1) (calls : List EpCall) → s.lost ≡ false → (b.opened ≡ true → b.host ≡ false) → Now1 course s b calls
     → Now1 course (record s { unsure = false; left = left }) b calls
-sure_now Rests s left b calls k h = record { free = sure_free s.unsure b k h.free; carried = h.carried; marked = λ x. absurd (true_false (sym x)) }
-sure_now Begins s left b calls k h = record {
-  free = sure_free s.unsure b k h.free;
+sure_now Rests s left b calls l k h = record { free = sure_free s.unsure s.lost b l k h.free; carried = h.carried; marked = λ x. absurd (true_false (sym x)) }
+sure_now Begins s left b calls l k h = record {
+  free = sure_free s.unsure s.lost b l k h.free;
   earlier = h.earlier;
   sent = h.sent;
   begun = h.begun;
   once = h.once;
   marked = λ x. absurd (true_false (sym x));
 }
-sure_now Goes s left b calls k h = record {
+sure_now Goes s left b calls l k h = record {
   counted = h.counted;
   closed = h.closed;
   sure = refl;
   earlier = h.earlier;
   sent = h.sent;
+  old = h.old;
   begun = h.begun;
+  has = h.has;
   will = h.will;
   ours = h.ours;
   even = h.even;
   busy = h.busy;
+  last = h.last;
+  fewer = h.fewer;
 }
 
-pub sure_link : (s : ReportState) (left : ℕ) (b : Bus1) (calls : List EpCall) → (b.opened ≡ true → b.host ≡ false) → Link1 s b calls
+pub sure_link : (s : ReportState) (left : ℕ) (b : Bus1) (calls : List EpCall) → s.lost ≡ false → (b.opened ≡ true → b.host ≡ false) → Link1 s b calls
     → Link1 (record s { unsure = false; left = left }) b calls
-sure_link s left b calls k h = record { fresh = h.fresh; current = λ r. sure_now s.course s left b calls k (h.current r) }
+sure_link s left b calls l k h = record { asked = h.asked; fresh = h.fresh; current = λ r. sure_now s.course s left b calls l k (h.current r) }
 
 -- a poll
 pub polled_rest : (s : ReportState) (b : Bus1) (calls : List EpCall) → Resting s b calls → Resting s b (Polled None ∷ calls)
 polled_rest s b calls h = record { free = h.free; carried = h.carried; marked = h.marked }
 
 pub polled_none : (s : ReportState) (b : Bus1) (calls : List EpCall) → s.course ≡ Rests → Link1 s b calls → Link1 s b (Polled None ∷ calls)
-polled_none s b calls e h = same_reports s b calls (Polled None ∷ calls) h refl
+polled_none s b calls e h = same_reports s b calls (Polled None ∷ calls) h refl refl
 
 pub begin_by : (unsure : Bool) (s : ReportState) (b : Bus1) (calls : List EpCall) (report : List ℕ) → s.unsure ≡ unsure → Resting s b calls
     → Beginning (record s { course = Begins; report = report }) b (Polled (Some report) ∷ calls)
-begin_by true s b calls report e h = let m = h.marked e in record {
+begin_by true s b calls report e h = record {
   free = h.free;
-  earlier = reports_of calls;
+  earlier = sent_of calls;
   sent = refl;
-  begun = record { pieces = Anew m.0 ∷ []; before = m.1; got_is = m.2; are = tt; carried = m.3 };
-  once = inr tt;
-  marked = λ _. tt;
+  begun = record { pieces = []; before = b.got; got_is = refl; are = tt; carried = h.carried };
+  once = inl refl;
+  marked = λ x. inr (h.marked x);
 }
 begin_by false s b calls report e h = record {
   free = h.free;
-  earlier = reports_of calls;
+  earlier = sent_of calls;
   sent = refl;
   begun = record { pieces = []; before = b.got; got_is = refl; are = tt; carried = h.carried };
   once = inl refl;
@@ -293,23 +282,26 @@ begin_by false s b calls report e h = record {
 pub polled_some : (s : ReportState) (b : Bus1) (calls : List EpCall) (report : List ℕ) → s.course ≡ Rests → Link1 s b calls
     → Link1 (record s { course = Begins; report = report }) b (Polled (Some report) ∷ calls)
 polled_some s b calls report e h = record {
+  asked = h.asked;
   fresh = h.fresh;
   current = λ r. (let N : Course → Type 0 = λ x. Now1 x s b calls in begin_by s.unsure s b calls report refl (subst N e (h.current r)));
 }
 
 -- the host has all reports, or all but the newest
-pub in_order_now : (course : Course) (s : ReportState) (b : Bus1) (calls : List EpCall) → Now1 course s b calls → GotInOrder s.size b.got (reports_of calls)
+pub in_order_now : (course : Course) (s : ReportState) (b : Bus1) (calls : List EpCall) → Now1 course s b calls → GotInOrder s.size b.got (sent_of calls)
 in_order_now Rests s b calls h = all h.carried
-in_order_now Begins s b calls h = but_one s.report h.earlier h.sent h.begun
-in_order_now Goes s b calls h = but_one s.report h.earlier h.sent h.begun
+in_order_now Begins s b calls h =
+    but_one s.report h.earlier (ap (λ x. newest x) h.sent) h.begun (λ o. absurd (true_false (sym o ∙ ap (λ x. is_old x) h.sent)))
+in_order_now Goes s b calls h = but_one s.report h.earlier h.sent h.begun (λ o. h.has (sym h.old ∙ o))
 
-pub in_order : (s : ReportState) (b : Bus1) (calls : List EpCall) → b.reset ≡ false → Link1 s b calls → GotInOrder s.size b.got (reports_of calls)
+pub in_order : (s : ReportState) (b : Bus1) (calls : List EpCall) → b.reset ≡ false → Link1 s b calls → GotInOrder s.size b.got (sent_of calls)
 in_order s b calls r h = in_order_now s.course s b calls (h.current r)
 
 -- what was taken is told
-pub told_agrees : (unsure : Bool) (b : Bus1) → Agrees unsure b → Agrees unsure (told b)
-told_agrees true b a = a
-told_agrees false b a = a
+pub told_agrees : (unsure lost : Bool) (b : Bus1) → Agrees unsure lost b → Agrees unsure lost (told b)
+told_agrees true true b a = a
+told_agrees true false b a = a
+told_agrees false lost b a = a
 
 pub lt_true : {n : ℕ} → 0 < n → nat_lt 0 n ≡ true
 lt_true {n} e = grind (arith, e)
@@ -318,11 +310,11 @@ pub positive : (n : ℕ) → nat_lt 0 (n + 1) ≡ true
 positive n = grind arith
 
 pub told_rest : (s : ReportState) (count : ℕ) (b : Bus1) (calls : List EpCall) → Resting s b calls → Resting (record s { buffered = count }) (told b) calls
-told_rest s count b calls h = record { free = record { empty = h.free.empty; told = refl; agrees = told_agrees s.unsure b h.free.agrees }; carried = h.carried; marked = h.marked }
+told_rest s count b calls h = record { free = record { empty = h.free.empty; told = refl; agrees = told_agrees s.unsure s.lost b h.free.agrees }; carried = h.carried; marked = h.marked }
 
 pub told_begin : (s : ReportState) (count : ℕ) (b : Bus1) (calls : List EpCall) → Beginning s b calls → Beginning (record s { buffered = count }) (told b) calls
 told_begin s count b calls h = record {
-  free = record { empty = h.free.empty; told = refl; agrees = told_agrees s.unsure b h.free.agrees };
+  free = record { empty = h.free.empty; told = refl; agrees = told_agrees s.unsure s.lost b h.free.agrees };
   earlier = h.earlier;
   sent = h.sent;
   begun = h.begun;
@@ -335,14 +327,14 @@ pub taken_rests : (s : ReportState) (count : ℕ) (b : Bus1) (calls : List EpCal
 taken_rests s count b calls e h =
     let N : Course → Type 0 = λ x. Now1 x s b calls in
     let M : Course → Type 0 = λ x. Now1 x (record s { buffered = count }) (told b) calls in
-    record { fresh = λ x. ap (λ y. told y) (h.fresh x); current = λ r. subst M (sym e) (told_rest s count b calls (subst N e (h.current r))) }
+    record { asked = h.asked; fresh = λ x. ap (λ y. told y) (h.fresh x); current = λ r. subst M (sym e) (told_rest s count b calls (subst N e (h.current r))) }
 
 pub taken_begins : (s : ReportState) (count : ℕ) (b : Bus1) (calls : List EpCall) → s.course ≡ Begins → Link1 s b calls
     → Link1 (record s { buffered = count }) (told b) calls
 taken_begins s count b calls e h =
     let N : Course → Type 0 = λ x. Now1 x s b calls in
     let M : Course → Type 0 = λ x. Now1 x (record s { buffered = count }) (told b) calls in
-    record { fresh = λ x. ap (λ y. told y) (h.fresh x); current = λ r. subst M (sym e) (told_begin s count b calls (subst N e (h.current r))) }
+    record { asked = h.asked; fresh = λ x. ap (λ y. told y) (h.fresh x); current = λ r. subst M (sym e) (told_begin s count b calls (subst N e (h.current r))) }
 
 pub lt_suc : (n : ℕ) → nat_lt 0 (suc n) ≡ true
 lt_suc n = grind arith
@@ -413,11 +405,15 @@ told_goes s n count b calls m t o g =
       sure = g.sure;
       earlier = g.earlier;
       sent = g.sent;
+      old = g.old;
       begun = g.begun;
+      has = g.has;
       will = g.will;
       ours = g.ours;
       even = g.even;
       busy = λ x. busy_of s n o x;
+      last = g.last;
+      fewer = g.fewer;
     }
 
 pub taken_goes : (s : ReportState) (n count : ℕ) (b : Bus1) (calls : List EpCall) → n ≡ s.buffered - count → s.course ≡ Goes → b.taken ≡ count
@@ -426,6 +422,7 @@ taken_goes s n count b calls m e t o h =
     let N : Course → Type 0 = λ x. Now1 x s b calls in
     let M : Course → Type 0 = λ x. Now1 x (record s { buffered = n }) (told b) calls in
     record {
+      asked = h.asked;
       fresh = λ x. ap (λ y. told y) (h.fresh x);
       current = λ r. subst M (sym e) (told_goes s n count b calls m t o (subst N e (h.current r)));
     }
@@ -442,14 +439,14 @@ told_over s k count b calls m t o g =
     let left = n.1 in
     let none : length b.slots ≡ 0 = omega (arith, counted, t, left, m) in
     let empty : b.slots ≡ [] = no_length b.slots none in
-    let W : List (List ℕ) → Type 0 = λ x. Carries s.size (with_new (new_of (agree b) (x ++ to_hand s)) b.got) (s.report ∷ g.earlier) in
-    let V : List (List ℕ) → Type 0 = λ x. Carries s.size (with_new (new_of (agree b) x) b.got) (s.report ∷ g.earlier) in
-    let U : List (List ℕ) → Type 0 = λ x. Carries s.size (with_new x b.got) (s.report ∷ g.earlier) in
-    let C : List (List ℕ) → Type 0 = λ x. Carries s.size b.got x in
-    let A : Bool → Type 0 = λ x. Agrees x b in
+    let W : List (List ℕ) → Type 0 = λ x. Carries s.size (with_new (new_of (agree b) (x ++ to_hand s)) b.got) (Reported s.report ∷ g.earlier) in
+    let V : List (List ℕ) → Type 0 = λ x. Carries s.size (with_new (new_of (agree b) x) b.got) (Reported s.report ∷ g.earlier) in
+    let U : List (List ℕ) → Type 0 = λ x. Carries s.size (with_new x b.got) (Reported s.report ∷ g.earlier) in
+    let C : List Sent → Type 0 = λ x. Carries s.size b.got x in
+    let A : Bool → Type 0 = λ x. Agrees x s.lost b in
     record {
-      free = record { empty = empty; told = refl; agrees = told_agrees s.unsure b (subst A (sym g.sure) (g.even empty, λ x. absurd (true_false (sym x ∙ g.closed)))) };
-      carried = subst C (sym g.sent) (subst U (new_none (agree b)) (subst V (hand_none s n.0) (subst W empty g.will)));
+      free = record { empty = empty; told = refl; agrees = told_agrees s.unsure s.lost b (subst A (sym g.sure) (g.even empty, λ x. absurd (true_false (sym x ∙ g.closed)))) };
+      carried = newest_carries false s.size b.got (sent_of calls) (subst C (sym g.sent) (subst U (new_none (agree b)) (subst V (hand_none s n.0) (subst W empty g.will))));
       marked = λ x. absurd (true_false (sym x ∙ g.sure));
     }
 
@@ -457,4 +454,4 @@ pub taken_over : (s : ReportState) (k count : ℕ) (b : Bus1) (calls : List EpCa
     → is_over (record s { buffered = k }) ≡ true → Link1 s b calls → Link1 (record s { buffered = k; course = Rests }) (told b) calls
 taken_over s k count b calls m e t o h =
     let N : Course → Type 0 = λ x. Now1 x s b calls in
-    record { fresh = λ x. ap (λ y. told y) (h.fresh x); current = λ r. told_over s k count b calls m t o (subst N e (h.current r)) }
+    record { asked = h.asked; fresh = λ x. ap (λ y. told y) (h.fresh x); current = λ r. told_over s k count b calls m t o (subst N e (h.current r)) }

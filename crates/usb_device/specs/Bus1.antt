@@ -1,9 +1,11 @@
 -- Believed: endpoint 1 of a controller with buffers, the data toggles of both sides, and what may happen on its bus (USB 2.0
 -- sections 5.7.5 and 8.6). A host takes a packet as new where it has the toggle that it wants, and drops it as a repetition
 -- where it has the other one; it acknowledges both. The acknowledgement may be lost: then the packet is sent again.
-use Rattle.std.specs.Prelude.{◌≡◌, ◌⊎◌, ℕ, ◌+◌, Bool, true, false, not, List, [], ◌∷◌, ◌++◌, Some}
+use Rattle.std.specs.Prelude.{◌≡◌, ◌⊎◌, ℕ, ◌+◌, ◌==◌, ◌&&◌, Bool, true, false, not, List, [], ◌∷◌, ◌++◌, slice_index, Option, Some, None}
 use Rattle.usb_device.specs.declared.answer.Endpoint1.{Endpoint1}
 use Rattle.usb_device.specs.Calls.{EpCall, SetUp, Out, In, Polled, BusReset}
+use Rattle.usb_device.specs.Confirmed.{asked_of}
+use Rattle.usb_device.specs.States.{is_empty_packet}
 
 -- what endpoint 1 brought the host
 pub data Got : Type 0 where
@@ -11,6 +13,8 @@ pub data Got : Type 0 where
   New : List ℕ → Got
   -- the device emptied its buffers, and began with DATA0: the endpoint is this from now on
   Anew : Endpoint1 → Got
+  -- the device emptied its buffers, since it gave up the report in them; the toggles go on
+  GivenUp : Got
 
 pub record Bus1 : Type 0 where
   -- since the last reset of the bus, newest first
@@ -125,22 +129,62 @@ anew b state = unless_reset b.reset b (record {
   reset = b.reset;
 })
 
+-- the device empties the buffers: the next packet has the toggle of the oldest one that was in them
+abbrev pub given_up : Bus1 → Bus1
+given_up b = unless_reset b.reset b (record {
+  got = GivenUp ∷ b.got;
+  host = b.host;
+  device = b.device;
+  slots = [];
+  taken = 0;
+  opened = b.opened;
+  reset = b.reset;
+})
+
 -- how many buffers there are
 abbrev pub room_of : Bool → ℕ
 room_of true = 2
 room_of false = 1
 
--- the reports that the device gave since the last reset, newest first
-abbrev pub reports_of : List EpCall → List (List ℕ)
-reports_of [] = []
-reports_of (Polled (Some report) ∷ before) = report ∷ reports_of before
-reports_of (BusReset ∷ before) = []
-reports_of (_ ∷ before) = reports_of before
+-- a report that the device gave, or that the protocol was set behind it
+pub data Sent : Type 0 where
+  Reported : List ℕ → Sent
+  Changed : Sent
+
+-- SET_PROTOCOL (HID 1.11 section 7.2.6)
+abbrev pub sets_protocol : Option (List ℕ) → Bool
+sets_protocol (Some setup) = (slice_index setup 0 == 0x21) && (slice_index setup 1 == 0x0B)
+sets_protocol None = false
+
+abbrev pub changed_if : Bool → List Sent → List Sent
+changed_if true sent = Changed ∷ sent
+changed_if false sent = sent
+
+-- the reports that the device gave since the last reset, newest first, and where the protocol was set: where the device gave the
+-- empty packet for SET_PROTOCOL
+abbrev pub sent_of : List EpCall → List Sent
+sent_of [] = []
+sent_of (Polled (Some report) ∷ before) = Reported report ∷ sent_of before
+sent_of (In answer ∷ before) = changed_if (is_empty_packet answer && sets_protocol (asked_of before)) (sent_of before)
+sent_of (BusReset ∷ before) = []
+sent_of (_ ∷ before) = sent_of before
+
+-- the protocol was set since the newest report was given
+abbrev pub is_old : List Sent → Bool
+is_old (Changed ∷ sent) = true
+is_old _ = false
+
+-- the newest report, and what was sent before it
+abbrev pub newest : List Sent → List Sent
+newest [] = []
+newest (Changed ∷ sent) = newest sent
+newest (Reported report ∷ sent) = Reported report ∷ sent
 
 -- what endpoint 1 was set to since the last reset, newest first
 abbrev pub states_told : List Got → List Endpoint1
 states_told [] = []
 states_told (New packet ∷ before) = states_told before
+states_told (GivenUp ∷ before) = states_told before
 states_told (Anew state ∷ before) = state ∷ states_told before
 
 -- the calls but for the polls
@@ -152,11 +196,18 @@ no_polls (Out packet answer ∷ before) = Out packet answer ∷ no_polls before
 no_polls (In answer ∷ before) = In answer ∷ no_polls before
 no_polls (BusReset ∷ before) = BusReset ∷ no_polls before
 
--- these reports are kept, or the bus was reset
+-- what the calls are but for endpoint 0: polls, and resets
+abbrev pub beside : List EpCall → List EpCall
+beside [] = []
+beside (Polled answer ∷ before) = Polled answer ∷ beside before
+beside (BusReset ∷ before) = BusReset ∷ beside before
+beside (_ ∷ before) = beside before
+
+-- these are kept, or the bus was reset
 abbrev pub KeptOrReset : List EpCall → List EpCall → Type 0
-KeptOrReset calls later = (reports_of later ≡ reports_of calls) ⊎ (reports_of later ≡ [])
+KeptOrReset calls later = (beside later ≡ beside calls) ⊎ (beside later ≡ BusReset ∷ beside calls)
 
 -- they are kept unless it was
 abbrev pub KeptUnless : Bool → List EpCall → List EpCall → Type 0
-KeptUnless true calls later = reports_of later ≡ []
-KeptUnless false calls later = reports_of later ≡ reports_of calls
+KeptUnless true calls later = beside later ≡ BusReset ∷ beside calls
+KeptUnless false calls later = beside later ≡ beside calls

@@ -1,6 +1,6 @@
 -- Believed: the packets of a report (USB 2.0 section 5.7.3), and what reports the packets are that a host took as new.
-use Rattle.std.specs.Prelude.{◌≡◌, ◌⊎◌, ℕ, zero, suc, ◌-◌, ◌/◌, List, [], ◌∷◌, ◌++◌, length, take, drop}
-use Rattle.usb_device.specs.Bus1.{Got, New, Anew}
+use Rattle.std.specs.Prelude.{◌≡◌, ◌⊎◌, ℕ, zero, suc, ◌-◌, ◌/◌, Bool, true, false, List, [], ◌∷◌, ◌++◌, length, take, drop}
+use Rattle.usb_device.specs.Bus1.{Got, New, Anew, GivenUp, Sent, Reported, Changed, is_old, newest}
 
 -- so many packets of the bytes: each full, but for the last
 abbrev pub cut : ℕ → ℕ → List ℕ → List (List ℕ)
@@ -28,36 +28,66 @@ abbrev pub ArePieces : ℕ → List ℕ → List Got → Type 0
 ArePieces size report [] = Unit {0}
 ArePieces size report (New packet ∷ rest) = IsPacket packet (packets_of size report) × ArePieces size report rest
 ArePieces size report (Anew state ∷ rest) = ArePieces size report rest
+ArePieces size report (GivenUp ∷ rest) = ⊥
 
 -- the device began anew among these
 abbrev pub HasAnew : List Got → Type 0
 HasAnew [] = ⊥
 HasAnew (New packet ∷ rest) = HasAnew rest
 HasAnew (Anew state ∷ rest) = Unit {0}
+HasAnew (GivenUp ∷ rest) = HasAnew rest
 
--- nothing came, but that the device began anew
+-- the host took a packet among these
+abbrev pub HasNew : List Got → Type 0
+HasNew [] = ⊥
+HasNew (New packet ∷ rest) = Unit {0}
+HasNew (Anew state ∷ rest) = HasNew rest
+HasNew (GivenUp ∷ rest) = HasNew rest
+
+-- the device emptied its buffers, and the host took nothing since
+abbrev pub IsEmptied : List Got → Type 0
+IsEmptied [] = ⊥
+IsEmptied (New packet ∷ rest) = ⊥
+IsEmptied (Anew state ∷ rest) = Unit {0}
+IsEmptied (GivenUp ∷ rest) = Unit {0}
+
+-- the device emptied its buffers behind the report before
+abbrev pub MayRepeat : List Got → List Got → Type 0
+MayRepeat pieces before = HasAnew pieces ⊎ IsEmptied before
+
+-- nothing came, but that the device emptied its buffers
 abbrev pub NothingCame : List Got → Type 0
 NothingCame [] = Unit {0}
 NothingCame (New packet ∷ rest) = ⊥
 NothingCame (Anew state ∷ rest) = NothingCame rest
+NothingCame (GivenUp ∷ rest) = NothingCame rest
 
--- the host has these reports, newest first, and each of them whole, in their order. Each came once, unless the device began anew
--- behind the report before: then packets of it came before it.
-abbrev pub Carries : ℕ → List Got → List (List ℕ) → Type 0
-Carries size got [] = NothingCame got
-Carries size got (report ∷ earlier) =
-    (since : List Got) × (pieces : List Got) × (before : List Got) × (got ≡ since ++ with_new (packets_of size report) (pieces ++ before))
-    × NothingCame since × ArePieces size report pieces × ((pieces ≡ []) ⊎ HasAnew pieces) × Carries size before earlier
+-- the host has these reports, newest first, and each of them whole, in their order. Each came once, unless the device emptied its
+-- buffers behind the report before: then packets of it came before it. Only a report behind which the protocol was set may have
+-- been given up: then packets of it may have come before, and none came since.
+abbrev pub CarriesBy : Bool → ℕ → List Got → List Sent → Type 0
+CarriesBy old size got [] = NothingCame got
+CarriesBy old size got (Changed ∷ earlier) = CarriesBy true size got earlier
+CarriesBy old size got (Reported report ∷ earlier) =
+    ((since : List Got) × (pieces : List Got) × (before : List Got) × (got ≡ since ++ with_new (packets_of size report) (pieces ++ before))
+    × NothingCame since × ArePieces size report pieces × ((pieces ≡ []) ⊎ MayRepeat pieces before) × CarriesBy false size before earlier)
+    ⊎ ((old ≡ true) × (since : List Got) × (pieces : List Got) × (before : List Got) × (got ≡ since ++ GivenUp ∷ (pieces ++ before))
+    × NothingCame since × ArePieces size report pieces × CarriesBy false size before earlier)
+
+abbrev pub Carries : ℕ → List Got → List Sent → Type 0
+Carries size got sent = CarriesBy false size got sent
 
 -- the newest of these reports is under way: packets of it may have come
-pub record Begun (size : ℕ) (report : List ℕ) (got : List Got) (earlier : List (List ℕ)) : Type 0 where
+pub record Begun (size : ℕ) (report : List ℕ) (got : List Got) (earlier : List Sent) : Type 0 where
   pub pieces : List Got
   pub before : List Got
   pub got_is : got ≡ pieces ++ before
   pub are : ArePieces size report pieces
   pub carried : Carries size before earlier
 
--- the host has all of these reports whole, or all but the newest
-pub data GotInOrder (size : ℕ) (got : List Got) (sent : List (List ℕ)) : Type 0 where
+-- the host has all of these reports whole, or all but the newest. Where the protocol was set behind the newest, and the host has it not
+-- whole, it has a packet of it; else it is given up.
+pub data GotInOrder (size : ℕ) (got : List Got) (sent : List Sent) : Type 0 where
   all : Carries size got sent → GotInOrder size got sent
-  but_one : (report : List ℕ) (earlier : List (List ℕ)) → sent ≡ report ∷ earlier → Begun size report got earlier → GotInOrder size got sent
+  but_one : (report : List ℕ) (earlier : List Sent) → newest sent ≡ Reported report ∷ earlier → (begun : Begun size report got earlier)
+      → (is_old sent ≡ true → HasNew begun.pieces) → GotInOrder size got sent

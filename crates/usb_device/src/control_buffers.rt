@@ -6,7 +6,7 @@ ghost use Rattle.usb_device.specs.Requests.{word_at};
 ghost use Rattle.usb_device.specs.Calls.{EpCall, SetUp, BusReset};
 ghost use Rattle.usb_device.specs.Bus.{is_pending, Bus, Goes, Sends, Takes, with_input, with_output, is_write, looked, mode_of, out_mode_of};
 ghost use Rattle.usb_device.specs.Addresses.{Stays, StaysOrReset};
-ghost use Rattle.usb_device.specs.Bus1.{reports_of, KeptOrReset, KeptUnless};
+ghost use Rattle.usb_device.specs.Bus1.{beside, KeptOrReset, KeptUnless};
 ghost use Rattle.usb_device.specs.Transfers.{is_done, is_over, TransferState, Idle, Refused, Over, ReadDue, Closing, Opening, Due, IsOpen, WasAsked, last_0, Rests, NothingWithheld0};
 ghost use Rattle.usb_device.specs.ties.Link.{Link, Ready, IsBegun, ended, on_taken, met_view, transfer_view};
 
@@ -142,7 +142,7 @@ impl ControlBuffers {
             → NothingWithheld0 self.old (C.bus controller.old) calls
             → (later : List EpCall) × E.stands later device.new × Link self.new (C.bus controller.new) later
             × NothingWithheld0 self.new (C.bus controller.new) later × KeptOrReset calls later
-            × StaysOrReset (C.bus controller.new).met.reset later (C.address_of controller.old) (C.address_of controller.new) }
+            × StaysOrReset (C.bus controller.new).met.reset calls later (C.address_of controller.old) (C.address_of controller.new) }
     {
         let met = controller.waiting();
         self.take(met, device);
@@ -200,7 +200,7 @@ impl ControlBuffers {
             → b.met.reset ≡ false → b.met.setup ≡ None → b.met.out ≡ option_map (λ p. p.items) out → b.met.taken ≡ taken
             → Rests self.old b calls
             → (later : List EpCall) × E.stands later device.new × Link self.new (looked b) later × Ready self.new (looked b) later
-            × (reports_of later ≡ reports_of calls) }
+            × (beside later ≡ beside calls) }
     {
         match out {
             Some(packet) => match &self.transfer {
@@ -226,7 +226,7 @@ impl ControlBuffers {
     fn close<E: Endpoints>(&mut self, packet: ArrayVec<u8, 8>, device: &mut E)
         ensures { (b : Bus) (calls : List EpCall) → E.stands calls device.old → Link Closing b calls
             → (later : List EpCall) × E.stands later device.new × Link self.new b later × Ready self.new b later
-            × (reports_of later ≡ reports_of calls) }
+            × (beside later ≡ beside calls) }
     {
         let answer = device.out(packet.as_slice());
         self.transfer = ended(answer);
@@ -252,7 +252,7 @@ impl ControlBuffers {
         ensures linked { (calls : List EpCall) → E.stands calls device.old → Link self.old (C.bus controller.old) calls
             → Ready self.old (C.bus controller.old) calls
             → (later : List EpCall) × E.stands later device.new × Link self.new (C.bus controller.new) later
-            × NothingWithheld0 self.new (C.bus controller.new) later × (reports_of later ≡ reports_of calls) }
+            × NothingWithheld0 self.new (C.bus controller.new) later × (beside later ≡ beside calls) }
         ensures stays { Stays (C.bus controller.old) (C.bus controller.new) (C.address_of controller.old) (C.address_of controller.new) }
     {
         match &self.transfer {
@@ -285,7 +285,7 @@ impl ControlBuffers {
     fn ask<E: Endpoints, C: Controller>(&mut self, device: &mut E, controller: &mut C)
         ensures linked { (calls : List EpCall) → E.stands calls device.old → Link Due (C.bus controller.old) calls
             → (later : List EpCall) × E.stands later device.new × Link self.new (C.bus controller.new) later
-            × NothingWithheld0 self.new (C.bus controller.new) later × (reports_of later ≡ reports_of calls) }
+            × NothingWithheld0 self.new (C.bus controller.new) later × (beside later ≡ beside calls) }
         ensures stays { Stays (C.bus controller.old) (C.bus controller.new) (C.address_of controller.old) (C.address_of controller.new) }
     {
         open(controller);
@@ -298,7 +298,7 @@ impl ControlBuffers {
         ensures linked { (calls : List EpCall) → E.stands calls device.old → Link Due (C.bus controller.old) calls
             → (is_pending (C.bus controller.old).met ≡ false → IsOpen (C.bus controller.old))
             → (later : List EpCall) × E.stands later device.new × Link self.new (C.bus controller.new) later
-            × NothingWithheld0 self.new (C.bus controller.new) later × (reports_of later ≡ reports_of calls) }
+            × NothingWithheld0 self.new (C.bus controller.new) later × (beside later ≡ beside calls) }
         ensures stays { Stays (C.bus controller.old) (C.bus controller.new) (C.address_of controller.old) (C.address_of controller.new) }
     {
         match device.in_packet() {
@@ -328,7 +328,7 @@ impl ControlBuffers {
     fn read<E: Endpoints, C: Controller>(&mut self, left: u16, device: &mut E, controller: &mut C)
         ensures linked { (calls : List EpCall) → E.stands calls device.old → Link (ReadDue left) (C.bus controller.old) calls
             → (later : List EpCall) × E.stands later device.new × Link self.new (C.bus controller.new) later
-            × NothingWithheld0 self.new (C.bus controller.new) later × (reports_of later ≡ reports_of calls) }
+            × NothingWithheld0 self.new (C.bus controller.new) later × (beside later ≡ beside calls) }
         ensures stays { Stays (C.bus controller.old) (C.bus controller.new) (C.address_of controller.old) (C.address_of controller.new) }
     {
         match device.in_packet() {

@@ -17,7 +17,8 @@ ghost use Rattle.usb_device.specs.ties.Waited.{Waited};
 ghost use Rattle.usb_device.specs.ties.Link1.{Link1, InStep, NothingWithheld, may_send};
 ghost use Rattle.usb_device.specs.ties.Layered.{Layered, PolledOnce, endpoint_set, with_state, is_ready};
 
-use crate::report_buffers::{Buffers, ReportBuffers};
+use crate::buffers::Buffers;
+use crate::report_buffers::ReportBuffers;
 use crate::{Change, DeviceLayer, Endpoint1, Endpoints, EpAnswer, PacketSize, PollAnswer, Report};
 
 /// A device behind its USB device layer, with endpoint 1 behind the buffers of a controller.
@@ -49,6 +50,7 @@ fn follow<B: Buffers>(change: Option<Change>, buffers: &mut B, reports: &mut Rep
 {
     match endpoint_set(change) {
         Some(state) => {
+            reports.give_up_old(buffers);
             buffers.begin_anew(state);
             reports.begin_anew();
         }
@@ -99,6 +101,7 @@ impl<'a, E: Endpoints, B: Buffers> Device<'a, E, B> {
             → Layered E.stands lent past self.new.layer self.new.behind self.new.reports (B.bus self.new.buffers) }
         ensures waits { (moments : List Moment) → Waited moments self.old.reports.left → Waited (Scanned ∷ moments) self.new.reports.left }
         ensures less { self.new.reports.left ≡ self.old.reports.left - 1 }
+        ensures behind { self.new.behind ≡ self.old.behind }
     {
         self.reports.scan();
     }
@@ -111,7 +114,7 @@ impl<'a, E: Endpoints, B: Buffers> Device<'a, E, B> {
         ensures waits { (moments : List Moment) → Waited (Released ∷ moments) self.new.reports.left }
     {
         self.buffers.host_began();
-        self.reports.release(true);
+        self.reports.release();
     }
 
     /// Takes what the host has taken of endpoint 1, and fills its buffers where it is ready and nothing is waited for: with
@@ -190,7 +193,7 @@ impl<'a, E: Endpoints, B: Buffers> Endpoints for Device<'a, E, B> {
 
     fn setup(&mut self, packet: [u8; 8]) {
         self.layer.setup(packet, &mut self.behind);
-        self.reports.release(false);
+        self.reports.setup(packet);
         self.sets = packet[0] < 0x80;
     }
 
@@ -201,6 +204,7 @@ impl<'a, E: Endpoints, B: Buffers> Endpoints for Device<'a, E, B> {
     fn in_packet(&mut self) -> EpAnswer {
         let (answer, change) = self.layer.in_packet(&mut self.behind);
         follow(change, &mut self.buffers, &mut self.reports);
+        self.reports.answered(&answer, &mut self.buffers);
         self.reports.hold(is_status(self.sets, &answer));
         answer
     }

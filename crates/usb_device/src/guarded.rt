@@ -30,7 +30,7 @@ pub trait ScansMatrix: Endpoints {
 /// have come since the one before, or since the start.
 #[derive(Drop)]
 pub struct Guarded<E> {
-    guard: Guard,
+    pub(crate) guard: Guard,
     pub(crate) behind: E,
 }
 

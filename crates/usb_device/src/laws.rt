@@ -9,11 +9,11 @@ ghost use Rattle.usb_device.specs.Steps.{AllAnswered, session, state_of};
 ghost use Rattle.usb_device.specs.States.{endpoint_by};
 ghost use Rattle.usb_device.specs.Through.{calls_of};
 ghost use Rattle.usb_device.specs.Bus.{Bus, Seen, InGot, Naks, NaksOut, nothing_met, is_write, setup_of, write_of};
-ghost use Rattle.usb_device.specs.Bus1.{Bus1, reports_of, no_polls};
+ghost use Rattle.usb_device.specs.Bus1.{Bus1, sent_of, no_polls};
 ghost use Rattle.usb_device.specs.Reports.{GotInOrder};
 ghost use Rattle.usb_device.specs.Waits.{Moment, is_waiting, scans_last};
 ghost use Rattle.usb_device.specs.ties.Link1.{ReportState, Link1};
-ghost use Rattle.usb_device.specs.Confirmed.{WasConfirmed};
+ghost use Rattle.usb_device.specs.Confirmed.{WasConfirmed, asked_of};
 ghost use Rattle.usb_device.specs.Transfers.{TransferState, Idle, NothingWithheld0};
 ghost use Rattle.usb_device.specs.ties.Link.{Link};
 
@@ -55,9 +55,11 @@ pub fn endpoint_is_looked_back()
 {}
 
 /// What the host took as new since the last reset are the reports that the device gave, whole and in their order: all of them, or
-/// all but the newest, whatever acknowledgements were lost, and whatever toggle the host wanted.
+/// all but the newest, whatever acknowledgements were lost, and whatever toggle the host wanted. But of the reports behind which
+/// the protocol was set, one may be given up: one of which the host was not known to have a packet. So the first packet of a report
+/// is handed over only while the protocol is that of the report.
 pub fn reports_are_got_in_order()
-    ensures { (s : ReportState) (b : Bus1) (calls : List EpCall) → b.reset ≡ false → Link1 s b calls → GotInOrder s.size b.got (reports_of calls) }
+    ensures { (s : ReportState) (b : Bus1) (calls : List EpCall) → b.reset ≡ false → Link1 s b calls → GotInOrder s.size b.got (sent_of calls) }
 {}
 
 /// What `ReportBuffers` asks of the device is nothing to endpoint 0.
@@ -67,10 +69,10 @@ pub fn a_poll_is_nothing_to_endpoint_0()
         → NothingWithheld0 t b (Polled answer ∷ calls) }
 {}
 
-/// What `ControlBuffers` asks of the device is nothing to endpoint 1.
+/// A transfer that does not set the protocol is nothing to endpoint 1.
 #[tactic(auto, using(crate::proofs::Reporting::same_reports))]
 pub fn a_transfer_is_nothing_to_endpoint_1()
-    ensures { (s : ReportState) (b : Bus1) (calls later : List EpCall) → Link1 s b calls → reports_of later ≡ reports_of calls → Link1 s b later }
+    ensures { (s : ReportState) (b : Bus1) (calls later : List EpCall) → Link1 s b calls → sent_of later ≡ sent_of calls → asked_of later ≡ asked_of calls → Link1 s b later }
 {}
 
 /// What a string descriptor holds of a text is whole characters.

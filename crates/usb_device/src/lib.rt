@@ -12,15 +12,18 @@
 //! on to the flash. Each answer of a standard request is that of tables 9-3 and 9-4 in the state that the
 //! events before give (`laws::endpoint_is_looked_back`). The host takes as new the reports of the device, each whole, in
 //! their order (`laws::reports_are_got_in_order`): once, and at least once where endpoint 1 begins anew, whatever data toggle
-//! the host then wants. The controller is told of each change of endpoint 1 before the host. Endpoint 1 waits at most 50 scans
+//! the host then wants. A report that waits where the protocol is set is given up: each is of the protocol in which its first
+//! packet was handed over. The controller is told of each change of endpoint 1 before the host. Endpoint 1 waits at most 50 scans
 //! for a host that does not take a status packet. Nothing else is withheld.
 //!
-//! The controller is told its address once the host has the status packet of SET_ADDRESS, and at no other time.
+//! The controller is told its address once the host has acknowledged the status packet of SET_ADDRESS and no later SETUP packet
+//! came, and at no other time.
 //!
 //! Not yet here: suspend and remote wakeup.
 #![tactic(auto)]
 
 mod answer;
+mod buffers;
 mod control_buffers;
 mod controller;
 mod descriptors;
@@ -44,6 +47,7 @@ mod usb_device;
 mod whole_transfers;
 
 pub use answer::{Change, Endpoint1, EpAnswer, PollAnswer, Report};
+pub use buffers::{Buffers, PacketSize};
 pub use control_buffers::ControlBuffers;
 pub use controller::{Controller, Input, Output, Waiting};
 pub use descriptors::Descriptors;
@@ -54,7 +58,7 @@ pub use guarded::{Guarded, ScansMatrix};
 pub use played_buffers::{Brought, Played, PlayedBuffers};
 pub use played_controller::{Played0, PlayedController, Saw};
 pub use quiet_controller::QuietController;
-pub use report_buffers::{Buffers, PacketSize, ReportBuffers};
+pub use report_buffers::ReportBuffers;
 pub use strings::string_descriptor;
 pub use usb_device::UsbDevice;
 pub use whole_transfers::{Status, TransferError, Works, status_of, write};

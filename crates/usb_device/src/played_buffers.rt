@@ -4,7 +4,8 @@ ghost use Rattle.std.specs.Prelude.{◌≡◌, [], List, true, false, map, lengt
 ghost use Rattle.usb_device.specs.Bus1.{agree, begun_if, blank, received};
 ghost use Rattle.usb_device.specs.ties.Played.{got_of, played_bus, Moved};
 
-use crate::report_buffers::{Buffers, held};
+use crate::buffers::Buffers;
+use crate::report_buffers::held;
 use crate::{Endpoint1, Report};
 use arrayvec::ArrayVec;
 
@@ -30,6 +31,8 @@ pub enum Brought {
     New(Report),
     /// The device began anew.
     Anew(Endpoint1),
+    /// The device gave a report up.
+    GivenUp,
 }
 
 impl Default for Brought {
@@ -41,7 +44,7 @@ impl Default for Brought {
 /// One buffer of endpoint 1, and its host.
 ///
 /// Each call plays what is next in the script, and then has its effect. The host notes 32 things that it was brought. Where
-/// it has no room it takes no packet, and resets the bus where the device begins anew.
+/// it has no room it takes no packet, and resets the bus where the device begins anew or gives a report up.
 #[derive(Drop)]
 pub struct PlayedBuffers<'a> {
     script: &'a [Played],
@@ -177,6 +180,19 @@ impl<'a> Buffers for PlayedBuffers<'a> {
             self.slot = None;
             self.taken = false;
             self.opened = true;
+        } else {
+            self.set_back(true);
+        }
+    }
+
+    fn give_up(&mut self) {
+        self.play();
+        if self.reset {
+            return;
+        }
+        if self.got.try_insert(0, Brought::GivenUp).is_ok() {
+            self.slot = None;
+            self.taken = false;
         } else {
             self.set_back(true);
         }

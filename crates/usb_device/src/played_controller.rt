@@ -4,7 +4,7 @@ ghost use Rattle.std.specs.Prelude.{◌≡◌, ◌≤◌, ◌∷◌, [], List, t
 ghost use Rattle.usb_device.specs.Bus.{InGot, got, is_pending, nothing_met, Naks, NaksOut};
 ghost use Rattle.usb_device.specs.Addresses.{StaysBy};
 ghost use Rattle.usb_device.specs.ties.Link.{met_view};
-ghost use Rattle.usb_device.specs.ties.Played0.{seen_of, played_bus_0, Moved0};
+ghost use Rattle.usb_device.specs.ties.Played0.{seen_of, played_bus_0, address_by, Moved0};
 
 use crate::controller::{Controller, Input, Output, Waiting};
 use arrayvec::ArrayVec;
@@ -135,9 +135,10 @@ impl<'a> PlayedController<'a> {
     }
 
     /// The next thing of the script happens.
+    #[tactic(auto, using(crate::proofs::Playing0::address_stays))]
     fn play(&mut self)
         ensures moved { Moved0 (played_bus_0 self.old) (played_bus_0 self.new) }
-        ensures stays { StaysBy self.new.met.reset self.old.address self.new.address }
+        ensures stays { StaysBy self.new.met.reset (address_by self.old.met.reset self.old.address) (address_by self.new.met.reset self.new.address) }
     {
         let Some((first, rest)) = self.script.split_first() else {
             return;
@@ -158,6 +159,7 @@ impl<'a> PlayedController<'a> {
     fn set_up(&mut self, setup: [u8; 8])
         ensures moved { Moved0 (played_bus_0 self.old) (played_bus_0 self.new) }
         ensures stays { self.new.address ≡ self.old.address }
+        ensures met { self.new.met.reset ≡ self.old.met.reset }
     {
         if is_noted(Saw::SetupSent(setup), &mut self.seen) {
             self.input = Input::Nak;
@@ -170,6 +172,7 @@ impl<'a> PlayedController<'a> {
     fn deliver(&mut self, is_acknowledged: bool)
         ensures moved { Moved0 (played_bus_0 self.old) (played_bus_0 self.new) }
         ensures stays { self.new.address ≡ self.old.address }
+        ensures met { self.new.met.reset ≡ self.old.met.reset }
     {
         match &self.input {
             Input::Packet(packet) => {
@@ -190,6 +193,7 @@ impl<'a> PlayedController<'a> {
     fn send(&mut self, bytes: [u8; 6])
         ensures moved { Moved0 (played_bus_0 self.old) (played_bus_0 self.new) }
         ensures stays { self.new.address ≡ self.old.address }
+        ensures met { self.new.met.reset ≡ self.old.met.reset }
     {
         self.bring(&bytes);
     }
@@ -198,6 +202,7 @@ impl<'a> PlayedController<'a> {
     fn bring(&mut self, bytes: &[u8])
         ensures moved { length bytes.now ≤ 8 → Moved0 (played_bus_0 self.old) (played_bus_0 self.new) }
         ensures stays { self.new.address ≡ self.old.address }
+        ensures met { self.new.met.reset ≡ self.old.met.reset }
     {
         match self.output {
             Output::Take => {
@@ -211,9 +216,10 @@ impl<'a> PlayedController<'a> {
     }
 
     /// The host resets the bus.
+    #[tactic(auto, using(crate::proofs::Playing0::address_stays, crate::proofs::Playing0::address_zero))]
     fn reset(&mut self)
         ensures moved { Moved0 (played_bus_0 self.old) (played_bus_0 self.new) }
-        ensures stays { StaysBy self.new.met.reset self.old.address self.new.address }
+        ensures stays { StaysBy self.new.met.reset (address_by self.old.met.reset self.old.address) (address_by self.new.met.reset self.new.address) }
     {
         if is_noted(Saw::WasReset, &mut self.seen) {
             self.input = Input::Nak;
@@ -227,10 +233,14 @@ impl<'a> PlayedController<'a> {
 impl<'a> Controller for PlayedController<'a> {
     ghost bus = { λ c. played_bus_0 c };
 
-    ghost address_of = { λ c. c.address };
+    ghost address_of = { λ c. address_by c.met.reset c.address };
 
+    #[tactic(auto, using(crate::proofs::Playing0::address_looked))]
     fn waiting(&mut self) -> Waiting {
         self.play();
+        if self.met.reset {
+            self.address = 0;
+        }
         std::mem::replace(&mut self.met, only(false))
     }
 
@@ -249,6 +259,7 @@ impl<'a> Controller for PlayedController<'a> {
         }
     }
 
+    #[tactic(auto, using(crate::proofs::Playing0::address_told))]
     fn set_address(&mut self, address: u8) {
         self.play();
         self.address = if self.met.reset { 0 } else { address };

@@ -3,6 +3,7 @@
 ghost use Rattle.std.specs.Prelude.{◌≡◌, []};
 ghost use Rattle.usb_device.specs.Bus.{Bus, is_pending, mode_of, out_mode_of};
 ghost use Rattle.usb_device.specs.ties.Link.{met_view};
+ghost use Rattle.usb_device.specs.ties.Played0.{address_by};
 
 use crate::controller::{Controller, Input, Output, Waiting};
 
@@ -25,9 +26,13 @@ impl QuietController {
 impl Controller for QuietController {
     ghost bus = { λ c. record { seen = []; input = mode_of c.input; output = out_mode_of c.output; met = met_view c.met } };
 
-    ghost address_of = { λ c. c.address };
+    ghost address_of = { λ c. address_by c.met.reset c.address };
 
+    #[tactic(auto, using(crate::proofs::Playing0::address_looked))]
     fn waiting(&mut self) -> Waiting {
+        if self.met.reset {
+            self.address = 0;
+        }
         let nothing = Waiting {
             reset: false,
             setup: None,
@@ -37,18 +42,21 @@ impl Controller for QuietController {
         std::mem::replace(&mut self.met, nothing)
     }
 
+    #[tactic(auto, using(crate::proofs::Playing0::address_stays))]
     fn input_0(&mut self, answer: Input) {
         if !self.is_pending() {
             self.input = answer;
         }
     }
 
+    #[tactic(auto, using(crate::proofs::Playing0::address_stays))]
     fn output_0(&mut self, answer: Output) {
         if !self.is_pending() {
             self.output = answer;
         }
     }
 
+    #[tactic(auto, using(crate::proofs::Playing0::address_told))]
     fn set_address(&mut self, address: u8) {
         self.address = address;
     }

@@ -1,76 +1,20 @@
 //! Endpoint 1 behind buffers: reports in packets, and data toggles.
 
-ghost use Rattle.std.specs.Prelude.{◌≡◌, ◌⊎◌, ◌≤◌, ◌+◌, ◌-◌, ◌/◌, ◌∷◌, ℕ, ◌<◌, nat_lt, suc, length, Bool, true, false, List, [], take, drop, Some, ◌==◌};
+ghost use Rattle.std.specs.Prelude.{◌≡◌, ◌⊎◌, ◌≤◌, ◌+◌, ◌-◌, ◌/◌, ◌∷◌, ℕ, ◌<◌, nat_lt, suc, length, Bool, true, false, List, [], take, drop, Some, ◌==◌, ◌&&◌};
 ghost use Rattle.usb_device.specs.declared.answer.Endpoint1.{Endpoint1};
-ghost use Rattle.usb_device.specs.Calls.{EpCall, BusReset, Polled};
-ghost use Rattle.usb_device.specs.Bus1.{Bus1, Goes1, filled, room_of, told, anew, begun_if, blank};
+ghost use Rattle.usb_device.specs.Calls.{EpCall, SetUp, In, BusReset, Polled};
+ghost use Rattle.usb_device.specs.Bus1.{Bus1, room_of, told, anew, blank, Changed, sent_of, is_old, newest, sets_protocol};
+ghost use Rattle.usb_device.specs.Confirmed.{asked_of};
+ghost use Rattle.usb_device.specs.States.{is_empty_packet};
 ghost use Rattle.usb_device.specs.Reports.{count_of};
 ghost use Rattle.usb_device.specs.Waits.{Moment, Held, Scanned, Released};
 ghost use Rattle.usb_device.specs.ties.Waited.{Waited};
-ghost use Rattle.usb_device.specs.ties.Link1.{ReportState, Link1, to_hand, size_of, is_more, is_over, IsHeld, InStep};
+ghost use Rattle.usb_device.specs.ties.Link1.{ReportState, Link1, to_hand, is_more, is_over, is_begun, IsHeld, InStep};
 ghost use Rattle.usb_device.specs.declared.report_buffers.Course.TheVariants.{Rests, Begins, Goes};
 
-use crate::{Endpoint1, Report};
+use crate::{Buffers, EpAnswer, PacketSize, Report};
 use arrayvec::ArrayVec;
 use std::marker::Model;
-
-/// The buffers of endpoint 1.
-pub trait Buffers {
-    /// They, and what the host got from them.
-    ghost bus: { Self → Bus1 };
-
-    /// Whether there are two, which are sent in turns, or one.
-    ghost two: { Bool };
-
-    /// Whether there are two.
-    fn has_two(&self) -> bool
-        ensures { result ≡ two };
-
-    /// How many packets the host has taken, and acknowledged; told once.
-    fn taken_1(&mut self) -> usize
-        ensures { (steps : List Bus1) × (mid : Bus1) × Goes1 steps (bus self.old) mid × (result ≡ mid.taken) × (bus self.new ≡ told mid) };
-
-    /// Endpoint 1 is this from now on, with empty buffers and DATA0. Without effect after a reset that `forget` did not follow.
-    fn begin_anew(&mut self, state: Endpoint1)
-        ensures { (steps : List Bus1) × (mid : Bus1) × Goes1 steps (bus self.old) mid × (bus self.new ≡ anew mid state) };
-
-    /// The host has the status packet of the request behind the last `begin_anew`. Such a host has begun anew.
-    fn host_began(&mut self)
-        ensures { (steps : List Bus1) × (mid : Bus1) × Goes1 steps (bus self.old) mid × (bus self.new ≡ begun_if mid.opened mid) };
-
-    /// Follows a reset of the bus: endpoint 1 is off, with empty buffers and DATA0.
-    fn forget(&mut self)
-        ensures { bus self.new ≡ blank false };
-
-    /// Puts a packet into a free buffer; there is one. Without effect after a reset that `forget` did not follow.
-    fn input_1(&mut self, packet: Report)
-        ensures { (steps : List Bus1) × (mid : Bus1) × Goes1 steps (bus self.old) mid
-            × (length mid.slots < room_of two → bus self.new ≡ filled mid packet.items) };
-}
-
-/// The bytes of a packet of endpoint 1 (section 5.7.3).
-#[derive(Clone, Copy, Debug, PartialEq, Eq)]
-pub enum PacketSize {
-    Bytes8,
-    Bytes16,
-    Bytes32,
-    Bytes64,
-}
-
-impl PacketSize {
-    /// The number of bytes.
-    pub fn bytes(self) -> usize
-        ensures size { result ≡ size_of self }
-        ensures some { 8 ≤ result }
-    {
-        match self {
-            PacketSize::Bytes8 => 8,
-            PacketSize::Bytes16 => 16,
-            PacketSize::Bytes32 => 32,
-            PacketSize::Bytes64 => 64,
-        }
-    }
-}
 
 /// The scans, a millisecond each, in which a host that asks takes the packet of a status stage (section 9.2.6.4).
 const STATUS_SCANS: u8 = 50;
@@ -92,6 +36,9 @@ pub(crate) enum Course {
 /// status packet, has begun another transfer, or has let 50 scans go by: the acknowledgement may be lost, and then the
 /// device never knows that the host has the packet (section 8.5.3.3). Then the host may want either data toggle, and drops a
 /// packet that has the other one. So the next report is handed over twice, and the host has it whole.
+///
+/// A request that sets the protocol (HID 1.11 section 7.2.6) gives up a report that waits, as it is of the protocol before, and
+/// the host may have a packet of it. One of which the host is known to have a packet goes on, as the host's transfer does.
 #[derive(Drop)]
 pub struct ReportBuffers {
     size: PacketSize,
@@ -102,6 +49,9 @@ pub struct ReportBuffers {
     again: bool,
     buffered: usize,
     unsure: bool,
+    lost: bool,
+    is_old: bool,
+    protocol: bool,
     waits: u8,
 }
 
@@ -119,6 +69,9 @@ impl Model for ReportBuffers {
       again = r.again;
       buffered = r.buffered;
       unsure = r.unsure;
+      lost = r.lost;
+      old = r.is_old;
+      protocol = r.protocol;
       left = r.waits;
     } };
 }
@@ -153,6 +106,23 @@ fn behind(bytes: &[u8], count: usize) -> Report
     held(&bytes[bytes.len().min(count)..])
 }
 
+/// Whether a SETUP packet is SET_PROTOCOL.
+fn sets_protocol(setup: [u8; 8]) -> bool
+    ensures { result ≡ sets_protocol (Some setup) }
+{
+    setup[0] == 0x21 && setup[1] == 0x0b
+}
+
+/// Whether an answer is the empty packet.
+fn is_empty(answer: &EpAnswer) -> bool
+    ensures { result ≡ is_empty_packet answer.now }
+{
+    match answer {
+        EpAnswer::Packet(packet) => packet.is_empty(),
+        EpAnswer::Ack | EpAnswer::Nak | EpAnswer::Stall => false,
+    }
+}
+
 impl ReportBuffers {
     /// Empty buffers that wait for nothing, behind a reset of the bus.
     pub fn new(size: PacketSize) -> ReportBuffers
@@ -168,6 +138,9 @@ impl ReportBuffers {
             again: false,
             buffered: 0,
             unsure: false,
+            lost: false,
+            is_old: false,
+            protocol: false,
             waits: 0,
         }
     }
@@ -175,10 +148,12 @@ impl ReportBuffers {
     /// The controller empties the buffers, and begins with DATA0: a request that sets endpoint 1 is answered by its status
     /// packet. A report that the host has not whole begins anew, and nothing is handed over until `release` or 50 scans.
     pub fn begin_anew(&mut self)
-        ensures linked { (state : Endpoint1) (b : Bus1) (calls : List EpCall) → Link1 self.old b calls → Link1 self.new (anew b state) calls }
+        ensures linked { (state : Endpoint1) (b : Bus1) (calls : List EpCall) → (self.old.course ≡ Goes → self.old.old ≡ false)
+            → Link1 self.old b calls → Link1 self.new (anew b state) calls }
         ensures waits { (moments : List Moment) → Waited (Held ∷ moments) self.new.left }
     {
         self.unsure = true;
+        self.lost = false;
         self.waits = STATUS_SCANS;
         match self.course {
             Course::Goes => self.course = Course::Begins,
@@ -207,17 +182,118 @@ impl ReportBuffers {
         self.waits = self.waits.saturating_sub(1);
     }
 
-    /// The host has taken the status packet (`knows`), or has sent a SETUP packet, which may be instead. A host that has it
-    /// has begun anew with DATA0.
-    pub fn release(&mut self, knows: bool)
+    /// The host has taken the status packet. A host that has it has begun anew with DATA0, where the device has.
+    pub fn release(&mut self)
         ensures waits { (moments : List Moment) → Waited (Released ∷ moments) self.new.left }
-        ensures linked { (b : Bus1) (calls : List EpCall) → (knows ≡ true → b.opened ≡ true → b.host ≡ false)
+        ensures linked { (b : Bus1) (calls : List EpCall) → (b.opened ≡ true → b.host ≡ false)
             → Link1 self.old b calls → Link1 self.new b calls }
     {
         self.waits = 0;
-        if knows {
+        if !self.lost {
             self.unsure = false;
         }
+    }
+
+    /// A SETUP packet has come: nothing is waited for.
+    pub fn setup(&mut self, packet: [u8; 8])
+        ensures waits { (moments : List Moment) → Waited (Released ∷ moments) self.new.left }
+        ensures linked { (b : Bus1) (calls : List EpCall) → Link1 self.old b calls → Link1 self.new b (SetUp packet ∷ calls) }
+    {
+        self.waits = 0;
+        self.protocol = sets_protocol(packet);
+    }
+
+    /// This was the answer to an IN token of endpoint 0. The empty packet of SET_PROTOCOL sets the protocol.
+    pub fn answered<B: Buffers>(&mut self, answer: &EpAnswer, buffers: &mut B)
+        ensures linked { (calls : List EpCall) → Link1 self.old (B.bus buffers.old) calls → Link1 self.new (B.bus buffers.new) (In answer.now ∷ calls) }
+        ensures told { (states : List Endpoint1) → InStep states (B.bus buffers.old) → InStep states (B.bus buffers.new) }
+        ensures waits { self.new.left ≡ self.old.left }
+    {
+        if self.is_change(answer) {
+            let count = buffers.taken_1();
+            self.taken(count);
+            self.change(buffers);
+        }
+    }
+
+    /// Whether this answer sets the protocol.
+    fn is_change(&self, answer: &EpAnswer) -> bool
+        ensures { result ≡ (is_empty_packet answer.now && self.now.protocol) }
+    {
+        is_empty(answer) && self.protocol
+    }
+
+    /// The report under way goes on, and is of the protocol before.
+    fn go_on(&mut self)
+        ensures { self.new ≡ record self.old { old = true } }
+    {
+        self.is_old = true;
+    }
+
+    /// The protocol is set: a report that waits is given up, and one of which the host has a packet goes on.
+    fn change<B: Buffers>(&mut self, buffers: &mut B)
+        ensures linked { (calls later : List EpCall) → sent_of later ≡ Changed ∷ sent_of calls → asked_of later ≡ asked_of calls
+            → Link1 self.old (B.bus buffers.old) calls → Link1 self.new (B.bus buffers.new) later }
+        ensures goes_on { self.old.course ≡ Goes → is_begun self.old ≡ true → (self.new ≡ record self.old { old = true }) × (buffers.new ≡ buffers.old) }
+        ensures told { (states : List Endpoint1) → InStep states (B.bus buffers.old) → InStep states (B.bus buffers.new) }
+        ensures waits { self.new.left ≡ self.old.left }
+    {
+        match self.course {
+            Course::Rests => {}
+            Course::Begins => self.give_up(buffers),
+            Course::Goes => {
+                if self.is_begun() {
+                    self.go_on();
+                } else {
+                    self.give_up(buffers);
+                }
+            }
+        }
+    }
+
+    /// A report of the protocol before does not begin anew: it is given up.
+    pub fn give_up_old<B: Buffers>(&mut self, buffers: &mut B)
+        ensures linked { (calls : List EpCall) → Link1 self.old (B.bus buffers.old) calls → Link1 self.new (B.bus buffers.new) calls }
+        ensures none { self.new.course ≡ Goes → self.new.old ≡ false }
+        ensures others { self.old.old ≡ false → (self.new ≡ self.old) × (buffers.new ≡ buffers.old) }
+        ensures told { (states : List Endpoint1) → InStep states (B.bus buffers.old) → InStep states (B.bus buffers.new) }
+    {
+        match self.course {
+            Course::Goes => {
+                if self.is_old {
+                    self.give_up(buffers);
+                }
+            }
+            Course::Rests | Course::Begins => {}
+        }
+    }
+
+    /// The report under way is given up. Where packets of it were handed over, the toggles may differ.
+    fn give_up<B: Buffers>(&mut self, buffers: &mut B)
+        ensures linked { (calls later : List EpCall) → (self.old.course ≡ Rests → ⊥)
+            → ((self.old.course ≡ Goes → is_old (sent_of calls) ≡ self.old.old) → is_old (sent_of later) ≡ true)
+            → newest (sent_of later) ≡ newest (sent_of calls) → asked_of later ≡ asked_of calls
+            → Link1 self.old (B.bus buffers.old) calls → Link1 self.new (B.bus buffers.new) later }
+        ensures told { (states : List Endpoint1) → InStep states (B.bus buffers.old) → InStep states (B.bus buffers.new) }
+        ensures waits { self.new.left ≡ self.old.left }
+        ensures rests { self.new.course ≡ Rests }
+    {
+        buffers.give_up();
+        match self.course {
+            Course::Goes => {
+                self.unsure = true;
+                self.lost = true;
+                self.course = Course::Rests;
+            }
+            Course::Rests | Course::Begins => self.course = Course::Rests,
+        }
+    }
+
+    /// Whether the host has a packet of the report under way.
+    fn is_begun(&self) -> bool
+        ensures { result ≡ is_begun self.now }
+    {
+        !self.again && self.buffered < self.count().saturating_sub(self.due)
     }
 
     /// A reset of the bus. The report under way is dropped, as the host has forgotten what it knew.
@@ -227,6 +303,8 @@ impl ReportBuffers {
     {
         self.course = Course::Rests;
         self.unsure = false;
+        self.lost = false;
+        self.protocol = false;
         self.waits = 0;
     }
 
@@ -353,12 +431,16 @@ impl ReportBuffers {
           due = count_of self.old.size self.old.report;
           again = self.old.unsure;
           unsure = false;
+          lost = false;
+          old = false;
         } }
     {
         self.rest = held(self.report.as_slice());
         self.due = self.count();
         self.again = self.unsure;
         self.unsure = false;
+        self.lost = false;
+        self.is_old = false;
     }
 
     /// How many packets the report has.

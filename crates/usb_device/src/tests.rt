@@ -36,7 +36,7 @@ impl Endpoints for Counts {
     }
 
     fn in_packet(&mut self) -> EpAnswer {
-        EpAnswer::Stall
+        EpAnswer::Packet(ArrayVec::new())
     }
 
     fn poll(&mut self) -> Option<Report> {
@@ -113,6 +113,56 @@ fn a_report_is_given_up_by_a_reset(rt: HostRuntime) {
     let got = [
         Brought::New(bytes_of(2, 4)),
         Brought::New(bytes_of(2, 8)),
+        Brought::Anew(Endpoint1::Ready),
+    ];
+    assert_eq!(rt; device.buffers.got(), &got[..]);
+}
+
+/// SET_PROTOCOL, as a host asks it.
+const SET_BOOT: [u8; 8] = [0x21, 0x0b, 0, 0, 0, 0, 0, 0];
+
+#[test]
+fn a_report_that_waits_is_given_up_with_its_protocol(rt: HostRuntime) {
+    let script = [
+        Rests, Rests, Rests, Rests, Rests, Rests, Rests, Rests, Rests, Takes, Rests, Takes, Rests,
+    ];
+    let mut device = device_on(&script);
+    configure(&rt, &mut device);
+    device.serve_reports();
+    // Its first packet is in the buffer.
+    device.setup(SET_BOOT);
+    let answer = device.in_packet();
+    assert_eq!(rt; answer, EpAnswer::Packet(ArrayVec::new()));
+    device.is_done();
+    for _ in 0..3 {
+        device.serve_reports();
+    }
+    let got = [
+        Brought::New(bytes_of(2, 4)),
+        Brought::New(bytes_of(2, 8)),
+        Brought::GivenUp,
+        Brought::Anew(Endpoint1::Ready),
+    ];
+    assert_eq!(rt; device.buffers.got(), &got[..]);
+}
+
+#[test]
+fn a_report_of_which_the_host_has_a_packet_goes_on(rt: HostRuntime) {
+    let script = [
+        Rests, Rests, Rests, Rests, Takes, Rests, Rests, Rests, Takes, Rests,
+    ];
+    let mut device = device_on(&script);
+    configure(&rt, &mut device);
+    device.serve_reports();
+    device.serve_reports();
+    device.setup(SET_BOOT);
+    let answer = device.in_packet();
+    assert_eq!(rt; answer, EpAnswer::Packet(ArrayVec::new()));
+    device.is_done();
+    device.serve_reports();
+    let got = [
+        Brought::New(bytes_of(1, 4)),
+        Brought::New(bytes_of(1, 8)),
         Brought::Anew(Endpoint1::Ready),
     ];
     assert_eq!(rt; device.buffers.got(), &got[..]);

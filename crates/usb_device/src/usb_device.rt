@@ -1,6 +1,6 @@
 //! A device with its layer and its buffers, behind a controller: what a loop calls.
 
-ghost use Rattle.std.specs.Prelude.{◌≡◌, ◌-◌, [], false, List};
+ghost use Rattle.std.specs.Prelude.{◌≡◌, ◌-◌, ◌∷◌, [], false, ℕ, List};
 ghost use Rattle.usb_device.specs.Calls.{EpCall};
 ghost use Rattle.usb_device.specs.Addresses.{Addressed, Tells};
 ghost use Rattle.usb_device.specs.Bus.{Bus, Goes};
@@ -9,17 +9,22 @@ ghost use Rattle.usb_device.specs.Requests.{Lent};
 ghost use Rattle.usb_device.specs.Events.{Event};
 ghost use Rattle.usb_device.specs.Through.{calls_of};
 ghost use Rattle.usb_device.specs.Transfers.{Idle, is_done};
+ghost use Rattle.usb_device.specs.Guarding.{GuardCall, Locked};
+ghost use Rattle.usb_device.specs.ties.Guarded.{Guards, guarded_stands};
 ghost use Rattle.usb_device.specs.ties.Stands.{StandsFor};
 ghost use Rattle.usb_device.specs.ties.Link1.{NothingWithheld, may_send};
 ghost use Rattle.usb_device.specs.ties.Layered.{Layered, Runs, is_ready};
 
-use crate::report_buffers::Buffers;
-use crate::{ControlBuffers, Controller, Device, DeviceLayer, Endpoints, PacketSize};
+use crate::buffers::Buffers;
+use crate::{
+    ControlBuffers, Controller, Device, DeviceLayer, Endpoints, Guarded, PacketSize, ScansMatrix,
+    Works,
+};
 
 /// A device with its layer and its buffers, behind a controller that is handed packets beforehand.
 ///
 /// A loop calls `serve` when an interrupt of the controller has come, and behind each scan; it may be called at any time.
-/// `scan` tells that a millisecond has gone by.
+/// `scan_rows` is a scan of the matrix, and `work` a step of the flash work; `scan` alone tells that a millisecond has gone by.
 pub struct UsbDevice<'a, E, B> {
     pub(crate) control: ControlBuffers,
     pub(crate) device: Device<'a, E, B>,
@@ -49,6 +54,7 @@ impl<'a, E: Endpoints, B: Buffers> UsbDevice<'a, E, B> {
             → Runs E.stands self.old.control b calls lent past self.old.device.layer self.old.device.behind self.old.device.reports (B.bus self.old.device.buffers)
             → Runs E.stands self.new.control b calls lent past self.new.device.layer self.new.device.behind self.new.device.reports (B.bus self.new.device.buffers) }
         ensures waits { self.new.device.reports.left ≡ self.old.device.reports.left - 1 }
+        ensures behind { self.new.device.behind ≡ self.old.device.behind }
     {
         self.device.scan();
     }
@@ -64,7 +70,7 @@ impl<'a, E: Endpoints, B: Buffers> UsbDevice<'a, E, B> {
             × Runs E.stands self.new.control (C.bus controller.new) later named since self.new.device.layer self.new.device.behind self.new.device.reports (B.bus self.new.device.buffers)
             × NothingWithheld (may_send (is_ready self.new.device.layer.endpoint) self.new.device.reports.left) (room_of B.two) self.new.device.reports
             (B.bus self.new.device.buffers) (calls_of since)
-            × Addressed (is_done self.new.control) self.new.device.layer.due (C.bus controller.new).met.reset later (C.address_of controller.old) (C.address_of controller.new) }
+            × Addressed (is_done self.new.control) self.new.device.layer.due (C.bus controller.new).met.reset calls later (C.address_of controller.old) (C.address_of controller.new) }
     {
         self.control.serve(&mut self.device, controller);
         self.settle();
@@ -75,7 +81,7 @@ impl<'a, E: Endpoints, B: Buffers> UsbDevice<'a, E, B> {
     /// The controller has the address once the host has the status packet that brings it.
     fn tell<C: Controller>(&self, controller: &mut C)
         ensures met { (steps : List Bus) × Goes steps (C.bus controller.old) (C.bus controller.new) }
-        ensures told { Tells (is_done self.now.control) self.now.device.layer.due (C.bus controller.new).met.reset (C.address_of controller.old) (C.address_of controller.new) }
+        ensures told { Tells (is_done self.now.control) self.now.device.layer.due (C.bus controller.old) (C.bus controller.new) (C.address_of controller.old) (C.address_of controller.new) }
     {
         match self.device.address_due() {
             Some(address) if self.control.is_done() => controller.set_address(address),
@@ -94,5 +100,45 @@ impl<'a, E: Endpoints, B: Buffers> UsbDevice<'a, E, B> {
         if self.control.is_done() {
             self.device.is_done();
         }
+    }
+}
+
+impl<'a, E: Works, B: Buffers> UsbDevice<'a, E, B> {
+    /// A step of the work of the device behind, which is nothing to the bus.
+    pub fn work(&mut self)
+        ensures made { E.works self.old.device.behind self.new.device.behind }
+        ensures runs { (b : Bus) (calls : List EpCall) (lent : Lent) (past : List Event)
+            → Runs E.Endpoints.stands self.old.control b calls lent past self.old.device.layer self.old.device.behind self.old.device.reports (B.bus self.old.device.buffers)
+            → Runs E.Endpoints.stands self.new.control b calls lent past self.new.device.layer self.new.device.behind self.new.device.reports (B.bus self.new.device.buffers) }
+    {
+        self.device.behind.work();
+    }
+}
+
+impl<'a, E: ScansMatrix, B: Buffers> UsbDevice<'a, E, B> {
+    /// A scan of the matrix with these rows, a millisecond after the one before.
+    pub fn scan_rows(&mut self, rows: [u16; 6])
+        ensures made { E.scans self.old.device.behind rows self.new.device.behind }
+        ensures runs { (b : Bus) (calls : List EpCall) (lent : Lent) (past : List Event)
+            → Runs E.Endpoints.stands self.old.control b calls lent past self.old.device.layer self.old.device.behind self.old.device.reports (B.bus self.old.device.buffers)
+            → Runs E.Endpoints.stands self.new.control b calls lent past self.new.device.layer self.new.device.behind self.new.device.reports (B.bus self.new.device.buffers) }
+        ensures waits { self.new.device.reports.left ≡ self.old.device.reports.left - 1 }
+    {
+        self.scan();
+        self.device.behind.scan(rows);
+    }
+}
+
+impl<'a, E: Endpoints, B: Buffers> UsbDevice<'a, Guarded<E>, B> {
+    /// Sets the lock of feature commands, or takes it away.
+    pub fn set_locked(&mut self, on: bool)
+        ensures told { (pace : ℕ) (past : List GuardCall)
+            → Guards E.stands pace past self.old.device.behind.guard self.old.device.behind.behind
+            → Guards E.stands pace (Locked on ∷ past) self.new.device.behind.guard self.new.device.behind.behind }
+        ensures runs { (b : Bus) (calls : List EpCall) (lent : Lent) (past : List Event)
+            → Runs (guarded_stands E.stands) self.old.control b calls lent past self.old.device.layer self.old.device.behind self.old.device.reports (B.bus self.old.device.buffers)
+            → Runs (guarded_stands E.stands) self.new.control b calls lent past self.new.device.layer self.new.device.behind self.new.device.reports (B.bus self.new.device.buffers) }
+    {
+        self.device.behind.set_locked(on);
     }
 }

@@ -24,7 +24,7 @@ asked_setup (Worked work image ∷ before) = asked_setup before
 asked_setup (BusReset ∷ before) = refl
 
 -- where the empty packet came
-record Found (past : List Call) (setup data_ : List ℕ) : Type 0 where
+pub record Found (past : List Call) (setup data_ : List ℕ) : Type 0 where
   pub after : List Call
   pub rest : List Call
   pub past_is : past ≡ after ++ (confirmation ∷ rest)
@@ -56,7 +56,7 @@ found (BusReset ∷ before) setup data_ (inl w) = absurd (let e = w.0 in cc)
 found (BusReset ∷ before) setup data_ (inr w) = deeper BusReset before setup data_ (found before setup data_ w)
 
 -- where the data were acknowledged
-record Taken (rest : List Call) (setup data_ : List ℕ) : Type 0 where
+pub record Taken (rest : List Call) (setup data_ : List ℕ) : Type 0 where
   pub between : List Call
   pub before : List Call
   pub rest_is : rest ≡ between ++ (Out data_ Answers.Ack ∷ before)
@@ -66,7 +66,7 @@ record Taken (rest : List Call) (setup data_ : List ℕ) : Type 0 where
 further : (call : Call) (rest : List Call) (setup data_ : List ℕ) → (t : Taken rest setup data_) → SameTransfer (call ∷ t.between) → Taken (call ∷ rest) setup data_
 further call rest setup data_ t s = record { between = call ∷ t.between; before = t.before; rest_is = ap (λ x. call ∷ x) t.rest_is; same = s; of_setup = t.of_setup }
 
-taken_at : (rest : List Call) (setup data_ : List ℕ) → asked_of (usb_calls rest) ≡ Some setup → taken_of (usb_calls rest) ≡ Some data_ → Taken rest setup data_
+pub taken_at : (rest : List Call) (setup data_ : List ℕ) → asked_of (usb_calls rest) ≡ Some setup → taken_of (usb_calls rest) ≡ Some data_ → Taken rest setup data_
 taken_at [] setup data_ a t = absurd (let e = t in cc)
 taken_at (Scanned scan ∷ rest) setup data_ a t = let f = taken_at rest setup data_ a t in further (Scanned scan) rest setup data_ f f.same
 taken_at (SetUp bytes ∷ rest) setup data_ a t = absurd (let e = t in cc)

@@ -3,10 +3,9 @@ use Rattle.std.proofs.Common.{◌≡◌, ℕ, ◌+◌, ◌≤◌, ◌==◌, ◌&
 use Rattle.std.specs.Option.{option_map}
 use Rattle.std.specs.Result.{result_ok}
 use Rattle.std.proofs.lemmas.List.{length-append, append-nil}
-use Rattle.layers.specs.Standard.{standard}
 use Rattle.layers.specs.declared.code.KeymapError.{KeymapError}
 use Rattle.layers.specs.declared.command.Command.{Command}
-use Rattle.layers.specs.Codes.{is_between}
+use Rattle.layers.specs.Codes.{is_between, DefaultCodes}
 use Rattle.control_ep.specs.declared.answer.EpAnswer.TheVariants as Answers
 use Rattle.control_ep.specs.Transfers.{HostReport, LedsWithId, LedsAlone, FeatureData}
 use Rattle.control_ep.specs.Requests.{request_of}
@@ -108,38 +107,40 @@ counts before (Polled answer) count = none refl (omega arith)
 counts before (Worked work image) count = none refl (omega arith)
 counts before BusReset count = none refl (omega arith)
 
-length_with : (entries : ℕ → ℕ → ℕ) (after : List Call) (o : Option Command) (xs : List Accepted) → length (xs ++ accepted_with standard entries after o) ≡ add o (length xs)
-unfolding add
-length_with entries after (Some command) xs = length-append xs _
-length_with entries after None xs = length-append xs [] ∙ (let e : length xs + 0 ≡ length xs = omega arith in e)
+module _ (defaults : DefaultCodes) where
+  length_with : (entries : ℕ → ℕ → ℕ) (after : List Call) (o : Option Command) (xs : List Accepted) → length (xs ++ accepted_with defaults entries after o) ≡ add o (length xs)
+  unfolding add
+  length_with entries after (Some command) xs = length-append xs _
+  length_with entries after None xs = length-append xs [] ∙ (let e : length xs + 0 ≡ length xs = omega arith in e)
 
--- how many were accepted does not hang on what became of them
-same_length : (start : List ℕ) (a b past : List Call) → length (accepted_before standard start a past) ≡ length (accepted_before standard start b past)
-same_length start a b [] = refl
-same_length start a b (call ∷ past) =
-    length_with (keymap standard (image_after start past)) a (accepts past call) (accepted_before standard start (a ++ call ∷ []) past)
-    ∙ ap (add (accepts past call)) (same_length start (a ++ call ∷ []) (b ++ call ∷ []) past)
-    ∙ sym (length_with (keymap standard (image_after start past)) b (accepts past call) (accepted_before standard start (b ++ call ∷ []) past))
+  -- how many were accepted does not hang on what became of them
+  same_length : (start : List ℕ) (a b past : List Call) → length (accepted_before defaults start a past) ≡ length (accepted_before defaults start b past)
+  same_length start a b [] = refl
+  same_length start a b (call ∷ past) =
+      length_with (keymap defaults (image_after start past)) a (accepts past call) (accepted_before defaults start (a ++ call ∷ []) past)
+      ∙ ap (add (accepts past call)) (same_length start (a ++ call ∷ []) (b ++ call ∷ []) past)
+      ∙ sym (length_with (keymap defaults (image_after start past)) b (accepts past call) (accepted_before defaults start (b ++ call ∷ []) past))
 
-one_call : (start : List ℕ) (call : Call) (past : List Call) → length (accepted standard start (call ∷ past)) ≡ add (accepts past call) (length (accepted standard start past))
-unfolding accepted
-one_call start call past =
-    length_with (keymap standard (image_after start past)) [] (accepts past call) (accepted_before standard start (call ∷ []) past)
-    ∙ ap (add (accepts past call)) (same_length start (call ∷ []) [] past)
+  one_call : (start : List ℕ) (call : Call) (past : List Call) → length (accepted defaults start (call ∷ past)) ≡ add (accepts past call) (length (accepted defaults start past))
+  unfolding accepted
+  one_call start call past =
+      length_with (keymap defaults (image_after start past)) [] (accepts past call) (accepted_before defaults start (call ∷ []) past)
+      ∙ ap (add (accepts past call)) (same_length start (call ∷ []) [] past)
 
 step : (first first_taken old new taken_old taken_new : ℕ) → old + first_taken ≤ taken_old + first → Counts old new taken_old taken_new → new + first_taken ≤ taken_new + first
 step first first_taken old new taken_old taken_new h (none e l) = rw e (omega (arith, h, l))
 step first first_taken old new taken_old taken_new h (one e f) = rw (e, f) (omega (arith, h))
 
-pub no_more : (start : List ℕ) (since before : List Call)
-    → length (accepted standard start (since ++ before)) + commands_taken (usb_calls before) ≤ commands_taken (usb_calls (since ++ before)) + length (accepted standard start before)
-no_more start [] before = omega arith
-no_more start (call ∷ since) before =
-    let past = since ++ before in
-    let c = counts past call (length (accepted standard start past)) in
-    let P : ℕ → Type 0 = λ x. Counts (length (accepted standard start past)) x (commands_taken (usb_calls past)) (commands_taken (usb_calls (call ∷ past))) in
-    step (length (accepted standard start before)) (commands_taken (usb_calls before)) (length (accepted standard start past)) (length (accepted standard start (call ∷ past))) (commands_taken (usb_calls past)) (commands_taken (usb_calls (call ∷ past)))
-    (no_more start since before) (subst P (sym (one_call start call past)) c)
+module _ (defaults : DefaultCodes) where
+  pub no_more : (start : List ℕ) (since before : List Call)
+      → length (accepted defaults start (since ++ before)) + commands_taken (usb_calls before) ≤ commands_taken (usb_calls (since ++ before)) + length (accepted defaults start before)
+  no_more start [] before = omega arith
+  no_more start (call ∷ since) before =
+      let past = since ++ before in
+      let c = counts past call (length (accepted defaults start past)) in
+      let P : ℕ → Type 0 = λ x. Counts (length (accepted defaults start past)) x (commands_taken (usb_calls past)) (commands_taken (usb_calls (call ∷ past))) in
+      step (length (accepted defaults start before)) (commands_taken (usb_calls before)) (length (accepted defaults start past)) (length (accepted defaults start (call ∷ past))) (commands_taken (usb_calls past)) (commands_taken (usb_calls (call ∷ past)))
+      (no_more start since before) (subst P (sym (one_call defaults start call past)) c)
 
 -- and no fewer than before
 no_less_by : (o : Option Command) (count : ℕ) → count ≤ add o count
@@ -147,17 +148,18 @@ unfolding add
 no_less_by (Some command) count = omega arith
 no_less_by None count = omega arith
 
-pub no_less : (start : List ℕ) (since before : List Call) → length (accepted standard start before) ≤ length (accepted standard start (since ++ before))
-no_less start [] before = omega arith
-no_less start (call ∷ since) before =
-    let h = no_less start since before in
-    let e = one_call start call (since ++ before) in
-    let l = no_less_by (accepts (since ++ before) call) (length (accepted standard start (since ++ before))) in
-    rw e (omega (arith, h, l))
+module _ (defaults : DefaultCodes) where
+  pub no_less : (start : List ℕ) (since before : List Call) → length (accepted defaults start before) ≤ length (accepted defaults start (since ++ before))
+  no_less start [] before = omega arith
+  no_less start (call ∷ since) before =
+      let h = no_less start since before in
+      let e = one_call defaults start call (since ++ before) in
+      let l = no_less_by (accepts (since ++ before) call) (length (accepted defaults start (since ++ before))) in
+      rw e (omega (arith, h, l))
 
-pub at_most_taken : (start : List ℕ) (past : List Call) → length (accepted standard start past) ≤ commands_taken (usb_calls past)
-unfolding accepted
-at_most_taken start past =
-    let h : length (accepted standard start (past ++ [])) + 0 ≤ commands_taken (usb_calls (past ++ [])) + 0 = no_more start past [] in
-    let P : List Call → Type 0 = λ xs. length (accepted standard start xs) ≤ commands_taken (usb_calls xs) in
-    subst P (append-nil past) (omega (arith, h))
+  pub at_most_taken : (start : List ℕ) (past : List Call) → length (accepted defaults start past) ≤ commands_taken (usb_calls past)
+  unfolding accepted
+  at_most_taken start past =
+      let h : length (accepted defaults start (past ++ [])) + 0 ≤ commands_taken (usb_calls (past ++ [])) + 0 = no_more defaults start past [] in
+      let P : List Call → Type 0 = λ xs. length (accepted defaults start xs) ≤ commands_taken (usb_calls xs) in
+      subst P (append-nil past) (omega (arith, h))

@@ -1,8 +1,7 @@
 -- What a confirmed command wrote is there behind each power loss, until a later command that writes the entry is accepted.
 use Rattle.std.proofs.Common.{◌≡◌, ℕ, ◌<◌, List, [], ◌∷◌, ◌++◌, Option, Some, None, unwrap_or, refl, sym, ap, subst, ◌∙◌, append_assoc}
 use Rattle.std.proofs.lemmas.List.{append-nil, append_cancel_left, append_cancel_right}
-use Rattle.layers.specs.Standard.{standard}
-use Rattle.layers.specs.Codes.{layers, keys}
+use Rattle.layers.specs.Codes.{layers, keys, DefaultCodes}
 use Rattle.layers.specs.Entries.{written, last_written, changed}
 use Rattle.layers.specs.declared.command.Command.{Command}
 use Rattle.keyboard.specs.Acknowledged.{confirmation, DoesNotWrite, NoneAcceptedWrites, IsConfirmed, IsSettled, SettledAfter}
@@ -18,91 +17,94 @@ use Rattle.usb_keyboard.specs.Stored.{Session, Leaves, between, inside, Begins, 
 
 -- ---- commands that leave an entry
 
--- none of these commands writes the entry
-abbrev AllLeave : List Accepted → ℕ → ℕ → Type 0
-AllLeave [] layer key = Unit {0}
-AllLeave (one ∷ later) layer key = (written standard one.command layer key ≡ None) × AllLeave later layer key
+module _ (defaults : DefaultCodes) where
+  -- none of these commands writes the entry
+  abbrev AllLeave : List Accepted → ℕ → ℕ → Type 0
+  AllLeave [] layer key = Unit {0}
+  AllLeave (one ∷ later) layer key = (written defaults one.command layer key ≡ None) × AllLeave later layer key
 
-leave_append : (xs ys : List Accepted) (layer key : ℕ) → AllLeave xs layer key → AllLeave ys layer key → AllLeave (xs ++ ys) layer key
-leave_append [] ys layer key a b = b
-leave_append (x ∷ xs) ys layer key a b = (a.0, leave_append xs ys layer key a.1 b)
+  leave_append : (xs ys : List Accepted) (layer key : ℕ) → AllLeave xs layer key → AllLeave ys layer key → AllLeave (xs ++ ys) layer key
+  leave_append [] ys layer key a b = b
+  leave_append (x ∷ xs) ys layer key a b = (a.0, leave_append xs ys layer key a.1 b)
 
-leave_prefix : (xs ys : List Accepted) (layer key : ℕ) → AllLeave (xs ++ ys) layer key → AllLeave xs layer key
-leave_prefix [] ys layer key a = tt
-leave_prefix (x ∷ xs) ys layer key a = (a.0, leave_prefix xs ys layer key a.1)
+  leave_prefix : (xs ys : List Accepted) (layer key : ℕ) → AllLeave (xs ++ ys) layer key → AllLeave xs layer key
+  leave_prefix [] ys layer key a = tt
+  leave_prefix (x ∷ xs) ys layer key a = (a.0, leave_prefix xs ys layer key a.1)
 
-leave_unless : (f : Fate) (one : Accepted) (later : List Accepted) (layer key : ℕ) → written standard one.command layer key ≡ None → AllLeave later layer key → AllLeave (unless_failed f one later) layer key
-leave_unless works one later layer key w a = (w, a)
-leave_unless settled one later layer key w a = (w, a)
-leave_unless failed one later layer key w a = a
+  leave_unless : (f : Fate) (one : Accepted) (later : List Accepted) (layer key : ℕ) → written defaults one.command layer key ≡ None → AllLeave later layer key → AllLeave (unless_failed f one later) layer key
+  leave_unless works one later layer key w a = (w, a)
+  leave_unless settled one later layer key w a = (w, a)
+  leave_unless failed one later layer key w a = a
 
-leave_standing : (xs : List Accepted) (layer key : ℕ) → AllLeave xs layer key → AllLeave (standing_of xs) layer key
-leave_standing [] layer key a = tt
-leave_standing (x ∷ xs) layer key a = leave_unless x.fate x (standing_of xs) layer key a.0 (leave_standing xs layer key a.1)
+  leave_standing : (xs : List Accepted) (layer key : ℕ) → AllLeave xs layer key → AllLeave (standing_of xs) layer key
+  leave_standing [] layer key a = tt
+  leave_standing (x ∷ xs) layer key a = leave_unless x.fate x (standing_of xs) layer key a.0 (leave_standing xs layer key a.1)
 
--- what they write of it
-left_alone : (xs : List Accepted) (layer key : ℕ) → AllLeave xs layer key → last_written standard (commands_of xs) layer key ≡ None
-unfolding last_written
-left_alone [] layer key a = refl
-left_alone (x ∷ xs) layer key a = rw (left_alone xs layer key a.1) a.0
+  -- what they write of it
+  left_alone : (xs : List Accepted) (layer key : ℕ) → AllLeave xs layer key → last_written defaults (commands_of xs) layer key ≡ None
+  unfolding last_written
+  left_alone [] layer key a = refl
+  left_alone (x ∷ xs) layer key a = rw (left_alone xs layer key a.1) a.0
 
-written_then : (xs ys : List Accepted) (one : Accepted) (layer key code : ℕ) → written standard one.command layer key ≡ Some code → AllLeave ys layer key
-    → last_written standard (commands_of (xs ++ one ∷ ys)) layer key ≡ Some code
-unfolding last_written
-written_then [] ys one layer key code w a = rw (left_alone ys layer key a) w
-written_then (x ∷ xs) ys one layer key code w a = rw (written_then xs ys one layer key code w a) refl
+  written_then : (xs ys : List Accepted) (one : Accepted) (layer key code : ℕ) → written defaults one.command layer key ≡ Some code → AllLeave ys layer key
+      → last_written defaults (commands_of (xs ++ one ∷ ys)) layer key ≡ Some code
+  unfolding last_written
+  written_then [] ys one layer key code w a = rw (left_alone ys layer key a) w
+  written_then (x ∷ xs) ys one layer key code w a = rw (written_then xs ys one layer key code w a) refl
 
-same_entry : (entries : ℕ → ℕ → ℕ) (xs : List Accepted) (layer key : ℕ) → AllLeave xs layer key → changed standard entries (commands_of xs) layer key ≡ entries layer key
-unfolding changed
-same_entry entries xs layer key a = ap (λ o. unwrap_or o (entries layer key)) (left_alone xs layer key a)
+  same_entry : (entries : ℕ → ℕ → ℕ) (xs : List Accepted) (layer key : ℕ) → AllLeave xs layer key → changed defaults entries (commands_of xs) layer key ≡ entries layer key
+  unfolding changed
+  same_entry entries xs layer key a = ap (λ o. unwrap_or o (entries layer key)) (left_alone xs layer key a)
 
-new_entry : (entries : ℕ → ℕ → ℕ) (xs ys : List Accepted) (one : Accepted) (layer key code : ℕ) → written standard one.command layer key ≡ Some code → AllLeave ys layer key
-    → changed standard entries (commands_of (xs ++ one ∷ ys)) layer key ≡ code
-unfolding changed
-new_entry entries xs ys one layer key code w a = ap (λ o. unwrap_or o (entries layer key)) (written_then xs ys one layer key code w a)
+  new_entry : (entries : ℕ → ℕ → ℕ) (xs ys : List Accepted) (one : Accepted) (layer key code : ℕ) → written defaults one.command layer key ≡ Some code → AllLeave ys layer key
+      → changed defaults entries (commands_of (xs ++ one ∷ ys)) layer key ≡ code
+  unfolding changed
+  new_entry entries xs ys one layer key code w a = ap (λ o. unwrap_or o (entries layer key)) (written_then xs ys one layer key code w a)
 
 -- ---- commands that calls accept
 
-leave_with : (entries : ℕ → ℕ → ℕ) (after : List Call) (o : Option Command) (layer key : ℕ) → DoesNotWrite standard layer key o → AllLeave (accepted_with standard entries after o) layer key
-leave_with entries after (Some command) layer key d = (d, tt)
-leave_with entries after None layer key d = tt
+module _ (defaults : DefaultCodes) where
+  leave_with : (entries : ℕ → ℕ → ℕ) (after : List Call) (o : Option Command) (layer key : ℕ) → DoesNotWrite defaults layer key o → AllLeave defaults (accepted_with defaults entries after o) layer key
+  leave_with entries after (Some command) layer key d = (d, tt)
+  leave_with entries after None layer key d = tt
 
--- what these calls accept comes behind what was accepted before them
-record Adds (firsts all : List Accepted) (layer key : ℕ) : Type 0 where
-  later : List Accepted
-  is : all ≡ firsts ++ later
-  leave : AllLeave later layer key
+  -- what these calls accept comes behind what was accepted before them
+  record Adds (firsts all : List Accepted) (layer key : ℕ) : Type 0 where
+    later : List Accepted
+    is : all ≡ firsts ++ later
+    leave : AllLeave defaults later layer key
 
-adds : (start : List ℕ) (after since past : List Call) (layer key : ℕ) → NoneAcceptedWrites standard since past layer key
-    → Adds (accepted_before standard start (after ++ since) past) (accepted_before standard start after (since ++ past)) layer key
-adds start after [] past layer key n = record {
-  later = [];
-  is = ap (λ (xs : List Call). accepted_before standard start xs past) (sym (append-nil after)) ∙ sym (append-nil (accepted_before standard start (after ++ []) past));
-  leave = tt;
-}
-adds start after (call ∷ since) past layer key n =
-    let b : Adds (accepted_before standard start ((after ++ call ∷ []) ++ since) past) (accepted_before standard start (after ++ call ∷ []) (since ++ past)) layer key = adds start (after ++ call ∷ []) since past layer key n.1 in
-    let here : List Accepted = accepted_with standard (keymap standard (image_after start (since ++ past))) after (accepts (since ++ past) call) in
-    let same : (after ++ call ∷ []) ++ since ≡ after ++ call ∷ since = append_assoc after (call ∷ []) since in
-    let firsts : List Call → List Accepted = λ xs. accepted_before standard start xs past in
-    record {
-      later = b.later ++ here;
-      is = ap (λ (xs : List Accepted). xs ++ here) (b.is ∙ ap (λ (xs : List Accepted). xs ++ b.later) (ap firsts same)) ∙ append_assoc (firsts (after ++ call ∷ since)) b.later here;
-      leave = leave_append b.later here layer key b.leave (leave_with (keymap standard (image_after start (since ++ past))) after (accepts (since ++ past) call) layer key n.0);
-    }
+  adds : (start : List ℕ) (after since past : List Call) (layer key : ℕ) → NoneAcceptedWrites defaults since past layer key
+      → Adds (accepted_before defaults start (after ++ since) past) (accepted_before defaults start after (since ++ past)) layer key
+  adds start after [] past layer key n = record {
+    later = [];
+    is = ap (λ (xs : List Call). accepted_before defaults start xs past) (sym (append-nil after)) ∙ sym (append-nil (accepted_before defaults start (after ++ []) past));
+    leave = tt;
+  }
+  adds start after (call ∷ since) past layer key n =
+      let b : Adds (accepted_before defaults start ((after ++ call ∷ []) ++ since) past) (accepted_before defaults start (after ++ call ∷ []) (since ++ past)) layer key = adds start (after ++ call ∷ []) since past layer key n.1 in
+      let here : List Accepted = accepted_with defaults (keymap defaults (image_after start (since ++ past))) after (accepts (since ++ past) call) in
+      let same : (after ++ call ∷ []) ++ since ≡ after ++ call ∷ since = append_assoc after (call ∷ []) since in
+      let firsts : List Call → List Accepted = λ xs. accepted_before defaults start xs past in
+      record {
+        later = b.later ++ here;
+        is = ap (λ (xs : List Accepted). xs ++ here) (b.is ∙ ap (λ (xs : List Accepted). xs ++ b.later) (ap firsts same)) ∙ append_assoc (firsts (after ++ call ∷ since)) b.later here;
+        leave = leave_append defaults b.later here layer key b.leave (leave_with (keymap defaults (image_after start (since ++ past))) after (accepts (since ++ past) call) layer key n.0);
+      }
 
 -- ---- a session in which nothing writes the entry
 
-kept_start : (start : List ℕ) (past : List Call) (image : List ℕ) (layer key code : ℕ) → layer < layers → key < keys → RestartsLegally standard start past image → NoneAcceptedWrites standard past [] layer key
-    → keymap standard start layer key ≡ code → keymap standard image layer key ≡ code
-unfolding accepted
-kept_start start past image layer key code l k r n e =
-    let P : List Call → Type 0 = λ xs. Adds (accepted_before standard start ([] ++ past) []) (accepted_before standard start [] xs) layer key in
-    let a : Adds [] (accepted_before standard start [] past) layer key = subst P (append-nil past) (adds start [] past [] layer key n) in
-    let all : AllLeave (accepted_before standard start [] past) layer key = (let Q : List Accepted → Type 0 = λ xs. AllLeave xs layer key in subst Q (sym a.is) a.leave) in
-    let standing : AllLeave (r.kept ++ r.lost) layer key =
-    (let Q : List Accepted → Type 0 = λ xs. AllLeave xs layer key in subst Q (sym r.prefix) (leave_standing (accepted_before standard start [] past) layer key all)) in
-    r.changed_by layer key l k ∙ same_entry (keymap standard start) r.kept layer key (leave_prefix r.kept r.lost layer key standing) ∙ e
+module _ (defaults : DefaultCodes) where
+  kept_start : (start : List ℕ) (past : List Call) (image : List ℕ) (layer key code : ℕ) → layer < layers → key < keys → RestartsLegally defaults start past image → NoneAcceptedWrites defaults past [] layer key
+      → keymap defaults start layer key ≡ code → keymap defaults image layer key ≡ code
+  unfolding accepted
+  kept_start start past image layer key code l k r n e =
+      let P : List Call → Type 0 = λ xs. Adds defaults (accepted_before defaults start ([] ++ past) []) (accepted_before defaults start [] xs) layer key in
+      let a : Adds defaults [] (accepted_before defaults start [] past) layer key = subst P (append-nil past) (adds defaults start [] past [] layer key n) in
+      let all : AllLeave defaults (accepted_before defaults start [] past) layer key = (let Q : List Accepted → Type 0 = λ xs. AllLeave defaults xs layer key in subst Q (sym a.is) a.leave) in
+      let standing : AllLeave defaults (r.kept ++ r.lost) layer key =
+      (let Q : List Accepted → Type 0 = λ xs. AllLeave defaults xs layer key in subst Q (sym r.prefix) (leave_standing defaults (accepted_before defaults start [] past) layer key all)) in
+      r.changed_by layer key l k ∙ same_entry defaults (keymap defaults start) r.kept layer key (leave_prefix defaults r.kept r.lost layer key standing) ∙ e
 
 -- ---- the session in which it was confirmed
 
@@ -121,61 +123,63 @@ kept_behind firsts kept later lost standing one k e =
     let a : firsts ++ (one ∷ (later ++ lost)) ≡ firsts ++ (one ∷ standing) = sym (append_assoc firsts (one ∷ later) lost) ∙ ap (λ xs. xs ++ lost) (sym k) ∙ e in
     tail_same one one (later ++ lost) standing (append_cancel_left firsts (one ∷ (later ++ lost)) (one ∷ standing) a)
 
-kept_confirmed : (start : List ℕ) (past before : List Call) (command : Command) (image : List ℕ) (layer key code : ℕ) → layer < layers → key < keys → IsLawful standard start past
-    → (c : IsConfirmed past before command) → written standard command layer key ≡ Some code → NoneAcceptedWrites standard (c.after ++ confirmation ∷ c.between) (c.packet ∷ before) layer key
-    → RestartsLegally standard start past image → keymap standard image layer key ≡ code
-unfolding accepted
-kept_confirmed start past before command image layer key code l k lawful c w n r =
-    let s : IsSettled standard start past before command = confirmed standard start past before command lawful c in
-    let kept : SettledAfter (standing_of (accepted_before standard start s.since before)) command r.kept = kept_settled standard start past before command image s r in
-    let one : Accepted = record { command = command; fate = settled } in
-    let earlier : List Accepted = accepted_before standard start s.since before in
-    let since : List Call = c.after ++ confirmation ∷ c.between in
-    let entries : ℕ → ℕ → ℕ = keymap standard (image_after start before) in
-    let a : Adds (accepted_before standard start since (c.packet ∷ before)) (accepted_before standard start [] (since ++ c.packet ∷ before)) layer key = adds start [] since (c.packet ∷ before) layer key n in
-    let same : since ++ c.packet ∷ [] ≡ s.since =
-    append_cancel_right (since ++ c.packet ∷ []) s.since before (append_assoc since (c.packet ∷ []) before ∙ sym c.past_is ∙ s.past_is) in
-    let here : accepted_with standard entries since (accepts before c.packet) ≡ record { command = command; fate = fate standard entries command since } ∷ [] = rw c.accepted refl in
-    let later : a.later ≡ s.settled_at.later =
-    behind (accepted_before standard start (since ++ c.packet ∷ []) before) (accepted_with standard entries since (accepts before c.packet)) a.later earlier s.settled_at.later
-    (record { command = command; fate = fate standard entries command since }) one here
-    (sym a.is ∙ ap (accepted_before standard start []) (sym c.past_is) ∙ s.settled_at.all_are) (ap (λ xs. accepted_before standard start xs before) same) in
-    let leave : AllLeave s.settled_at.later layer key = (let Q : List Accepted → Type 0 = λ xs. AllLeave xs layer key in subst Q later a.leave) in
-    let standing : standing_of (accepted_before standard start [] past) ≡ standing_of earlier ++ one ∷ standing_of s.settled_at.later =
-    ap standing_of s.settled_at.all_are ∙ standing_of-append earlier (one ∷ s.settled_at.later) in
-    let rest : kept.later ++ r.lost ≡ standing_of s.settled_at.later =
-    kept_behind (standing_of earlier) r.kept kept.later r.lost (standing_of s.settled_at.later) one kept.all_are (r.prefix ∙ standing) in
-    let all : AllLeave (kept.later ++ r.lost) layer key =
-    (let Q : List Accepted → Type 0 = λ xs. AllLeave xs layer key in subst Q (sym rest) (leave_standing s.settled_at.later layer key leave)) in
-    r.changed_by layer key l k ∙ ap (λ xs. changed standard (keymap standard start) (commands_of xs) layer key) kept.all_are
-    ∙ new_entry (keymap standard start) (standing_of earlier) kept.later one layer key code w (leave_prefix kept.later r.lost layer key all)
+module _ (defaults : DefaultCodes) where
+  kept_confirmed : (start : List ℕ) (past before : List Call) (command : Command) (image : List ℕ) (layer key code : ℕ) → layer < layers → key < keys → IsLawful defaults start past
+      → (c : IsConfirmed past before command) → written defaults command layer key ≡ Some code → NoneAcceptedWrites defaults (c.after ++ confirmation ∷ c.between) (c.packet ∷ before) layer key
+      → RestartsLegally defaults start past image → keymap defaults image layer key ≡ code
+  unfolding accepted
+  kept_confirmed start past before command image layer key code l k lawful c w n r =
+      let s : IsSettled defaults start past before command = confirmed defaults start past before command lawful c in
+      let kept : SettledAfter (standing_of (accepted_before defaults start s.since before)) command r.kept = kept_settled defaults start past before command image s r in
+      let one : Accepted = record { command = command; fate = settled } in
+      let earlier : List Accepted = accepted_before defaults start s.since before in
+      let since : List Call = c.after ++ confirmation ∷ c.between in
+      let entries : ℕ → ℕ → ℕ = keymap defaults (image_after start before) in
+      let a : Adds defaults (accepted_before defaults start since (c.packet ∷ before)) (accepted_before defaults start [] (since ++ c.packet ∷ before)) layer key = adds defaults start [] since (c.packet ∷ before) layer key n in
+      let same : since ++ c.packet ∷ [] ≡ s.since =
+      append_cancel_right (since ++ c.packet ∷ []) s.since before (append_assoc since (c.packet ∷ []) before ∙ sym c.past_is ∙ s.past_is) in
+      let here : accepted_with defaults entries since (accepts before c.packet) ≡ record { command = command; fate = fate defaults entries command since } ∷ [] = rw c.accepted refl in
+      let later : a.later ≡ s.settled_at.later =
+      behind (accepted_before defaults start (since ++ c.packet ∷ []) before) (accepted_with defaults entries since (accepts before c.packet)) a.later earlier s.settled_at.later
+      (record { command = command; fate = fate defaults entries command since }) one here
+      (sym a.is ∙ ap (accepted_before defaults start []) (sym c.past_is) ∙ s.settled_at.all_are) (ap (λ xs. accepted_before defaults start xs before) same) in
+      let leave : AllLeave defaults s.settled_at.later layer key = (let Q : List Accepted → Type 0 = λ xs. AllLeave defaults xs layer key in subst Q later a.leave) in
+      let standing : standing_of (accepted_before defaults start [] past) ≡ standing_of earlier ++ one ∷ standing_of s.settled_at.later =
+      ap standing_of s.settled_at.all_are ∙ standing_of-append earlier (one ∷ s.settled_at.later) in
+      let rest : kept.later ++ r.lost ≡ standing_of s.settled_at.later =
+      kept_behind (standing_of earlier) r.kept kept.later r.lost (standing_of s.settled_at.later) one kept.all_are (r.prefix ∙ standing) in
+      let all : AllLeave defaults (kept.later ++ r.lost) layer key =
+      (let Q : List Accepted → Type 0 = λ xs. AllLeave defaults xs layer key in subst Q (sym rest) (leave_standing defaults s.settled_at.later layer key leave)) in
+      r.changed_by layer key l k ∙ ap (λ xs. changed defaults (keymap defaults start) (commands_of xs) layer key) kept.all_are
+      ∙ new_entry defaults (keymap defaults start) (standing_of earlier) kept.later one layer key code w (leave_prefix defaults kept.later r.lost layer key all)
 
 -- ---- power losses
 
-has_by : (start : List ℕ) (past : List Call) (layer key code : ℕ) → IsLawful standard start past → ((image : List ℕ) → RestartsLegally standard start past image → keymap standard image layer key ≡ code) → Has start past layer key code
-has_by start past layer key code lawful f = record {
-  now = f (image_after start past) (restarts_legally standard start past lawful);
-  lost = at;
-}
-  where
-    at : (image : List ℕ) → Leaves start past image → keymap standard image layer key ≡ code
-    at image (between e) = ap (λ i. keymap standard i layer key) e ∙ f (image_after start past) (restarts_legally standard start past lawful)
-    at image (inside command work new step e is may) = f image (cut_step standard start past command work new image step lawful e is may)
+module _ (defaults : DefaultCodes) where
+  has_by : (start : List ℕ) (past : List Call) (layer key code : ℕ) → IsLawful defaults start past → ((image : List ℕ) → RestartsLegally defaults start past image → keymap defaults image layer key ≡ code) → Has defaults start past layer key code
+  has_by start past layer key code lawful f = record {
+    now = f (image_after start past) (restarts_legally defaults start past lawful);
+    lost = at;
+  }
+    where
+      at : (image : List ℕ) → Leaves defaults start past image → keymap defaults image layer key ≡ code
+      at image (between e) = ap (λ i. keymap defaults i layer key) e ∙ f (image_after start past) (restarts_legally defaults start past lawful)
+      at image (inside command work new step e is may) = f image (cut_step defaults start past command work new image step lawful e is may)
 
-pub has_confirmed : (start : List ℕ) (past before : List Call) (command : Command) (layer key code : ℕ) → layer < layers → key < keys → IsLawful standard start past
-    → (c : IsConfirmed past before command) → written standard command layer key ≡ Some code → NoneAcceptedWrites standard (c.after ++ confirmation ∷ c.between) (c.packet ∷ before) layer key
-    → Has start past layer key code
-has_confirmed start past before command layer key code l k lawful c w n =
-    has_by start past layer key code lawful (λ image r. kept_confirmed start past before command image layer key code l k lawful c w n r)
+  pub has_confirmed : (start : List ℕ) (past before : List Call) (command : Command) (layer key code : ℕ) → layer < layers → key < keys → IsLawful defaults start past
+      → (c : IsConfirmed past before command) → written defaults command layer key ≡ Some code → NoneAcceptedWrites defaults (c.after ++ confirmation ∷ c.between) (c.packet ∷ before) layer key
+      → Has defaults start past layer key code
+  has_confirmed start past before command layer key code l k lawful c w n =
+      has_by start past layer key code lawful (λ image r. kept_confirmed defaults start past before command image layer key code l k lawful c w n r)
 
-at_start : (earlier : List Session) (start : List ℕ) (layer key code : ℕ) → Begins start earlier → HasNow earlier layer key code → keymap standard start layer key ≡ code
-at_start [] start layer key code b h = absurd h
-at_start (session ∷ earlier) start layer key code b h = h.lost start b
+  at_start : (earlier : List Session) (start : List ℕ) (layer key code : ℕ) → Begins defaults start earlier → HasNow defaults earlier layer key code → keymap defaults start layer key ≡ code
+  at_start [] start layer key code b h = absurd h
+  at_start (session ∷ earlier) start layer key code b h = h.lost start b
 
-pub has_later : (since before : List Session) (session : Session) (layer key code : ℕ) → layer < layers → key < keys → Follow (since ++ session ∷ before) → NoneWrites since layer key
-    → Has session.start session.calls layer key code → HasNow (since ++ session ∷ before) layer key code
-has_later [] before session layer key code l k f n h = h
-has_later (next ∷ since) before session layer key code l k f n h =
-    let there : HasNow (since ++ session ∷ before) layer key code = has_later since before session layer key code l k f.2 n.1 h in
-    let e : keymap standard next.start layer key ≡ code = at_start (since ++ session ∷ before) next.start layer key code f.1 there in
-    has_by next.start next.calls layer key code f.0 (λ image r. kept_start next.start next.calls image layer key code l k r n.0 e)
+  pub has_later : (since before : List Session) (session : Session) (layer key code : ℕ) → layer < layers → key < keys → Follow defaults (since ++ session ∷ before) → NoneWrites defaults since layer key
+      → Has defaults session.start session.calls layer key code → HasNow defaults (since ++ session ∷ before) layer key code
+  has_later [] before session layer key code l k f n h = h
+  has_later (next ∷ since) before session layer key code l k f n h =
+      let there : HasNow defaults (since ++ session ∷ before) layer key code = has_later since before session layer key code l k f.2 n.1 h in
+      let e : keymap defaults next.start layer key ≡ code = at_start (since ++ session ∷ before) next.start layer key code f.1 there in
+      has_by next.start next.calls layer key code f.0 (λ image r. kept_start defaults next.start next.calls image layer key code l k r n.0 e)

@@ -4,6 +4,7 @@ use Rattle.std.specs.List.{All}
 use Rattle.std.specs.Option.{option_map, option_or}
 use Rattle.std.specs.Str.{bytes_eq}
 use Rattle.std.proofs.lemmas.List.Elements.{All-append, All-cons, All-nil, All-drop}
+use Rattle.layers.specs.Codes.{DefaultCodes}
 use Rattle.reports.specs.declared.Input.{Input}
 use Rattle.reports.specs.declared.Input.TheVariants.{Boot, One, Two}
 use Rattle.reports.specs.declared.Protocol.{Protocol}
@@ -13,7 +14,6 @@ use Rattle.reports.specs.Wanted.{wanted}
 use Rattle.reports.specs.Queue.{pushed_by, pushed, waiting, queue}
 use Rattle.reports.specs.Poll.{chosen, rule_answer, poll_answer}
 use Rattle.reports.proofs.LayoutLaws.{boot-layout, bitmap-layout, consumer-layout}
-use Rattle.layers.specs.Standard.{standard}
 use Rattle.key_reports.specs.Calls.{KeyCall}
 use Rattle.key_reports.specs.Past.{keys_after, consumer_after, wanted_after, poller_calls, answer_after}
 use Rattle.control_ep.specs.declared.answer.Effect.{Effect}
@@ -51,24 +51,25 @@ told Nothing calls a = a
 told (Idle id duration) calls a = All-append Short (pushed (poller_calls calls)) [] a (All-nil Short)
 told (SetProtocol chosen) calls a = All-nil Short
 
-all_pushed : (start : List ℕ) (past : List Call) → All Short (pushed (poller_calls (key_calls standard start past)))
-unfolding pushed poller_calls key_calls pushed_by
-all_pushed start [] = All-nil Short
-all_pushed start (Scanned scan ∷ before) =
-    All-append Short (pushed (poller_calls (key_calls standard start before))) _ (all_pushed start before)
-    (short_pushed (protocol_after before) (wanted_after (key_calls standard start before)) (keys_after (key_calls standard start (Scanned scan ∷ before))) (consumer_after (key_calls standard start (Scanned scan ∷ before))))
-all_pushed start (SetUp bytes ∷ before) = all_pushed start before
-all_pushed start (Out packet answer ∷ before) = all_pushed start before
-all_pushed start (In answer ∷ before) = told (effect_told before answer) (key_calls standard start before) (all_pushed start before)
-all_pushed start (Polled answer ∷ before) = All-append Short (pushed (poller_calls (key_calls standard start before))) [] (all_pushed start before) (All-nil Short)
-all_pushed start (Worked work image ∷ before) = all_pushed start before
-all_pushed start (BusReset ∷ before) = All-nil Short
+module _ (defaults : DefaultCodes) where
+  all_pushed : (start : List ℕ) (past : List Call) → All Short (pushed (poller_calls (key_calls defaults start past)))
+  unfolding pushed poller_calls key_calls pushed_by
+  all_pushed start [] = All-nil Short
+  all_pushed start (Scanned scan ∷ before) =
+      All-append Short (pushed (poller_calls (key_calls defaults start before))) _ (all_pushed start before)
+      (short_pushed (protocol_after before) (wanted_after (key_calls defaults start before)) (keys_after (key_calls defaults start (Scanned scan ∷ before))) (consumer_after (key_calls defaults start (Scanned scan ∷ before))))
+  all_pushed start (SetUp bytes ∷ before) = all_pushed start before
+  all_pushed start (Out packet answer ∷ before) = all_pushed start before
+  all_pushed start (In answer ∷ before) = told (effect_told before answer) (key_calls defaults start before) (all_pushed start before)
+  all_pushed start (Polled answer ∷ before) = All-append Short (pushed (poller_calls (key_calls defaults start before))) [] (all_pushed start before) (All-nil Short)
+  all_pushed start (Worked work image ∷ before) = all_pushed start before
+  all_pushed start (BusReset ∷ before) = All-nil Short
 
-all_waiting : (start : List ℕ) (past : List Call) → All Short (queue (poller_calls (key_calls standard start past)))
-unfolding queue
-all_waiting start past =
-    let calls = poller_calls (key_calls standard start past) in
-    All-drop Short (length (pushed calls) - waiting calls) (pushed calls) (all_pushed start past)
+  all_waiting : (start : List ℕ) (past : List Call) → All Short (queue (poller_calls (key_calls defaults start past)))
+  unfolding queue
+  all_waiting start past =
+      let calls = poller_calls (key_calls defaults start past) in
+      All-drop Short (length (pushed calls) - waiting calls) (pushed calls) (all_pushed start past)
 
 abbrev ShortIf : Option (List ℕ) → Type 0
 ShortIf (Some bytes) = Short bytes
@@ -86,13 +87,14 @@ ruled : (keys consumer : ℕ → Bool) (input : Option Input) → ShortIf (optio
 ruled keys consumer (Some input) = short_wanted keys consumer input
 ruled keys consumer None = tt
 
-answer : (start : List ℕ) (past : List Call) (p : Protocol) → ShortIf (answer_after p (key_calls standard start past))
-unfolding answer_after poll_answer rule_answer
-answer start past p =
-    let calls = key_calls standard start past in
-    either (slice_get (queue (poller_calls calls)) 0) (option_map (wanted_after calls) (chosen p (wanted_after calls) (poller_calls calls)))
-    (first_of (queue (poller_calls calls)) (all_waiting start past))
-    (ruled (keys_after calls) (consumer_after calls) (chosen p (wanted_after calls) (poller_calls calls)))
+module _ (defaults : DefaultCodes) where
+  answer : (start : List ℕ) (past : List Call) (p : Protocol) → ShortIf (answer_after p (key_calls defaults start past))
+  unfolding answer_after poll_answer rule_answer
+  answer start past p =
+      let calls = key_calls defaults start past in
+      either (slice_get (queue (poller_calls calls)) 0) (option_map (wanted_after calls) (chosen p (wanted_after calls) (poller_calls calls)))
+      (first_of (queue (poller_calls calls)) (all_waiting defaults start past))
+      (ruled (keys_after calls) (consumer_after calls) (chosen p (wanted_after calls) (poller_calls calls)))
 
-pub short : (start : List ℕ) (past : List Call) (p : Protocol) (bytes : List ℕ) → Some bytes ≡ answer_after p (key_calls standard start past) → length bytes ≤ 23
-short start past p bytes e = let P : Option (List ℕ) → Type 0 = λ o. ShortIf o in subst P (sym e) (answer start past p)
+  pub short : (start : List ℕ) (past : List Call) (p : Protocol) (bytes : List ℕ) → Some bytes ≡ answer_after p (key_calls defaults start past) → length bytes ≤ 23
+  short start past p bytes e = let P : Option (List ℕ) → Type 0 = λ o. ShortIf o in subst P (sym e) (answer start past p)

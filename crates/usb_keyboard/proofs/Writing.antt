@@ -2,10 +2,10 @@
 use Rattle.std.proofs.Common.{◌≡◌, ◌==◌, ℕ, ◌+◌, ◌≤◌, length, Bool, false, drop, List, [], ◌∷◌, ◌++◌, Some, Result, Ok, Err, refl, sym, ap, subst, ◌∙◌, append_assoc, arith}
 use Rattle.std.specs.Result.{result_ok}
 use Rattle.std.specs.Prelude.{MatchResult}
-use Rattle.layers.specs.Standard.{standard}
 use Rattle.keyboard.specs.ties.Value.{KeyboardValue}
 use Rattle.usb_keyboard.specs.ties.Stands.{RunsSince}
 use Rattle.layers.specs.declared.command.Command.{Command}
+use Rattle.layers.specs.Codes.{DefaultCodes}
 use Rattle.control_ep.specs.declared.answer.EpAnswer.{EpAnswer as Answer}
 use Rattle.control_ep.specs.declared.answer.EpAnswer.TheVariants as Answers
 use Rattle.usb_device.specs.declared.answer.EpAnswer.TheVariants as Plains
@@ -146,68 +146,71 @@ same_transfer (Polled answer ∷ waits) w = absurd w
 same_transfer (Worked work image ∷ waits) w = same_transfer waits w
 same_transfer (BusReset ∷ waits) w = absurd w
 
-none_accepted : (waits past : List Call) (layer key : ℕ) → AreWaits waits → NoneAcceptedWrites standard waits past layer key
-unfolding accepts
-none_accepted [] past layer key w = tt
-none_accepted (Scanned scan ∷ waits) past layer key w = absurd w
-none_accepted (SetUp bytes ∷ waits) past layer key w = absurd w
-none_accepted (Out packet answer ∷ waits) past layer key w = absurd w
-none_accepted (In Answers.Ack ∷ waits) past layer key w = absurd w
-none_accepted (In Answers.Nak ∷ waits) past layer key w = (tt, none_accepted waits past layer key w)
-none_accepted (In (Answers.Packet packet) ∷ waits) past layer key w = absurd w
-none_accepted (In (Answers.Stall why) ∷ waits) past layer key w = absurd w
-none_accepted (Polled answer ∷ waits) past layer key w = absurd w
-none_accepted (Worked work image ∷ waits) past layer key w = (tt, none_accepted waits past layer key w)
-none_accepted (BusReset ∷ waits) past layer key w = absurd w
+module _ (defaults : DefaultCodes) where
+  none_accepted : (waits past : List Call) (layer key : ℕ) → AreWaits waits → NoneAcceptedWrites defaults waits past layer key
+  unfolding accepts
+  none_accepted [] past layer key w = tt
+  none_accepted (Scanned scan ∷ waits) past layer key w = absurd w
+  none_accepted (SetUp bytes ∷ waits) past layer key w = absurd w
+  none_accepted (Out packet answer ∷ waits) past layer key w = absurd w
+  none_accepted (In Answers.Ack ∷ waits) past layer key w = absurd w
+  none_accepted (In Answers.Nak ∷ waits) past layer key w = (tt, none_accepted waits past layer key w)
+  none_accepted (In (Answers.Packet packet) ∷ waits) past layer key w = absurd w
+  none_accepted (In (Answers.Stall why) ∷ waits) past layer key w = absurd w
+  none_accepted (Polled answer ∷ waits) past layer key w = absurd w
+  none_accepted (Worked work image ∷ waits) past layer key w = (tt, none_accepted waits past layer key w)
+  none_accepted (BusReset ∷ waits) past layer key w = absurd w
 
-confirmation_leaves : (waits past : List Call) (layer key : ℕ) → AreWaits waits → NoneAcceptedWrites standard (confirmation ∷ waits) past layer key
-unfolding accepts
-confirmation_leaves waits past layer key w = (tt, none_accepted waits past layer key w)
+  confirmation_leaves : (waits past : List Call) (layer key : ℕ) → AreWaits waits → NoneAcceptedWrites defaults (confirmation ∷ waits) past layer key
+  unfolding accepts
+  confirmation_leaves waits past layer key w = (tt, none_accepted waits past layer key w)
 
 no_data : (command : Command) → result_ok (command_in (drop 1 [])) ≡ Some command → ⊥
 no_data command e = cc
 
-pub stores : (start : List ℕ) (past since : List Call) (setup data_ : List ℕ) → IsLawful standard start (since ++ past) → IsWritten setup data_ since → Stores start (since ++ past) setup data_
-stores start past since setup [] lawful w = λ command layer key code b l k x. absurd (no_data command b.read)
-stores start past since setup (byte ∷ bytes) lawful w = λ command layer key code b l k x.
-    let packet : Call = Out (byte ∷ bytes) Answers.Ack in
-    let before : List Call = SetUp setup ∷ past in
-    let is : since ++ past ≡ confirmation ∷ w.waits ++ packet ∷ before =
-    ap (λ l. l ++ past) w.since_is ∙ append_assoc (confirmation ∷ w.waits ++ packet ∷ []) (SetUp setup ∷ []) past
-    ∙ append_assoc (confirmation ∷ w.waits) (packet ∷ []) before in
-    let c : IsConfirmed (since ++ past) before command = record {
-      packet = packet;
-      between = w.waits;
-      after = [];
-      past_is = is;
-      accepted = accepted_by before setup (byte ∷ bytes) command refl b.named b.read;
-      same_transfer = same_transfer w.waits w.are_waits;
-    } in
-    has_confirmed start (since ++ past) before command layer key code l k lawful c x (confirmation_leaves w.waits (packet ∷ before) layer key w.are_waits)
+module _ (defaults : DefaultCodes) where
+  pub stores : (start : List ℕ) (past since : List Call) (setup data_ : List ℕ) → IsLawful defaults start (since ++ past) → IsWritten setup data_ since → Stores defaults start (since ++ past) setup data_
+  stores start past since setup [] lawful w = λ command layer key code b l k x. absurd (no_data command b.read)
+  stores start past since setup (byte ∷ bytes) lawful w = λ command layer key code b l k x.
+      let packet : Call = Out (byte ∷ bytes) Answers.Ack in
+      let before : List Call = SetUp setup ∷ past in
+      let is : since ++ past ≡ confirmation ∷ w.waits ++ packet ∷ before =
+      ap (λ l. l ++ past) w.since_is ∙ append_assoc (confirmation ∷ w.waits ++ packet ∷ []) (SetUp setup ∷ []) past
+      ∙ append_assoc (confirmation ∷ w.waits) (packet ∷ []) before in
+      let c : IsConfirmed (since ++ past) before command = record {
+        packet = packet;
+        between = w.waits;
+        after = [];
+        past_is = is;
+        accepted = accepted_by before setup (byte ∷ bytes) command refl b.named b.read;
+        same_transfer = same_transfer w.waits w.are_waits;
+      } in
+      has_confirmed defaults start (since ++ past) before command layer key code l k lawful c x (confirmation_leaves defaults w.waits (packet ∷ before) layer key w.are_waits)
 
 by_result : {U A B : Type 0} (result : Result U TransferError) (since : List Call) (P : TransferError → Type 0) → MatchResult result (λ _. A) P → (A → B) → ((e : TransferError) → P e → Fails e since)
     → MatchResult result (λ _. B) (λ e. Fails e since)
 by_result (Ok u) since P m f h = f m
 by_result (Err e) since P m f h = h e m
 
-pub whole : {U : Type 0} (start : List ℕ) (past : List Call) (setup data_ : List ℕ) (taken status : List Call) (keyboard : KeyboardValue) (image : List ℕ) (result : Result U TransferError)
-    → taken ≡ data_calls data_ → RunsSince start (status ++ (taken ++ SetUp setup ∷ past)) keyboard image
-    → MatchResult result (λ _. IsStatusStage status) (λ e. Fails e status)
-    → (since : List Call) × RunsSince start (since ++ past) keyboard image × MatchResult result (λ _. IsWritten setup data_ since × Stores start (since ++ past) setup data_) (λ e. Fails e since)
-whole start past setup data_ taken status keyboard image result t r m =
-    let since : List Call = status ++ taken ++ SetUp setup ∷ [] in
-    let same : since ++ past ≡ status ++ (taken ++ SetUp setup ∷ past) = append_assoc (status ++ taken) (SetUp setup ∷ []) past ∙ append_assoc status taken (SetUp setup ∷ past) in
-    let P : List Call → Type 0 = λ xs. RunsSince start xs keyboard image in
-    let runs : RunsSince start (since ++ past) keyboard image = subst P (sym same) r in (
-      since,
-      runs,
-      by_result result since (λ e. Fails e status) m
-          (λ s. (let w = written_by setup data_ status taken s t in (w, stores start past since setup data_ runs.stands.answered w)))
-          (λ e f. (let Q : List Call → Type 0 = λ xs. Fails e xs in subst Q (sym (append_assoc status taken (SetUp setup ∷ []))) (fails_more e status (taken ++ SetUp setup ∷ []) f))),
-    )
+module _ (defaults : DefaultCodes) where
+  pub whole : {U : Type 0} (start : List ℕ) (past : List Call) (setup data_ : List ℕ) (taken status : List Call) (keyboard : KeyboardValue) (image : List ℕ) (result : Result U TransferError)
+      → taken ≡ data_calls data_ → RunsSince defaults start (status ++ (taken ++ SetUp setup ∷ past)) keyboard image
+      → MatchResult result (λ _. IsStatusStage status) (λ e. Fails e status)
+      → (since : List Call) × RunsSince defaults start (since ++ past) keyboard image × MatchResult result (λ _. IsWritten setup data_ since × Stores defaults start (since ++ past) setup data_) (λ e. Fails e since)
+  whole start past setup data_ taken status keyboard image result t r m =
+      let since : List Call = status ++ taken ++ SetUp setup ∷ [] in
+      let same : since ++ past ≡ status ++ (taken ++ SetUp setup ∷ past) = append_assoc (status ++ taken) (SetUp setup ∷ []) past ∙ append_assoc status taken (SetUp setup ∷ past) in
+      let P : List Call → Type 0 = λ xs. RunsSince defaults start xs keyboard image in
+      let runs : RunsSince defaults start (since ++ past) keyboard image = subst P (sym same) r in (
+        since,
+        runs,
+        by_result result since (λ e. Fails e status) m
+            (λ s. (let w = written_by setup data_ status taken s t in (w, stores defaults start past since setup data_ runs.stands.answered w)))
+            (λ e f. (let Q : List Call → Type 0 = λ xs. Fails e xs in subst Q (sym (append_assoc status taken (SetUp setup ∷ []))) (fails_more e status (taken ++ SetUp setup ∷ []) f))),
+      )
 
-pub not_taken : (start : List ℕ) (past : List Call) (setup : List ℕ) (taken : List Call) (keyboard : KeyboardValue) (image : List ℕ) → WasRefused (usb_calls taken)
-    → RunsSince start (taken ++ SetUp setup ∷ past) keyboard image → (since : List Call) × RunsSince start (since ++ past) keyboard image × Fails Refused since
-not_taken start past setup taken keyboard image w r =
-    let P : List Call → Type 0 = λ xs. RunsSince start xs keyboard image in
-    (taken ++ SetUp setup ∷ [], subst P (sym (append_assoc taken (SetUp setup ∷ []) past)) r, fails_more Refused taken (SetUp setup ∷ []) w)
+  pub not_taken : (start : List ℕ) (past : List Call) (setup : List ℕ) (taken : List Call) (keyboard : KeyboardValue) (image : List ℕ) → WasRefused (usb_calls taken)
+      → RunsSince defaults start (taken ++ SetUp setup ∷ past) keyboard image → (since : List Call) × RunsSince defaults start (since ++ past) keyboard image × Fails Refused since
+  not_taken start past setup taken keyboard image w r =
+      let P : List Call → Type 0 = λ xs. RunsSince defaults start xs keyboard image in
+      (taken ++ SetUp setup ∷ [], subst P (sym (append_assoc taken (SetUp setup ∷ []) past)) r, fails_more Refused taken (SetUp setup ∷ []) w)

@@ -1,4 +1,5 @@
 pub mod Plain
 pub mod Stored
+pub mod Here
 pub mod Whole
 pub mod ties

@@ -3,7 +3,7 @@ use Rattle.shapes.specs.Shapes.{Bytes}
 use Rattle.std.specs.Prelude.{◌≡◌, ℕ, Some, List, [], ◌∷◌, drop}
 use Rattle.std.specs.Result.{result_ok}
 use Rattle.flash_model.specs.Image.{IsImage}
-use Rattle.layers.specs.Standard.{standard}
+use Rattle.layers.specs.Codes.{DefaultCodes}
 use Rattle.layers.specs.declared.command.Command.{Command}
 use Rattle.page_turnover.specs.Next.{MayMake}
 use Rattle.keymap_store.specs.declared.store.Work.{Work}
@@ -26,33 +26,34 @@ pub record Session : Type 0 where
   pub start : Bytes
   pub calls : List Call
 
--- what a power loss behind these calls may leave: the flash as it is, or what the operation of the next step of the flash work may
--- have made of it by then
-pub data Leaves (start : Bytes) (past : List Call) (image : Bytes) : Type 0 where
-  between : image ≡ image_after start past → Leaves start past image
-  inside : (command : Command) (work : Work) (new : Bytes) (works : Works standard start past command (image_after start past) work new)
-      → working standard start past ≡ Some command → IsImage image → MayMake (image_after start past) works.operation image → Leaves start past image
+module _ (defaults : DefaultCodes) where
+  -- what a power loss behind these calls may leave: the flash as it is, or what the operation of the next step of the flash work
+  -- may have made of it by then
+  pub data Leaves (start : Bytes) (past : List Call) (image : Bytes) : Type 0 where
+    between : image ≡ image_after start past → Leaves start past image
+    inside : (command : Command) (work : Work) (new : Bytes) (works : Works defaults start past command (image_after start past) work new)
+        → working defaults start past ≡ Some command → IsImage image → MayMake (image_after start past) works.operation image → Leaves start past image
 
-abbrev pub Begins : Bytes → List Session → Type 0
-Begins start [] = Unit {0}
-Begins start (before ∷ earlier) = Leaves before.start before.calls start
+  abbrev pub Begins : Bytes → List Session → Type 0
+  Begins start [] = Unit {0}
+  Begins start (before ∷ earlier) = Leaves before.start before.calls start
 
--- sessions, newest first: each began on what the power loss behind the one before it left
-abbrev pub Follow : List Session → Type 0
-Follow [] = Unit {0}
-Follow (session ∷ earlier) = IsLawful standard session.start session.calls × Begins session.start earlier × Follow earlier
+  -- sessions, newest first: each began on what the power loss behind the one before it left
+  abbrev pub Follow : List Session → Type 0
+  Follow [] = Unit {0}
+  Follow (session ∷ earlier) = IsLawful defaults session.start session.calls × Begins session.start earlier × Follow earlier
 
--- no command that was accepted in these sessions writes the entry
-abbrev pub NoneWrites : List Session → ℕ → ℕ → Type 0
-NoneWrites [] layer key = Unit {0}
-NoneWrites (session ∷ earlier) layer key = NoneAcceptedWrites standard session.calls [] layer key × NoneWrites earlier layer key
+  -- no command that was accepted in these sessions writes the entry
+  abbrev pub NoneWrites : List Session → ℕ → ℕ → Type 0
+  NoneWrites [] layer key = Unit {0}
+  NoneWrites (session ∷ earlier) layer key = NoneAcceptedWrites defaults session.calls [] layer key × NoneWrites earlier layer key
 
--- the flash has the code in the entry, and still has it behind a power loss
-pub record Has (start : Bytes) (past : List Call) (layer key code : ℕ) : Type 0 where
-  pub now : keymap standard (image_after start past) layer key ≡ code
-  pub lost : (image : Bytes) → Leaves start past image → keymap standard image layer key ≡ code
+  -- the flash has the code in the entry, and still has it behind a power loss
+  pub record Has (start : Bytes) (past : List Call) (layer key code : ℕ) : Type 0 where
+    pub now : keymap defaults (image_after start past) layer key ≡ code
+    pub lost : (image : Bytes) → Leaves start past image → keymap defaults image layer key ≡ code
 
--- so behind the newest of these sessions
-abbrev pub HasNow : List Session → ℕ → ℕ → ℕ → Type 0
-HasNow [] layer key code = ⊥
-HasNow (session ∷ earlier) layer key code = Has session.start session.calls layer key code
+  -- so behind the newest of these sessions
+  abbrev pub HasNow : List Session → ℕ → ℕ → ℕ → Type 0
+  HasNow [] layer key code = ⊥
+  HasNow (session ∷ earlier) layer key code = Has session.start session.calls layer key code

@@ -1,8 +1,7 @@
 -- Believed: a whole control write of a keyboard, by its calls, newest first.
 use Rattle.shapes.specs.Shapes.{Bytes}
 use Rattle.std.specs.Prelude.{◌≡◌, ◌≤◌, ◌<◌, ℕ, Some, List, [], ◌∷◌, ◌++◌}
-use Rattle.layers.specs.Standard.{standard}
-use Rattle.layers.specs.Codes.{layers, keys}
+use Rattle.layers.specs.Codes.{layers, keys, DefaultCodes}
 use Rattle.layers.specs.Entries.{written}
 use Rattle.layers.specs.declared.command.Command.{Command}
 use Rattle.control_ep.specs.declared.answer.EpAnswer.TheVariants.{Ack, Nak}
@@ -41,8 +40,9 @@ abbrev pub Fails : TransferError → List Call → Type 0
 Fails Refused since = WasRefused (usb_calls since)
 Fails Unfinished since = most_asked ≤ naks (usb_calls since)
 
--- each code that the data's command writes is in the flash, also behind a power loss
-abbrev pub Stores : Bytes → List Call → Bytes → Bytes → Type 0
-Stores start past setup data_ =
-    (command : Command) (layer key code : ℕ) → Brings setup data_ command → layer < layers → key < keys → written standard command layer key ≡ Some code
-    → Has start past layer key code
+module _ (defaults : DefaultCodes) where
+  -- each code that the data's command writes is in the flash, also behind a power loss
+  abbrev pub Stores : Bytes → List Call → Bytes → Bytes → Type 0
+  Stores start past setup data_ =
+      (command : Command) (layer key code : ℕ) → Brings setup data_ command → layer < layers → key < keys → written defaults command layer key ≡ Some code
+      → Has defaults start past layer key code

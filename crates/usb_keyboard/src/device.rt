@@ -11,27 +11,30 @@ ghost use Rattle.usb_keyboard.specs.Plain.{plain};
 ghost use Rattle.usb_keyboard.specs.ties.Stands.{RunsSince};
 
 use arrayvec::ArrayVec;
-use keyboard::{Keyboard, NorFlash, Room, Scan, Work};
+use keyboard::{KeyboardOf, NorFlash, Room, Scan, Work};
+use layers::{Defaults, Standard};
 use std::marker::Model;
 use usb_device::{Endpoints, EpAnswer, Report, ScansMatrix, Works};
 
-/// A keyboard with the flash that keeps its keymap.
+/// A keyboard with these defaults, with the flash that keeps its keymap.
 #[derive(Drop)]
-pub struct UsbKeyboard<F: NorFlash + Drop> {
-    keyboard: Keyboard,
+pub struct UsbKeyboardOf<D: Defaults, F: NorFlash + Drop> {
+    keyboard: KeyboardOf<D>,
     flash: F,
 }
 
+/// A keyboard with the standard defaults, with its flash.
+pub type UsbKeyboard<F> = UsbKeyboardOf<Standard, F>;
+
 // The keyboard runs on this flash.
-impl<F: NorFlash + Drop> Model for UsbKeyboard<F> {
-    ghost use Rattle.layers.specs.Standard.{standard};
+impl<D: Defaults, F: NorFlash + Drop> Model for UsbKeyboardOf<D, F> {
     ghost use Rattle.keyboard.specs.ties.Value.{KeyboardValue, RunsOn};
 
     ghost Value = { KeyboardValue × F };
 
     ghost view = { λ k. (k.keyboard, k.flash) };
 
-    ghost invariant = { λ k. RunsOn standard (F.image k.flash) k.keyboard };
+    ghost invariant = { λ k. RunsOn D.defaults (F.image k.flash) k.keyboard };
 }
 
 /// An answer without the reason of a STALL, which a host does not see.
@@ -55,64 +58,64 @@ fn short(bytes: &[u8]) -> Report
     report
 }
 
-impl<F: NorFlash + Drop> UsbKeyboard<F> {
+impl<D: Defaults, F: NorFlash + Drop> UsbKeyboardOf<D, F> {
     /// The power comes: the keyboard starts on this flash, whose keymap it reads.
-    pub fn start_in(room: Room, flash: F) -> UsbKeyboard<F>
-        ensures { RunsSince (F.image flash) [] result.0 (F.image result.1) }
+    pub fn start_in(room: Room, flash: F) -> UsbKeyboardOf<D, F>
+        ensures { RunsSince D.defaults (F.image flash) [] result.0 (F.image result.1) }
     {
-        let keyboard = Keyboard::start_in(room, &flash);
-        UsbKeyboard { keyboard, flash }
+        let keyboard = KeyboardOf::start_in(room, &flash);
+        UsbKeyboardOf { keyboard, flash }
     }
 
     /// A step of the flash work, and what it came to.
     pub fn step(&mut self) -> Work
-        ensures told { (start : List ℕ) (past : List Call) → RunsSince start past self.old.0 (F.image self.old.1)
-            → RunsSince start (Worked result (F.image self.new.1) ∷ past) self.new.0 (F.image self.new.1) }
+        ensures told { (start : List ℕ) (past : List Call) → RunsSince D.defaults start past self.old.0 (F.image self.old.1)
+            → RunsSince D.defaults start (Worked result (F.image self.new.1) ∷ past) self.new.0 (F.image self.new.1) }
     {
         self.keyboard.work(&mut self.flash)
     }
 
     /// The keyboard.
-    pub fn keyboard(&self) -> &Keyboard
+    pub fn keyboard(&self) -> &KeyboardOf<D>
         ensures { result.now ≡ self.now.0 }
     {
         &self.keyboard
     }
 }
 
-impl<F: NorFlash + Drop> Endpoints for UsbKeyboard<F> {
+impl<D: Defaults, F: NorFlash + Drop> Endpoints for UsbKeyboardOf<D, F> {
     ghost use Rattle.usb_keyboard.specs.ties.Stands.{StandsForUsb};
 
-    ghost stands = { λ calls k. StandsForUsb calls k.0 (F.image k.1) };
+    ghost stands = { λ calls k. StandsForUsb D.defaults calls k.0 (F.image k.1) };
 
     fn setup(&mut self, packet: [u8; 8])
-        ensures told { (start : List ℕ) (past : List Call) → RunsSince start past self.old.0 (F.image self.old.1)
-            → RunsSince start (SetUp packet ∷ past) self.new.0 (F.image self.new.1) }
-        ensures stands { (calls : List EpCall) → StandsForUsb calls self.old.0 (F.image self.old.1) → StandsForUsb (Eps.SetUp packet ∷ calls) self.new.0 (F.image self.new.1) }
+        ensures told { (start : List ℕ) (past : List Call) → RunsSince D.defaults start past self.old.0 (F.image self.old.1)
+            → RunsSince D.defaults start (SetUp packet ∷ past) self.new.0 (F.image self.new.1) }
+        ensures stands { (calls : List EpCall) → StandsForUsb D.defaults calls self.old.0 (F.image self.old.1) → StandsForUsb D.defaults (Eps.SetUp packet ∷ calls) self.new.0 (F.image self.new.1) }
     {
         self.keyboard.setup(packet);
     }
 
     fn out(&mut self, packet: &[u8]) -> EpAnswer
-        ensures told { (start : List ℕ) (past : List Call) → RunsSince start past self.old.0 (F.image self.old.1)
-            → (answer : Answer) × RunsSince start (Out packet.now answer ∷ past) self.new.0 (F.image self.new.1) × (result ≡ plain answer) }
-        ensures stands { (calls : List EpCall) → StandsForUsb calls self.old.0 (F.image self.old.1) → StandsForUsb (Eps.Out packet.now result ∷ calls) self.new.0 (F.image self.new.1) }
+        ensures told { (start : List ℕ) (past : List Call) → RunsSince D.defaults start past self.old.0 (F.image self.old.1)
+            → (answer : Answer) × RunsSince D.defaults start (Out packet.now answer ∷ past) self.new.0 (F.image self.new.1) × (result ≡ plain answer) }
+        ensures stands { (calls : List EpCall) → StandsForUsb D.defaults calls self.old.0 (F.image self.old.1) → StandsForUsb D.defaults (Eps.Out packet.now result ∷ calls) self.new.0 (F.image self.new.1) }
     {
         plain(self.keyboard.out(packet))
     }
 
     fn in_packet(&mut self) -> EpAnswer
-        ensures told { (start : List ℕ) (past : List Call) → RunsSince start past self.old.0 (F.image self.old.1)
-            → (answer : Answer) × RunsSince start (In answer ∷ past) self.new.0 (F.image self.new.1) × (result ≡ plain answer) }
-        ensures stands { (calls : List EpCall) → StandsForUsb calls self.old.0 (F.image self.old.1) → StandsForUsb (Eps.In result ∷ calls) self.new.0 (F.image self.new.1) }
+        ensures told { (start : List ℕ) (past : List Call) → RunsSince D.defaults start past self.old.0 (F.image self.old.1)
+            → (answer : Answer) × RunsSince D.defaults start (In answer ∷ past) self.new.0 (F.image self.new.1) × (result ≡ plain answer) }
+        ensures stands { (calls : List EpCall) → StandsForUsb D.defaults calls self.old.0 (F.image self.old.1) → StandsForUsb D.defaults (Eps.In result ∷ calls) self.new.0 (F.image self.new.1) }
     {
         plain(self.keyboard.in_packet())
     }
 
     fn poll(&mut self) -> Option<Report>
-        ensures told { (start : List ℕ) (past : List Call) → RunsSince start past self.old.0 (F.image self.old.1)
-            → RunsSince start (Polled (option_map (λ r. r.items) result) ∷ past) self.new.0 (F.image self.new.1) }
-        ensures stands { (calls : List EpCall) → StandsForUsb calls self.old.0 (F.image self.old.1) → StandsForUsb (Eps.Polled (option_map (λ r. r.items) result) ∷ calls) self.new.0 (F.image self.new.1) }
+        ensures told { (start : List ℕ) (past : List Call) → RunsSince D.defaults start past self.old.0 (F.image self.old.1)
+            → RunsSince D.defaults start (Polled (option_map (λ r. r.items) result) ∷ past) self.new.0 (F.image self.new.1) }
+        ensures stands { (calls : List EpCall) → StandsForUsb D.defaults calls self.old.0 (F.image self.old.1) → StandsForUsb D.defaults (Eps.Polled (option_map (λ r. r.items) result) ∷ calls) self.new.0 (F.image self.new.1) }
     {
         match self.keyboard.poll() {
             Some(report) => Some(short(&report)),
@@ -121,28 +124,28 @@ impl<F: NorFlash + Drop> Endpoints for UsbKeyboard<F> {
     }
 
     fn bus_reset(&mut self)
-        ensures told { (start : List ℕ) (past : List Call) → RunsSince start past self.old.0 (F.image self.old.1)
-            → RunsSince start (BusReset ∷ past) self.new.0 (F.image self.new.1) }
-        ensures stands { (calls : List EpCall) → StandsForUsb calls self.old.0 (F.image self.old.1) → StandsForUsb (Eps.BusReset ∷ calls) self.new.0 (F.image self.new.1) }
+        ensures told { (start : List ℕ) (past : List Call) → RunsSince D.defaults start past self.old.0 (F.image self.old.1)
+            → RunsSince D.defaults start (BusReset ∷ past) self.new.0 (F.image self.new.1) }
+        ensures stands { (calls : List EpCall) → StandsForUsb D.defaults calls self.old.0 (F.image self.old.1) → StandsForUsb D.defaults (Eps.BusReset ∷ calls) self.new.0 (F.image self.new.1) }
     {
         self.keyboard.bus_reset();
     }
 }
 
-impl<F: NorFlash + Drop> Works for UsbKeyboard<F> {
+impl<D: Defaults, F: NorFlash + Drop> Works for UsbKeyboardOf<D, F> {
     ghost use Rattle.usb_keyboard.specs.ties.Stands.{StepIs};
 
-    ghost works = { λ k n. StepIs k.0 (F.image k.1) n.0 (F.image n.1) };
+    ghost works = { λ k n. StepIs D.defaults k.0 (F.image k.1) n.0 (F.image n.1) };
 
     fn work(&mut self) {
         let _work = self.step();
     }
 }
 
-impl<F: NorFlash + Drop> ScansMatrix for UsbKeyboard<F> {
+impl<D: Defaults, F: NorFlash + Drop> ScansMatrix for UsbKeyboardOf<D, F> {
     ghost use Rattle.usb_keyboard.specs.ties.Stands.{ScanIs};
 
-    ghost scans = { λ k rows n. ScanIs k.0 (F.image k.1) rows n.0 (F.image n.1) };
+    ghost scans = { λ k rows n. ScanIs D.defaults k.0 (F.image k.1) rows n.0 (F.image n.1) };
 
     fn scan(&mut self, rows: [u16; 6]) {
         self.keyboard.scan(Scan { rows });

@@ -1,8 +1,7 @@
 //! What a host saw the end of, in the session of the keyboard and on its flash.
 
 ghost use Rattle.std.specs.Prelude.{◌≡◌, ◌<◌, ◌≤◌, ◌+◌, ◌*◌, ◌∷◌, ◌++◌, [], ℕ, true, List, Some, length};
-ghost use Rattle.layers.specs.Standard.{standard};
-ghost use Rattle.layers.specs.Codes.{layers, keys};
+ghost use Rattle.layers.specs.Codes.{layers, keys, DefaultCodes};
 ghost use Rattle.layers.specs.Entries.{written};
 ghost use Rattle.layers.specs.declared.command.Command.{Command};
 ghost use Rattle.keyboard.specs.Acknowledged.{confirmation, IsConfirmed, IsSettled, NoneAcceptedWrites};
@@ -21,26 +20,40 @@ ghost use Rattle.usb_device.specs.Steps.{AllAnswered, session};
 ghost use Rattle.usb_device.specs.Through.{calls_of};
 ghost use Rattle.usb_device.specs.Transfers.{TransferState};
 ghost use Rattle.usb_device.specs.ties.Link.{Link};
+ghost use Rattle.usb_keyboard.specs.Here.{ConfirmedHere, NoneBrings, last_is_lost};
 ghost use Rattle.usb_keyboard.specs.Plain.{usb_calls};
 ghost use Rattle.usb_keyboard.specs.Stored.{Brings, Session, Follow, NoneWrites, HasNow, Has};
 ghost use Rattle.usb_keyboard.specs.ties.Stands.{StandsForUsb, IsStored};
 
 /// A feature command that the bus saw the end of is confirmed in the session of the keyboard, and settled.
 pub fn confirmed_on_the_bus()
-    ensures { (start : List ℕ) (past : List Call) (setup data_ : List ℕ) (command : Command) → IsLawful standard start past
+    ensures { (defaults : DefaultCodes) (start : List ℕ) (past : List Call) (setup data_ : List ℕ) (command : Command) → IsLawful defaults start past
         → WasConfirmed setup data_ (usb_calls past) → Brings setup data_ command
-        → (before : List Call) × IsConfirmed past before command × IsSettled standard start past before command }
+        → (before : List Call) × IsConfirmed past before command × IsSettled defaults start past before command }
 {}
 
 /// A confirmed command is in the flash, and stays there behind every power loss, until a later command is accepted that writes
 /// the entry: in its own session, and in those behind it.
 pub fn stored_until_written()
-    ensures session { (start : List ℕ) (past before : List Call) (command : Command) (layer key code : ℕ) → IsLawful standard start past
-        → (c : IsConfirmed past before command) → layer < layers → key < keys → written standard command layer key ≡ Some code
-        → NoneAcceptedWrites standard (c.after ++ confirmation ∷ c.between) (c.packet ∷ before) layer key → Has start past layer key code }
-    ensures later { (since earlier : List Session) (session : Session) (layer key code : ℕ) → Follow (since ++ session ∷ earlier)
-        → layer < layers → key < keys → NoneWrites since layer key → Has session.start session.calls layer key code
-        → HasNow (since ++ session ∷ earlier) layer key code }
+    ensures session { (defaults : DefaultCodes) (start : List ℕ) (past before : List Call) (command : Command) (layer key code : ℕ) → IsLawful defaults start past
+        → (c : IsConfirmed past before command) → layer < layers → key < keys → written defaults command layer key ≡ Some code
+        → NoneAcceptedWrites defaults (c.after ++ confirmation ∷ c.between) (c.packet ∷ before) layer key → Has defaults start past layer key code }
+    ensures later { (defaults : DefaultCodes) (since earlier : List Session) (session : Session) (layer key code : ℕ) → Follow defaults (since ++ session ∷ earlier)
+        → layer < layers → key < keys → NoneWrites defaults since layer key → Has defaults session.start session.calls layer key code
+        → HasNow defaults (since ++ session ∷ earlier) layer key code }
+{}
+
+/// A feature command that was confirmed in its own transfer is in the flash, also behind a power loss, while no later transfer
+/// brings a command that writes the entry. So of equal commands each counts for itself: of one, another and the first again, the
+/// last is there, or it was not confirmed.
+pub fn confirmed_here_is_stored()
+    ensures stored { (defaults : DefaultCodes) (later here : List EpCall) (keyboard : KeyboardValue) (image setup data_ : List ℕ) (command : Command)
+        (layer key code : ℕ) → (session : StandsForUsb defaults (later ++ here) keyboard image) → ConfirmedHere setup data_ here
+        → Brings setup data_ command → layer < layers → key < keys → written defaults command layer key ≡ Some code
+        → NoneBrings defaults later layer key → Has defaults session.0 session.1 layer key code }
+    // a session in which the last of three is lost: it was confirmed, but not here
+    ensures last_counts { (setup one other : List ℕ) → WasConfirmed setup one (last_is_lost setup one other)
+        × (ConfirmedHere setup one (last_is_lost setup one other) → ⊥) }
 {}
 
 /// The guarantee, from the bus to the flash: what `UsbDevice::serve` keeps of a feature command whose status stage the host
@@ -48,29 +61,29 @@ pub fn stored_until_written()
 /// acknowledgements were lost: then the command is confirmed in the session of the keyboard and settled, and it is in the
 /// flash, also behind a power loss, until a later command that writes the entry is accepted.
 pub fn seen_is_stored()
-    ensures direct { (t : TransferState) (b : Bus) (calls : List EpCall) (lent : Lent) (past : List Event) (after before : List Seen)
+    ensures direct { (defaults : DefaultCodes) (t : TransferState) (b : Bus) (calls : List EpCall) (lent : Lent) (past : List Event) (after before : List Seen)
         (keyboard : KeyboardValue) (image setup data_ : List ℕ) (command : Command)
-        → Link t b calls → AllAnswered lent past → no_polls (calls_of past) ≡ no_polls calls → StandsForUsb (session lent past) keyboard image
+        → Link t b calls → AllAnswered lent past → no_polls (calls_of past) ≡ no_polls calls → StandsForUsb defaults (session lent past) keyboard image
         → b.seen ≡ after ++ (InGot [] ∷ before) → setup_of before ≡ Some setup → is_write setup ≡ true → write_of before ≡ Some data_
-        → Brings setup data_ command → IsStored keyboard image command }
+        → Brings setup data_ command → IsStored defaults keyboard image command }
     // likewise where a lock and a pace stand between
-    ensures guarded { (t : TransferState) (b : Bus) (calls : List EpCall) (lent : Lent) (past : List Event) (after before : List Seen)
+    ensures guarded { (defaults : DefaultCodes) (t : TransferState) (b : Bus) (calls : List EpCall) (lent : Lent) (past : List Event) (after before : List Seen)
         (pace : ℕ) (met : List GuardCall) (keyboard : KeyboardValue) (image setup data_ : List ℕ) (command : Command)
         → Link t b calls → AllAnswered lent past → no_polls (calls_of past) ≡ no_polls calls
-        → calls_met met ≡ session lent past → AllGuarded pace met → StandsForUsb (passed pace met) keyboard image
+        → calls_met met ≡ session lent past → AllGuarded pace met → StandsForUsb defaults (passed pace met) keyboard image
         → b.seen ≡ after ++ (InGot [] ∷ before) → setup_of before ≡ Some setup → is_write setup ≡ true → write_of before ≡ Some data_
-        → Brings setup data_ command → IsStored keyboard image command }
+        → Brings setup data_ command → IsStored defaults keyboard image command }
 {}
 
 /// A keyboard behind a lock and a pace accepts no command while the lock is set, at most one in fewer scans than the pace, and
 /// since its start at most one for each pace.
 pub fn accepted_behind_a_guard()
-    ensures locked { (pace : ℕ) (since before : List GuardCall) (start : List ℕ) (later past : List Call) → is_locked before ≡ true → StaysLocked since
+    ensures locked { (defaults : DefaultCodes) (pace : ℕ) (since before : List GuardCall) (start : List ℕ) (later past : List Call) → is_locked before ≡ true → StaysLocked since
         → usb_calls past ≡ passed pace before → usb_calls (later ++ past) ≡ passed pace (since ++ before)
-        → length (accepted standard start (later ++ past)) ≡ length (accepted standard start past) }
-    ensures paced { (pace : ℕ) (since before : List GuardCall) (start : List ℕ) (later past : List Call) → AllGuarded pace (since ++ before) → scans since < pace
+        → length (accepted defaults start (later ++ past)) ≡ length (accepted defaults start past) }
+    ensures paced { (defaults : DefaultCodes) (pace : ℕ) (since before : List GuardCall) (start : List ℕ) (later past : List Call) → AllGuarded pace (since ++ before) → scans since < pace
         → usb_calls past ≡ passed pace before → usb_calls (later ++ past) ≡ passed pace (since ++ before)
-        → length (accepted standard start (later ++ past)) ≤ length (accepted standard start past) + 1 }
-    ensures since_start { (pace : ℕ) (met : List GuardCall) (start : List ℕ) (past : List Call) → AllGuarded pace met → usb_calls past ≡ passed pace met
-        → length (accepted standard start past) * pace ≤ scans met }
+        → length (accepted defaults start (later ++ past)) ≤ length (accepted defaults start past) + 1 }
+    ensures since_start { (defaults : DefaultCodes) (pace : ℕ) (met : List GuardCall) (start : List ℕ) (past : List Call) → AllGuarded pace met → usb_calls past ≡ passed pace met
+        → length (accepted defaults start past) * pace ≤ scans met }
 {}

@@ -6,8 +6,9 @@ ghost use Rattle.usb_keyboard.specs.Whole.{IsWritten, Fails, Stores};
 ghost use Rattle.usb_keyboard.specs.ties.Stands.{RunsSince};
 ghost use Rattle.usb_keyboard.specs.ties.Whole.{is_ack, AreTaken, IsStatusStage};
 
-use crate::UsbKeyboard;
+use crate::UsbKeyboardOf;
 use keyboard::NorFlash;
+use layers::Defaults;
 use usb_device::{Endpoints, EpAnswer, Status, TransferError, Works, status_of};
 
 /// How often a status stage is asked for: a command takes at most 387 steps of the flash work.
@@ -23,15 +24,18 @@ fn is_ack(answer: EpAnswer) -> bool
     }
 }
 
-impl<F: NorFlash + Drop> UsbKeyboard<F> {
+impl<D: Defaults, F: NorFlash + Drop> UsbKeyboardOf<D, F> {
     /// Makes a control write: its SETUP packet, its data, and the status stage, for which the flash work goes on.
     ///
     /// `Ok` says that the data were acknowledged and then confirmed: so what a feature command writes is in the flash. The
     /// stack may then acknowledge the status stage, and on an error it stalls it.
+    ///
+    /// It knows no lock and no pace. `usb_device::Guarded` stands before a keyboard on the bus, and not before this call: a
+    /// stack asks its maker's lock before it calls.
     pub fn write(&mut self, setup: [u8; 8], bytes: &[u8]) -> Result<(), TransferError>
-        ensures { (start : List ℕ) (past : List Call) → RunsSince start past self.old.0 (F.image self.old.1)
-            → (since : List Call) × RunsSince start (since ++ past) self.new.0 (F.image self.new.1)
-            × MatchResult result (λ _. IsWritten setup bytes.now since × Stores start (since ++ past) setup bytes.now) (λ e. Fails e since) }
+        ensures { (start : List ℕ) (past : List Call) → RunsSince D.defaults start past self.old.0 (F.image self.old.1)
+            → (since : List Call) × RunsSince D.defaults start (since ++ past) self.new.0 (F.image self.new.1)
+            × MatchResult result (λ _. IsWritten setup bytes.now since × Stores D.defaults start (since ++ past) setup bytes.now) (λ e. Fails e since) }
     {
         self.setup(setup);
         if self.takes(bytes) {
@@ -43,8 +47,8 @@ impl<F: NorFlash + Drop> UsbKeyboard<F> {
 
     /// Hands over the data of a write, if there are any, and says whether they were acknowledged.
     fn takes(&mut self, bytes: &[u8]) -> bool
-        ensures { (start : List ℕ) (past : List Call) → RunsSince start past self.old.0 (F.image self.old.1)
-            → (since : List Call) × RunsSince start (since ++ past) self.new.0 (F.image self.new.1) × AreTaken result bytes.now since }
+        ensures { (start : List ℕ) (past : List Call) → RunsSince D.defaults start past self.old.0 (F.image self.old.1)
+            → (since : List Call) × RunsSince D.defaults start (since ++ past) self.new.0 (F.image self.new.1) × AreTaken result bytes.now since }
     {
         if bytes.is_empty() {
             true
@@ -55,8 +59,8 @@ impl<F: NorFlash + Drop> UsbKeyboard<F> {
 
     /// Asks for the empty packet of the status stage.
     fn confirm(&mut self) -> Result<(), TransferError>
-        ensures { (start : List ℕ) (past : List Call) → RunsSince start past self.old.0 (F.image self.old.1)
-            → (since : List Call) × RunsSince start (since ++ past) self.new.0 (F.image self.new.1)
+        ensures { (start : List ℕ) (past : List Call) → RunsSince D.defaults start past self.old.0 (F.image self.old.1)
+            → (since : List Call) × RunsSince D.defaults start (since ++ past) self.new.0 (F.image self.new.1)
             × MatchResult result (λ _. IsStatusStage since) (λ e. Fails e since) }
     {
         for _asked in 0..MOST_ASKED {

@@ -58,9 +58,8 @@ impl<D: Defaults> WorldOf<D> {
     ghost use Rattle.world.specs.ties.Stands.{StandsFor};
     ghost use Rattle.world.specs.ties.Private.{Takes, Went};
 
-    /// The keyboard as it starts on a flash, whose keymap it reads, and a host that keeps no
-    /// descriptor. `AllocError` where there was no memory for the reports that wait; the flash is then
-    /// dropped.
+    /// Starts a keyboard on a flash, whose keymap it reads, beside a host that keeps no descriptor.
+    /// `AllocError` where there was no memory for the reports that wait; the flash is then dropped.
     pub fn new(alloc: Global, flash: SimFlash) -> Result<WorldOf<D>, AllocError>
         // it stands for no event, on this flash
         ensures starts { IfOk result (λ world. StandsFor D.defaults flash [] world) }
@@ -81,22 +80,22 @@ impl<D: Defaults> WorldOf<D> {
         })
     }
 
-    /// The flash.
+    /// Returns the flash.
     pub fn flash(&self) -> &SimFlash
         ensures { result.now ≡ self.now.flash }
     {
         &self.bench.flash
     }
 
-    /// The flash, taken out of the world: keyboard and host are dropped.
+    /// Takes the flash out of the world: keyboard and host are dropped.
     pub fn into_flash(self) -> SimFlash
         ensures { result ≡ self.flash }
     {
         self.bench.flash
     }
 
-    /// The flash operation that the latest step of the flash work asked for; `None` where it asked
-    /// for none.
+    /// Returns the flash operation that the latest step of the flash work asked for; `None` where it
+    /// asked for none.
     pub fn operation(&self) -> Option<Operation>
         ensures same { result ≡ self.now.asked }
         // it is the next one of the command at work, as it was when that step came
@@ -105,7 +104,7 @@ impl<D: Defaults> WorldOf<D> {
         self.bench.asked
     }
 
-    /// The host.
+    /// Returns the host.
     pub fn host(&self) -> &Host
         // it stands for all that it was told: the SETUP packets, the packets of data that IN packets were answered by, and
         // that the keyboard was cut off or reset

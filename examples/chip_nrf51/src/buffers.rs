@@ -6,7 +6,7 @@ use crate::PRODUCT;
 use crate::frames::{Frame, dump, out, scan};
 use crate::uart::Uart;
 use core::cell::RefCell;
-use wuzhikar::{NorFlash, Work};
+use wuzhikar::NorFlash;
 use wuzhikar_device::{
     Buffers, Change, Controller, DeviceLayer, Endpoint1, HasKeyboard, Input, Keys, Output, Report, UsbDevice, Waiting,
 };
@@ -137,6 +137,11 @@ impl Buffers for Soft<'_> {
         state.change = Some(Change::Endpoint(endpoint));
     }
 
+    fn give_up(&mut self) {
+        let mut state = self.0.borrow_mut();
+        (state.input_1, state.taken_1) = (None, 0);
+    }
+
     fn host_began(&mut self) {}
 
     fn forget(&mut self) {
@@ -157,9 +162,9 @@ pub fn run<F: NorFlash, K: HasKeyboard>(keys: Keys<F, K>, uart: &mut Uart) -> ! 
     let mut device = UsbDevice::new(layer, keys, soft, PRODUCT.identity().packet_size);
     loop {
         while !uart.waits() {
-            let work = device.work();
+            device.work();
             device.serve(&mut soft);
-            if work == Work::Idle {
+            if !device.behind().may_work() {
                 uart.sleep();
             }
         }
@@ -176,7 +181,7 @@ fn serve<'s, F: NorFlash, K: HasKeyboard>(
     let state = soft.0;
     let (kind, packet) = match uart.byte() {
         b'm' => {
-            device.scan_keys(scan(uart));
+            device.scan_rows(scan(uart).rows);
             (b'k', Report::new())
         }
         b's' => {

@@ -38,31 +38,41 @@ impl Mailbox {
     }
 }
 
-/// What the interrupts bring: 1 a scan, 2 SETUP, 3 OUT, 4 IN, 5 a poll of endpoint 1, 6 a bus reset.
-pub static EVENT: Mailbox = Mailbox::EMPTY;
+/// What stands for your chip. Its name is exported: the compiler takes what nobody writes for zero, and leaves out what stands on it.
+pub struct Stand {
+    /// What the interrupts bring: 1 a scan, 2 SETUP, 3 OUT, 4 IN, 5 a poll of endpoint 1, 6 a bus reset.
+    pub event: Mailbox,
+    /// The rows of the matrix.
+    pub matrix: [AtomicU16; ROWS],
+    /// What the endpoints send: 1 a packet, 2 ACK, 3 NAK, 4 STALL.
+    pub endpoint_0: Mailbox,
+    pub endpoint_1: Mailbox,
+    /// The register of the device's address. A controller takes it once the packet in `endpoint_0` is acknowledged.
+    pub address: AtomicU8,
+    /// What endpoint 1 is: 0 off, 1 ready from DATA0 on, 2 halted.
+    pub endpoint_1_state: AtomicU8,
+    /// The pins of the LEDs.
+    pub leds: AtomicU8,
+}
 
-/// The rows of the matrix.
-pub static MATRIX: [AtomicU16; ROWS] = [const { AtomicU16::new(0) }; ROWS];
-
-/// What the endpoints send: 1 a packet, 2 ACK, 3 NAK, 4 STALL.
-pub static ENDPOINT_0: Mailbox = Mailbox::EMPTY;
-pub static ENDPOINT_1: Mailbox = Mailbox::EMPTY;
-
-/// The register of the device's address. A controller takes it once the packet in `ENDPOINT_0` is acknowledged.
-pub static ADDRESS: AtomicU8 = AtomicU8::new(0);
-
-/// What endpoint 1 is: 0 off, 1 ready from DATA0 on, 2 halted.
-pub static ENDPOINT_1_STATE: AtomicU8 = AtomicU8::new(0);
-
-/// The pins of the LEDs.
-pub static LEDS: AtomicU8 = AtomicU8::new(0);
+#[unsafe(no_mangle)]
+#[allow(unsafe_code)]
+pub static STAND: Stand = Stand {
+    event: Mailbox::EMPTY,
+    matrix: [const { AtomicU16::new(0) }; ROWS],
+    endpoint_0: Mailbox::EMPTY,
+    endpoint_1: Mailbox::EMPTY,
+    address: AtomicU8::new(0),
+    endpoint_1_state: AtomicU8::new(0),
+    leds: AtomicU8::new(0),
+};
 
 struct Generic;
 
 impl Chip for Generic {
     fn event(&mut self) -> Event {
-        match EVENT.take() {
-            (1, ..) => Event::Millisecond(core::array::from_fn(|row| MATRIX[row].load(Ordering::Relaxed))),
+        match STAND.event.take() {
+            (1, ..) => Event::Millisecond(core::array::from_fn(|row| STAND.matrix[row].load(Ordering::Relaxed))),
             (2, packet, _) => Event::Setup(packet),
             (3, packet, len) => Event::Out(packet, len),
             (4, ..) => Event::In,
@@ -74,41 +84,41 @@ impl Chip for Generic {
 
     fn answer(&mut self, answer: &EpAnswer) {
         match answer {
-            EpAnswer::Packet(packet) => ENDPOINT_0.put(1, packet),
-            EpAnswer::Ack => ENDPOINT_0.put(2, &[]),
-            EpAnswer::Nak => ENDPOINT_0.put(3, &[]),
-            EpAnswer::Stall => ENDPOINT_0.put(4, &[]),
+            EpAnswer::Packet(packet) => STAND.endpoint_0.put(1, packet),
+            EpAnswer::Ack => STAND.endpoint_0.put(2, &[]),
+            EpAnswer::Nak => STAND.endpoint_0.put(3, &[]),
+            EpAnswer::Stall => STAND.endpoint_0.put(4, &[]),
         }
     }
 
     fn report(&mut self, answer: &PollAnswer) {
         match answer {
-            PollAnswer::Data(packet) => ENDPOINT_1.put(1, packet),
-            PollAnswer::Nak => ENDPOINT_1.put(3, &[]),
-            PollAnswer::Stall => ENDPOINT_1.put(4, &[]),
+            PollAnswer::Data(packet) => STAND.endpoint_1.put(1, packet),
+            PollAnswer::Nak => STAND.endpoint_1.put(3, &[]),
+            PollAnswer::Stall => STAND.endpoint_1.put(4, &[]),
             PollAnswer::Nothing => {}
         }
     }
 
     fn change(&mut self, change: Change) {
         match change {
-            Change::Address(address) => ADDRESS.store(address, Ordering::Relaxed),
-            Change::Endpoint(state) => ENDPOINT_1_STATE.store(state as u8, Ordering::Relaxed),
+            Change::Address(address) => STAND.address.store(address, Ordering::Relaxed),
+            Change::Endpoint(state) => STAND.endpoint_1_state.store(state as u8, Ordering::Relaxed),
         }
     }
 
     fn reset(&mut self) {
-        ADDRESS.store(0, Ordering::Relaxed);
-        ENDPOINT_1_STATE.store(Endpoint1::Off as u8, Ordering::Relaxed);
+        STAND.address.store(0, Ordering::Relaxed);
+        STAND.endpoint_1_state.store(Endpoint1::Off as u8, Ordering::Relaxed);
     }
 
     /// A controller would take the next IN token again.
     fn arm(&mut self) {
-        ENDPOINT_0.put(0, &[]);
+        STAND.endpoint_0.put(0, &[]);
     }
 
     fn leds(&mut self, bits: u8) {
-        LEDS.store(bits, Ordering::Relaxed);
+        STAND.leds.store(bits, Ordering::Relaxed);
     }
 }
 

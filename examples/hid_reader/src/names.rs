@@ -20,14 +20,14 @@ names!(FAULTS, ParseFault: Truncated Delimiter PopEmpty PushDeep BadReportId Siz
     CollectionDeep UnpairedUsage UsageInverted LogicalInverted TooManyFields MixedIds CollectionOpen TooLong Memory);
 names!(STATUSES, Status: Ok Null Length NoHandle Closed WrongKind Full NoMemory Fault Absent EmptyReport UnknownId ShortReport
     UnknownReport OtherId NoUnused UnknownControl Twice NoNull TooLarge OutOfRange NoRoom EqualLimits InvertedLimits
-    ReservedDigit NoSystem ReservedSystem VendorSystem Overlap);
+    ReservedDigit NoSystem ReservedSystem VendorSystem Overlap NoStep);
 
 /// The name of the fault with this number, 1 to 17; empty for another number.
 pub fn of_fault(number: u32) -> &'static CStr {
     name(FAULTS, |fault| u32::from(fault.number()) == number)
 }
 
-/// The name of the status with this number, 0 to 28; empty for another number.
+/// The name of the status with this number, 0 to 29; empty for another number.
 pub fn of_status(number: i32) -> &'static CStr {
     name(STATUSES, |status| status as i32 == number)
 }
@@ -49,7 +49,7 @@ mod tests {
 
     #[test]
     fn each_number_has_the_name_of_the_source() {
-        assert_eq!((FAULTS.len(), STATUSES.len()), (17, 29));
+        assert_eq!((FAULTS.len(), STATUSES.len()), (17, 30));
         for (fault, name) in FAULTS {
             assert_eq!(of_fault(fault.number().into()), *name);
             assert_eq!(name.to_str().unwrap(), format!("{fault:?}"));
@@ -61,7 +61,7 @@ mod tests {
         for number in [0, 18, 255, 273, u32::MAX] {
             assert_eq!(of_fault(number), c"");
         }
-        for number in [-1, 29, 256, i32::MIN, i32::MAX] {
+        for number in [-1, 30, 256, i32::MIN, i32::MAX] {
             assert_eq!(of_status(number), c"");
         }
     }

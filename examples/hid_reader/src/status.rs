@@ -1,7 +1,7 @@
 // SPDX-License-Identifier: MIT OR Apache-2.0
 //! What a call came to.
 
-use wuzhikar_hid::{NoPhysical, NoUnit, ReadingError, WriteError};
+use wuzhikar_hid::{NoPhysical, NoUnit, NoValue, ReadingError, WriteError};
 use wuzhikar_reader::{AllocError, ExtractError};
 
 /// What a call came to, with the numbers of `hid_reader.h`. Every status but `Ok` is a refusal.
@@ -64,6 +64,8 @@ pub enum Status {
     VendorSystem = 27,
     /// What is read and what is written share memory.
     Overlap = 28,
+    /// No value of the field is just so much in its unit.
+    NoStep = 29,
 }
 
 impl From<AllocError> for Status {
@@ -102,6 +104,15 @@ impl From<NoPhysical> for Status {
             NoPhysical::EqualLimits => Status::EqualLimits,
             NoPhysical::InvertedLimits => Status::InvertedLimits,
             NoPhysical::LargeExtents => Status::TooLarge,
+        }
+    }
+}
+
+impl From<NoValue> for Status {
+    fn from(why: NoValue) -> Status {
+        match why {
+            NoValue::NoPhysical(why) => why.into(),
+            NoValue::NoStep => Status::NoStep,
         }
     }
 }

@@ -176,6 +176,15 @@ pub extern "C" fn hidr_physical(reader: u64, field: usize, raw: i64, into: Outpu
 }
 
 #[unsafe(no_mangle)]
+pub extern "C" fn hidr_value_of(reader: u64, field: usize, numerator: i64, denominator: u64, raw: Output<i64>) -> Status {
+    told(|| {
+        let raw = raw.place()?;
+        raw.put(of_field(reader, field, |detail| Ok(detail.value_of(numerator, denominator)?))?);
+        Ok(())
+    })
+}
+
+#[unsafe(no_mangle)]
 pub extern "C" fn hidr_decimal(
     reader: u64,
     field: usize,

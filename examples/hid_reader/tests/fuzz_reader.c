@@ -46,12 +46,13 @@ static int is_in(const uint32_t *usages, size_t count, uint32_t usage) {
     return 0;
 }
 
-/* Whether a usage is on among values. */
+/* Whether a usage is on among values: those within the logical extents alone count. */
 static int is_on(hidr_reader reader, const hidr_value *all, size_t count, uint32_t usage) {
     for (size_t at = 0; at < count; at++) {
         hidr_field field;
         ANSWERS(HIDR_OK, hidr_field_at(reader, all[at].field, &field));
-        if (all[at].has_usage && all[at].usage == usage && usage % 65536 != 0 && (field.array || all[at].raw != 0))
+        if (all[at].within == HIDR_IN_RANGE && all[at].has_usage && all[at].usage == usage && usage % 65536 != 0 &&
+            (field.array || all[at].raw != 0))
             return 1;
     }
     return 0;

@@ -35,6 +35,7 @@ struct outputs {
     hidr_fraction fraction;
     uint32_t numbers[2];
     size_t count, rest;
+    int64_t raw;
     int8_t exponents[6];
     char text[8];
     uint8_t bytes[8];
@@ -63,6 +64,7 @@ static hidr_status g4(uint64_t r, struct outputs *to) {
     return hidr_buffered(r, 0, REPORT, sizeof REPORT, 2, to->bytes, 8, &to->count);
 }
 static hidr_status g5(uint64_t r, struct outputs *to) { return hidr_physical(r, 0, 3, &to->fraction); }
+static hidr_status h0(uint64_t r, struct outputs *to) { return hidr_value_of(r, 0, 90, 1, &to->raw); }
 static hidr_status g6(uint64_t r, struct outputs *to) { return hidr_decimal(r, 0, 3, 1, to->text, 8, &to->count); }
 static hidr_status g7(uint64_t r, struct outputs *to) {
     return hidr_write(r, 0, 0, &EAST, 1, NULL, 0, to->bytes, 8, &to->count, &to->rest);
@@ -71,7 +73,7 @@ static hidr_status g9(uint64_t r, struct outputs *to) {
     return hidr_changes(r, 0, REPORT, 7, REPORT, 7, to->numbers, 1, &to->count, to->numbers + 1, 1, &to->rest);
 }
 static hidr_status g8(uint64_t r, struct outputs *to) { return hidr_applications_of(r, 0, 0, to->numbers, 2, &to->count); }
-static with_reader *const CALLS[] = {f0, f1, f2, f3, f4, f5, f6, f7, f8, f9, g0, g1, g2, g3, g4, g5, g6, g7, g8, g9};
+static with_reader *const CALLS[] = {f0, f1, f2, f3, f4, f5, f6, f7, f8, f9, g0, g1, g2, g3, g4, g5, g6, g7, g8, g9, h0};
 #define CALL_COUNT (sizeof CALLS / sizeof CALLS[0])
 
 static void each_answers(uint64_t handle, hidr_status status) {
@@ -163,6 +165,7 @@ static void null_pointers(hidr_reader r) {
     ANSWERS(HIDR_NULL, hidr_changes(r, 0, REPORT, 7, REPORT, 7, to.numbers, 1, &to.count, NULL, 1, &to.rest));
     ANSWERS(HIDR_NULL, hidr_changes(r, 0, REPORT, 7, REPORT, 7, to.numbers, 1, &to.count, to.numbers, 1, NULL));
     ANSWERS(HIDR_NULL, hidr_physical(r, 0, 3, NULL));
+    ANSWERS(HIDR_NULL, hidr_value_of(r, 0, 90, 1, NULL));
     ANSWERS(HIDR_NULL, hidr_decimal(r, 0, 3, 1, NULL, 1, &to.count));
     ANSWERS(HIDR_NULL, hidr_write(r, 0, 0, NULL, 1, NULL, 0, to.bytes, SIZE_MAX, &to.count, &to.rest));
     ANSWERS(HIDR_NULL, hidr_write(r, 0, 0, &EAST, SIZE_MAX, NULL, 1, to.bytes, 8, &to.count, &to.rest));
@@ -237,6 +240,20 @@ static void what_is_absent(hidr_reader r) {
     UNTOUCHED(to);
 }
 
+/* What is no value of a field. */
+static void no_values(hidr_reader r) {
+    struct outputs to;
+    FILL(to);
+    ANSWERS(HIDR_ABSENT, hidr_value_of(r, 7, 90, 1, &to.raw));
+    ANSWERS(HIDR_EQUAL_LIMITS, hidr_value_of(r, 3, 5, 0, &to.raw));
+    ANSWERS(HIDR_INVERTED_LIMITS, hidr_value_of(r, 4, 5, 1, &to.raw));
+    ANSWERS(HIDR_NO_STEP, hidr_value_of(r, 0, 91, 1, &to.raw));
+    ANSWERS(HIDR_NO_STEP, hidr_value_of(r, 0, 360, 1, &to.raw));
+    ANSWERS(HIDR_NO_STEP, hidr_value_of(r, 0, 90, 0, &to.raw));
+    ANSWERS(HIDR_NO_STEP, hidr_value_of(r, 0, INT64_MIN, UINT64_MAX, &to.raw));
+    UNTOUCHED(to);
+}
+
 static void what_is_told(hidr_reader r) {
     struct outputs to;
     FILL(to);
@@ -267,6 +284,8 @@ static void what_is_told(hidr_reader r) {
     CHECK(to.count == 2 && to.bytes[1] == 3);
     ANSWERS(HIDR_OK, hidr_physical(r, 0, 3, &to.fraction));
     CHECK(to.fraction.numerator == 90 && to.fraction.denominator == 1 && to.fraction.exponent == 0);
+    ANSWERS(HIDR_OK, hidr_value_of(r, 0, 180, 2, &to.raw));
+    CHECK(to.raw == 3);
 }
 
 /* What two reports differ in. */
@@ -417,6 +436,7 @@ int main(void) {
     null_pointers(reader);
     lengths_and_overlaps(reader);
     what_is_absent(reader);
+    no_values(reader);
     what_is_told(reader);
     what_changes(reader);
     names(reader);

@@ -364,7 +364,7 @@ static void anywhere(void) {
 
 static void names(void) {
     static const uint32_t no_faults[] = {0, 18, 256 + 8, UINT32_MAX};
-    static const int32_t no_statuses[] = {-1, 29, INT32_MAX, INT32_MIN};
+    static const int32_t no_statuses[] = {-1, 30, INT32_MAX, INT32_MIN};
     for (size_t number = 0; number < 4; number++)
         CHECK(*hidr_fault_name(no_faults[number]) == 0 && *hidr_status_name(no_statuses[number]) == 0);
     for (uint32_t fault = 1; fault <= 17; fault++)

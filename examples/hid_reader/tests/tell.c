@@ -178,6 +178,26 @@ static void tell_descriptor(const char *hex) {
     print_items();
 }
 
+/* A value is that which is so much, where the power of ten is one that the fraction can take in. */
+static void goes_back(const hidr_value *value, hidr_fraction exact) {
+    hidr_detail detail;
+    int64_t raw;
+    ANSWERS(HIDR_OK, hidr_detail_at(reader, value->item, &detail));
+    if (exact.exponent < -18 || exact.exponent > 18)
+        return;
+    for (; exact.exponent > 0 && exact.numerator <= INT64_MAX / 10 && exact.numerator >= INT64_MIN / 10; exact.exponent--)
+        exact.numerator *= 10;
+    for (; exact.exponent < 0 && exact.denominator <= INT64_MAX / 10; exact.exponent++)
+        exact.denominator *= 10;
+    if (exact.exponent != 0)
+        return;
+    hidr_status status = hidr_value_of(reader, value->field, exact.numerator, (uint64_t)exact.denominator, &raw);
+    if (value->raw < detail.min || value->raw > detail.max || detail.physical_min == detail.physical_max)
+        CHECK(status == HIDR_NO_STEP);
+    else
+        CHECK(status == HIDR_OK && raw == value->raw);
+}
+
 static void print_value(const hidr_value *value) {
     static const char *const within[] = {"range", "null", "out"};
     hidr_fraction exact;
@@ -192,8 +212,10 @@ static void print_value(const hidr_value *value) {
         printf("-");
     printf(" %" PRId64 " %s ", value->raw, within[value->within]);
     hidr_status status = hidr_physical(reader, value->field, value->raw, &exact);
-    if (status == HIDR_OK)
+    if (status == HIDR_OK) {
+        goes_back(value, exact);
         printf("%" PRId64 "/%" PRId64 " ", exact.numerator, exact.denominator);
+    }
     if (status == HIDR_EQUAL_LIMITS || status == HIDR_INVERTED_LIMITS) {
         printf("%s;", hidr_status_name(status));
         return;

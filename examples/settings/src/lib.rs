@@ -51,10 +51,9 @@ impl<F: NorFlash> Lamp<F> {
 
     /// Stores a network: name and password together.
     pub fn join(&mut self, name: &str, password: &str) -> Result<(), SettingsError> {
-        let value = |text: &str| Value::new(text.as_bytes()).ok_or(SettingsError::TooLong);
         self.0.transaction(&[
-            Change { id: NAME, value: Some(value(name)?) },
-            Change { id: PASSWORD, value: Some(value(password)?) },
+            Change { id: NAME, value: Some(name.try_into()?) },
+            Change { id: PASSWORD, value: Some(password.try_into()?) },
         ])
     }
 
@@ -69,7 +68,7 @@ impl<F: NorFlash> Lamp<F> {
     }
 
     pub fn set_channel(&mut self, channel: u8) -> Result<(), SettingsError> {
-        self.0.set(CHANNEL, &[channel])
+        self.0.set(CHANNEL, Value::from(channel))
     }
 
     /// Whether the lamp is lit after a start.
@@ -78,16 +77,16 @@ impl<F: NorFlash> Lamp<F> {
     }
 
     pub fn set_lit(&mut self, lit: bool) -> Result<(), SettingsError> {
-        self.0.set(LIT, &[lit.into()])
+        self.0.set(LIT, Value::from(lit))
     }
 
     /// The address, if one was given.
     pub fn address(&self) -> Option<[u8; 4]> {
-        Some(self.0.get(ADDRESS)?.as_u32()?.to_le_bytes())
+        self.0.get(ADDRESS)?.as_bytes().try_into().ok()
     }
 
     pub fn set_address(&mut self, address: [u8; 4]) -> Result<(), SettingsError> {
-        self.0.set(ADDRESS, &address)
+        self.0.set(ADDRESS, address)
     }
 
     /// All settings, with their flash.

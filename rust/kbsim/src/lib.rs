@@ -25,7 +25,6 @@ mod face;
 pub mod parts;
 #[doc(hidden)]
 pub mod rattle;
-pub mod texts;
 
 pub use crate::face::{blank_flash, image_flash, parse_text, run_on, run_script, run_with};
 pub use crate::parts::host::{Host, Reading, UsageList};
@@ -33,4 +32,5 @@ pub use crate::parts::kbsim::{Line, LineFault, Outcome, RunError, Silent, Sink, 
 pub use crate::parts::parse_lines::{LinesError, describe};
 pub use crate::parts::world::{Answer, Event, Operation, World};
 pub use wuzhikar::{EpAnswer, FlashError, Mask, Report, Scan, SimFlash, Why, Work};
+pub use wuzhikar_hid::texts;
 pub use wuzhikar_reader::AllocError;

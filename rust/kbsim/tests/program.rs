@@ -358,6 +358,27 @@ fn a_value_that_is_cut_to_nothing_has_no_sign() {
 }
 
 #[test]
+fn a_device_is_read_live() {
+    let folder = Folder::new("live");
+    // A sysfs in which what is no device, of number 0:0, stands for one of hidraw: two reports of a key, and no more.
+    let sysfs = "mkdir -p sys/dev/char/0:0/device; ln -s ../class/hidraw sys/dev/char/0:0/subsystem; mkfifo fifo
+        printf '\\5\\7\\11\\4\\25\\0\\45\\1\\165\\10\\225\\1\\201\\2' > sys/dev/char/0:0/device/report_descriptor";
+    folder.ends(sysfs, 0, "", "");
+    let live = "export SYSFS_PATH=sys; (printf '\\1'; sleep 0.1; printf '\\0') > fifo & $K read --live";
+    folder.ends(&format!("{live} fifo"), 0, "0 00070004=1\n0 00070004=0\n", "");
+    folder.ends(&format!("{live} --changes fifo"), 0, "0 +00070004\n0 -00070004\n", "");
+    folder.ends(&format!("{live} --names fifo | head -n 1"), 0, "0 \"Keyboard a and A\"=1\n", "");
+    let broken = "printf '\\300' > sys/dev/char/0:0/device/report_descriptor; : > file; SYSFS_PATH=sys $K read --live file";
+    folder.ends(broken, 1, "fault parse 8 at 0\n", "End Collection");
+    folder.ends("$K read --live file", 1, "fault hidraw\n", "file is no hidraw device of Linux");
+    folder.ends("$K read --live /dev/null", 1, "fault hidraw\n", "/dev/null is no hidraw device of Linux");
+    folder.ends("$K read --live lacking", 1, "fault input\n", "error: lacking can't be opened");
+    for words in ["--raw file", "--kind output file", "--from hex file", "file file", ""] {
+        folder.ends(&format!("$K read --live {words}"), 2, "", "error: ");
+    }
+}
+
+#[test]
 fn a_flash_is_saved_in_a_regular_file_alone() {
     let folder = Folder::new("save");
     fs::create_dir(folder.0.join("folder")).unwrap();

@@ -97,6 +97,17 @@ impl<'r, R: Registers> Stm32Usb<'r, R> {
         old & flag != 0
     }
 
+    /// Takes the packet of endpoint 1 back, unless the host has taken it.
+    fn take_back(&self) {
+        self.registers().interrupts(false);
+        // Where the host takes the packet before a write, the write turns NAK into VALID: then once more.
+        while self.registers().read(Register::Endpoint1) & STAT_TX == VALID & STAT_TX {
+            self.set(Register::Endpoint1, STAT_TX, NAK);
+        }
+        self.registers().interrupts(true);
+        self.take(Register::Endpoint1, CTR_TX);
+    }
+
     fn is_reset(&self) -> bool {
         self.registers().read(Register::Status) & RESET != 0
     }
@@ -192,14 +203,14 @@ impl<R: Registers> Buffers for Stm32Usb<'_, R> {
             Endpoint1::Ready => NAK,
             Endpoint1::Halted => STALL,
         };
-        self.registers().interrupts(false);
-        // Where the host takes the packet before a write, the write turns NAK into VALID: then once more.
-        while self.registers().read(Register::Endpoint1) & STAT_TX == VALID & STAT_TX {
-            self.set(Register::Endpoint1, STAT_TX, NAK);
-        }
-        self.registers().interrupts(true);
-        self.take(Register::Endpoint1, CTR_TX);
+        self.take_back();
         self.set(Register::Endpoint1, STAT_TX | DTOG_TX, to & STAT_TX);
+    }
+
+    fn give_up(&mut self) {
+        if !self.is_reset() {
+            self.take_back();
+        }
     }
 
     /// The host does that by itself.

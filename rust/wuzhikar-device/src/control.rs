@@ -55,8 +55,12 @@ pub(crate) fn length(setup: [u8; 8]) -> usize {
 }
 
 impl<F: NorFlash, K: HasKeyboard> Device<'_, F, K> {
-    /// A whole control transfer. A read puts what it reads into `data`, a write sends its first wLength bytes. Where a
-    /// packet is told to wait, steps of the flash work are made until none is left.
+    /// Makes a whole control transfer, as a host does (USB 2.0 section 8.5.3): a read puts what it reads into `data`, a write
+    /// sends the first wLength bytes of `data`. At each NAK a flash operation is made.
+    ///
+    /// # Errors
+    ///
+    /// `Stall` with the reason, `Buffer` if `data` is too short, `Waits` if a NAK comes and no command works.
     pub fn control(&mut self, setup: [u8; 8], data: &mut [u8]) -> Result<Done, NotDone> {
         self.control_with(setup, data, |device| match device.work() {
             Work::Idle => ControlFlow::Break(NotDone::Waits),
@@ -64,8 +68,12 @@ impl<F: NorFlash, K: HasKeyboard> Device<'_, F, K> {
         })
     }
 
-    /// A whole control transfer, as `control`. Each time that a packet is told to wait, `at_nak` is called, and the packet
-    /// is offered again unless it breaks off.
+    /// Makes a whole control transfer as [`control`](Self::control) does, but calls `at_nak` at each NAK. The packet is then
+    /// offered again.
+    ///
+    /// # Errors
+    ///
+    /// `Stall`, `Buffer`, and what `at_nak` breaks off with.
     pub fn control_with(
         &mut self,
         setup: [u8; 8],

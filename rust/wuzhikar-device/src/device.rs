@@ -28,6 +28,10 @@ impl Buffers for Slot {
         *self = Slot { packet: None, taken: 0, state: Some(state) };
     }
 
+    fn give_up(&mut self) {
+        (self.packet, self.taken) = (None, 0);
+    }
+
     fn host_began(&mut self) {}
 
     fn forget(&mut self) {

@@ -4,8 +4,8 @@
 
 use crate::keys::{HasKeyboard, Keys};
 use crate::{Buffers, Endpoint1, Endpoints, EpAnswer, Guarded, UsbDevice};
+use wuzhikar::NorFlash;
 use wuzhikar::usb::FEATURE_REPORT_LEN;
-use wuzhikar::{NorFlash, Scan, Work};
 
 impl<E, B> UsbDevice<'_, E, B> {
     /// The device behind the layer, to be looked at.
@@ -41,17 +41,6 @@ impl<E> Guarded<E> {
 }
 
 impl<F: NorFlash, K: HasKeyboard, B: Buffers> UsbDevice<'_, Keys<F, K>, B> {
-    /// A scan of the matrix, a millisecond after the one before.
-    pub fn scan_keys(&mut self, scan: Scan) {
-        self.scan();
-        self.behind_mut().scan(scan);
-    }
-
-    /// A step of the flash work, at most one program or erase.
-    pub fn work(&mut self) -> Work {
-        self.behind_mut().work()
-    }
-
     /// A command of the firmware's own, as at a chord of keys: feature report 3, whose operation 3 resets all keys
     /// (`[3, 3, 0, 0, 0, 0]`). Behind `Ack` it is made by `work`, and is over when that answers other than `Working`.
     ///

@@ -12,8 +12,8 @@ const PRODUCT: u8 = 2;
 const SERIAL_NUMBER: u8 = 3;
 
 impl PacketSize {
-    /// The size of so many bytes. `None` where that is none of 8, 16, 32, 64. A device of low speed has at most 8, and some
-    /// BIOSes take no more than 16.
+    /// Returns the size of so many bytes (wMaxPacketSize, USB 2.0 section 9.6.6), or `None` if that is none of 8, 16, 32, 64.
+    /// Some BIOSes take no more than 16.
     pub const fn of(bytes: usize) -> Option<PacketSize> {
         match bytes {
             8 => Some(PacketSize::Bytes8),
@@ -40,15 +40,15 @@ impl PacketSize {
 pub struct Interval(u8);
 
 impl Interval {
-    /// Each millisecond.
+    /// A poll each millisecond.
     pub const MILLISECOND: Interval = Interval(1);
 
-    /// Every so many milliseconds. `None` where that is 0.
+    /// Returns the interval of so many milliseconds, 1 to 255; `None` for 0.
     pub const fn milliseconds(count: u8) -> Option<Interval> {
         if count == 0 { None } else { Some(Interval(count)) }
     }
 
-    /// The milliseconds.
+    /// Returns the milliseconds.
     pub const fn count(self) -> u8 {
         self.0
     }
@@ -65,12 +65,12 @@ impl Default for Interval {
 pub struct Power(u8);
 
 impl Power {
-    /// So many milliamperes, an odd number as the even one above. `None` where that is not 2 to 500.
+    /// Returns the power of so many milliamperes, an odd number rounded up; `None` if that is not 2 to 500.
     pub const fn milliamperes(count: u16) -> Option<Power> {
         if count < 2 || count > 500 { None } else { Some(Power(count.div_ceil(2) as u8)) }
     }
 
-    /// The milliamperes.
+    /// Returns the milliamperes.
     pub const fn count(self) -> u16 {
         2 * self.0 as u16
     }
@@ -150,12 +150,13 @@ pub struct Product<'a> {
 }
 
 impl Product<'static> {
-    /// That of the identity for tests.
+    /// The product of [`Identity::TEST`], for tests and not for products.
     pub const TEST: Product<'static> = Product::of(Identity::TEST);
 }
 
 impl<'a> Product<'a> {
-    /// The product of an identity. In a `static` it takes no RAM.
+    /// Makes the descriptors of an identity (USB 2.0 sections 9.6.1 and 9.6.3, HID 1.11 section 6.2.1). In a `static` they
+    /// take no RAM.
     pub const fn of(identity: Identity<'a>) -> Product<'a> {
         let (mut device, mut configuration, mut hid) = (DEVICE_DESCRIPTOR, CONFIGURATION_DESCRIPTOR, HID_DESCRIPTOR);
         [device[8], device[9]] = identity.vendor_id.to_le_bytes();
@@ -173,12 +174,12 @@ impl<'a> Product<'a> {
         Product { identity, device, configuration, hid }
     }
 
-    /// The identity.
+    /// Returns the identity.
     pub const fn identity(&self) -> &Identity<'a> {
         &self.identity
     }
 
-    /// The descriptors, as [`DeviceLayer::new`](crate::DeviceLayer::new) is lent them.
+    /// Returns the descriptors, as [`DeviceLayer::new`](crate::DeviceLayer::new) takes them.
     pub const fn descriptors(&self) -> Descriptors<'_> {
         Descriptors {
             device: &self.device,
@@ -196,7 +197,7 @@ const fn named(name: &[u16], index: u8) -> u8 {
     if name.is_empty() { 0 } else { index }
 }
 
-/// A text in UTF-16, as the names of an [`Identity`] are, made by the compiler.
+/// Makes a text in UTF-16 when it is compiled, as the names of an [`Identity`] are.
 ///
 /// ```
 /// assert_eq!(wuzhikar_device::utf16!("k\u{1f511}"), &[0x6b, 0xd83d, 0xdd11]);

@@ -12,7 +12,7 @@
 //!
 //! **What is proved.** The device layer and both buffers are exported from a proved source (`crates/usb_device`), as the
 //! keyboard is: a control write that the host saw the end of was confirmed by the device behind the layer, and the host takes
-//! as new each report, whole and in their order, whatever acknowledgements are lost. Written by hand, and tested, are
+//! as new each report that SET_PROTOCOL did not drop, whole and in their order, whatever acknowledgements are lost. Written by hand, and tested, are
 //! `Keys`, `Identity`, `Product`, `Device`, and the calls of `UsbDevice` that name the keyboard. `no_std`, no allocator, no
 //! unsafe code.
 //!

@@ -198,6 +198,7 @@ mod names;
 pub mod parts;
 #[doc(hidden)]
 pub mod rattle;
+pub mod texts;
 pub mod usages;
 mod values;
 

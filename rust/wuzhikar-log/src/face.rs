@@ -23,7 +23,8 @@ impl Log {
     ///
     /// # Errors
     ///
-    /// `NotNow`, `Unsound` or `NoRoom`.
+    /// In this order: `NotNow` while something is in progress, `Unsound` if a page is unsound, `NoRoom` if the active page is
+    /// full or a blank flash has none. Nothing changes then.
     pub fn append(&mut self, word: u32) -> Result<(), LogRefusal> {
         if self.busy() {
             return Err(LogRefusal::NotNow);
@@ -42,7 +43,8 @@ impl Log {
     ///
     /// # Errors
     ///
-    /// `NotNow`, `Unsound` or `Worn`.
+    /// In this order: `NotNow` while something is in progress, `Unsound` if a page is unsound, `Worn` if the active
+    /// page has the greatest sequence number. Nothing changes then.
     pub fn turn(&mut self) -> Result<(), LogRefusal> {
         if self.busy() {
             return Err(LogRefusal::NotNow);
@@ -58,7 +60,7 @@ impl Log {
     ///
     /// # Errors
     ///
-    /// `NotNow`.
+    /// `NotNow` if no compaction waits for a word, or has room for it.
     pub fn copy(&mut self, word: u32) -> Result<(), LogRefusal> {
         if !self.wants_copy() {
             return Err(LogRefusal::NotNow);
@@ -71,7 +73,7 @@ impl Log {
     ///
     /// # Errors
     ///
-    /// `NotNow`.
+    /// `NotNow` if no compaction waits for that.
     pub fn end_copies(&mut self) -> Result<(), LogRefusal> {
         if !self.wants() {
             return Err(LogRefusal::NotNow);
@@ -143,21 +145,37 @@ impl<F: NorFlash> FlashLog<F> {
     }
 
     /// Takes a word to append, which the next step programs ([`Log::append`]).
+    ///
+    /// # Errors
+    ///
+    /// `NotNow`, `Unsound` or `NoRoom`, as there.
     pub fn append(&mut self, word: u32) -> Result<(), LogRefusal> {
         self.log.append(word)
     }
 
     /// Begins a compaction to the next page ([`Log::turn`]).
+    ///
+    /// # Errors
+    ///
+    /// `NotNow`, `Unsound` or `Worn`, as there.
     pub fn turn(&mut self) -> Result<(), LogRefusal> {
         self.log.turn()
     }
 
     /// Gives a compaction the next word to copy ([`Log::copy`]).
+    ///
+    /// # Errors
+    ///
+    /// `NotNow` if no compaction waits for a word, or has room for it.
     pub fn copy(&mut self, word: u32) -> Result<(), LogRefusal> {
         self.log.copy(word)
     }
 
     /// Ends the copies of a compaction ([`Log::end_copies`]).
+    ///
+    /// # Errors
+    ///
+    /// `NotNow` if no compaction waits for that.
     pub fn end_copies(&mut self) -> Result<(), LogRefusal> {
         self.log.end_copies()
     }

@@ -1,16 +1,16 @@
-//! A log of words over NOR flash that no loss of power spoils.
+//! A log of words of 32 bits in NOR flash, which survives every power loss.
 //!
-//! [`FlashLog`] is the log with its flash; [`Log`] is the log alone, which is lent its flash at each call. What it stands
-//! on is the trait [`NorFlash`]: 2 to 8 pages of 512 slots of 8 bytes. Each word is kept beside its complement in a slot
-//! of its own; a full page is turned over to the next one, whose header is written last. Each call makes at most one
-//! operation of the flash, and after a loss of power in any of them a mount finds each word that was told to be there.
-//! No allocator is used.
+//! [`FlashLog`] is the log with its flash; [`Log`] is the log alone, which borrows its flash at each call. The trait
+//! [`NorFlash`] is the flash: 2 to 8 pages of 512 slots of 8 bytes. A slot keeps a word beside its complement. When a page
+//! is full, the words that are still wanted move to the next page, whose header is written last. After a power loss inside
+//! any flash operation a mount finds each word that was confirmed. No allocator is used.
+//!
+//! [`FlashLog::push`], [`FlashLog::rewrite`] and [`FlashLog::format`] return when all is done. The other calls leave each
+//! flash operation to [`FlashLog::step`].
 //!
 //! [`SlotFlash`] makes such a flash of a driver with write and erase units of any size, whose calls are those of
-//! `embedded-storage` ([`FlashDriver`]). For a chip that keeps error correction beside each write unit [`PairedFlash`]
-//! on a [`UnitFlash`] does, or on an [`EccFlash`] of your own. [`FlashLog::push`], [`FlashLog::rewrite`] and [`FlashLog::format`] come back when
-//! all is done; the others leave each operation of the flash to [`FlashLog::step`]. [`check_driver`], run once on the chip
-//! over spare pages, names what a flash does that no log can stand on.
+//! `embedded-storage` ([`FlashDriver`]). For a chip with error correction take [`PairedFlash`] on a [`UnitFlash`], or on an
+//! [`EccFlash`] of your own. [`check_driver`], run once on the chip over spare pages, names what the flash does wrong.
 //!
 //! **Exported from a proved source.** What is in the hidden module `parts` is the text of crates that are proved in Rattle
 //! (Rust with contracts), without what the prover alone reads. The proofs speak of that source, and of a flash that does

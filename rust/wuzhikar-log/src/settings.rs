@@ -1,5 +1,7 @@
 //! Settings and their flash in one. Each call is the exported one, lent its flash. Written by hand: tested, not proved.
 
+mod values;
+
 use crate::page_count::PageCount;
 use crate::parts::flash_model::{FlashFault, NorFlash};
 use crate::parts::settings::{Change, IDS, Settings, SettingsError, Value, Work};
@@ -74,9 +76,26 @@ impl<F: NorFlash> FlashSettings<F> {
         self.settings.room_left(&self.flash)
     }
 
-    /// Stores a value of at most 64 bytes. Nothing is written where the id has this value already.
-    pub fn set(&mut self, id: u16, bytes: &[u8]) -> Result<(), SettingsError> {
-        self.settings.set(&mut self.flash, id, bytes)
+    /// Stores a value of at most 64 bytes: bytes, text, or a [`Value`] of a number. Nothing is written where the id has this
+    /// value already.
+    ///
+    /// ```
+    /// # fn main() -> Result<(), Box<dyn core::error::Error>> {
+    /// # #[cfg(feature = "sim")]
+    /// # {
+    /// use wuzhikar_log::{FlashSettings, SimFlash, Value};
+    ///
+    /// let mut settings = FlashSettings::mount(SimFlash::blank(2)?)?;
+    /// settings.set(1, "my network")?;
+    /// settings.set(2, [10, 0, 0, 7])?;
+    /// settings.set(3, Value::from(1_500u16))?;
+    /// assert_eq!(settings.get(3).and_then(|value| value.as_u16()), Some(1_500));
+    /// # }
+    /// # Ok(())
+    /// # }
+    /// ```
+    pub fn set(&mut self, id: u16, bytes: impl AsRef<[u8]>) -> Result<(), SettingsError> {
+        self.settings.set(&mut self.flash, id, bytes.as_ref())
     }
 
     /// Takes an id its value. Nothing is written where it has none.
@@ -128,49 +147,6 @@ impl<F: NorFlash> UnderWay<'_, F> {
         self.of.settings.step(&mut self.of.flash, self.changes)
     }
 }
-
-impl Value {
-    /// The bytes as text, where they are UTF-8.
-    pub fn as_str(&self) -> Option<&str> {
-        core::str::from_utf8(self.as_bytes()).ok()
-    }
-
-    /// The truth value of one byte, 0 or 1.
-    pub fn as_bool(&self) -> Option<bool> {
-        match self.as_bytes() {
-            [0] => Some(false),
-            [1] => Some(true),
-            _ => None,
-        }
-    }
-}
-
-macro_rules! numbers {
-    ($($type:ty, $name:ident);*) => {
-        impl Value {
-            $(/// The number of so many bytes, the lowest one first.
-            pub fn $name(&self) -> Option<$type> {
-                Some(<$type>::from_le_bytes(self.as_bytes().try_into().ok()?))
-            })*
-        }
-    };
-}
-
-numbers!(u8, as_u8; u16, as_u16; u32, as_u32; u64, as_u64);
-
-impl Clone for Value {
-    fn clone(&self) -> Value {
-        self.copied()
-    }
-}
-
-impl PartialEq for Value {
-    fn eq(&self, other: &Value) -> bool {
-        self.as_bytes() == other.as_bytes()
-    }
-}
-
-impl Eq for Value {}
 
 impl core::fmt::Display for SettingsError {
     fn fmt(&self, f: &mut core::fmt::Formatter<'_>) -> core::fmt::Result {

@@ -28,8 +28,8 @@ impl<F: NorFlash> FlashLog<F> {
     ///
     /// # Errors
     ///
-    /// `Refused` with `NoRoom` if the active page is full, or a blank flash has none: [`rewrite`](FlashLog::rewrite) makes
-    /// room. A flash fault otherwise.
+    /// `Refused` with the reasons of [`append`](FlashLog::append): after `NoRoom` a [`rewrite`](FlashLog::rewrite) makes room.
+    /// `Fault` if the flash failed; the words on the page stay.
     pub fn push(&mut self, word: u32) -> Result<(), WriteError> {
         self.append(word)?;
         self.finish()
@@ -40,7 +40,8 @@ impl<F: NorFlash> FlashLog<F> {
     ///
     /// # Errors
     ///
-    /// `Refused` with `NoRoom` if there are more than 511 words. A flash fault otherwise.
+    /// `Refused` with the reasons of [`turn`](FlashLog::turn), and with `NoRoom` if there are more than 511 words. `Fault` if
+    /// the flash failed. The words before stay then.
     pub fn rewrite(&mut self, words: impl IntoIterator<Item = u32>) -> Result<(), WriteError> {
         self.turn()?;
         for word in words {
@@ -55,8 +56,12 @@ impl<F: NorFlash> FlashLog<F> {
         self.finish()
     }
 
-    /// Turns to the next page with those of the words that are kept, in their order, and comes back when that is stored. No
-    /// copy of the words is made: each is read from the page before, which stays until the new one takes its place.
+    /// Compacts to the next page with the words that `keep` takes, in their order, and returns when they are stored. Each is
+    /// read from the page before, without a copy in RAM.
+    ///
+    /// # Errors
+    ///
+    /// `Refused` with the reasons of [`turn`](FlashLog::turn), `Fault` if the flash failed. The words before stay then.
     ///
     /// ```
     /// # fn main() -> Result<(), Box<dyn core::error::Error>> {

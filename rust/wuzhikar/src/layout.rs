@@ -128,7 +128,8 @@ impl<const R: usize, const C: usize> Switches<R, C> {
     /// The number of a place without a switch.
     pub const NO_KEY: u8 = u8::MAX;
 
-    /// The key of each switch, by row and column: with n switches each of 0 to n - 1 once, and n at most 96.
+    /// Makes the table from the key of each switch, by row and column: of n switches, at most 96, each number of 0 to
+    /// n - 1 once.
     ///
     /// # Panics
     ///
@@ -150,8 +151,8 @@ impl<const R: usize, const C: usize> Switches<R, C> {
         Switches { keys }
     }
 
-    /// A layer of a [`Layout`], from the code of each switch, by row and column. Keys without a switch do nothing, and what
-    /// stands at a place without a switch is not looked at.
+    /// Makes a layer of a [`Layout`] from the code of each switch, by row and column. Keys without a switch do nothing, and
+    /// codes at places without a switch are ignored.
     pub const fn layer(&self, codes: [[u16; C]; R]) -> [u16; KEYS] {
         let (mut layer, mut place) = ([0; KEYS], 0);
         while place < R * C {
@@ -164,7 +165,7 @@ impl<const R: usize, const C: usize> Switches<R, C> {
         layer
     }
 
-    /// The scan of a matrix; `is_closed` says of a row and a column whether their switch is closed.
+    /// Returns the scan of a matrix; `is_closed` says of a row and a column whether their switch is closed.
     pub fn scan(&self, is_closed: impl Fn(usize, usize) -> bool) -> Scan {
         let mut rows = [0; 6];
         for (row, keys) in self.keys.iter().enumerate() {

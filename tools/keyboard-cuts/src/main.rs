@@ -9,17 +9,17 @@
 //! `tools/keyboard-cuts/run` builds and runs it.
 
 #[allow(dead_code)]
-#[path = "../../../examples/settings/src/code.rs"]
+#[path = "../../../tests/settings/src/code.rs"]
 mod code;
 #[allow(dead_code)]
-#[path = "../../../examples/settings/src/ecc.rs"]
+#[path = "../../../tests/settings/src/ecc.rs"]
 mod ecc;
 mod ledger;
 #[allow(dead_code)]
-#[path = "../../../examples/settings/src/power.rs"]
+#[path = "../../../tests/settings/src/power.rs"]
 mod power;
 #[allow(dead_code)]
-#[path = "../../../examples/settings/src/random.rs"]
+#[path = "../../../tests/settings/src/random.rs"]
 mod random;
 mod session;
 mod wrong;

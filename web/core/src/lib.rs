@@ -2,7 +2,7 @@
 //!
 //! An instance of the module is one device or one report descriptor: the page makes a new instance for each, so a copy of an
 //! instance's memory is a copy of the device. Bytes go in and out through one buffer, at [`buffer`]; every other call takes
-//! and answers numbers. The calls of the device stand in [`device`], those of the reader in [`reader`].
+//! and answers numbers. The calls of the device stand in [`device`], those of the reader in [`reader`] and [`texts`].
 //!
 //! Written by hand: tested, not proved. `unsafe` stands in [`memory`] alone, beside the names that are exported.
 #![cfg_attr(target_arch = "wasm32", no_std)]
@@ -15,6 +15,7 @@ pub mod device;
 pub mod flash;
 pub mod memory;
 pub mod reader;
+pub mod texts;
 
 use memory::Kept;
 

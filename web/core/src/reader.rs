@@ -4,17 +4,21 @@
 
 use crate::memory::Kept;
 use crate::{BUFFER, Buffer, REFUSED, written};
-use wuzhikar_reader::{
-    BOOT_DESCRIPTOR, Descriptor, ExtractError, Found, GlobalTag, Items, Kind, LocalTag, MainTag, Tag, extract, parse, pressed,
-};
+use alloc::vec::Vec;
+use wuzhikar_hid::{Descriptor, Kind, ParseFault, Reader, ReaderError, ReadingError, Within};
+use wuzhikar_reader::{BOOT_DESCRIPTOR, GlobalTag, Items, LocalTag, MainTag, Tag};
 
-static DESCRIPTOR: Kept<Option<Descriptor>> = Kept::new(None);
+static READER: Kept<Option<Reader>> = Kept::new(None);
 
-fn with(act: impl FnOnce(&Descriptor, &mut Buffer) -> i32) -> i32 {
-    DESCRIPTOR.with(|descriptor| match descriptor {
-        Some(descriptor) => BUFFER.with(|buffer| act(descriptor, buffer)),
+fn with_reader(act: impl FnOnce(&Reader, &mut Buffer) -> i32) -> i32 {
+    READER.with(|reader| match reader {
+        Some(reader) => BUFFER.with(|buffer| act(reader, buffer)),
         None => REFUSED,
     })
+}
+
+fn with(act: impl FnOnce(&Descriptor, &mut Buffer) -> i32) -> i32 {
+    with_reader(|reader, buffer| act(reader.descriptor(), buffer))
 }
 
 /// Puts numbers into a record of the buffer.
@@ -29,20 +33,24 @@ impl Record<'_> {
     }
 }
 
-/// Reads the first `length` bytes of the buffer as a report descriptor (`parse`): 0, or the number of its first fault, 1 to
+/// Reads the first `length` bytes of the buffer as a report descriptor (`Reader::new`): 0, or the number of its first fault, 1 to
 /// 17, whose offset is then the first four bytes of the buffer. The instance holds the descriptor that was read.
 #[unsafe(no_mangle)]
 pub extern "C" fn descriptor(length: usize) -> i32 {
     BUFFER.with(|buffer| {
         let Some(text) = buffer.get(..length) else { return REFUSED };
-        match parse(text) {
+        match Reader::new(text) {
             Ok(read) => {
-                DESCRIPTOR.with(|descriptor| *descriptor = Some(read));
+                READER.with(|reader| *reader = Some(read));
                 0
             }
-            Err(error) => {
+            Err(ReaderError::Parse(error)) => {
                 Record(buffer).put(error.offset as i64, 4);
                 error.fault.number().into()
+            }
+            Err(ReaderError::Memory) => {
+                Record(buffer).put(0, 4);
+                ParseFault::Memory.number().into()
             }
         }
     })
@@ -151,33 +159,51 @@ pub extern "C" fn usage(field: usize, place: usize) -> i32 {
     with(|descriptor, _| descriptor.usage(field, place).unwrap_or(0) as i32)
 }
 
-/// Reads the first `length` bytes of the buffer as an input report (`extract`), and writes what is found, but for the first
-/// `passed`: usage (four bytes) and value (eight), for each, over the report and as far as the buffer has room. How many there
-/// are in all, or -100 less the number of the refusal, 1 to 4.
+/// Reads the first `length` bytes of the buffer as an input report (`Reader::read`), and writes its values, but for the first
+/// `passed`: field and place (two bytes each), usage (four), value (eight), whether there is a usage, and 0 in range, 1 null or 2
+/// out of range (a byte each), for each, over the report and as far as the buffer has room. How many there are in all, or -100
+/// less the number of the refusal, 1 to 4.
 #[unsafe(no_mangle)]
 pub extern "C" fn read(length: usize, passed: usize) -> i32 {
-    with(|descriptor, buffer| match found(descriptor, buffer, length) {
-        Ok(found) => {
-            for (one, place) in found.iter().skip(passed).zip(buffer.chunks_exact_mut(12)) {
-                let mut record = Record(place);
-                record.put(one.usage.into(), 4);
-                record.put(one.value, 8);
-            }
-            found.len() as i32
+    with_reader(|reader, buffer| {
+        let reported = report_of(buffer, length);
+        let reading = match reported.as_ref().map(|report| reader.read(Kind::Input, report)) {
+            Ok(Ok(reading)) => reading,
+            Ok(Err(error)) => return refusal(error),
+            Err(why) => return *why,
+        };
+        let mut count = 0;
+        let mut places = buffer.chunks_exact_mut(18);
+        for value in reading {
+            count += 1;
+            let Some(place) = (count > passed).then(|| places.next()).flatten() else { continue };
+            let within = match value.within {
+                Within::Range => 0,
+                Within::Null => 1,
+                Within::Out => 2,
+            };
+            let mut record = Record(place);
+            record.put(value.field as i64, 2);
+            record.put(value.place.into(), 2);
+            record.put(value.usage.unwrap_or(0).into(), 4);
+            record.put(value.raw, 8);
+            record.put(value.usage.is_some().into(), 1);
+            record.put(within, 1);
         }
-        Err(why) => why,
+        count as i32
     })
 }
 
-/// Reads a report as [`read`] does, and writes the usages that are on (`pressed`), four bytes each. How many there are in all.
+/// Reads a report as [`read`] does, and writes the usages that are on (`Reader::pressed`), four bytes each. How many there are in
+/// all.
 #[unsafe(no_mangle)]
 pub extern "C" fn read_pressed(length: usize, passed: usize) -> i32 {
-    with(|descriptor, buffer| {
-        let found = match found(descriptor, buffer, length) {
-            Ok(found) => found,
-            Err(why) => return why,
+    with_reader(|reader, buffer| {
+        let Some(report) = buffer.get(..length) else { return REFUSED };
+        let usages = match reader.pressed(Kind::Input, report) {
+            Ok(usages) => usages,
+            Err(error) => return refusal(error),
         };
-        let Ok(usages) = pressed(&found) else { return refusal(ExtractError::Memory) };
         for (usage, place) in usages.iter().skip(passed).zip(buffer.chunks_exact_mut(4)) {
             place.copy_from_slice(&usage.to_le_bytes());
         }
@@ -185,11 +211,20 @@ pub extern "C" fn read_pressed(length: usize, passed: usize) -> i32 {
     })
 }
 
-fn found(descriptor: &Descriptor, buffer: &Buffer, length: usize) -> Result<alloc::vec::Vec<Found>, i32> {
+/// A copy of a report that is overwritten.
+fn report_of(buffer: &Buffer, length: usize) -> Result<Vec<u8>, i32> {
     let report = buffer.get(..length).ok_or(REFUSED)?;
-    extract(descriptor, report).map_err(refusal)
+    let mut copy = Vec::new();
+    copy.try_reserve_exact(length).map_err(|_| refusal(ReadingError::Memory))?;
+    copy.extend_from_slice(report);
+    Ok(copy)
 }
 
-fn refusal(error: ExtractError) -> i32 {
-    -100 - i32::from(error.number())
+fn refusal(error: ReadingError) -> i32 {
+    match error {
+        ReadingError::Empty => -101,
+        ReadingError::UnknownReport | ReadingError::OtherId | ReadingError::NoSuchField => -102,
+        ReadingError::Short => -103,
+        ReadingError::Memory => -104,
+    }
 }

@@ -3,6 +3,7 @@ use Rattle.std.specs.Prelude.{◌≡◌, ℕ, ◌-◌, Bool, true, false, List}
 use Rattle.usb_device.specs.declared.answer.EpAnswer.{EpAnswer}
 use Rattle.usb_device.specs.declared.answer.EpAnswer.TheVariants.{Ack}
 use Rattle.usb_device.specs.declared.guard.Guard.{Guard}
+use Rattle.usb_device.specs.declared.guarded.Guarded.{Guarded}
 use Rattle.usb_device.specs.declared.guard.Passage as Kept
 use Rattle.usb_device.specs.Calls.{EpCall}
 use Rattle.usb_device.specs.Confirmed.{asked_of}
@@ -38,3 +39,6 @@ left_by false pace left = left
 -- it stands for these calls of its bus
 abbrev pub StandsGuarded : {E : Type 0} → (List EpCall → E → Type 0) → List EpCall → Guard → E → Type 0
 StandsGuarded stands calls guard behind = (pace : ℕ) × (past : List GuardCall) × Guards stands pace past guard behind × (calls_met past ≡ calls)
+
+abbrev pub guarded_stands : {E : Type 0} → (List EpCall → E → Type 0) → List EpCall → Guarded E → Type 0
+guarded_stands stands calls g = StandsGuarded stands calls g.guard g.behind

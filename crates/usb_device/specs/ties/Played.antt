@@ -3,11 +3,12 @@ use Rattle.std.specs.Prelude.{ℕ, Bool, true, false, List, [], ◌∷◌, map, 
 use Rattle.std.specs.Option.{option_map}
 use Rattle.usb_device.specs.declared.played_buffers.Brought as Noted
 use Rattle.usb_device.specs.declared.played_buffers.PlayedBuffers.{PlayedBuffers}
-use Rattle.usb_device.specs.Bus1.{Bus1, Got, New, Anew, Goes1}
+use Rattle.usb_device.specs.Bus1.{Bus1, Got, New, Anew, GivenUp, Goes1}
 
 abbrev pub got_of : Noted.Brought → Got
 got_of (Noted.TheVariants.New packet) = New packet.items
 got_of (Noted.TheVariants.Anew state) = Anew state
+got_of Noted.TheVariants.GivenUp = GivenUp
 
 abbrev pub slots_of : Option (List ℕ) → List (List ℕ)
 slots_of (Some packet) = packet ∷ []

@@ -1,5 +1,5 @@
 -- Only ties code to its definitions: the bus of the controller that a script plays.
-use Rattle.std.specs.Prelude.{Bool, List, map}
+use Rattle.std.specs.Prelude.{ℕ, Bool, true, false, List, map}
 use Rattle.usb_device.specs.declared.controller.Input.{Input}
 use Rattle.usb_device.specs.declared.controller.Input.TheVariants as Inputs
 use Rattle.usb_device.specs.declared.played_controller.Saw as Noted
@@ -25,3 +25,8 @@ played_bus_0 c = record { seen = map seen_of c.seen.items; input = mode_by c.inp
 -- something may have happened
 abbrev pub Moved0 : Bus → Bus → Type 0
 Moved0 b next = (steps : List Bus) × Goes steps b next
+
+-- the address is 0 from the moment that the bus is reset
+abbrev pub address_by : Bool → ℕ → ℕ
+address_by true address = 0
+address_by false address = address

@@ -1,8 +1,7 @@
 -- Only ties code to its definitions: a keyboard and its flash stand for the calls of their session, newest first.
 use Rattle.shapes.specs.Shapes.{Bytes}
 use Rattle.std.specs.Prelude.{◌≡◌, ◌<◌, ◌∷◌, ◌++◌, ℕ, Some, List}
-use Rattle.layers.specs.Standard.{standard}
-use Rattle.layers.specs.Codes.{layers, keys}
+use Rattle.layers.specs.Codes.{layers, keys, DefaultCodes}
 use Rattle.layers.specs.Entries.{written}
 use Rattle.layers.specs.declared.command.Command.{Command}
 use Rattle.usb_device.specs.Calls.{EpCall}
@@ -14,33 +13,34 @@ use Rattle.keyboard.specs.ties.Value.{KeyboardValue}
 use Rattle.usb_keyboard.specs.Plain.{usb_calls}
 use Rattle.usb_keyboard.specs.Stored.{Has}
 
--- of the session that began on the image `start`, and the flash is as the session left it
-pub record RunsSince (start : Bytes) (past : List Call) (keyboard : KeyboardValue) (image : Bytes) : Type 0 where
-  pub stands : StandsFor standard start past keyboard
-  pub image_is : image_after start past ≡ image
+module _ (defaults : DefaultCodes) where
+  -- of the session that began on the image `start`, and the flash is as the session left it
+  pub record RunsSince (start : Bytes) (past : List Call) (keyboard : KeyboardValue) (image : Bytes) : Type 0 where
+    pub stands : StandsFor defaults start past keyboard
+    pub image_is : image_after start past ≡ image
 
--- of a session with these calls of its bus
-abbrev pub StandsForUsb : List EpCall → KeyboardValue → Bytes → Type 0
-StandsForUsb calls keyboard image = (start : Bytes) × (past : List Call) × RunsSince start past keyboard image × (usb_calls past ≡ calls)
+  -- of a session with these calls of its bus
+  abbrev pub StandsForUsb : List EpCall → KeyboardValue → Bytes → Type 0
+  StandsForUsb calls keyboard image = (start : Bytes) × (past : List Call) × RunsSince start past keyboard image × (usb_calls past ≡ calls)
 
--- the keyboard and its flash stand for a session in which the command is confirmed and settled; and each code that it writes is in
--- the flash, also behind a power loss, unless a command that was accepted since writes the entry
-pub record IsStored (keyboard : KeyboardValue) (image : Bytes) (command : Command) : Type 0 where
-  pub start : Bytes
-  pub past : List Call
-  pub runs : RunsSince start past keyboard image
-  pub before : List Call
-  pub confirmed : IsConfirmed past before command
-  pub settled : IsSettled standard start past before command
-  pub has : (layer key code : ℕ) → layer < layers → key < keys → written standard command layer key ≡ Some code
-      → NoneAcceptedWrites standard (confirmed.after ++ confirmation ∷ confirmed.between) (confirmed.packet ∷ before) layer key → Has start past layer key code
+  -- the keyboard and its flash stand for a session in which the command is confirmed and settled; and each code that it writes is in
+  -- the flash, also behind a power loss, unless a command that was accepted since writes the entry
+  pub record IsStored (keyboard : KeyboardValue) (image : Bytes) (command : Command) : Type 0 where
+    pub start : Bytes
+    pub past : List Call
+    pub runs : RunsSince start past keyboard image
+    pub before : List Call
+    pub confirmed : IsConfirmed past before command
+    pub settled : IsSettled defaults start past before command
+    pub has : (layer key code : ℕ) → layer < layers → key < keys → written defaults command layer key ≡ Some code
+        → NoneAcceptedWrites defaults (confirmed.after ++ confirmation ∷ confirmed.between) (confirmed.packet ∷ before) layer key → Has defaults start past layer key code
 
--- a step of the flash work
-abbrev pub StepIs : KeyboardValue → Bytes → KeyboardValue → Bytes → Type 0
-StepIs old image new left =
-    (start : Bytes) (past : List Call) → RunsSince start past old image → (work : Work) × RunsSince start (Worked work left ∷ past) new left
+  -- a step of the flash work
+  abbrev pub StepIs : KeyboardValue → Bytes → KeyboardValue → Bytes → Type 0
+  StepIs old image new left =
+      (start : Bytes) (past : List Call) → RunsSince start past old image → (work : Work) × RunsSince start (Worked work left ∷ past) new left
 
--- a scan of the matrix
-abbrev pub ScanIs : KeyboardValue → Bytes → List ℕ → KeyboardValue → Bytes → Type 0
-ScanIs old image rows new left =
-    (start : Bytes) (past : List Call) → RunsSince start past old image → RunsSince start (Scanned (record { rows = rows }) ∷ past) new left
+  -- a scan of the matrix
+  abbrev pub ScanIs : KeyboardValue → Bytes → List ℕ → KeyboardValue → Bytes → Type 0
+  ScanIs old image rows new left =
+      (start : Bytes) (past : List Call) → RunsSince start past old image → RunsSince start (Scanned (record { rows = rows }) ∷ past) new left

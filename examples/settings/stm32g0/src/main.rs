@@ -19,10 +19,13 @@ const PAGES: usize = 2;
 /// Whether the NMI came of a double error since a read of the flash began.
 static DOUBLE_ERROR: AtomicBool = AtomicBool::new(false);
 
-/// A request that an interrupt has left: bit 31, and a channel in bits 7 to 0.
+/// A request that an interrupt has left: bit 31, and a channel in bits 7 to 0. Its name is kept: who sees no writer of a request
+/// takes it for 0, and leaves out all that stores.
+#[unsafe(no_mangle)]
 pub static REQUEST: AtomicU32 = AtomicU32::new(0);
 
 /// How the last request ended: 0 it is stored, 1 it is refused.
+#[unsafe(no_mangle)]
 pub static ANSWER: AtomicU32 = AtomicU32::new(0);
 
 /// The registers and the flash of the chip.

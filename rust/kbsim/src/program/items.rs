@@ -3,77 +3,76 @@
 use super::ends::Ended;
 use std::io::{self, Write};
 use wuzhikar_hid::UsageName;
-use wuzhikar_reader::{Item, Items, Kind, MainTag, ParseError, ParseFault, Tag, parse as parsed};
+use wuzhikar_reader::parts::descriptor_parse::beside::{Beside, Refusal, parse_beside};
+use wuzhikar_reader::parts::descriptor_parse::globals::Globals;
+use wuzhikar_reader::parts::descriptor_parse::number::{signed, unsigned};
+use wuzhikar_reader::parts::descriptor_parse::state::State;
+use wuzhikar_reader::{AllocError, Item, Kind, MainTag, ParseError, ParseFault, Tag};
 
-/// The Globals that say how other items read.
-#[derive(Clone, Copy, Default)]
-pub struct Globals {
-    pub page: u32,
-    pub size: u32,
-    pub count: u32,
-    /// The Logical Minimum.
-    min: i64,
-}
-
-/// What the items before one say of it: the Globals in force and those that are saved, and how many collections are open.
-#[derive(Default)]
-pub struct Context {
-    pub globals: Globals,
-    saved: Vec<Globals>,
-    pub depth: usize,
-}
-
-impl Context {
-    /// Takes an item that shows no fault.
-    pub fn take(&mut self, item: &Item<'_>) {
-        let number = unsigned(item.bytes);
-        match (item.tag(), item.prefix & 0xFC) {
-            (Tag::Main(MainTag::Collection), _) => self.depth += 1,
-            (Tag::Main(MainTag::EndCollection), _) => self.depth = self.depth.saturating_sub(1),
-            (Tag::Global(_), 0x04) => self.globals.page = number % 0x1_0000,
-            (Tag::Global(_), 0x14) => self.globals.min = signed(item.bytes),
-            (Tag::Global(_), 0x74) => self.globals.size = number,
-            (Tag::Global(_), 0x94) => self.globals.count = number,
-            (Tag::Global(_), 0xA4) => self.saved.push(self.globals),
-            (Tag::Global(_), 0xB4) => self.globals = self.saved.pop().unwrap_or(self.globals),
-            _ => {}
-        }
+/// How many collections are open behind an item, of those before it.
+pub fn depth_behind(item: &Item<'_>, depth: usize) -> usize {
+    match item.tag() {
+        Tag::Main(MainTag::Collection) => depth + 1,
+        Tag::Main(MainTag::EndCollection) => depth.saturating_sub(1),
+        _ => depth,
     }
+}
 
-    /// The collections that an item stands in; an End Collection stands below its Collection.
-    fn depth_of(&self, item: &Item<'_>) -> usize {
-        if item.tag() == Tag::Main(MainTag::EndCollection) { self.depth.saturating_sub(1) } else { self.depth }
+/// An item in words: where it begins and ends, and in how many collections it stands.
+struct Line {
+    offset: usize,
+    end: usize,
+    depth: usize,
+    words: String,
+}
+
+/// The items that the parser met, up to its first fault, and how many collections are open.
+#[derive(Default)]
+struct Lines {
+    all: Vec<Line>,
+    depth: usize,
+}
+
+impl Beside for Lines {
+    fn take(&mut self, item: &Item<'_>, before: &State) -> Result<(), AllocError> {
+        let head = if item.prefix == 0xFE { 3 } else { 1 };
+        let behind = depth_behind(item, self.depth);
+        // (An End Collection stands below its Collection.)
+        self.all.push(Line {
+            offset: item.offset,
+            end: item.offset + head + item.bytes.len(),
+            depth: self.depth.min(behind),
+            words: words_of(item, before.globals()),
+        });
+        self.depth = behind;
+        Ok(())
     }
 }
 
 /// Prints a line for each item; of a descriptor with a fault those up to it, and the fault is answered.
 pub fn parse(text: &[u8], out: &mut impl Write) -> Result<(), Ended> {
-    match parsed(text).err() {
-        None => Ok(put_items(text, None, out)?),
-        Some(error) if error.fault == ParseFault::Memory => Err(Ended::memory()),
-        Some(error) => {
-            put_items(text, Some(error), out)?;
+    let mut lines = Lines::default();
+    match parse_beside((), text, &mut lines).err() {
+        None => Ok(put_lines(text, &lines.all, None, out)?),
+        Some(Refusal::Parse(error)) if error.fault != ParseFault::Memory => {
+            put_lines(text, &lines.all, Some(error), out)?;
             let line = format!("fault parse {} at {}", error.fault.number(), error.offset);
             Err(Ended::fault(line, super::sentences::of_item(text, error)))
         }
+        Some(_) => Err(Ended::memory()),
     }
 }
 
-fn put_items(text: &[u8], fault: Option<ParseError>, out: &mut impl Write) -> io::Result<()> {
-    let (mut context, mut end) = (Context::default(), 0);
-    for item in Items::new(text).map_while(Result::ok) {
-        if fault.is_some_and(|error| error.offset < item.offset) {
-            break;
-        }
-        let head = if item.prefix == 0xFE { 3 } else { 1 };
-        end = item.offset + head + item.bytes.len();
-        put_bytes(item.offset, &text[item.offset..end], out)?;
-        write!(out, "{:indent$}{}", "", words_of(&item, &context.globals), indent = 2 * context.depth_of(&item))?;
-        match fault.filter(|error| error.offset == item.offset) {
+fn put_lines(text: &[u8], lines: &[Line], fault: Option<ParseError>, out: &mut impl Write) -> io::Result<()> {
+    let mut end = 0;
+    for line in lines.iter().take_while(|line| fault.is_none_or(|error| line.offset <= error.offset)) {
+        end = line.end;
+        put_bytes(line.offset, &text[line.offset..end], out)?;
+        write!(out, "{:indent$}{}", "", line.words, indent = 2 * line.depth)?;
+        match fault.filter(|error| error.offset == line.offset) {
             Some(error) => return writeln!(out, "  {}", mark(error.fault)),
             None => writeln!(out)?,
         }
-        context.take(&item);
     }
     // (A fault that no item has stands at the end, or at what is left of one.)
     let Some(error) = fault else { return Ok(()) };
@@ -165,7 +164,7 @@ fn value_of(item: &Item<'_>, globals: &Globals) -> String {
         (_, 0x64) => hex(number),
         // A usage of four bytes has a page of its own (HID 1.11, 6.2.2.8).
         (_, 0x08 | 0x18 | 0x28) if item.bytes.len() == 4 => usage_words(number, number),
-        (_, 0x08 | 0x18 | 0x28) => usage_words(globals.page << 16 | number, number),
+        (_, 0x08 | 0x18 | 0x28) => usage_words(u32::from(globals.page) << 16 | number, number),
         _ => number.to_string(),
     }
 }
@@ -228,15 +227,4 @@ fn usage_words(usage: u32, number: u32) -> String {
 /// A number in hex as the tables write it.
 fn hex(number: u32) -> String {
     format!("{number:02X}h")
-}
-
-/// The number that up to four bytes make, the least significant first.
-pub fn unsigned(bytes: &[u8]) -> u32 {
-    bytes.iter().take(4).rev().fold(0, |number, byte| number << 8 | u32::from(*byte))
-}
-
-/// The same in two's complement of as many bytes.
-fn signed(bytes: &[u8]) -> i64 {
-    let unused = 64 - 8 * bytes.len().clamp(1, 4);
-    i64::from(unsigned(bytes)) << unused >> unused
 }

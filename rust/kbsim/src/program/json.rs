@@ -2,7 +2,7 @@
 
 use super::details::bit_words;
 use super::ends::Ended;
-use super::items::{Context, unsigned};
+use super::items::depth_behind;
 use super::read::Names;
 use super::texts::reader_of;
 use serde_json::{Value as Json, json};
@@ -11,7 +11,11 @@ use wuzhikar_hid::{
     Detail, Details, Dimension, Kind, Naming, Reader, ReaderError, Reading, ReadingError, UsageName, Value, Within, details,
     namings,
 };
-use wuzhikar_reader::{Items, MainTag, Tag, parse as parsed};
+use wuzhikar_reader::parts::descriptor_parse::beside::{Beside, Refusal, parse_beside};
+use wuzhikar_reader::parts::descriptor_parse::globals::Globals;
+use wuzhikar_reader::parts::descriptor_parse::number::unsigned;
+use wuzhikar_reader::parts::descriptor_parse::state::State;
+use wuzhikar_reader::{AllocError, Item, MainTag, Tag, parse as parsed};
 
 /// The version of the schema.
 const VERSION: u32 = 1;
@@ -67,7 +71,7 @@ fn field(text: &[u8], details: &Details, place: usize, ranges: &[(u32, u32)], nu
 }
 
 /// The data items, those that take no bits among them: each with its place among the details, where it has one.
-fn fields(text: &[u8], reader: &Reader) -> Result<Vec<(Option<usize>, Json)>, ReaderError> {
+fn fields(text: &[u8], reader: &Reader) -> Result<Vec<(Option<usize>, Json)>, Refusal> {
     let mut number = 0;
     let mut all: Vec<(usize, Option<usize>, Json)> =
         empty(text)?.into_iter().map(|(offset, item)| (offset, None, item)).collect();
@@ -87,37 +91,56 @@ fn fields(text: &[u8], reader: &Reader) -> Result<Vec<(Option<usize>, Json)>, Re
 
 /// The data items that take no bits, since their size or count is 0, each with its offset. What one declares is what one bit of
 /// padding in its place does; its usages are those of the Usages before it, on the page in force.
-fn empty(text: &[u8]) -> Result<Vec<(usize, Json)>, ReaderError> {
-    let (mut context, mut before, mut usages, mut found) = (Context::default(), Vec::new(), Vec::new(), Vec::new());
-    for item in Items::new(text).map_while(Result::ok) {
-        let end = item.offset + 1 + item.bytes.len();
-        let globals = context.globals;
+struct Empty<'t> {
+    text: &'t [u8],
+    /// The Main and Global items so far: they alone say anything of those behind the next Main item.
+    before: Vec<u8>,
+    usages: Vec<u8>,
+    depth: usize,
+    found: Vec<(usize, Json)>,
+}
+
+impl Empty<'_> {
+    /// What an item that takes no bits declares.
+    fn told(&self, item: &Item<'_>, own: &[u8], globals: &Globals) -> Result<Json, ReaderError> {
+        let [low, high] = globals.page.to_le_bytes();
+        let (ones, page) = ([0x75, 1, 0x95, 1], [0x06, low, high]);
+        let alone = parsed(&[&self.usages, &page[..], &ones, own].concat());
+        let ends = vec![0xC0; self.depth];
+        let mut told = details(&[&self.before[..], &ones, &[item.prefix & 0xFC | 1, 1], &ends].concat())?;
+        let last = told.fields.len() - 1;
+        let detail = &mut told.fields[last];
+        (detail.offset, detail.size, detail.count) = (item.offset, globals.size, globals.count);
+        detail.flags = unsigned(item.bytes);
+        let ranges = alone.as_ref().map_or(&[] as &[_], |alone| alone.ranges(0));
+        Ok(field(self.text, &told, last, ranges, None))
+    }
+}
+
+impl Beside for Empty<'_> {
+    fn take(&mut self, item: &Item<'_>, before: &State) -> Result<(), AllocError> {
+        let (own, globals) = (&self.text[item.offset..item.offset + 1 + item.bytes.len()], before.globals());
         match item.tag() {
-            Tag::Local(_) => usages.extend_from_slice(&text[item.offset..end]),
+            Tag::Local(_) => self.usages.extend_from_slice(own),
             Tag::Main(MainTag::Data(_)) if globals.size == 0 || globals.count == 0 => {
-                let [low, high, ..] = globals.page.to_le_bytes();
-                let (ones, page, own) = ([0x75, 1, 0x95, 1], [0x06, low, high], &text[item.offset..end]);
-                let alone = parsed(&[&usages, &page[..], &ones, own].concat());
-                let ends = vec![0xC0; context.depth];
-                let mut told = details(&[&before[..], &ones, &[item.prefix & 0xFC | 1, 1], &ends].concat())?;
-                let last = told.fields.len() - 1;
-                let detail = &mut told.fields[last];
-                (detail.offset, detail.size, detail.count) = (item.offset, globals.size, globals.count);
-                detail.flags = unsigned(item.bytes);
-                let ranges = alone.as_ref().map_or(&[] as &[_], |alone| alone.ranges(0));
-                found.push((item.offset, field(text, &told, last, ranges, None)));
-                usages.clear();
+                let told = self.told(item, own, globals).map_err(|_| AllocError)?;
+                self.found.push((item.offset, told));
+                self.usages.clear();
             }
-            Tag::Main(_) => usages.clear(),
+            Tag::Main(_) => self.usages.clear(),
             _ => {}
         }
-        // Main and Global items alone say anything of those behind the next Main item.
         if item.prefix & 0x08 == 0 {
-            before.extend_from_slice(&text[item.offset..end]);
+            self.before.extend_from_slice(own);
         }
-        context.take(&item);
+        self.depth = depth_behind(item, self.depth);
+        Ok(())
     }
-    Ok(found)
+}
+
+fn empty(text: &[u8]) -> Result<Vec<(usize, Json)>, Refusal> {
+    let mut empty = Empty { text, before: Vec::new(), usages: Vec::new(), depth: 0, found: Vec::new() };
+    parse_beside((), text, &mut empty).map(|_| empty.found)
 }
 
 /// The collections of a descriptor.

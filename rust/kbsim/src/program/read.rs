@@ -417,20 +417,10 @@ pub fn kind_of(given: &ArgMatches) -> Kind {
     }
 }
 
-/// Tells each report of a file or of standard input; the status is 1 where one was refused.
-pub fn read(given: &ArgMatches) -> Result<ExitCode, Ended> {
-    let path = |name| given.get_one::<OsString>(name);
-    let (form, is_raw) = (form_of(given, None), given.get_flag("raw"));
-    // (A recording without REPORTS has its own.)
-    let has_own = |form: Form| form.is_recording() && path("reports").is_none() && !is_raw;
-    if files::is_input(path("descriptor")) && files::is_input(path("reports")) && !form.is_some_and(has_own) {
-        return Err(words::refused("read", "standard input can't be both, the descriptor and the reports").into());
-    }
-    let text = files::text_of(path("descriptor"), "text")?;
-    let (form, bytes) = bytes_in(&text, form)?;
-    let reader = reader_of(&bytes)?;
-    let mut teller = Teller {
-        reader: &reader,
+/// What tells reports as it is asked for.
+fn teller<'a>(given: &ArgMatches, reader: &'a Reader) -> io::Result<Teller<'a, impl Write>> {
+    Ok(Teller {
+        reader,
         kind: kind_of(given),
         names_usages: given.get_flag("names"),
         json: given.get_flag("json"),
@@ -441,7 +431,38 @@ pub fn read(given: &ArgMatches) -> Result<ExitCode, Ended> {
         names: Names::default(),
         line: Vec::new(),
         block: None,
-    };
+    })
+}
+
+/// Tells each report of a file, of standard input or of a device; the status is 1 where one was refused.
+pub fn read(given: &ArgMatches) -> Result<ExitCode, Ended> {
+    let refused = if given.get_flag("live") { read_live(given) } else { read_reports(given) }?;
+    Ok(if refused { ExitCode::FAILURE } else { ExitCode::SUCCESS })
+}
+
+/// Tells the reports of a device of hidraw, as they come.
+fn read_live(given: &ArgMatches) -> Result<bool, Ended> {
+    let path = given.get_one::<OsString>("descriptor").expect("it is required");
+    let (mut from, is_device, text) = files::live(path)?;
+    let reader = reader_of(&text)?;
+    let mut teller = teller(given, &reader)?;
+    raw(&mut from, is_device, &mut teller)?;
+    teller.out.flush()?;
+    Ok(teller.refused)
+}
+
+fn read_reports(given: &ArgMatches) -> Result<bool, Ended> {
+    let path = |name| given.get_one::<OsString>(name);
+    let (form, is_raw) = (form_of(given, None), given.get_flag("raw"));
+    // (A recording without REPORTS has its own.)
+    let has_own = |form: Form| form.is_recording() && path("reports").is_none() && !is_raw;
+    if files::is_input(path("descriptor")) && files::is_input(path("reports")) && !form.is_some_and(has_own) {
+        return Err(words::refused("read", "standard input can't be both, the descriptor and the reports").into());
+    }
+    let text = files::text_of(path("descriptor"), "text")?;
+    let (form, bytes) = bytes_in(&text, form)?;
+    let reader = reader_of(&bytes)?;
+    let mut teller = teller(given, &reader)?;
     if has_own(form) {
         lines(&mut text.as_slice(), &mut teller)?;
     } else {
@@ -449,5 +470,5 @@ pub fn read(given: &ArgMatches) -> Result<ExitCode, Ended> {
         if is_raw { raw(&mut from, is_device, &mut teller) } else { lines(&mut from, &mut teller) }?;
     }
     teller.out.flush()?;
-    Ok(if teller.refused { ExitCode::FAILURE } else { ExitCode::SUCCESS })
+    Ok(teller.refused)
 }

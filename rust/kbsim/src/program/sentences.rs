@@ -3,15 +3,14 @@
 
 use super::items::fault_words;
 use kbsim::parts::script::{Complaint, KEYWORDS, Keyword, Wanted, what_is_wrong};
-use kbsim::texts::{Fault, MOST, Why};
+use kbsim::texts::{Fault, Why, shown};
 use wuzhikar_reader::ParseError;
 
 /// The words of scripts.
 const LANGUAGE: &str =
     "scan, scans, poll, setup, out, in, work, workfault, cut, cutwork, reset, entry, slot, leds, set or fetch";
 
-/// How many bytes of a word are shown, and how many of an item.
-const MOST_OF_WORD: usize = 40;
+/// How many bytes of an item are shown.
 const MOST_OF_ITEM: usize = 16;
 
 /// The length of the longest word that may be meant for one of scripts.
@@ -94,57 +93,18 @@ fn words_of(wanted: Wanted) -> (&'static str, Option<&'static str>) {
 
 /// Why a text does not say a report descriptor.
 pub fn of_text(text: &[u8], fault: Fault) -> String {
-    let (line, column) = place_of(text, fault.at);
-    format!("line {line}, column {column}: {}", words_of_fault(text, fault))
+    let more = if fault.why == Why::Ambiguous { "; --from says which" } else { "" };
+    fault.sentence(text) + more
 }
 
 /// Why a text is not pairs of hex digits.
 pub fn of_digits(text: &[u8], fault: Fault) -> String {
-    if let Why::OddDigits(_) = fault.why { words_of_fault(text, fault) } else { of_text(text, fault) }
+    if let Why::OddDigits(_) = fault.why { fault.words(text) } else { of_text(text, fault) }
 }
 
 /// Why the line of this number of a recording is no event.
 pub fn of_event(number: u64, line: &[u8], fault: Fault) -> String {
-    format!("line {number}, column {}: {}", fault.at + 1, words_of_fault(line, fault))
-}
-
-fn words_of_fault(text: &[u8], fault: Fault) -> String {
-    let word = || shown(word_at(text, fault.at));
-    match fault.why {
-        Why::OddDigits(count) => format!("the text has {count} hex digits, and a byte takes two"),
-        Why::NoDigit => format!("{} is no hex digit", shown(&text[fault.at..=fault.at])),
-        Why::NoByte => format!("{} is no byte; those are 0x0 to 0xff, or 0 to 255 without a 0 in front", word()),
-        Why::NoPair => format!("{} is no byte; those are two hex digits", word()),
-        Why::NoComma => format!("a comma is wanted before {}", word()),
-        Why::OpenComment => "the comment does not end".into(),
-        Why::OpenList => "the list that begins here is not closed".into(),
-        Why::NoList => "no list of numbers begins here".into(),
-        Why::NoOffset => format!("{} is no offset", word()),
-        Why::WrongOffset(wanted) => format!("the offset is {}, and {wanted:08x} is wanted", word()),
-        Why::WrongCharacters => "the characters beside the bytes are not theirs".into(),
-        Why::NothingRepeated => "no line stands before the *".into(),
-        Why::TooMany => format!("the lines say more than {MOST} bytes"),
-        Why::Words => "an offset of hexdump or od, whose words are in the order of the machine; hexdump -C is read".into(),
-        Why::NoLine => format!("{} begins no line that the tool prints", word()),
-        Why::WrongCount(count) => format!("{} is not the number of the bytes, which is {count}", word()),
-        Why::Second => "a second descriptor or device; one is wanted".into(),
-        Why::NoDescriptor => "the text ends without a descriptor".into(),
-        Why::Ambiguous => "hex digits, and lines of hexdump as well; --from says which".into(),
-    }
-}
-
-/// What stands at a place, up to a blank or a comma, one byte at least.
-fn word_at(text: &[u8], place: usize) -> &[u8] {
-    let rest = &text[place..];
-    let end = rest.iter().position(|byte| matches!(byte, b' ' | b'\t' | b'\r' | b'\n' | b','));
-    &rest[..end.map_or(rest.len(), |end| end.max(1))]
-}
-
-/// The line and the column of a place.
-fn place_of(text: &[u8], place: usize) -> (usize, usize) {
-    let before = &text[..place];
-    let lines = before.iter().filter(|byte| **byte == b'\n').count();
-    (lines + 1, before.iter().rev().take_while(|byte| **byte != b'\n').count() + 1)
+    format!("line {number}, column {}: {}", fault.at + 1, fault.words(line))
 }
 
 /// Why a report descriptor is refused: at which item (HID 1.11, sections 6.2.2.2 and 6.2.2.3), and for what.
@@ -161,11 +121,4 @@ pub fn of_item(text: &[u8], error: ParseError) -> String {
     let more = if item.len() > MOST_OF_ITEM { " .." } else { "" };
     let item = if item.is_empty() { String::new() } else { format!(", item{bytes}{more}") };
     format!("byte {}{item}: {}", error.offset, fault_words(error.fault))
-}
-
-/// The bytes of a word, of a long one the first: characters that can be seen, or else their numbers.
-fn shown(word: &[u8]) -> String {
-    let byte = |byte: &u8| if byte.is_ascii_graphic() { char::from(*byte).into() } else { format!("\\x{byte:02x}") };
-    let bytes: String = word.iter().take(MOST_OF_WORD).map(byte).collect();
-    if word.len() > MOST_OF_WORD { bytes + ".." } else { bytes }
 }

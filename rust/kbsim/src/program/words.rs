@@ -6,7 +6,7 @@ use clap::error::ErrorKind;
 use clap::{Arg, ArgAction, Command, ValueHint, value_parser};
 use std::fmt::Display;
 
-/// The forms of the text of a report descriptor, by the names of `kbsim::texts::Form`, and the word for the one that is found.
+/// The forms of the text of a report descriptor, by the names of `Form`, and the word for the one that is found.
 pub const FORMS: [&str; 11] =
     ["hex", "c", "rust", "loose", "xxd", "hexdump", "rdesc", "usbhid-dump", "hid-recorder", "bytes", AUTO];
 
@@ -75,6 +75,8 @@ fn read() -> Command {
         flag("json", "An object of JSON a line; docs/reader.md has the schema"),
         flag("changes", "The usages that a report presses and releases, in place of its values").conflicts_with("json"),
         flag("raw", "The reports are bytes, and not lines"),
+        flag("live", "DESCRIPTOR is a hidraw device, of which the descriptor and the reports are read")
+            .conflicts_with_all(["raw", "kind", "from", "reports"]),
         kind("The kind of the reports").default_value("input"),
         form(LOOKED_AT),
         descriptor(),

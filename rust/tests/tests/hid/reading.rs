@@ -142,6 +142,25 @@ fn values_that_are_refused() {
 }
 
 /// `DESCRIPTOR < BYTES = USAGE.WHERE` of each place, the usage in hex, `-` where there is none.
+/// Usages that are pressed and released from a report to the next one, of a hat switch with Null State, a slider and an Array.
+#[test]
+fn values_outside_the_limits_are_off() {
+    let text = bytes("0501093915012508750895018142093681020507190029FF150026FF008100");
+    let reader = Reader::new(&text).expect("a descriptor");
+    let told = |ask: &str| {
+        let (before, now) = ask.split_once(" < ").expect("two reports");
+        let changed = reader.changes(Kind::Input, &bytes(before), &bytes(now)).expect("changes");
+        format!("{:x?} {:x?}", changed.pressed, changed.released)
+    };
+    expect(
+        "000000 < 010101 = [10036, 10039, 70001] []
+        010101 < 000900 = [] [10036, 10039, 70001]
+        090900 < 080800 = [10036, 10039] []
+        000000 < 090903 = [70003] []",
+        told,
+    );
+}
+
 #[test]
 fn usages_of_places() {
     expect(USAGES, |ask| {

@@ -2,7 +2,7 @@
 //! come on the bus.
 
 use super::*;
-use wuzhikar::{Scan, SimFlash};
+use wuzhikar::SimFlash;
 use wuzhikar_device::{DeviceLayer, Keys, Product, UsbDevice};
 
 /// What comes on the bus: whether it could.
@@ -183,7 +183,7 @@ fn control(device: &mut Usb, usb: &mut Stm32Usb<Played>, setup: [u8; 8], data: &
     assert!(data.is_empty() || registers.borrow_mut().out(data));
     for _ in 0..100 {
         device.serve(usb);
-        let _ = device.work();
+        device.work();
         let Some(packet) = registers.borrow_mut().input(0) else { continue };
         read.extend(&packet);
         if packet.len() < 8 || read.len() == asked {
@@ -210,7 +210,7 @@ fn a_host_enumerates_the_keyboard_sets_a_key_and_hears_it() {
     assert_eq!(registers.borrow().address, ENABLED | 9);
     control(&mut device, &mut usb, [0, 9, 1, 0, 0, 0, 0, 0], &[]);
     control(&mut device, &mut usb, [0x21, 9, 3, 3, 0, 0, 6, 0], &[3, 1, 0, 0, 5, 0]);
-    (0..5).for_each(|_| device.scan_keys(Scan { rows: [1, 0, 0, 0, 0, 0] }));
+    (0..5).for_each(|_| device.scan_rows([1, 0, 0, 0, 0, 0]));
     let mut report = Vec::new();
     for _ in 0..3 {
         device.serve(&mut usb);

@@ -82,7 +82,7 @@ fn ends(usb: &mut Usb, bus: &RefCell<Bus>) {
     serve(usb, bus);
     while !bus.borrow().host.is_free() {
         bus.borrow_mut().go_on();
-        let _ = usb.work();
+        usb.work();
         serve(usb, bus);
     }
     bus.borrow_mut().loses = 0;
@@ -129,11 +129,11 @@ fn step(usb: &mut Usb, bus: &RefCell<Bus>, numbers: &mut Numbers) {
     match numbers.below(8) {
         0 | 1 => {
             let scan = Scan { rows: [numbers.below(8) as u16, 0, 0, 0, 0, numbers.of(&[0, 0, 1 << 15])] };
-            (0..5).for_each(|_| usb.scan_keys(scan));
+            (0..5).for_each(|_| usb.scan_rows(scan.rows));
         }
         // A host that waits for a status packet asks for it within 50 ms.
         2 if bus.borrow().host.is_free() => (0..60).for_each(|_| usb.scan()),
-        3..=5 => drop(usb.work()),
+        3..=5 => usb.work(),
         // No host selects what the firmware sets.
         6 if numbers.one_of(4) => {
             let answer = usb.command([3, numbers.of(&[1, 7, 0]), 3, 50, numbers.of(&[4, 5, 6]), 0]);

@@ -108,7 +108,9 @@ impl Reader {
     }
 
     /// Returns the usages that are on in a report of a kind, rising, each once: those that arrays name, and those of variable fields
-    /// whose value isn't 0. That is meant for keys, buttons and LEDs: an axis counts as on wherever it isn't 0.
+    /// whose value isn't 0. A value outside the logical extents is off, a null too. That is meant for keys, buttons and LEDs: an
+    /// axis counts as on wherever it isn't 0. 07:01 to 07:03 (ErrorRollOver, POSTFail, ErrorUndefined) are told as any usage; such
+    /// a report doesn't say which keys are down.
     pub fn pressed(&self, kind: Kind, report: &[u8]) -> Result<Vec<u32>, ReadingError> {
         report_read::pressed((), &self.reports, kind, report)
     }

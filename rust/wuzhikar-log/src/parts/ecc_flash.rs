@@ -42,10 +42,10 @@ pub const PAGE_UNITS: usize = 1024;
 ///   from this. A maker of a flash with another correction shows, or believes, these clauses alone.
 /// - `others`: that no other unit, and no other page, is disturbed.
 pub trait EccFlash {
-    /// How many pages there are, 2 to 8.
+    /// Returns how many pages there are, 2 to 8.
     fn pages(&self) -> usize;
 
-    /// What unit `unit`, 0 to 1,023, of page `page` reads as; `None` where that is an error.
+    /// Returns what unit `unit`, 0 to 1,023, of page `page` reads as; `None` where that is an error.
     fn read_unit(&self, page: usize, unit: usize) -> Option<[u8; UNIT_BYTES]>;
 
     /// Programs unit `unit`, 0 to 1,023, of page `page`, which reads as eight bytes FFh.

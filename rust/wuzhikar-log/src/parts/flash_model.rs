@@ -36,10 +36,10 @@ pub struct FlashFault;
 /// NOR flash of 2 to 8 pages of 4,096 bytes. A page has 512 slots of eight bytes, and their number
 /// never changes.
 pub trait NorFlash {
-    /// How many pages there are, 2 to 8.
+    /// Returns how many pages there are, 2 to 8.
     fn pages(&self) -> usize;
 
-    /// The eight bytes of slot `slot`, 0 to 511, of page `page`, below `pages()`.
+    /// Reads the eight bytes of slot `slot`, 0 to 511, of page `page`, below `pages()`.
     fn read_slot(&self, page: usize, slot: usize) -> [u8; SLOT_BYTES];
 
     /// Clears the bits of a slot that are clear in `bytes`. Slot `slot`, 0 to 511, of page `page`,

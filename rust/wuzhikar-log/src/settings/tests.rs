@@ -115,16 +115,16 @@ fn a_full_store_says_so_and_can_be_emptied() {
     let mut settings = FlashSettings::mount(SimFlash::blank(2).expect("memory")).expect("2 pages");
     assert_eq!(settings.room_left(), 511);
     for id in 0..22 {
-        settings.set(id, &[id as u8; 64]).expect("23 words");
+        settings.set(id, [id as u8; 64]).expect("23 words");
     }
     assert_eq!(settings.room_left(), 511 - 22 * 23);
     let before = read(settings.flash());
-    assert_eq!(settings.set(22, &[1; 64]), Err(SettingsError::Full));
-    assert_eq!(settings.set(22, &[1; 65]), Err(SettingsError::TooLong));
+    assert_eq!(settings.set(22, [1; 64]), Err(SettingsError::Full));
+    assert_eq!(settings.set(22, [1; 65]), Err(SettingsError::TooLong));
     assert_eq!(read(settings.flash()), before);
-    settings.set(22, &[1; 12]).expect("5 words");
+    settings.set(22, [1; 12]).expect("5 words");
     assert_eq!(settings.room_left(), 0);
-    assert_eq!(settings.set(23, &[]), Err(SettingsError::Full));
+    assert_eq!(settings.set(23, []), Err(SettingsError::Full));
     settings.remove(5).expect("fewer words");
     settings.set(23, b"there is room").expect("room");
     assert!(settings.contains(23) && !settings.contains(5));
@@ -145,13 +145,43 @@ fn words_of_something_else_are_left() {
 #[test]
 fn what_is_dropped_on_the_way_is_forgotten() {
     let mut settings = FlashSettings::mount(SimFlash::blank(2).expect("memory")).expect("2 pages");
-    settings.set(1, &7u32.to_le_bytes()).expect("room");
+    settings.set(1, 7u32.to_le_bytes()).expect("room");
     let change = [Change { id: 1, value: Value::new(&[9; 64]) }];
     assert_eq!(settings.begin(&change).expect("room").step(), Work::Working);
     assert_eq!(settings.get(1).and_then(|value| value.as_u32()), Some(7));
-    settings.set(2, &[1]).expect("room");
+    settings.set(2, [1]).expect("room");
     assert_eq!(
         (settings.get(1).and_then(|value| value.as_u32()), settings.get(2).and_then(|value| value.as_bool())),
         (Some(7), Some(true))
     );
+}
+
+#[test]
+fn numbers_truth_values_and_text_come_back() {
+    assert_eq!(Value::from(0xA5u8).as_bytes(), [0xA5]);
+    assert_eq!(Value::from(0xA5B6u16).as_bytes(), [0xB6, 0xA5]);
+    assert_eq!(Value::from(u8::MAX).as_u8(), Some(u8::MAX));
+    assert_eq!(Value::from(u16::MAX - 1).as_u16(), Some(u16::MAX - 1));
+    assert_eq!(Value::from(u32::MAX - 1).as_u32(), Some(u32::MAX - 1));
+    assert_eq!(Value::from(u64::MAX - 1).as_u64(), Some(u64::MAX - 1));
+    for truth in [false, true] {
+        assert_eq!(Value::from(truth).as_bool(), Some(truth));
+    }
+    let most = [b'x'; 65];
+    let text = |len| core::str::from_utf8(&most[..len]).expect("ASCII");
+    assert_eq!(Value::try_from(text(64)).as_ref().map(|value| value.as_str()), Ok(Some(text(64))));
+    assert_eq!(Value::try_from(text(65)), Err(SettingsError::TooLong));
+    assert_eq!(Value::try_from(&most[..]), Err(SettingsError::TooLong));
+    assert_eq!(Value::try_from([0xFF].as_slice()).expect("short").as_str(), None);
+}
+
+#[test]
+fn bytes_text_and_values_are_stored_as_they_are() {
+    let mut settings = FlashSettings::mount(SimFlash::blank(2).expect("memory")).expect("2 pages");
+    settings.set(1, "lamp").expect("room");
+    settings.set(2, b"lamp").expect("room");
+    settings.set(3, Value::from(7u64)).expect("room");
+    let [one, two, three] = [1, 2, 3].map(|id| settings.get(id).expect("stored"));
+    assert_eq!((&one, three.as_u64()), (&two, Some(7)));
+    assert_eq!(settings.set(4, "x".repeat(65)), Err(SettingsError::TooLong));
 }

@@ -35,17 +35,17 @@ impl Scan {
     /// A scan with no key pressed.
     pub const NONE: Scan = Scan { rows: [0; 6] };
 
-    /// Whether this scan has a key, one of 0 to 95.
+    /// Returns whether this scan has a key, one of 0 to 95.
     pub(crate) fn has(&self, key: u8) -> bool {
         (self.rows[key as usize / 16] >> (key % 16)) & 1 == 1
     }
 
-    /// The numbers of its keys, in rising order, at most 96.
+    /// Returns the numbers of its keys, in rising order, at most 96.
     pub fn keys(&self) -> Keys {
         KeySet::of(self).keys()
     }
 
-    /// This scan, with a key, one of 0 to 95, too where `on` says so.
+    /// Returns this scan, with a key, one of 0 to 95, too where `on` says so.
     pub(crate) fn with(self, key: u8, on: bool) -> Scan {
         if !on {
             return self;

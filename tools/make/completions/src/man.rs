@@ -20,7 +20,7 @@ kbsim run \-\-explain examples/driver.kbs
 kbsim run \-\-image old.img \-\-save new.img examples/migration.kbs
 kbsim parse \-\-items examples/media_keys.hex
 kbsim parse \-\-from bytes /sys/bus/hid/devices/DEVICE/report_descriptor
-kbsim read \-\-raw /sys/class/hidraw/hidraw0/device/report_descriptor /dev/hidraw0
+kbsim read \-\-live /dev/hidraw0
 kbsim write examples/hid_driver/keyboard.hex 0 00080001=1
 .fi
 .SH SEE ALSO

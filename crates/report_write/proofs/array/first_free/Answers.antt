@@ -5,16 +5,16 @@ use Rattle.report_write.proofs.Firsts.{no_first, still_none, first_is}
 use Rattle.report_write.proofs.array.first_free.Goals as goal
 
 pub loop-place-init : goal.loop-place-init
-loop-place-init c = no_first (is_free c.args.declared.now.field (usage_list c.args.declared.now.ranges.now) c.args.bytes.now)
+loop-place-init c = no_first (is_free c.args.declared.now.field (usage_list c.args.declared.now.ranges.now) c.args.bytes.now c.args.marks.now)
 
 pub loop-place-preserved : goal.loop-place-preserved
 loop-place-preserved c =
-    still_none (is_free c.args.declared.now.field (usage_list c.args.declared.now.ranges.now) c.args.bytes.now) c.loop-place.place
+    still_none (is_free c.args.declared.now.field (usage_list c.args.declared.now.ranges.now) c.args.bytes.now c.args.marks.now) c.loop-place.place
     c.loop-place.invariant (sym c.is_free.ensures ∙ c.if-is_free.false)
 
 pub returns-then-is_free-clause-place : goal.returns-then-is_free-clause-place
 returns-then-is_free-clause-place c =
-    sym (first_is (is_free c.args.declared.now.field (usage_list c.args.declared.now.ranges.now) c.args.bytes.now) c.loop-place.place
+    sym (first_is (is_free c.args.declared.now.field (usage_list c.args.declared.now.ranges.now) c.args.bytes.now c.args.marks.now) c.loop-place.place
     c.args.declared.now.field.count c.loop-place.invariant (sym c.is_free.ensures ∙ c.if-is_free.true) (omega arith))
 
 pub returns-clause-place : goal.returns-clause-place

@@ -1,6 +1,6 @@
-use Rattle.std.proofs.Common.{◌≡◌, ◌<◌, ◌≤◌, ◌^◌, ℕ, List, Some, length, get_or, arith, rules}
+use Rattle.std.proofs.Common.{◌≡◌, ◌<◌, ◌≤◌, ◌^◌, ℕ, List, Some, length, get_or, arith}
 use Rattle.settings.specs.declared.change.Change.{Change}
-use Rattle.settings.specs.Words.{IsChange, IsValue, IsValueIfSome}
+use Rattle.settings.specs.Words.{IsChange}
 use Rattle.settings.proofs.change.is_change.Goals as goal
 
 has_value : (change : Change) (bytes : List ℕ) → change.id < 2 ^ 16 → change.value ≡ Some bytes → length bytes ≤ 64 → ((k : ℕ) → get_or bytes k 0 < 2 ^ 8) → IsChange change

@@ -1,4 +1,4 @@
-use Rattle.std.proofs.Common.{IsTrue, All, ◌≡◌, ◌++◌, true}
+use Rattle.std.proofs.Common.{All, ◌≡◌, ◌++◌, true}
 use Rattle.page_turnover.specs.Words.{words}
 use Rattle.settings.specs.Words.{is_known}
 use Rattle.settings.proofs.lookup.all_known.Given as goal

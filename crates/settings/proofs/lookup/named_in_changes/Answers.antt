@@ -1,4 +1,4 @@
-use Rattle.std.proofs.Common.{◌≡◌, ◌∙◌, sym, arith, None, refl}
+use Rattle.std.proofs.Common.{◌∙◌, sym, arith, None}
 use Rattle.settings.proofs.Naming.{front_skip, none_left, not_named}
 use Rattle.settings.proofs.lookup.named_in_changes.Goals as goal
 

@@ -1,4 +1,4 @@
-use Rattle.std.proofs.Common.{◌≡◌, ◌∙◌, sym, rules, [], arith, ap, subst, ◌≤◌, ℕ, None, List}
+use Rattle.std.proofs.Common.{◌≡◌, ◌∙◌, sym, rules, [], arith, ap, ℕ, None, List}
 use Rattle.page_turnover.specs.Words.{words}
 use Rattle.settings.specs.Settings.{after, changes_in}
 use Rattle.settings.proofs.Naming.{end_of_words, no_head, settings_of-is, not_named}

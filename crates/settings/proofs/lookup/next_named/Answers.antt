@@ -1,4 +1,4 @@
-use Rattle.std.proofs.Common.{◌∙◌, sym, arith}
+use Rattle.std.proofs.Common.{arith}
 use Rattle.settings.proofs.Naming.{changed_none}
 use Rattle.settings.proofs.lookup.next_named.Goals as goal
 

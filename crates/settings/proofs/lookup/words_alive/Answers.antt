@@ -1,4 +1,4 @@
-use Rattle.std.proofs.Common.{◌≡◌, ◌∙◌, ◌≤◌, ◌+◌, ◌^◌, sym, arith, length, ap, List, ℕ, ◌++◌, refl}
+use Rattle.std.proofs.Common.{◌≡◌, ◌∙◌, ◌+◌, ◌^◌, sym, arith, length, ap, List, ℕ, ◌++◌, refl}
 use Rattle.std.proofs.lemmas.List.{length-append}
 use Rattle.settings.specs.Settings.{changed}
 use Rattle.settings.specs.Words.{words_of}

@@ -1,4 +1,4 @@
-use Rattle.std.proofs.Common.{◌≡◌, refl, sym, arith, rules}
+use Rattle.std.proofs.Common.{arith}
 use Rattle.std.proofs.lemmas.Bool.{iff_false}
 use Rattle.settings.proofs.Begins.{room_held, room_test}
 use Rattle.settings.proofs.store.has_room_for.Goals as goal

@@ -11,10 +11,13 @@ pub returns-in-Some-clause-linked : goal.returns-in-Some-clause-linked
 returns-in-Some-clause-linked g c = λ calls h.
     let i = c.begin_anew.ensures in
     let P : Bus1 → Type 0 = λ x. Link1 c.begin_anew-in-Some.new.self x calls in
-    subst P (sym i.3) (c.begin_anew-in-Some.ensures.linked c.in-Some.state i.1 calls (goes1 i.0 c.args.reports.now _ i.1 calls i.2 h))
+    let old = g.B.Buffers.bus c.give_up_old.new.buffers in
+    subst P (sym i.3)
+    (c.begin_anew-in-Some.ensures.linked c.in-Some.state i.1 calls c.give_up_old.ensures.none
+    (goes1 i.0 c.give_up_old.new.self old i.1 calls i.2 (c.give_up_old.ensures.linked calls h)))
 
 pub returns-in-Some-clause-told : goal.returns-in-Some-clause-told
 returns-in-Some-clause-told g c = λ states h.
     let i = c.begin_anew.ensures in
     let S : Option Endpoint1 → Type 0 = λ x. InStep (with_state x states) (g.B.Buffers.bus c.begin_anew.new.self) in
-    subst S (sym (sym c.endpoint_set.ensures ∙ c.in-Some.is)) (anew_in_step i.0 states c.in-Some.state _ i.1 _ i.2 i.3 h)
+    subst S (sym (sym c.endpoint_set.ensures ∙ c.in-Some.is)) (anew_in_step i.0 states c.in-Some.state _ i.1 _ i.2 i.3 (c.give_up_old.ensures.told states h))

@@ -1,9 +1,8 @@
-use Rattle.layers.specs.Standard.{standard}
 use Rattle.keyboard.proofs.Confirming as keyboard
 use Rattle.usb_keyboard.proofs.Confirming.{confirmed}
 use Rattle.usb_keyboard.proofs.laws.confirmed_on_the_bus.Goals as goal
 
 pub returns : goal.returns
-returns c = λ start past setup data_ command lawful w b.
+returns c = λ defaults start past setup data_ command lawful w b.
     let at = confirmed past setup data_ command w b.named b.read in
-    (at.0, at.1, keyboard.confirmed standard start past at.0 command lawful at.1)
+    (at.0, at.1, keyboard.confirmed defaults start past at.0 command lawful at.1)

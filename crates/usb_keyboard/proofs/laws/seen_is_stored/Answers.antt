@@ -11,12 +11,12 @@ use Rattle.usb_keyboard.proofs.Seen.{stored}
 use Rattle.usb_keyboard.proofs.laws.seen_is_stored.Goals as goal
 
 pub returns-clause-direct : goal.returns-clause-direct
-returns-clause-direct c = λ t b calls lent past after before keyboard image setup data_ command h all e stands seen s w d brings.
+returns-clause-direct c = λ defaults t b calls lent past after before keyboard image setup data_ command h all e stands seen s w d brings.
     let confirmed = behind_confirmed lent past setup data_ all (confirmed_same setup data_ calls (calls_of past) e (seen_confirmed t b calls after before setup data_ h seen s w d)) in
-    stored (session lent past) keyboard image setup data_ command stands confirmed brings
+    stored defaults (session lent past) keyboard image setup data_ command stands confirmed brings
 
 pub returns-clause-guarded : goal.returns-clause-guarded
-returns-clause-guarded c = λ t b calls lent past after before pace met keyboard image setup data_ command h all e same guarded stands seen s w d brings.
+returns-clause-guarded c = λ defaults t b calls lent past after before pace met keyboard image setup data_ command h all e same guarded stands seen s w d brings.
     let confirmed = behind_confirmed lent past setup data_ all (confirmed_same setup data_ calls (calls_of past) e (seen_confirmed t b calls after before setup data_ h seen s w d)) in
     let P : List EpCall → Type 0 = λ x. WasConfirmed setup data_ x in
-    stored (passed pace met) keyboard image setup data_ command stands (guard.confirmed pace met setup data_ guarded (subst P (sym same) confirmed)) brings
+    stored defaults (passed pace met) keyboard image setup data_ command stands (guard.confirmed pace met setup data_ guarded (subst P (sym same) confirmed)) brings

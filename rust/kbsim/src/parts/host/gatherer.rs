@@ -23,7 +23,7 @@ pub struct Host {
 }
 
 impl Host {
-    /// A host that keeps no descriptor.
+    /// Makes a host that keeps no descriptor.
     pub(crate) fn new(alloc: Global) -> Host {
         Host {
             alloc,

@@ -21,7 +21,7 @@ impl UsageList {
         UsageList { usages }
     }
 
-    /// The usages.
+    /// Returns the usages.
     pub fn as_slice(&self) -> &[u32] {
         &self.usages
     }

@@ -24,9 +24,8 @@ pub struct WorldOf<D: Defaults> {
 pub type World = WorldOf<Standard>;
 
 impl<D: Defaults> WorldOf<D> {
-    /// The keyboard as it starts on a flash, whose keymap it reads, and a host that keeps no
-    /// descriptor. `AllocError` where there was no memory for the reports that wait; the flash is then
-    /// dropped.
+    /// Starts a keyboard on a flash, whose keymap it reads, beside a host that keeps no descriptor.
+    /// `AllocError` where there was no memory for the reports that wait; the flash is then dropped.
     pub(crate) fn new(alloc: Global, flash: SimFlash) -> Result<WorldOf<D>, AllocError> {
         let keyboard = KeyboardOf::start(alloc, &flash)?;
         Ok(WorldOf {
@@ -40,23 +39,23 @@ impl<D: Defaults> WorldOf<D> {
         })
     }
 
-    /// The flash.
+    /// Returns the flash.
     pub fn flash(&self) -> &SimFlash {
         &self.bench.flash
     }
 
-    /// The flash, taken out of the world: keyboard and host are dropped.
+    /// Takes the flash out of the world: keyboard and host are dropped.
     pub fn into_flash(self) -> SimFlash {
         self.bench.flash
     }
 
-    /// The flash operation that the latest step of the flash work asked for; `None` where it asked
-    /// for none.
+    /// Returns the flash operation that the latest step of the flash work asked for; `None` where it
+    /// asked for none.
     pub fn operation(&self) -> Option<Operation> {
         self.bench.asked
     }
 
-    /// The host.
+    /// Returns the host.
     pub fn host(&self) -> &Host {
         &self.host
     }

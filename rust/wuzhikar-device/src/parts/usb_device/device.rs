@@ -1,7 +1,8 @@
 // Exported from crates/usb_device/src/device.rt by bin/export-rust. Edit that file instead.
 //! A device behind its USB device layer, with endpoint 1 behind buffers, as one device.
 
-use crate::parts::usb_device::report_buffers::{Buffers, ReportBuffers};
+use crate::parts::usb_device::buffers::Buffers;
+use crate::parts::usb_device::report_buffers::ReportBuffers;
 use crate::parts::usb_device::{Change, DeviceLayer, Endpoint1, Endpoints, EpAnswer, PacketSize, PollAnswer, Report};
 
 /// A device behind its USB device layer, with endpoint 1 behind the buffers of a controller.
@@ -26,6 +27,7 @@ fn endpoint_set(change: Option<Change>) -> Option<Endpoint1> {
 fn follow<B: Buffers>(change: Option<Change>, buffers: &mut B, reports: &mut ReportBuffers) {
     match endpoint_set(change) {
         Some(state) => {
+            reports.give_up_old(buffers);
             buffers.begin_anew(state);
             reports.begin_anew();
         }
@@ -69,7 +71,7 @@ impl<'a, E: Endpoints, B: Buffers> Device<'a, E, B> {
     /// The host has the status packet of its transfer.
     pub fn is_done(&mut self) {
         self.buffers.host_began();
-        self.reports.release(true);
+        self.reports.release();
     }
 
     /// Takes what the host has taken of endpoint 1, and fills its buffers where it is ready and nothing is waited for: with
@@ -118,7 +120,7 @@ impl<'a, E: Endpoints, B: Buffers> Device<'a, E, B> {
 impl<'a, E: Endpoints, B: Buffers> Endpoints for Device<'a, E, B> {
     fn setup(&mut self, packet: [u8; 8]) {
         self.layer.setup(packet, &mut self.behind);
-        self.reports.release(false);
+        self.reports.setup(packet);
         self.sets = packet[0] < 0x80;
     }
 
@@ -129,6 +131,7 @@ impl<'a, E: Endpoints, B: Buffers> Endpoints for Device<'a, E, B> {
     fn in_packet(&mut self) -> EpAnswer {
         let (answer, change) = self.layer.in_packet(&mut self.behind);
         follow(change, &mut self.buffers, &mut self.reports);
+        self.reports.answered(&answer, &mut self.buffers);
         self.reports.hold(is_status(self.sets, &answer));
         answer
     }

@@ -19,7 +19,7 @@ pub trait ScansMatrix: Endpoints {
 /// goes on, and so does a command that was acknowledged before. With a pace a command is put off by NAK until so many scans
 /// have come since the one before, or since the start.
 pub struct Guarded<E> {
-    guard: Guard,
+    pub(crate) guard: Guard,
     pub(crate) behind: E,
 }
 

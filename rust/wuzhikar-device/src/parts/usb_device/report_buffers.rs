@@ -1,50 +1,8 @@
 // Exported from crates/usb_device/src/report_buffers.rt by bin/export-rust. Edit that file instead.
 //! Endpoint 1 behind buffers: reports in packets, and data toggles.
 
-use crate::parts::usb_device::{Endpoint1, Report};
+use crate::parts::usb_device::{Buffers, EpAnswer, PacketSize, Report};
 use arrayvec::ArrayVec;
-
-/// The buffers of endpoint 1.
-pub trait Buffers {
-    /// Whether there are two.
-    fn has_two(&self) -> bool;
-
-    /// How many packets the host has taken, and acknowledged; told once.
-    fn taken_1(&mut self) -> usize;
-
-    /// Endpoint 1 is this from now on, with empty buffers and DATA0. Without effect after a reset that `forget` did not follow.
-    fn begin_anew(&mut self, state: Endpoint1);
-
-    /// The host has the status packet of the request behind the last `begin_anew`. Such a host has begun anew.
-    fn host_began(&mut self);
-
-    /// Follows a reset of the bus: endpoint 1 is off, with empty buffers and DATA0.
-    fn forget(&mut self);
-
-    /// Puts a packet into a free buffer; there is one. Without effect after a reset that `forget` did not follow.
-    fn input_1(&mut self, packet: Report);
-}
-
-/// The bytes of a packet of endpoint 1 (section 5.7.3).
-#[derive(Clone, Copy, Debug, PartialEq, Eq)]
-pub enum PacketSize {
-    Bytes8,
-    Bytes16,
-    Bytes32,
-    Bytes64,
-}
-
-impl PacketSize {
-    /// The number of bytes.
-    pub fn bytes(self) -> usize {
-        match self {
-            PacketSize::Bytes8 => 8,
-            PacketSize::Bytes16 => 16,
-            PacketSize::Bytes32 => 32,
-            PacketSize::Bytes64 => 64,
-        }
-    }
-}
 
 /// The scans, a millisecond each, in which a host that asks takes the packet of a status stage (section 9.2.6.4).
 const STATUS_SCANS: u8 = 50;
@@ -66,6 +24,9 @@ pub(crate) enum Course {
 /// status packet, has begun another transfer, or has let 50 scans go by: the acknowledgement may be lost, and then the
 /// device never knows that the host has the packet (section 8.5.3.3). Then the host may want either data toggle, and drops a
 /// packet that has the other one. So the next report is handed over twice, and the host has it whole.
+///
+/// A request that sets the protocol (HID 1.11 section 7.2.6) gives up a report that waits, as it is of the protocol before, and
+/// the host may have a packet of it. One of which the host is known to have a packet goes on, as the host's transfer does.
 pub struct ReportBuffers {
     size: PacketSize,
     course: Course,
@@ -75,6 +36,9 @@ pub struct ReportBuffers {
     again: bool,
     buffered: usize,
     unsure: bool,
+    lost: bool,
+    is_old: bool,
+    protocol: bool,
     waits: u8,
 }
 
@@ -100,6 +64,19 @@ fn behind(bytes: &[u8], count: usize) -> Report {
     held(&bytes[bytes.len().min(count)..])
 }
 
+/// Whether a SETUP packet is SET_PROTOCOL.
+fn sets_protocol(setup: [u8; 8]) -> bool {
+    setup[0] == 0x21 && setup[1] == 0x0b
+}
+
+/// Whether an answer is the empty packet.
+fn is_empty(answer: &EpAnswer) -> bool {
+    match answer {
+        EpAnswer::Packet(packet) => packet.is_empty(),
+        EpAnswer::Ack | EpAnswer::Nak | EpAnswer::Stall => false,
+    }
+}
+
 impl ReportBuffers {
     /// Empty buffers that wait for nothing, behind a reset of the bus.
     pub fn new(size: PacketSize) -> ReportBuffers {
@@ -112,6 +89,9 @@ impl ReportBuffers {
             again: false,
             buffered: 0,
             unsure: false,
+            lost: false,
+            is_old: false,
+            protocol: false,
             waits: 0,
         }
     }
@@ -120,6 +100,7 @@ impl ReportBuffers {
     /// packet. A report that the host has not whole begins anew, and nothing is handed over until `release` or 50 scans.
     pub fn begin_anew(&mut self) {
         self.unsure = true;
+        self.lost = false;
         self.waits = STATUS_SCANS;
         match self.course {
             Course::Goes => self.course = Course::Begins,
@@ -140,19 +121,90 @@ impl ReportBuffers {
         self.waits = self.waits.saturating_sub(1);
     }
 
-    /// The host has taken the status packet (`knows`), or has sent a SETUP packet, which may be instead. A host that has it
-    /// has begun anew with DATA0.
-    pub fn release(&mut self, knows: bool) {
+    /// The host has taken the status packet. A host that has it has begun anew with DATA0, where the device has.
+    pub fn release(&mut self) {
         self.waits = 0;
-        if knows {
+        if !self.lost {
             self.unsure = false;
         }
+    }
+
+    /// A SETUP packet has come: nothing is waited for.
+    pub fn setup(&mut self, packet: [u8; 8]) {
+        self.waits = 0;
+        self.protocol = sets_protocol(packet);
+    }
+
+    /// This was the answer to an IN token of endpoint 0. The empty packet of SET_PROTOCOL sets the protocol.
+    pub fn answered<B: Buffers>(&mut self, answer: &EpAnswer, buffers: &mut B) {
+        if self.is_change(answer) {
+            let count = buffers.taken_1();
+            self.taken(count);
+            self.change(buffers);
+        }
+    }
+
+    /// Whether this answer sets the protocol.
+    fn is_change(&self, answer: &EpAnswer) -> bool {
+        is_empty(answer) && self.protocol
+    }
+
+    /// The report under way goes on, and is of the protocol before.
+    fn go_on(&mut self) {
+        self.is_old = true;
+    }
+
+    /// The protocol is set: a report that waits is given up, and one of which the host has a packet goes on.
+    fn change<B: Buffers>(&mut self, buffers: &mut B) {
+        match self.course {
+            Course::Rests => {}
+            Course::Begins => self.give_up(buffers),
+            Course::Goes => {
+                if self.is_begun() {
+                    self.go_on();
+                } else {
+                    self.give_up(buffers);
+                }
+            }
+        }
+    }
+
+    /// A report of the protocol before does not begin anew: it is given up.
+    pub fn give_up_old<B: Buffers>(&mut self, buffers: &mut B) {
+        match self.course {
+            Course::Goes => {
+                if self.is_old {
+                    self.give_up(buffers);
+                }
+            }
+            Course::Rests | Course::Begins => {}
+        }
+    }
+
+    /// The report under way is given up. Where packets of it were handed over, the toggles may differ.
+    fn give_up<B: Buffers>(&mut self, buffers: &mut B) {
+        buffers.give_up();
+        match self.course {
+            Course::Goes => {
+                self.unsure = true;
+                self.lost = true;
+                self.course = Course::Rests;
+            }
+            Course::Rests | Course::Begins => self.course = Course::Rests,
+        }
+    }
+
+    /// Whether the host has a packet of the report under way.
+    fn is_begun(&self) -> bool {
+        !self.again && self.buffered < self.count().saturating_sub(self.due)
     }
 
     /// A reset of the bus. The report under way is dropped, as the host has forgotten what it knew.
     pub fn reset(&mut self) {
         self.course = Course::Rests;
         self.unsure = false;
+        self.lost = false;
+        self.protocol = false;
         self.waits = 0;
     }
 
@@ -237,6 +289,8 @@ impl ReportBuffers {
         self.due = self.count();
         self.again = self.unsure;
         self.unsure = false;
+        self.lost = false;
+        self.is_old = false;
     }
 
     /// How many packets the report has.

@@ -1,13 +1,16 @@
 // Exported from crates/usb_device/src/usb_device.rt by bin/export-rust. Edit that file instead.
 //! A device with its layer and its buffers, behind a controller: what a loop calls.
 
-use crate::parts::usb_device::report_buffers::Buffers;
-use crate::parts::usb_device::{ControlBuffers, Controller, Device, DeviceLayer, Endpoints, PacketSize};
+use crate::parts::usb_device::buffers::Buffers;
+use crate::parts::usb_device::{
+    ControlBuffers, Controller, Device, DeviceLayer, Endpoints, Guarded, PacketSize, ScansMatrix,
+    Works,
+};
 
 /// A device with its layer and its buffers, behind a controller that is handed packets beforehand.
 ///
 /// A loop calls `serve` when an interrupt of the controller has come, and behind each scan; it may be called at any time.
-/// `scan` tells that a millisecond has gone by.
+/// `scan_rows` is a scan of the matrix, and `work` a step of the flash work; `scan` alone tells that a millisecond has gone by.
 pub struct UsbDevice<'a, E, B> {
     pub(crate) control: ControlBuffers,
     pub(crate) device: Device<'a, E, B>,
@@ -56,5 +59,27 @@ impl<'a, E: Endpoints, B: Buffers> UsbDevice<'a, E, B> {
         if self.control.is_done() {
             self.device.is_done();
         }
+    }
+}
+
+impl<'a, E: Works, B: Buffers> UsbDevice<'a, E, B> {
+    /// A step of the work of the device behind, which is nothing to the bus.
+    pub fn work(&mut self) {
+        self.device.behind.work();
+    }
+}
+
+impl<'a, E: ScansMatrix, B: Buffers> UsbDevice<'a, E, B> {
+    /// A scan of the matrix with these rows, a millisecond after the one before.
+    pub fn scan_rows(&mut self, rows: [u16; 6]) {
+        self.scan();
+        self.device.behind.scan(rows);
+    }
+}
+
+impl<'a, E: Endpoints, B: Buffers> UsbDevice<'a, Guarded<E>, B> {
+    /// Sets the lock of feature commands, or takes it away.
+    pub fn set_locked(&mut self, on: bool) {
+        self.device.behind.set_locked(on);
     }
 }

@@ -314,6 +314,15 @@ impl Buffers for Played<'_> {
         }
     }
 
+    fn give_up(&mut self) {
+        let mut bus = self.moved();
+        if !bus.met.0 {
+            let device = bus.device;
+            bus.empty(device);
+            bus.taken_1 = 0;
+        }
+    }
+
     fn host_began(&mut self) {}
 
     fn forget(&mut self) {

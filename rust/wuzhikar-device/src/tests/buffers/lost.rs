@@ -1,8 +1,7 @@
 //! Acknowledgements that are lost on the bus (USB 2.0 sections 8.5.3.3, 8.6.4), and commands of the firmware's own.
 
 use super::*;
-use crate::{Guarded, ScansMatrix, Works};
-use wuzhikar::Work;
+use crate::Guarded;
 
 const SET_FEATURE: [u8; 8] = [0x21, 0x09, 3, 3, 0, 0, 6, 0];
 const KEY_0_IS_B: [u8; 6] = [3, 1, 0, 0, 5, 0];
@@ -23,7 +22,7 @@ fn acts<const N: usize>(usb: &mut Usb, bus: &RefCell<Bus>, acts: [Act; N]) {
     for act in acts {
         bus.borrow_mut().act(act);
         serve(usb, bus);
-        let _ = usb.work();
+        usb.work();
         serve(usb, bus);
     }
 }
@@ -71,12 +70,28 @@ fn a_lost_ack_holds_reports_back_for_50_scans() {
         lose(&bus, false);
         for scan in 1..=50 {
             assert_eq!(reports(&bus), 0, "{request:02x?}, {scan}");
-            usb.scan_keys(Scan { rows: [1, 0, 0, 0, 0, 0] });
+            usb.scan_rows([1, 0, 0, 0, 0, 0]);
             acts(&mut usb, &bus, [Act::Poll]);
         }
         // It is handed over twice.
         acts(&mut usb, &bus, [Act::Poll, Act::Poll, Act::Poll, Act::Poll, Act::Poll]);
         assert_eq!(reports(&bus), 2, "{request:02x?}");
+    }
+}
+
+#[test]
+fn a_report_that_waits_is_dropped_with_its_protocol() {
+    for buffers in [1, 2] {
+        let bus = quiet(buffers);
+        let mut usb = configured(&bus);
+        (0..5).for_each(|_| usb.scan_rows([1, 0, 0, 0, 0, 0]));
+        serve(&mut usb, &bus);
+        // A report of 23 bytes is in the buffers. The host gets nothing of it, also not before it knows of the boot protocol.
+        acts(&mut usb, &bus, [Act::Setup(SET_BOOT), Act::Poll, Act::Poll, Act::In]);
+        assert_eq!(reports(&bus), 0);
+        acts(&mut usb, &bus, [Act::Poll, Act::Poll, Act::Poll, Act::Poll]);
+        assert_eq!(bus.borrow().known[&(0, 8)], [0, 0, 4, 0, 0, 0, 0, 0]);
+        assert_eq!(bus.borrow().known.len(), 1);
     }
 }
 
@@ -116,7 +131,7 @@ fn a_command_of_the_firmware_falls_into_no_transfer() {
     assert_eq!(usb.command([3, 3, 0, 0, 0, 0]), EpAnswer::Ack);
     assert_eq!(usb.command(KEY_0_IS_B), EpAnswer::Nak);
     while usb.behind().may_work() {
-        assert!(matches!(usb.work(), Work::Working | Work::Settled));
+        usb.work();
     }
     assert_eq!(code(usb.behind().keyboard(), 0, 0), 4);
     // What the host sends without a SETUP packet is no data of it.
@@ -136,7 +151,7 @@ fn a_locked_keyboard_types_and_takes_no_command() {
     let layer = DeviceLayer::new(PRODUCTS[1].descriptors());
     let mut usb = UsbDevice::new(layer, Guarded::new(keys, 0), Played::on(&bus), PacketSize::Bytes16);
     for (locked, stored) in [(true, 4), (false, 5)] {
-        usb.behind_mut().set_locked(locked);
+        usb.set_locked(locked);
         let command = [Act::Setup(SET_FEATURE), Act::Out(KEY_0_IS_B.to_vec()), Act::In, Act::In, Act::In];
         for act in [Act::Setup(SET_CONFIGURATION), Act::In].into_iter().chain(command) {
             if bus.borrow().counts.0[bus::STALLS] == 0 || matches!(act, Act::Setup(_)) || !locked {
@@ -144,12 +159,12 @@ fn a_locked_keyboard_types_and_takes_no_command() {
                 bus.borrow_mut().act(act);
             }
             usb.serve(&mut Played::on(&bus));
-            usb.behind_mut().work();
+            usb.work();
             usb.serve(&mut Played::on(&bus));
         }
         assert_eq!(code(usb.behind().behind().keyboard(), 0, 0), stored);
     }
-    (0..5).for_each(|_| usb.behind_mut().scan([1, 0, 0, 0, 0, 0]));
+    (0..5).for_each(|_| usb.scan_rows([1, 0, 0, 0, 0, 0]));
     for _ in 0..2 {
         usb.serve(&mut Played::on(&bus));
         bus.borrow_mut().act(Act::Poll);

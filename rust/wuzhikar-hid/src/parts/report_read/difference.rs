@@ -6,6 +6,7 @@ use crate::parts::report_read::reader::ReportReader;
 use crate::parts::report_read::reading::Reading;
 use crate::parts::report_read::value::Value;
 use wuzhikar_reader::parts::descriptor_parse::{Descriptor, Kind};
+use crate::parts::field_values::Within;
 use crate::rattle::alloc::{AllocError, Global};
 
 /// The usages in which two reports differ, each list rising, and each usage once.
@@ -19,7 +20,11 @@ pub struct Changed {
 }
 
 /// The usages that are on in a report of a kind, rising, each once: those that Arrays name, and those of Variable fields
-/// whose value isn't 0. One whose low half is 0 is none.
+/// whose value isn't 0. Values outside the logical extents count for none, nulls among them, and a usage whose low half is 0
+/// is none.
+///
+/// 07:01 to 07:03 of a keyboard (ErrorRollOver, POSTFail, ErrorUndefined) are told as any usage. They are no keys: a report
+/// with one of them does not tell which keys are down.
 ///
 /// The errors are those of [`ReportReader::read`], and then `Memory`.
 pub fn pressed(
@@ -75,10 +80,18 @@ fn gather(
 
 /// The usage that a value says is on.
 fn usage_on(descriptor: &Descriptor, value: &Value) -> Option<u32> {
-    if is_of_array(descriptor, value) || value.raw != 0 {
+    if counts(value.within) && (is_of_array(descriptor, value) || value.raw != 0) {
         control(value.usage)
     } else {
         None
+    }
+}
+
+/// Whether a value is within the logical extents.
+fn counts(within: Within) -> bool {
+    match within {
+        Within::Range => true,
+        Within::Null | Within::Out => false,
     }
 }
 

@@ -57,7 +57,7 @@ pub enum WriteError {
     TooLarge(usize),
     /// The value is outside the logical extents, or is neither 0 nor 1 for a usage of an Array.
     OutOfRange(usize),
-    /// Each place of the Array names another usage, or none can say that it names no usage.
+    /// Each place of the Array names another usage or is set, or none can say that it names no usage.
     NoRoom(usize),
     /// There was no memory.
     Memory,

@@ -20,8 +20,8 @@ pub struct PairedFlash<F: EccFlash> {
 impl<F: EccFlash> PairedFlash<F> {
     /// **Needs** a flash that [`PairedFlash::format`] made, and that nothing but such an adapter wrote to since. Nothing checks it.
     ///
-    /// The adapter of a flash that `format` made, and that nothing but such an adapter wrote to since.
-    /// It writes nothing; both counts are 0.
+    /// Makes the adapter of a flash that `format` made, and that nothing but such an adapter wrote to
+    /// since. It writes nothing; both counts are 0.
     pub fn mount(flash: F) -> PairedFlash<F> {
         let _pages = flash.pages();
         PairedFlash {
@@ -31,7 +31,7 @@ impl<F: EccFlash> PairedFlash<F> {
         }
     }
 
-    /// The adapter of any flash, whatever it holds: all of it is erased, and what it held is lost.
+    /// Erases all of a flash, whatever it holds, and makes its adapter. What it held is lost.
     ///
     /// `FlashFault`: a page does not read as erased, or the flash told of a fault. On a healthy flash
     /// that does not come.
@@ -43,7 +43,7 @@ impl<F: EccFlash> PairedFlash<F> {
         Ok(PairedFlash::mount(flash))
     }
 
-    /// The flash, with what was written to it.
+    /// Returns the flash, with what was written to it.
     pub fn into_flash(self) -> F {
         self.flash
     }

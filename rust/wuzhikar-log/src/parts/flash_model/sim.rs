@@ -26,7 +26,8 @@ pub struct SimFlash {
 }
 
 impl SimFlash {
-    /// A blank flash of `pages` pages, every byte FFh, with nothing armed and no operation counted.
+    /// Makes a blank flash of `pages` pages, every byte FFh, with nothing armed and no operation
+    /// counted.
     ///
     /// `PageCount` where `pages` is not 2 to 8, asked first; `Memory` where there was no memory for
     /// the 4,096 bytes of each page.
@@ -45,7 +46,7 @@ impl SimFlash {
         }
     }
 
-    /// A flash that holds these bytes, with nothing armed and no operation counted.
+    /// Makes a flash that holds these bytes, with nothing armed and no operation counted.
     ///
     /// `ImageSize` where they are not 2 to 8 whole pages of 4,096 bytes; the bytes are then dropped.
     pub fn from_image(bytes: crate::rattle::Vec<u8>) -> Result<SimFlash, FlashError> {
@@ -61,7 +62,7 @@ impl SimFlash {
         })
     }
 
-    /// The bytes of the pages, one page after the other.
+    /// Returns the bytes of the pages, one page after the other.
     pub fn image(&self) -> &[u8] {
         self.bytes.as_slice()
     }

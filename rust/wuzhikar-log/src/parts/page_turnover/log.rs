@@ -98,7 +98,7 @@ impl Log {
         }
     }
 
-    /// The active page and its sequence number of 28 bits, if a page has a header.
+    /// Returns the active page and its sequence number of 28 bits, if a page has a header.
     pub fn active(&self) -> Option<(usize, u32)> {
         match self.active {
             Some(active) => Some((active.page as usize, active.seq)),
@@ -106,8 +106,9 @@ impl Log {
         }
     }
 
-    /// The format of the active page, 1 or 2, if a page has a header. Only pages of format 2 are
-    /// written; the words of one of format 1 are read, and the next turn copies them into format 2.
+    /// Returns the format of the active page, 1 or 2, if a page has a header. Only pages of format 2
+    /// are written; the words of one of format 1 are read, and the next turn copies them into format
+    /// 2.
     pub fn format(&self) -> Option<u8> {
         match self.active {
             Some(active) => Some(active.format),
@@ -115,7 +116,8 @@ impl Log {
         }
     }
 
-    /// Whether slot 0 of each page is sound. If not, `Unsound` has the lowest page where it is not.
+    /// Returns whether anything may be written: slot 0 of each page is sound. If not, `Unsound` has
+    /// the lowest page where it is not.
     pub fn usable(&self) -> Result<(), Unsound> {
         match self.unsound {
             Some(page) => Err(Unsound { page }),
@@ -123,8 +125,8 @@ impl Log {
         }
     }
 
-    /// Whether there is an active page of format 2 whose tail, one more than its greatest slot that is
-    /// not Free, is at most 511.
+    /// Returns whether there is an active page of format 2 whose tail, one more than its greatest slot
+    /// that is not Free, is at most 511.
     pub fn room(&self) -> bool {
         match self.active {
             Some(active) => has_room(active),
@@ -132,7 +134,8 @@ impl Log {
         }
     }
 
-    /// The tail of the active page: one more than its greatest slot that is not Free, 1 to 512.
+    /// Returns the tail of the active page: one more than its greatest slot that is not Free, 1 to
+    /// 512.
     pub fn tail(&self) -> Option<usize> {
         match self.active {
             Some(active) => Some(active.tail as usize),
@@ -140,7 +143,7 @@ impl Log {
         }
     }
 
-    /// Whether an append or a turn is under way.
+    /// Returns whether an append or a compaction is in progress.
     pub fn busy(&self) -> bool {
         match self.task {
             Task::Rest => false,
@@ -150,7 +153,7 @@ impl Log {
 
     /// **Needs** the flash that the log was mounted on, as the log left it. Nothing checks it: [`FlashLog`](crate::FlashLog) holds both.
     ///
-    /// The Good words of slots 1 to 511 of the active page, in rising order of the slots; none
+    /// Returns the Good words of slots 1 to 511 of the active page, in rising order of the slots; none
     /// without an active page.
     pub fn words<'a, F: NorFlash>(&self, flash: &'a F) -> Words<'a, F> {
         match self.active {

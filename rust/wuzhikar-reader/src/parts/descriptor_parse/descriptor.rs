@@ -22,17 +22,17 @@ impl Descriptor {
         Descriptor { reports }
     }
 
-    /// The fields, in order of declaration.
+    /// Returns the fields, in order of declaration.
     pub fn fields(&self) -> &[Field] {
         &self.reports.fields
     }
 
-    /// Whether reports begin with a report ID (HID 1.11, 6.2.2.7).
+    /// Returns whether reports begin with a report ID (HID 1.11, 6.2.2.7).
     pub fn uses_ids(&self) -> bool {
         self.reports.has_ids
     }
 
-    /// The bytes of a report, its ID byte included; `None` if there is no report of this kind and ID.
+    /// Returns the bytes of a report, its ID byte included; `None` if there is no report of this kind and ID.
     ///
     /// The ID is 0 where none is used.
     pub fn report_len(&self, kind: Kind, id: u8) -> Option<usize> {
@@ -52,7 +52,8 @@ impl Descriptor {
         }
     }
 
-    /// The usages of a field as they were declared, first and last of each range; empty if there is no such field.
+    /// Returns the usages of a field as they were declared, first and last of each range; empty if there is no such
+    /// field.
     ///
     /// A single usage is a range with equal ends.
     pub fn ranges(&self, field: usize) -> &[(u32, u32)] {
@@ -66,7 +67,8 @@ impl Descriptor {
         )
     }
 
-    /// How many usages a field has up to each of its ranges, the range itself among them; empty if there is no such field.
+    /// Returns how many usages a field has up to each of its ranges, the range itself among them; empty if there is no
+    /// such field.
     pub fn counts(&self, field: usize) -> &[u32] {
         let Some(link) = self.reports.links.get(field) else {
             return &[];
@@ -78,7 +80,7 @@ impl Descriptor {
         )
     }
 
-    /// The fields of one report with their usages, in order. The ID is 0 where none is used.
+    /// Returns the fields of one report with their usages, in order. The ID is 0 where none is used.
     ///
     /// The time is that of these fields alone, whatever other reports there are.
     pub fn report(&self, kind: Kind, id: u8) -> ReportFields<'_> {
@@ -94,13 +96,14 @@ impl Descriptor {
         )
     }
 
-    /// The usages of a field one by one, as they were declared; none if there is no such field. There can be more than the
-    /// field has places, and tens of millions where the text declares wide ranges.
+    /// Returns the usages of a field one by one, as they were declared; none if there is no such field. There can be
+    /// more than the field has places, and tens of millions where the text declares wide ranges.
     pub fn usages(&self, field: usize) -> Usages<'_> {
         Usages::new(self.ranges(field))
     }
 
-    /// The usage of a place of a variable field, or usage `place` of an array's list; `None` for what does not exist.
+    /// Returns the usage of a place of a variable field, or usage `place` of an array's list; `None` for what does not
+    /// exist.
     ///
     /// In a variable field the last usage serves the places that are left (HID 1.11, 6.2.2.8). The time grows with the
     /// logarithm of the number of the field's ranges.

@@ -16,7 +16,7 @@ pub struct Item<'a> {
 }
 
 impl Item<'_> {
-    /// What the item is, by its prefix.
+    /// Returns what the item is, by its prefix.
     #[inline(always)]
     pub fn tag(&self) -> Tag {
         Tag::of(self.prefix)
@@ -31,7 +31,7 @@ pub struct Items<'a> {
 }
 
 impl<'a> Items<'a> {
-    /// The items of `text`.
+    /// Cuts a text into its items.
     pub fn new(text: &'a [u8]) -> Items<'a> {
         Items {
             rest: text,

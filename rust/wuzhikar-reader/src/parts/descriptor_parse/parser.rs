@@ -18,7 +18,7 @@ pub struct Parser {
 }
 
 impl Parser {
-    /// A parser that was fed nothing; it takes no memory yet.
+    /// Makes a parser that was fed nothing. It takes no memory yet.
     pub(crate) fn new(alloc: Global) -> Parser {
         Parser {
             reading: Reading::new(alloc),

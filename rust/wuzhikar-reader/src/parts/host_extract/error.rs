@@ -30,7 +30,7 @@ impl core::fmt::Display for ExtractError {
 impl core::error::Error for ExtractError {}
 
 impl ExtractError {
-    /// The number of the refusal, 1 to 4.
+    /// Returns the number of the refusal, 1 to 4.
     pub fn number(self) -> u8 {
         self as u8
     }

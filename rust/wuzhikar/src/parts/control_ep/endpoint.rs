@@ -80,7 +80,7 @@ fn first_stage(transfer: Transfer, length: u16) -> Stage {
 }
 
 impl ControlEp {
-    /// An endpoint at its start: no transfer is under way, and an IN or OUT packet is answered by
+    /// Makes an endpoint at its start: no transfer is under way, and an IN or OUT packet is answered by
     /// `Stall(WrongStage)` until a SETUP packet comes.
     pub fn new() -> ControlEp {
         ControlEp { stage: Stage::Rest }
@@ -97,7 +97,8 @@ impl ControlEp {
         self.setup_from(setup, view);
     }
 
-    /// `setup` for a device that is asked for what is read, and for nothing else.
+    /// Takes a SETUP packet as `setup` does, for a device that is asked for what is read, and for nothing
+    /// else.
     pub fn setup_from<D: DeviceReports>(&mut self, setup: [u8; 8], device: &D) {
         self.begin(setup, device);
     }
@@ -122,28 +123,29 @@ impl ControlEp {
         self.answer_out(packet)
     }
 
-    /// The answer to the packet that `out` has just offered; to be called next after the offer. `Done`
-    /// and `Working` are `Ack`, `Busy` is `Nak` and leaves the report to be sent again, and `Refused` is
-    /// a `Stall` with its reason, which leaves the transfer stalled. Where no feature report is due the
-    /// verdict is out of place: a `Stall` with the reason of a transfer that is stalled already, else
-    /// with `WrongStage`, which stalls the transfer.
+    /// Answers the packet that `out` has just offered, and is to be called next after the offer. `Done`
+    /// and `Working` are `Ack`, `Busy` is `Nak` and leaves the report to be sent again, and `Refused` is a
+    /// `Stall` with its reason, which leaves the transfer stalled. Where no feature report is due the
+    /// verdict is out of place: a `Stall` with the reason of a transfer that is stalled already, else with
+    /// `WrongStage`, which stalls the transfer.
     pub fn verdict(&mut self, verdict: Verdict) -> EpAnswer {
         self.judge(verdict)
     }
 
-    /// The command that works has settled: the status packet of its transfer is due, if the transfer
+    /// Tells that the command at work is stored: the status packet of its transfer is due, if the transfer
     /// still waits for it. Any other transfer stays as it is.
     pub fn settle(&mut self) {
         self.end_command(Stage::Status(Effect::Nothing));
     }
 
-    /// The command that works has failed: its transfer is stalled with `FlashFault`, if it still waits
-    /// for it. Any other transfer stays as it is.
+    /// Tells that the command at work has failed: its transfer is stalled with `FlashFault`, if it still
+    /// waits for it. Any other transfer stays as it is.
     pub fn fail(&mut self) {
         self.end_command(Stage::Stalled(Why::FlashFault));
     }
 
-    /// A bus reset (USB 2.0 section 7.1.7.5): no transfer is under way, as in an endpoint at its start.
+    /// Takes a bus reset (USB 2.0 section 7.1.7.5): no transfer is under way, as in an endpoint at its
+    /// start.
     pub fn reset(&mut self) {
         *self = ControlEp::new();
     }

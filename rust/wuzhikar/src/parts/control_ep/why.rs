@@ -41,7 +41,7 @@ pub enum Why {
 }
 
 impl Why {
-    /// The number of the reason, 1 to 16.
+    /// Returns the number of the reason, 1 to 16.
     pub fn number(self) -> u8 {
         self as u8 + 1
     }

@@ -15,7 +15,7 @@ pub struct Edges {
 }
 
 impl Edges {
-    /// Whether no key changed.
+    /// Returns whether no key changed.
     pub fn is_none(&self) -> bool {
         let released = joined(&self.released.rows, 0)
             | joined(&self.released.rows, 1)
@@ -37,7 +37,7 @@ pub struct Debouncer {
 }
 
 impl Debouncer {
-    /// Every key up, before the first scan.
+    /// Makes a debouncer before its first scan: every key is up.
     pub fn new() -> Debouncer {
         let matrix = Matrix::new();
         let planes = matrix.planes();
@@ -55,13 +55,13 @@ impl Debouncer {
         }
     }
 
-    /// Whether a key, one of 0 to 95, is down.
+    /// Returns whether a key, one of 0 to 95, is down.
     pub(crate) fn is_down(&self, key: u8) -> bool {
         self.matrix.is_down(key)
     }
 
-    /// The planes of the counts: bit c of row r of plane p is bit p of how many of the latest samples
-    /// of key 16 * r + c are equal, counted to five.
+    /// Returns the planes of the counts: bit c of row r of plane p is bit p of how many of the latest
+    /// samples of key 16 * r + c are equal, counted to five.
     pub fn planes(&self) -> &[[u16; 6]; 3] {
         &self.planes
     }

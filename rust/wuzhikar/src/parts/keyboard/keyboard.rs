@@ -33,15 +33,15 @@ impl<D: Defaults> KeyboardOf<D> {
 pub type Keyboard = KeyboardOf<Standard>;
 
 impl<D: Defaults> KeyboardOf<D> {
-    /// A keyboard as it starts on a flash, whose keymap it reads: report protocol, no LED on, every key
-    /// up, nothing sent, entry (0, 0) selected, and no transfer. `AllocError` where there was no room for
-    /// the reports that wait (`Room::take`); no other call takes memory.
+    /// Starts a keyboard on a flash, whose keymap it reads: report protocol, no LED on, every key up,
+    /// nothing sent, entry (0, 0) selected, and no transfer. `AllocError` where there was no room for the
+    /// reports that wait (`Room::take`); no other call takes memory.
     pub(crate) fn start<F: NorFlash>(alloc: Global, flash: &F) -> Result<KeyboardOf<D>, AllocError> {
         let room = Room::take(alloc)?;
         Ok(KeyboardOf::start_in(room, flash))
     }
 
-    /// A keyboard as `start` gives it, in room that was taken before. Takes no memory, and nothing
+    /// Starts a keyboard as `start` does, in room that was taken before. Takes no memory, and nothing
     /// refuses it.
     pub(crate) fn start_in<F: NorFlash>(room: Room, flash: &F) -> KeyboardOf<D> {
         KeyboardOf {
@@ -55,7 +55,8 @@ impl<D: Defaults> KeyboardOf<D> {
         }
     }
 
-    /// Leaves what `start` gives on this flash. Takes no memory.
+    /// Starts the keyboard over on this flash, as after a power loss: it is then what `start` gives. Takes
+    /// no memory.
     pub fn restart<F: NorFlash>(&mut self, flash: &F) {
         self.ep = ControlEp::new();
         self.keys.restart();
@@ -114,19 +115,19 @@ impl<D: Defaults> KeyboardOf<D> {
         answer
     }
 
-    /// The answer to a poll of endpoint 1: the report that has waited longest. Where none waits, the
-    /// report of the protocol whose bytes are not those last sent, else one whose idle time has passed
-    /// since then, or `None`. It then counts as sent.
+    /// Answers a poll of endpoint 1 with a report of 8, 9 or 23 bytes, or with `None`, which is NAK: the
+    /// report that has waited longest. Where none waits, the report of the protocol whose bytes are not
+    /// those last sent, else one whose idle time has passed since then, or `None`. It then counts as sent.
     pub fn poll(&mut self) -> Option<Report> {
         self.keys.poll(self.protocol)
     }
 
     /// **Needs** the flash that the keyboard last started or restarted on, as the keyboard left it. Nothing checks it: [`FlashKeyboard`](crate::FlashKeyboard) holds both.
     ///
-    /// A step of the flash work: makes the one flash operation that the command at work needs next, or
-    /// none where no command works. A command is settled or fails by the 387th step. `Settled` lets
-    /// the status stage of its transfer follow, and `Failed` stalls it, if the transfer still waits.
-    /// The flash has to be the one that the keyboard started on.
+    /// Makes the one flash operation that the command at work needs next, or none where no command works.
+    /// A command is settled or fails by the 387th step. `Settled` lets the status stage of its transfer
+    /// follow, and `Failed` stalls it, if the transfer still waits. The flash has to be the one that the
+    /// keyboard started on.
     pub fn work<F: NorFlash>(&mut self, flash: &mut F) -> Work {
         let work = self.store.work(flash);
         match work {
@@ -137,8 +138,8 @@ impl<D: Defaults> KeyboardOf<D> {
         work
     }
 
-    /// A bus reset (USB 2.0 section 7.1.7.5): the transfer ends, report protocol is in force, no LED is
-    /// on, nothing counts as sent, nothing waits, and the idle values are those of the start. The
+    /// Takes a bus reset (USB 2.0 section 7.1.7.5): the transfer ends, report protocol is in force, no LED
+    /// is on, nothing counts as sent, nothing waits, and the idle values are those of the start. The
     /// keymap, the flash work, the keys and the selected entry stay.
     pub fn bus_reset(&mut self) {
         self.ep.reset();
@@ -147,28 +148,28 @@ impl<D: Defaults> KeyboardOf<D> {
         self.leds = 0;
     }
 
-    /// The keymap: that of the flash's image.
+    /// Returns the keymap: that of the flash's image.
     pub fn keymap(&self) -> &KeymapOf<D> {
         self.store.keymap()
     }
 
-    /// Whether no page of the flash has a header yet: nothing was stored on it since it was erased.
-    /// A firmware that has settings of its own to store does so where this holds at its start.
+    /// Returns whether no page of the flash has a header yet: nothing was stored on it since it was
+    /// erased. A firmware that has settings of its own to store does so where this holds at its start.
     pub fn is_first_start(&self) -> bool {
         self.store.is_first_start()
     }
 
-    /// The usages that the codes of the held keys name.
+    /// Returns the usages that the codes of the held keys name.
     pub fn usages(&self) -> Usages {
         self.keys.usages()
     }
 
-    /// The protocol in force (HID 1.11 section 7.2.5).
+    /// Returns the protocol in force (HID 1.11 section 7.2.5).
     pub fn protocol(&self) -> Protocol {
         self.protocol
     }
 
-    /// The LEDs: usages 01h to 05h of page 08h in bits 0 to 4.
+    /// Returns the LEDs: usages 01h to 05h of page 08h in bits 0 to 4.
     pub fn leds(&self) -> u8 {
         self.leds
     }

@@ -142,7 +142,7 @@ impl Code {
         }
     }
 
-    /// The bits of the code.
+    /// Returns the bits of the code.
     pub fn bits(self) -> u16 {
         self.bits
     }
@@ -170,7 +170,7 @@ impl LayerNo {
         }
     }
 
-    /// The number of the layer, 0 to 3.
+    /// Returns the number of the layer, 0 to 3.
     pub fn number(self) -> u8 {
         self.layer
     }
@@ -198,7 +198,7 @@ impl KeyNo {
         }
     }
 
-    /// The number of the key, 0 to 95.
+    /// Returns the number of the key, 0 to 95.
     pub fn number(self) -> u8 {
         self.key
     }

@@ -87,7 +87,8 @@ impl Held {
         }
     }
 
-    /// Whether a layer is active: layer 0 is, another while a key with its momentary code is held.
+    /// Returns whether a layer is active: layer 0 is, another while a key with its momentary code is
+    /// held.
     pub fn active(&self, layer: LayerNo) -> bool {
         if self.named {
             is_active(&self.active, layer)
@@ -97,7 +98,7 @@ impl Held {
         }
     }
 
-    /// The code of a key, fixed at its press; None while it is not held.
+    /// Returns the code of a key, fixed at its press; None while it is not held.
     pub fn code(&self, key: KeyNo) -> Option<Code> {
         if self.holds(key) {
             Some(self.codes[key.number() as usize])
@@ -106,7 +107,7 @@ impl Held {
         }
     }
 
-    /// The usages that the codes of the held keys name.
+    /// Returns the usages that the codes of the held keys name.
     pub fn usages(&self) -> Usages {
         if self.named {
             self.usages
@@ -116,7 +117,7 @@ impl Held {
         }
     }
 
-    /// The same usages, lent, where they were named.
+    /// Returns the same usages, lent, where they were named.
     pub(crate) fn lent(&self) -> &Usages {
         &self.usages
     }

@@ -21,7 +21,7 @@ impl<D: Defaults> KeymapOf<D> {
 pub type Keymap = KeymapOf<Standard>;
 
 impl<D: Defaults> KeymapOf<D> {
-    /// The default keymap.
+    /// Returns the default keymap.
     pub fn standard() -> KeymapOf<D> {
         let mut keymap = KeymapOf {
             codes: [Code::TRANSPARENT; ENTRIES],
@@ -36,7 +36,7 @@ impl<D: Defaults> KeymapOf<D> {
         D::reset(&mut self.codes, 0, ENTRIES);
     }
 
-    /// The code of a key on a layer.
+    /// Returns the code of a key on a layer.
     pub fn get(&self, layer: LayerNo, key: KeyNo) -> Code {
         self.codes[place(layer, key)]
     }
@@ -53,7 +53,7 @@ impl<D: Defaults> KeymapOf<D> {
         }
     }
 
-    /// Whether some entry would differ after the command.
+    /// Returns whether some entry would differ after the command.
     pub fn changes(&self, command: Command) -> bool {
         match command {
             Command::SetKey { layer, key, code } => self.codes[place(layer, key)] != code,
@@ -65,8 +65,8 @@ impl<D: Defaults> KeymapOf<D> {
         }
     }
 
-    /// The first place at or after `from` whose entry differs from the default, with the command
-    /// that sets that entry; a place is 96 times the layer plus the key.
+    /// Returns the first place at or after `from` whose entry differs from the default, with the
+    /// command that sets that entry; a place is 96 times the layer plus the key.
     pub fn next_changed(&self, from: u16) -> Option<(u16, Command)> {
         for place in from..ENTRIES as u16 {
             let code = self.codes[place as usize];

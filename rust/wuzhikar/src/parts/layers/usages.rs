@@ -26,7 +26,7 @@ impl Usages {
 }
 
 impl Usages {
-    /// No usage.
+    /// Makes a set without a usage.
     pub fn none() -> Usages {
         Usages {
             keys: [0; KEY_WORDS],
@@ -47,32 +47,32 @@ impl Usages {
         insert_consumer(&mut self.consumer, &mut self.occupied, code);
     }
 
-    /// Whether a usage of page 07h is in the set.
+    /// Returns whether a usage of page 07h is in the set.
     pub fn has_key(&self, usage: u8) -> bool {
         contains(&self.keys, usage as u16)
     }
 
-    /// The modifiers in the set: bit i is usage E0h + i of page 07h.
+    /// Returns the modifiers in the set: bit i is usage E0h + i of page 07h.
     pub fn modifiers(&self) -> u8 {
         (self.keys[0xE0 / 32] % 0x100) as u8
     }
 
-    /// The set of page 07h as bits: bit i of word w is usage 32 * w + i.
+    /// Returns the set of page 07h as bits: bit i of word w is usage 32 * w + i.
     pub fn key_words(&self) -> &[u32; 8] {
         &self.keys
     }
 
-    /// The least usage of page 07h in the set that is at or after `from`, if there is one.
+    /// Returns the least usage of page 07h in the set that is at or after `from`, if there is one.
     pub fn next_key(&self, from: u8) -> Option<u16> {
         next_member(&self.keys, from as u16)
     }
 
-    /// Whether a usage of page 0Ch is in the set.
+    /// Returns whether a usage of page 0Ch is in the set.
     pub fn has_consumer(&self, usage: u16) -> bool {
         usage < 0x400 && contains(&self.consumer, usage)
     }
 
-    /// The least usage of page 0Ch in the set that is at or after `from`, if there is one.
+    /// Returns the least usage of page 0Ch in the set that is at or after `from`, if there is one.
     pub fn next_consumer(&self, from: u16) -> Option<u16> {
         match next_member(&self.occupied, from / 32) {
             Some(place) => next_member(&self.consumer, later(from, 32 * place)),

@@ -1,4 +1,4 @@
-use Rattle.std.proofs.Common.{◌≡◌, refl, sym, arith, rules, ◌≤◌}
+use Rattle.std.proofs.Common.{arith, rules, ◌≤◌}
 use Rattle.std.proofs.lemmas.Bool.{iff_false}
 use Rattle.page_turnover.specs.Usable.{IsUsable}
 use Rattle.settings.specs.Begins.{alive}

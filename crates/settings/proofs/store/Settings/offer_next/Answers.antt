@@ -1,4 +1,3 @@
-use Rattle.std.proofs.Common.{◌≡◌, refl, sym, arith, rules}
 use Rattle.std.proofs.lemmas.Bool.{iff_false}
 use Rattle.settings.proofs.Packing.{some_words}
 use Rattle.settings.proofs.Turning.{turning, offered_before, word_inside, can_take, offered_word, offered_seal}

@@ -1,8 +1,11 @@
-use Rattle.std.proofs.Common.{◌≡◌, refl, sym, arith, rules}
+use Rattle.std.proofs.Common.{refl}
 use Rattle.page_turnover.specs.Next.{on_flash}
+use Rattle.settings.specs.declared.store.Job.TheVariants.{Resting}
 use Rattle.settings.proofs.Storing.{same_kept}
 use Rattle.settings.proofs.Values.{are_values}
-use Rattle.settings.proofs.Cutting.{turn_next, cut_turn}
+use Rattle.settings.proofs.Cutting.{turn_next, cut_turn, is_fault}
+use Rattle.settings.proofs.Known.{between_kept}
+use Rattle.settings.proofs.Written.{writes_moved, writes_turn, compacts, between_turned}
 use Rattle.settings.proofs.Turning.{turning, turned_values, still_stands, moved_down, last_down, failed_down}
 use Rattle.settings.proofs.store.Settings.turn.Goals as goal
 
@@ -74,3 +77,40 @@ returns-in-Failed-clause-operation g c =
       made = c.step.ensures.operated next.operation next.is;
       cut = λ left i m. cut_turn old c.args.changes.now c.self.inside.log next left o.stands.log_is j.of_turn (are_values old c.args.changes.now j.are_changes) j.all i m;
     }
+
+pub returns-in-Moved-clause-writes : goal.returns-in-Moved-clause-writes
+returns-in-Moved-clause-writes g c =
+    let o = rw (← c.self.view_is) at c.offer_next.ensures in
+    writes_moved (g.F.NorFlash.image c.args.flash.now) c.args.changes.now _ c.args.from c.args.at (g.F.NorFlash.image c.step.new.flash) _ o.from o.at c.requires.job (c.step.ensures.moved c.in-Moved.is).keeps (c.step.ensures.operates (λ e. cc) (λ e. cc)) o.job
+
+pub returns-in-Moved-clause-between : goal.returns-in-Moved-clause-between
+returns-in-Moved-clause-between g c = between_kept (g.F.NorFlash.image c.args.flash.now) c.args.changes.now (g.F.NorFlash.image c.step.new.flash) c.step.ensures.usable (c.step.ensures.moved c.in-Moved.is).keeps
+
+pub returns-in-Committed-clause-writes : goal.returns-in-Committed-clause-writes
+returns-in-Committed-clause-writes g c =
+    let old = g.F.NorFlash.image c.args.flash.now in
+    let new = g.F.NorFlash.image c.step.new.flash in
+    let o = rw (← c.self.view_is) at c.offer_next.ensures in
+    let j = turning old c.args.changes.now _ o.from o.at o.stands o.job in
+    writes_turn old c.args.changes.now _ c.args.from c.args.at new Resting c.requires.job (compacts old c.args.changes.now c.self.inside.log o.from o.at c.step.result new c.step.new.self j o.stands.log_is c.in-Committed.is c.step.ensures.ends (c.step.ensures.committed c.in-Committed.is))
+
+pub returns-in-Committed-clause-between : goal.returns-in-Committed-clause-between
+returns-in-Committed-clause-between g c =
+    let old = g.F.NorFlash.image c.args.flash.now in
+    let new = g.F.NorFlash.image c.step.new.flash in
+    let o = rw (← c.self.view_is) at c.offer_next.ensures in
+    let j = turning old c.args.changes.now _ o.from o.at o.stands o.job in
+    let d = c.step.ensures.committed c.in-Committed.is in
+    between_turned old c.args.changes.now c.self.inside.log o.from o.at new j d (compacts old c.args.changes.now c.self.inside.log o.from o.at c.step.result new c.step.new.self j o.stands.log_is c.in-Committed.is c.step.ensures.ends d) c.step.ensures.usable
+
+pub returns-in-Failed-clause-between : goal.returns-in-Failed-clause-between
+returns-in-Failed-clause-between g c = between_kept (g.F.NorFlash.image c.args.flash.now) c.args.changes.now (g.F.NorFlash.image c.step.new.flash) c.step.ensures.usable (c.step.ensures.ends.kept c.in-Failed.is)
+
+pub returns-in-Failed-clause-fault : goal.returns-in-Failed-clause-fault
+returns-in-Failed-clause-fault g c f =
+    let n = g.F.NorFlash in
+    let old = n.image c.args.flash.now in
+    let o = rw (← c.self.view_is) at c.offer_next.ensures in
+    let j = turning old c.args.changes.now _ o.from o.at o.stands o.job in
+    let next = turn_next old c.self.inside.log j.of_turn o.pending in
+    is_fault n.image n.operations n.faults n.operates c.args.flash.now c.step.new.flash c.self.inside.log _ _ next c.step.ensures.attempts (c.step.ensures.operated next.operation next.is) c.step.ensures.counts c.in-Failed.is

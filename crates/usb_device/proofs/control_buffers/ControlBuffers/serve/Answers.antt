@@ -1,6 +1,6 @@
-use Rattle.std.proofs.Common.{Bool, ap, subst}
+use Rattle.std.proofs.Common.{◌≡◌, Bool, true, false, ap, sym, subst, ◌∙◌}
 use Rattle.usb_device.specs.Addresses.{StaysBy}
-use Rattle.usb_device.specs.Bus.{Met}
+use Rattle.usb_device.specs.Bus.{Bus, Met}
 use Rattle.usb_device.proofs.Addressing.{served_stays, kept_further, kept_or}
 use Rattle.usb_device.proofs.Linked.{goes}
 use Rattle.usb_device.proofs.Resting.{rest_goes}
@@ -20,5 +20,5 @@ returns g c = λ calls s h r.
       x.2,
       x.3,
       kept_or w.1.met.reset calls x.0 kept,
-      served_stays w.1.met.reset (g.C.Controller.bus c.go_on.new.controller).met.reset calls x.0 (g.C.Controller.address_of c.args.controller.now) (g.C.Controller.address_of c.waiting-met.new.self) (g.C.Controller.address_of c.go_on.new.controller) stays c.go_on.ensures.stays.1 kept,
+      served_stays w.1.met.reset (g.C.Controller.bus c.go_on.new.controller).met.reset calls x.0 (g.C.Controller.address_of c.args.controller.now) (g.C.Controller.address_of c.waiting-met.new.self) (g.C.Controller.address_of c.go_on.new.controller) stays (c.go_on.ensures.stays.1 (λ r. absurd (let t : false ≡ true = sym (ap (λ (x : Bus). x.met.reset) w.4) ∙ r in cc))) kept,
     )

@@ -9,6 +9,6 @@ returns-clause-stands g c = λ lent past h.
     let b = g.B.Buffers.bus c.host_began.new.self in (
       h.0,
       h.1,
-      c.release.ensures.linked b (calls_of past) (λ _. began_host i.1 b i.3) (began_link i.0 c.args.self.now.reports _ i.1 b (calls_of past) i.2 i.3 h.2),
+      c.release.ensures.linked b (calls_of past) (began_host i.1 b i.3) (began_link i.0 c.args.self.now.reports _ i.1 b (calls_of past) i.2 i.3 h.2),
       began_in_step i.0 (states_set lent past) _ i.1 b i.2 i.3 h.3,
     )

@@ -11,6 +11,6 @@ returns g c = λ calls p.
     let e = c.out_packet.ensures in (
       p.0,
       OutCame c.args.packet.now c.out_packet.result ∷ p.1,
-      (e.stands p.0 p.1 p.2.0, e.session p.0 p.1 p.2.0 p.2.1, same_reports _ _ (calls_of p.1) (call ∷ calls_of p.1) p.2.2 refl, p.2.3),
+      (e.stands p.0 p.1 p.2.0, e.session p.0 p.1 p.2.0 p.2.1, same_reports _ _ (calls_of p.1) (call ∷ calls_of p.1) p.2.2 refl refl, p.2.3),
       ap (λ x. call ∷ x) p.3,
     )

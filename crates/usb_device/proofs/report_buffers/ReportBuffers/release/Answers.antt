@@ -4,12 +4,12 @@ use Rattle.usb_device.specs.ties.Link1.{ReportState, Link1}
 use Rattle.usb_device.proofs.Reporting.{left_same, sure_link}
 use Rattle.usb_device.proofs.report_buffers.ReportBuffers.release.Goals as goal
 
-pub returns-then-knows-clause-linked : goal.returns-then-knows-clause-linked
-returns-then-knows-clause-linked c = λ b calls k h.
+pub returns-then-not-self-clause-linked : goal.returns-then-not-self-clause-linked
+returns-then-not-self-clause-linked c = λ b calls k h.
     let P : ReportState → Type 0 = λ x. Link1 x b calls in
-    sure_link (the_view c.self.inside) 0 b calls (k c.if-knows.true) (subst P (sym c.self.view_is) h)
+    sure_link (the_view c.self.inside) 0 b calls (let x = c.if-not-self.true in search) k (subst P (sym c.self.view_is) h)
 
-pub returns-else-knows-clause-linked : goal.returns-else-knows-clause-linked
-returns-else-knows-clause-linked c = λ b calls k h.
+pub returns-else-not-self-clause-linked : goal.returns-else-not-self-clause-linked
+returns-else-not-self-clause-linked c = λ b calls k h.
     let P : ReportState → Type 0 = λ x. Link1 x b calls in
     left_same (the_view c.self.inside) 0 b calls (subst P (sym c.self.view_is) h)

@@ -1,7 +1,7 @@
 use Rattle.std.proofs.Common.{ℕ, sym, subst, ◌∙◌}
 use Rattle.usb_device.specs.Bus1.{room_of}
 use Rattle.usb_device.specs.Through.{calls_of}
-use Rattle.usb_device.specs.Transfers.{TransferState, NothingWithheld0}
+use Rattle.usb_device.specs.Transfers.{TransferState, NothingWithheld0, is_done}
 use Rattle.usb_device.specs.declared.answer.Endpoint1.{Endpoint1}
 use Rattle.usb_device.specs.ties.Link.{Link}
 use Rattle.usb_device.specs.ties.Link1.{NothingWithheld, may_send}
@@ -9,7 +9,7 @@ use Rattle.usb_device.specs.ties.Layered.{is_ready}
 use Rattle.usb_device.proofs.Layering.{polled_once}
 use Rattle.usb_device.proofs.Linked.{goes}
 use Rattle.usb_device.proofs.Resting.{rest_goes}
-use Rattle.usb_device.proofs.Addressing.{reset_goes, reset_later}
+use Rattle.usb_device.proofs.Addressing.{addressed}
 use Rattle.usb_device.proofs.usb_device.UsbDevice.serve.Goals as goal
 
 pub returns : goal.returns
@@ -34,5 +34,5 @@ returns g c = λ calls lent past h.
       r.0,
       (linked, rests, r.1, polled_once a.1.1 r.0 r.3 ∙ a.1.3),
       subst L (sym c.serve_reports.ensures.waits) (subst E (sym c.serve_reports.ensures.same) r.2),
-      (g.C.Controller.address_of c.serve.new.controller, reset_later old.met.reset bus.met.reset a.0 (g.C.Controller.address_of c.args.controller.now) (g.C.Controller.address_of c.serve.new.controller) (reset_goes tell.0 old bus tell.1) a.5, c.tell.ensures.told),
+      addressed (is_done c.settle.new.self.control) c.serve_reports.new.self.layer.due old bus calls a.0 (g.C.Controller.address_of c.args.controller.now) (g.C.Controller.address_of c.serve.new.controller) (g.C.Controller.address_of c.tell.new.controller) c.tell.ensures.told a.5,
     )

@@ -1,0 +1,155 @@
+-- Where changes are written, step by step.
+use Rattle.std.proofs.Common.{◌≡◌, ◌∙◌, ℕ, ◌+◌, ◌<◌, ◌≤◌, refl, sym, ap, subst, arith, List, [], ◌∷◌, ◌++◌, length, take, get_or, Some, inl, inr, append_assoc}
+use Rattle.std.proofs.lemmas.Bool.{cases_lt}
+use Rattle.std.proofs.lemmas.List.{append-nil, take_all}
+use Rattle.flash_model.specs.Image.{page_count}
+use Rattle.flash_model.proofs.Places.{page_count-one_slot, page_count-one_page}
+use Rattle.page_turnover.specs.declared.log.stepping.Step.{Step}
+use Rattle.page_turnover.specs.declared.log.stepping.Step.TheVariants.{Committed}
+use Rattle.page_turnover.specs.Active.{active}
+use Rattle.page_turnover.specs.Operates.{Operates, programs, erases}
+use Rattle.page_turnover.specs.Steps.{Keeps, Commits, CommitsWord, EndsAs, Steps, StepsFor}
+use Rattle.page_turnover.specs.Turn.{copies, copied, target_page, next_seq}
+use Rattle.page_turnover.specs.Usable.{IsUsable}
+use Rattle.page_turnover.specs.Value.{LogValue, Task, Rest, Append, Wait, Copy, Seal}
+use Rattle.page_turnover.specs.Words.{words}
+use Rattle.page_turnover.specs.ties.Log.{Describes}
+use Rattle.page_turnover.specs.ties.Turn.{UnderWay}
+use Rattle.page_turnover.proofs.Describing.{held_active}
+use Rattle.page_turnover.proofs.Endings.{waiting_count}
+use Rattle.settings.specs.declared.change.Change.{Change}
+use Rattle.settings.specs.declared.store.Job.{Job}
+use Rattle.settings.specs.declared.store.Job.TheVariants.{Resting, Appending, Turning}
+use Rattle.settings.specs.declared.store.Work.{Work}
+use Rattle.settings.specs.declared.store.Work.TheVariants.{Working, Stored}
+use Rattle.settings.specs.Words.{words_of}
+use Rattle.settings.specs.Settings.{changed}
+use Rattle.settings.specs.Copies.{all_copies}
+use Rattle.settings.specs.Begins.{alive}
+use Rattle.settings.specs.Places.{own_words, Adds, IsCompacted, AreWritten}
+use Rattle.settings.specs.Store.{IsBusy}
+use Rattle.settings.specs.Works.{IsBetween, IsBeforeOrAfter, GoesTo, Writes, WritesMore, WritesLast}
+use Rattle.settings.specs.ties.Store.{IsAppending, IsTurning, IsTurn, IsSeal}
+use Rattle.settings.specs.ties.Whole.{WrittenSoFar}
+use Rattle.settings.proofs.Storing.{changed_kept, take_next}
+use Rattle.settings.proofs.Values.{are_values}
+use Rattle.settings.proofs.Known.{known_change, between_added, between_copied}
+use Rattle.settings.proofs.Appending.{one_is_change, keeps_values, changes_values}
+use Rattle.settings.proofs.Turning.{turned_values}
+
+-- a word of one change
+one_committed : (old : List ℕ) (word : ℕ) (task : Task) (new : List ℕ) → task ≡ Append word → Commits old task new → CommitsWord old word new
+one_committed old word task new t c = let C : Task → Type 0 = λ x. Commits old x new in subst C t c
+
+pub writes_word : (old : List ℕ) (changes : List Change) (log next : LogValue) (before : Job) (at word : ℕ) (work : Work) (new : List ℕ) (after : Job) → before ≡ Appending at → (a : IsAppending old changes log at) → next.task ≡ Append word → word ≡ get_or (words_of a.change) at 0 → Commits old next.task new
+    → (at + 1 < length (words_of a.change) → (work ≡ Working) × (after ≡ Appending (at + 1))) → (length (words_of a.change) ≤ at + 1 → (work ≡ Stored) × (after ≡ Resting)) → Writes before work old changes new after
+writes_word old changes log next before at word work new after b a t w c more last =
+    let f : CommitsWord old word new = one_committed old word next.task new t c in
+    let o : own_words changes ≡ words_of a.change = rw a.one refl in
+    let n : length (own_words changes) ≡ length (words_of a.change) = rw o refl in
+    let m = a.more in
+    let e : word ≡ get_or (own_words changes) at 0 = rw o w in
+    let adds : Adds old (get_or (own_words changes) at 0 ∷ []) new = record { words_are = f.words_are ∙ ap (λ (x : ℕ). words old ++ x ∷ []) e; active_is = f.active_is; format_is = f.format_is } in
+    elim (cases_lt (at + 1) (length (words_of a.change))) [
+      | inl l ↦ rw (b, (more l).0) (adds, (more l).1, omega (arith, n, l))
+      | inr l ↦ rw (b, (last l).0) (adds, omega (arith, n, l, m))
+    ]
+
+pub between_word : (old : List ℕ) (changes : List Change) (log next : LogValue) (at word : ℕ) (new : List ℕ) → (a : IsAppending old changes log at) → next.task ≡ Append word → word ≡ get_or (words_of a.change) at 0 → Commits old next.task new → (IsUsable old → IsUsable new) → IsBetween old changes new
+between_word old changes log next at word new a t w c u =
+    let f : CommitsWord old word new = one_committed old word next.task new t c in
+    let v : IsBeforeOrAfter old changes new =
+    elim (cases_lt (at + 1) (length (words_of a.change))) [
+      | inl l ↦ inl (keeps_values old changes log next at word new a t w c l)
+      | inr l ↦ inr (changes_values old changes log next at word new a t w c l)
+    ] in
+    between_added old changes new word u v f.words_are (rw w (known_change a.change (one_is_change old changes log at a) at 0 a.more))
+
+-- a step of a turn
+pages_same : (old new : List ℕ) → Operates old new → page_count new ≡ page_count old
+pages_same old new (programs u page slot word p s w free g) = page_count-one_slot old page slot new g.rest
+pages_same old new (erases u page p n g) = page_count-one_page old page new g.rest
+
+target_same : (old new : List ℕ) → active new ≡ active old → page_count new ≡ page_count old → target_page new ≡ target_page old
+unfolding target_page
+target_same old new a p = rw (a, p) refl
+
+next_same : (old new : List ℕ) → active new ≡ active old → next_seq new ≡ next_seq old
+unfolding next_seq
+next_same old new a = rw a refl
+
+pub writes_moved : (old : List ℕ) (changes : List Change) (before : Job) (from at : ℕ) (new : List ℕ) (after : Job) (next_from next_at : ℕ) → before ≡ Turning from at → Keeps old new → Operates old new → after ≡ Turning next_from next_at → Writes before Working old changes new after
+writes_moved old changes before from at new after next_from next_at b k o e = rw (b, e) (k, target_same old new k.active_is (pages_same old new o), tt)
+
+compacted_for : (task : Task) (old : List ℕ) (changes : List Change) (before : LogValue) (new : List ℕ) (after : LogValue) → IsTurn task → UnderWay old task → (IsSeal task → copies old task ≡ all_copies (changed old changes)) → Describes new after → StepsFor task old before Committed new after → Commits old task new → IsCompacted old changes new
+compacted_for Rest old changes before new after t u l d s c = absurd t
+compacted_for (Append word) old changes before new after t u l d s c = absurd t
+compacted_for (Wait target) old changes before new after t u l d s c = absurd c
+compacted_for (Copy target word) old changes before new after t u l d s c = absurd c
+compacted_for (Seal target) old changes before new after t u l d s c = elim s [
+  | inl a ↦ (let f = a.answer in cc)
+  | inr a ↦ (let e : after.active ≡ Some (record { page = target_page old; seq = next_seq old; format = 2; tail = copied target + 1 }) = rw a.next refl in
+      let held = held_active new after _ d e in
+      let i : length (copies old (Wait target)) ≡ copied target = waiting_count old target u.target_is in
+      let n : length (copies old (Seal target)) ≡ alive old changes = rw (l tt) refl in
+      let m : copied target + 1 ≡ 1 + alive old changes = omega arith in
+      record { is_active = c.active_is; format_is = c.format_is; words_are = c.words_are ∙ l tt; is_tail = rw m at held.is_tail })
+]
+
+pub compacts : (old : List ℕ) (changes : List Change) (log : LogValue) (from at : ℕ) (step : Step) (new : List ℕ) (after : LogValue) → IsTurning old changes log from at → Describes old log → step ≡ Committed → EndsAs old log step new after → Commits old log.task new → IsCompacted old changes new
+compacts old changes log from at step new after j d e ends c =
+    let S : Step → Type 0 = λ x. Steps old log x new after in
+    compacted_for log.task old changes log new after j.of_turn d.task_is j.all ends.describes (subst S e (ends.done (λ f. cc))) c
+
+pub writes_turn : (old : List ℕ) (changes : List Change) (before : Job) (from at : ℕ) (new : List ℕ) (after : Job) → before ≡ Turning from at → IsCompacted old changes new → Writes before Stored old changes new after
+writes_turn old changes before from at new after b c = rw b c
+
+pub between_turned : (old : List ℕ) (changes : List Change) (log : LogValue) (from at : ℕ) (new : List ℕ) → IsTurning old changes log from at → Commits old log.task new → IsCompacted old changes new → (IsUsable old → IsUsable new) → IsBetween old changes new
+between_turned old changes log from at new j c w u = between_copied old changes new (changed old changes) u (inr (turned_values old changes log from at new j c)) w.words_are (are_values old changes j.are_changes)
+
+-- where changes are so far
+pub written_none : (image : List ℕ) (changes : List Change) (job : Job) → GoesTo image changes job → WrittenSoFar image changes job image
+written_none image changes Resting g = absurd g
+written_none image changes (Appending at) g = (g.0, record { words_are = rw g.1 (sym (append-nil (words image))); active_is = refl; format_is = refl })
+written_none image changes (Turning from at) g = (g, record { words_are = refl; active_is = refl; format_is = refl }, refl)
+
+keeps_both : (old middle new : List ℕ) → Keeps old middle → Keeps middle new → Keeps old new
+keeps_both old middle new k l = record { words_are = l.words_are ∙ k.words_are; active_is = l.active_is ∙ k.active_is; format_is = l.format_is ∙ k.format_is }
+
+adds_next : (old middle new : List ℕ) (more : List ℕ) (at : ℕ) → at < length more → Adds old (take at more) middle → Adds middle (get_or more at 0 ∷ []) new → Adds old (take (at + 1) more) new
+adds_next old middle new more at l a b = record {
+  words_are = b.words_are ∙ rw a.words_are (append_assoc (words old) (take at more) (get_or more at 0 ∷ []) ∙ ap (λ (t : List ℕ). words old ++ t) (take_next more at l));
+  active_is = b.active_is ∙ a.active_is;
+  format_is = b.format_is ∙ a.format_is;
+}
+
+written_more : (old middle new : List ℕ) (changes : List Change) (before after : Job) → WrittenSoFar old changes before middle → WritesMore before middle changes new after → WrittenSoFar old changes after new
+written_more old middle new changes Resting after s m = absurd m
+written_more old middle new changes (Appending at) after s m = let l = m.2 in rw m.1 (s.0, adds_next old middle new (own_words changes) at (omega arith) s.1 m.0)
+written_more old middle new changes (Turning from at) Resting s m = absurd m.2
+written_more old middle new changes (Turning from at) (Appending other) s m = absurd m.2
+written_more old middle new changes (Turning from at) (Turning next other) s m = (s.0, keeps_both old middle new s.1 m.0, m.1 ∙ s.2)
+
+compacted_from : (old middle new : List ℕ) (changes : List Change) → Keeps old middle → target_page middle ≡ target_page old → IsCompacted middle changes new → IsCompacted old changes new
+compacted_from old middle new changes k t c =
+    let v : changed middle changes ≡ changed old changes = changed_kept old middle changes k in
+    let n : next_seq middle ≡ next_seq old = next_same old middle k.active_is in
+    record { is_active = c.is_active ∙ rw (t, n) refl; format_is = c.format_is; words_are = c.words_are ∙ rw v refl; is_tail = rw (t, v) at c.is_tail }
+
+written_last : (old middle new : List ℕ) (changes : List Change) (before : Job) → WrittenSoFar old changes before middle → WritesLast before middle changes new → AreWritten old changes new
+written_last old middle new changes Resting s m = absurd m
+written_last old middle new changes (Appending at) s m =
+    let l = m.1 in
+    let all : take (at + 1) (own_words changes) ≡ own_words changes = take_all (at + 1) (own_words changes) (omega arith) in
+    record { appended = λ a. rw all at (adds_next old middle new (own_words changes) at (omega arith) s.1 m.0); compacted = λ n. absurd (n s.0) }
+written_last old middle new changes (Turning from at) s m = record { appended = λ a. absurd (s.0 a); compacted = λ n. compacted_from old middle new changes s.1 s.2 m }
+
+pub written_step : (old middle new : List ℕ) (changes : List Change) (before after : Job) → WrittenSoFar old changes before middle → (IsBusy after → WritesMore before middle changes new after) → ((IsBusy after → ⊥) → WritesLast before middle changes new) → WrittenSoFar old changes after new
+written_step old middle new changes before Resting s more last = written_last old middle new changes before s (last (λ b. b))
+written_step old middle new changes before (Appending at) s more last = written_more old middle new changes before (Appending at) s (more tt)
+written_step old middle new changes before (Turning from at) s more last = written_more old middle new changes before (Turning from at) s (more tt)
+
+pub written_all : (old : List ℕ) (changes : List Change) (job : Job) (new : List ℕ) → WrittenSoFar old changes job new → (IsBusy job → ⊥) → AreWritten old changes new
+written_all old changes Resting new w b = w
+written_all old changes (Appending at) new w b = absurd (b tt)
+written_all old changes (Turning from at) new w b = absurd (b tt)

@@ -1,0 +1,35 @@
+use Rattle.std.proofs.Common.{◌≡◌, ◌∷◌, ◌&&◌, true, false, refl, sym, subst, ap, ◌∙◌}
+use Rattle.usb_device.specs.Bus1.{Bus1, Changed, changed_if, sent_of}
+use Rattle.usb_device.specs.Calls.{In}
+use Rattle.usb_device.specs.States.{is_empty_packet}
+use Rattle.usb_device.specs.ties.Link1.{Link1}
+use Rattle.usb_device.proofs.Reporting.{goes1, same_reports}
+use Rattle.usb_device.proofs.Layering.{told_in_step}
+use Rattle.usb_device.proofs.report_buffers.ReportBuffers.answered.Goals as goal
+
+pub returns-then-is_change-clause-linked : goal.returns-then-is_change-clause-linked
+returns-then-is_change-clause-linked g c = λ calls h.
+    let t = c.taken_1-count.ensures in
+    let s = c.args.self.now in
+    let answer = c.args.answer.now in
+    let old = g.B.Buffers.bus c.args.buffers.now in
+    let P : Bus1 → Type 0 = λ x. Link1 c.taken.new.self x calls in
+    let linked = subst P (sym t.4) (c.taken.ensures.linked t.1 calls (sym t.3) (goes1 t.0 s old t.1 calls t.2 h)) in
+    let yes : (is_empty_packet answer && s.protocol) ≡ true = sym c.is_change.ensures ∙ c.if-is_change.true in
+    let sent : sent_of (In answer ∷ calls) ≡ Changed ∷ sent_of calls =
+    ap (λ x. changed_if x (sent_of calls)) (ap (λ x. is_empty_packet answer && x) (sym h.asked) ∙ yes) in
+    c.change.ensures.linked calls (In answer ∷ calls) sent refl linked
+
+pub returns-then-is_change-clause-told : goal.returns-then-is_change-clause-told
+returns-then-is_change-clause-told g c = λ states h.
+    let t = c.taken_1-count.ensures in
+    c.change.ensures.told states (told_in_step t.0 states (g.B.Buffers.bus c.args.buffers.now) t.1 (g.B.Buffers.bus c.taken_1-count.new.self) t.2 t.4 h)
+
+pub returns-else-is_change-clause-linked : goal.returns-else-is_change-clause-linked
+returns-else-is_change-clause-linked g c = λ calls h.
+    let s = c.args.self.now in
+    let answer = c.args.answer.now in
+    let no : (is_empty_packet answer && s.protocol) ≡ false = sym c.is_change.ensures ∙ c.if-is_change.false in
+    let sent : sent_of (In answer ∷ calls) ≡ sent_of calls =
+    ap (λ x. changed_if x (sent_of calls)) (ap (λ x. is_empty_packet answer && x) (sym h.asked) ∙ no) in
+    same_reports s (g.B.Buffers.bus c.args.buffers.now) calls (In answer ∷ calls) h sent refl

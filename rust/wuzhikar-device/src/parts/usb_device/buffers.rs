@@ -1,0 +1,50 @@
+// Exported from crates/usb_device/src/buffers.rt by bin/export-rust. Edit that file instead.
+//! What is asked of the buffers of endpoint 1.
+
+use crate::parts::usb_device::{Endpoint1, Report};
+
+/// The buffers of endpoint 1.
+pub trait Buffers {
+    /// Whether there are two.
+    fn has_two(&self) -> bool;
+
+    /// How many packets the host has taken, and acknowledged; told once.
+    fn taken_1(&mut self) -> usize;
+
+    /// Endpoint 1 is this from now on, with empty buffers and DATA0. Without effect after a reset that `forget` did not follow.
+    fn begin_anew(&mut self, state: Endpoint1);
+
+    /// Empties the buffers: the next packet has the toggle of the oldest one that was in them. Without effect after a reset that
+    /// `forget` did not follow.
+    fn give_up(&mut self);
+
+    /// The host has the status packet of the request behind the last `begin_anew`. Such a host has begun anew.
+    fn host_began(&mut self);
+
+    /// Follows a reset of the bus: endpoint 1 is off, with empty buffers and DATA0.
+    fn forget(&mut self);
+
+    /// Puts a packet into a free buffer; there is one. Without effect after a reset that `forget` did not follow.
+    fn input_1(&mut self, packet: Report);
+}
+
+/// The bytes of a packet of endpoint 1 (section 5.7.3).
+#[derive(Clone, Copy, Debug, PartialEq, Eq)]
+pub enum PacketSize {
+    Bytes8,
+    Bytes16,
+    Bytes32,
+    Bytes64,
+}
+
+impl PacketSize {
+    /// The number of bytes.
+    pub fn bytes(self) -> usize {
+        match self {
+            PacketSize::Bytes8 => 8,
+            PacketSize::Bytes16 => 16,
+            PacketSize::Bytes32 => 32,
+            PacketSize::Bytes64 => 64,
+        }
+    }
+}
