@@ -14,7 +14,7 @@ use Rattle.keyboard.specs.Lawful.{WorkedOn, MakesSuch}
 use Rattle.ecc_law.specs.WorkCut.{WorkIsCut, rests, fails}
 
 module _ (defaults : DefaultCodes) where
-  idle_rests : (start : List ℕ) (past : List Call) (command : Option Command) (new : List ℕ) → WorkedOn defaults start past command Idle new → command ≡ None
+  pub idle_rests : (start : List ℕ) (past : List Call) (command : Option Command) (new : List ℕ) → WorkedOn defaults start past command Idle new → command ≡ None
   idle_rests start past None new w = refl
   idle_rests start past (Some command) new w = absurd w.outcome
 

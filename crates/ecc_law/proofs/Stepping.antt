@@ -1,5 +1,5 @@
 -- One step more of a history that a keyboard with its host, on some flash, stands for.
-use Rattle.std.proofs.Common.{◌≡◌, ◌∙◌, ℕ, ◌+◌, ◌%◌, ◌^◌, Bool, false, not, is_some, if◌then◌else◌, IsSome, Option, Some, None, List, [], ◌∷◌, refl, sym, subst, inl, inr, arith}
+use Rattle.std.proofs.Common.{◌≡◌, ◌≢◌, ◌∙◌, ℕ, ◌+◌, ◌%◌, ◌^◌, Bool, false, not, is_some, if◌then◌else◌, IsSome, Option, Some, None, List, [], ◌∷◌, refl, sym, ap, subst, arith}
 use Rattle.arrayvec.specs.ArrayVec.{ArrayVec}
 use Rattle.records.specs.Slots.{encoded}
 use Rattle.flash_model.specs.ByMask.{IsMask}
@@ -23,6 +23,7 @@ use Rattle.host.specs.ties.StandsFor as host_stands
 use Rattle.keyboard.specs.Calls.{Out, In, Polled, Worked as KeyboardWorked, image_after, keymap}
 use Rattle.keyboard.specs.Commands.{working}
 use Rattle.keyboard.specs.Effects.{protocol_after}
+use Rattle.keyboard.specs.Feature.{yes, no}
 use Rattle.keyboard.specs.Lawful as device
 use Rattle.keyboard.specs.Operated.{LosesNothing, Works}
 use Rattle.keyboard.specs.ties.Stands as keyboard_stands
@@ -37,19 +38,17 @@ use Rattle.world.specs.declared.event.Event.TheVariants as event
 use Rattle.world.specs.Erases.{made_in}
 use Rattle.world.specs.Flash.{armed_by}
 use Rattle.world.specs.History.{Session, session_with, session, heard_in, host_calls, flash_after}
-use Rattle.world.specs.Kinds.{Step, Kind, starts, calls, kind_of, as_answer}
+use Rattle.world.specs.Kinds.{Step, Kind, starts, calls, kind_of, as_answer, work_told}
 use Rattle.world.specs.Lawful.{Answered, MayRefuse, is_no_memory, OperatedAs, WorksIn}
 use Rattle.world.specs.Order.{found_by}
 use Rattle.world.specs.ties.Stands as world
 use Rattle.world.specs.ties.Value.{WorldValue}
-use Rattle.world.proofs.Erasing.{erases_seldom}
 use Rattle.world.proofs.Here.{here}
-use Rattle.world.proofs.Promising.{promise}
 use Rattle.world.proofs.Standing.{more, asked_for, out_told, in_told, entry_shown}
 use Rattle.ecc_law.specs.declared.board.Happening.{Happening}
 use Rattle.ecc_law.specs.declared.board.Happening.TheVariants as happening
 use Rattle.ecc_law.specs.declared.board.Told.{Told}
-use Rattle.ecc_law.specs.Happenings.{IsAs, IsPromised}
+use Rattle.ecc_law.specs.Happenings.{IsAs}
 use Rattle.ecc_law.specs.ties.Stands.{StandsFor, GoesOn}
 
 -- the world that a keyboard, its host and a flash stand for
@@ -71,7 +70,7 @@ abbrev next_flash : SimValue → List ℕ → SimValue
 next_flash old image = record { image = image; armed = None; operations = (old.operations + 1) % 2 ^ 64; faults = if is_some old.armed then (old.faults + 1) % 2 ^ 64 else old.faults }
 
 module _ (defaults : DefaultCodes) where
-  still : (start : SimValue) (past : List Step) (keyboard : KeyboardValue) (host : Host) (image : List ℕ) (s : StandsFor defaults start past keyboard host image) (h : Happening) (e : Event) (told : Told) (next_keyboard : KeyboardValue) (next_host : Host) → IsAs h e
+  still : (start : SimValue) (past : List Step) (keyboard : KeyboardValue) (host : Host) (image : List ℕ) (s : StandsFor defaults start past keyboard host image) (h : Happening) (e : Event) (told : Told) (next_keyboard : KeyboardValue) (next_host : Host) → IsAs h told.answer e
       → world.StandsFor defaults start (record { event = e; answer = told.answer; flash = flash_after start past; refused = told.refused } ∷ past) (record { keyboard = next_keyboard; host = next_host; flash = flash_after start past; asked = s.asked })
       → GoesOn defaults start past h told next_keyboard next_host image
   still start past keyboard host image s h e told next_keyboard next_host i w = record {
@@ -83,7 +82,7 @@ module _ (defaults : DefaultCodes) where
   }
 
   -- an event that is none of the flash work
-  pub plain : (start : SimValue) (past : List Step) (keyboard next_keyboard : KeyboardValue) (host next_host : Host) (image : List ℕ) (h : Happening) (e : Event) (a : Answer) (r : Bool) (k : Kind) → IsAs h e
+  pub plain : (start : SimValue) (past : List Step) (keyboard next_keyboard : KeyboardValue) (host next_host : Host) (image : List ℕ) (h : Happening) (e : Event) (a : Answer) (r : Bool) (k : Kind) → IsAs h a e
       → kind_of e a (flash_after start past).image ≡ k → found_by e (flash_after start past) ≡ None → StandsFor defaults start past keyboard host image
       → Answered defaults (session start past) (host_calls past) (flash_after start past) e a r (flash_after start past)
       → (let now = session_with k (flash_after start past).image (session start past) in keyboard_stands.StandsFor defaults now.first now.past next_keyboard)
@@ -179,10 +178,13 @@ module _ (defaults : DefaultCodes) where
   rests now old armed Settled image e i n a = cc
   rests now old armed Failed image e i n a = cc
 
-  -- a step of the flash work is a whole one, or torn by a mask
+  idle_never_fails : (work : WorkAnswer) → work ≡ Idle → work ≢ Failed
+  idle_never_fails work i f = cc
+
+  -- a step of the flash work is a whole one, or fails, torn by a mask
   data Stepped (now : Session) (old : SimValue) (work : WorkAnswer) (image : List ℕ) : Type 0 where
-    by_whole : Made now old old work image → Stepped now old work image
-    by_mask : (mask : List ℕ) → IsMask mask → Made now old (armed_by mask old) work image → Stepped now old work image
+    by_whole : (work ≢ Failed) → Made now old old work image → Stepped now old work image
+    by_mask : (work ≡ Failed) → (mask : List ℕ) → IsMask mask → Made now old (armed_by mask old) work image → Stepped now old work image
 
   by_torn : (now : Session) (command : Command) (old : SimValue) (work : WorkAnswer) (image : List ℕ) → working defaults now.first now.past ≡ Some command → image_after now.first now.past ≡ old.image → IsImage old.image → IsImage image
       → device.IsAnswered defaults now.first now.past (KeyboardWorked work image) → Works defaults now.first now.past command (image_after now.first now.past) work image
@@ -196,14 +198,14 @@ module _ (defaults : DefaultCodes) where
       → device.IsAnswered defaults now.first now.past (KeyboardWorked work image) → Works defaults now.first now.past command (image_after now.first now.past) work image → Stepped now old work image
   by_answer now command old Idle image on here n i j a w = absurd w.outcome
   by_answer now command old Working image on here n i j a w =
-      by_whole (makes now command old old Working image on here a w (subst (λ (m : Option (List ℕ)). Outcome (image_after now.first now.past) (on_flash w.operation) m image) (sym n) (whole (image_after now.first now.past) w.operation image (w.attempts.done (λ e. cc)).0)) (λ e. cc))
+      by_whole (λ e. cc) (makes now command old old Working image on here a w (subst (λ (m : Option (List ℕ)). Outcome (image_after now.first now.past) (on_flash w.operation) m image) (sym n) (whole (image_after now.first now.past) w.operation image (w.attempts.done (λ e. cc)).0)) (λ e. cc))
   by_answer now command old Settled image on here n i j a w =
-      by_whole (makes now command old old Settled image on here a w (subst (λ (m : Option (List ℕ)). Outcome (image_after now.first now.past) (on_flash w.operation) m image) (sym n) (whole (image_after now.first now.past) w.operation image (w.attempts.done (λ e. cc)).0)) (λ e. cc))
-  by_answer now command old Failed image on here n i j a w = (let t = by_torn now command old Failed image on here i j a w in by_mask t.0 t.1.0 t.1.1)
+      by_whole (λ e. cc) (makes now command old old Settled image on here a w (subst (λ (m : Option (List ℕ)). Outcome (image_after now.first now.past) (on_flash w.operation) m image) (sym n) (whole (image_after now.first now.past) w.operation image (w.attempts.done (λ e. cc)).0)) (λ e. cc))
+  by_answer now command old Failed image on here n i j a w = (let t = by_torn now command old Failed image on here i j a w in by_mask refl t.0 t.1.0 t.1.1)
 
   by_command : (now : Session) (w : Option Command) (old : SimValue) (work : WorkAnswer) (image : List ℕ) → working defaults now.first now.past ≡ w → image_after now.first now.past ≡ old.image → old.armed ≡ None → IsImage old.image → IsImage image
       → device.IsAnswered defaults now.first now.past (KeyboardWorked work image) → device.WorkedOn defaults now.first now.past w work image → Stepped now old work image
-  by_command now None old work image on here n i j a (idle, same) = by_whole (rests now old old work image idle (same ∙ here) n a)
+  by_command now None old work image on here n i j a (idle, same) = by_whole (idle_never_fails work idle) (rests now old old work image idle (same ∙ here) n a)
   by_command now (Some command) old work image on here n i j a w = by_answer now command old work image on here n i j a w
 
   cut_by : (now : Session) (w : Option Command) (old : SimValue) (work : WorkAnswer) (image : List ℕ) → working defaults now.first now.past ≡ w → image_after now.first now.past ≡ old.image → old.armed ≡ None → IsImage old.image → IsImage image
@@ -215,13 +217,13 @@ module _ (defaults : DefaultCodes) where
 
   worked_step : (start : SimValue) (past : List Step) (keyboard next : KeyboardValue) (host : Host) (image new_image : List ℕ) (work : WorkAnswer) (s : StandsFor defaults start past keyboard host image) → keyboard_stands.StandsFor defaults (session start past).first (KeyboardWorked work new_image ∷ (session start past).past) next
       → Stepped (session start past) (flash_after start past) work new_image → GoesOn defaults start past happening.Work (record { answer = answer.Worked work; refused = false }) next host new_image
-  worked_step start past keyboard next host image new_image work s d (by_whole m) =
+  worked_step start past keyboard next host image new_image work s d (by_whole never m) =
       let asked : Option Asked = asked_for (made_in defaults (session start past) (found_by event.Work (flash_after start past))) in
       let w : WorldValue = record { keyboard = next; host = host; flash = m.new; asked = asked } in
       let stands = subst (λ (x : List ℕ). keyboard_stands.StandsFor defaults (session start past).first (KeyboardWorked work x ∷ (session start past).past) next) (sym m.image_is) d in
       record {
         step = record { event = event.Work; answer = answer.Worked work; flash = m.new; refused = false };
-        event_is = inl refl;
+        event_is = no (λ told. never (ap work_told told)) refl;
         answer_is = refl;
         refused_is = refl;
         stands = record {
@@ -231,14 +233,14 @@ module _ (defaults : DefaultCodes) where
           unarmed = m.unarmed;
         };
       }
-  worked_step start past keyboard next host image new_image work s d (by_mask mask is m) =
+  worked_step start past keyboard next host image new_image work s d (by_mask fails mask is m) =
       let torn_by : ArrayVec ℕ = record { items = mask } in
       let asked : Option Asked = asked_for (made_in defaults (session start past) (found_by (event.WorkFault torn_by) (flash_after start past))) in
       let w : WorldValue = record { keyboard = next; host = host; flash = m.new; asked = asked } in
       let stands = subst (λ (x : List ℕ). keyboard_stands.StandsFor defaults (session start past).first (KeyboardWorked work x ∷ (session start past).past) next) (sym m.image_is) d in
       record {
         step = record { event = event.WorkFault torn_by; answer = answer.Worked work; flash = m.new; refused = false };
-        event_is = inr (torn_by, is, refl);
+        event_is = yes (ap answer.Worked fails) (torn_by, is, refl);
         answer_is = refl;
         refused_is = refl;
         stands = record {
@@ -289,16 +291,4 @@ module _ (defaults : DefaultCodes) where
     world = record { keyboard = subst (λ (x : List ℕ). keyboard_stands.StandsFor defaults x [] keyboard) (sym e) d; host = h; flash = refl; asked = refl; answered = tt };
     image_is = e;
     unarmed = n;
-  }
-
-  -- what is promised of the longer history
-  pub promised : (start : SimValue) (past : List Step) (h : Happening) (told : Told) (keyboard : KeyboardValue) (host : Host) (image : List ℕ) → GoesOn defaults start past h told keyboard host image → IsPromised defaults start past h told image
-  promised start past h told keyboard host image g = record {
-    step = g.step;
-    event_is = g.event_is;
-    answer_is = g.answer_is;
-    refused_is = g.refused_is;
-    image_is = g.stands.image_is;
-    promise = promise defaults start (g.step ∷ past) g.stands.world.answered;
-    erases = erases_seldom defaults start (g.step ∷ past) g.stands.world.answered;
   }

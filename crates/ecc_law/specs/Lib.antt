@@ -1,3 +1,4 @@
 pub mod WorkCut
 pub mod Happenings
+pub mod Sessions
 pub mod ties

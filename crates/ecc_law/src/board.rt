@@ -6,23 +6,26 @@
 //! that the power is cut inside. So what `world` promises of its histories holds here, over all
 //! sessions.
 
-ghost use Rattle.std.specs.Prelude.{◌≡◌, ◌∷◌, [], ℕ, List, None, not, false};
+ghost use Rattle.std.specs.Prelude.{◌≡◌, ◌≢◌, ◌≤◌, ◌∷◌, [], ℕ, List, None, length, not, false};
 ghost use Rattle.ecc_flash.specs.Paired.{image_of};
 ghost use Rattle.host.specs.declared.gatherer.Host.{Host as HostValue};
 ghost use Rattle.host.specs.Calls.{HostCall, lost};
 ghost use Rattle.host.specs.ties.StandsFor as host_stands;
+ghost use Rattle.keymap_store.specs.declared.store.Work.TheVariants.{Failed};
 ghost use Rattle.keyboard.specs.Calls.{In};
 ghost use Rattle.keyboard.specs.ties.Stands as keyboard_stands;
 ghost use Rattle.keyboard.specs.ties.Value.{RunsOn};
 ghost use Rattle.session_law.specs.Heard.{heard, with_heard};
-ghost use Rattle.world.specs.declared.event.Answer.TheVariants.{Restarted};
+ghost use Rattle.world.specs.declared.event.Answer.TheVariants.{Restarted, Worked};
 ghost use Rattle.world.specs.Kinds.{as_answer};
 ghost use Rattle.world.specs.Lawful.{MayRefuse, is_no_memory};
 ghost use Rattle.ecc_law.specs.declared.board.Happening.TheVariants.{Scan as ScanHappens, Setup, OutPacket, InPacket, Poll, Work as WorkHappens, Cut, CutInWork, BusReset, Entry, Leds};
 ghost use Rattle.flash_model.specs.Sim.{SimValue};
 ghost use Rattle.world.specs.Kinds.{Step};
-ghost use Rattle.ecc_law.specs.Happenings.{IsPromised};
-ghost use Rattle.ecc_law.specs.ties.Stands.{StandsFor, Takes};
+ghost use Rattle.world.specs.Stands.{room_for};
+ghost use Rattle.ecc_law.specs.Happenings.{IsPromised, IsStill, Leaves};
+ghost use Rattle.ecc_law.specs.Sessions.{AllTaken};
+ghost use Rattle.ecc_law.specs.ties.Stands.{StandsFor, Takes, next_of};
 
 use crate::{start, work, work_cut};
 use arrayvec::ArrayVec;
@@ -89,7 +92,9 @@ pub fn begin<D: Defaults, F: EccFlash + Drop>(
 /// The theorem on flash with error correction: each history of `world` that keyboard, host and flash
 /// stood for goes on by one step, which is this event with this answer and leaves this image. What
 /// `world` promises holds of the longer history, whatever the flash made of its operations, and over all
-/// sessions: a power loss inside any unit program or erase is an event as each other.
+/// sessions: a power loss inside any unit program or erase is an event as each other. A step of the flash
+/// work makes the operation that `world` names, and a healthy flash lets none fail; only the work, and a
+/// power loss in it, touch the flash.
 pub fn take<D: Defaults, F: EccFlash + Drop>(
     keyboard: &mut KeyboardOf<D>,
     host: &mut Host,
@@ -99,10 +104,38 @@ pub fn take<D: Defaults, F: EccFlash + Drop>(
     requires { RunsOn D.defaults (image_of (F.units flash.0) (F.page_total flash.0)) keyboard.old }
     ensures runs_on { RunsOn D.defaults (image_of (F.units result.0.0) (F.page_total result.0.0)) keyboard.new }
     ensures promise { (first : SimValue) (past : List Step) → StandsFor D.defaults first past keyboard.old host.old (image_of (F.units flash.0) (F.page_total flash.0))
-        → IsPromised D.defaults first past happening.now result.1 (image_of (F.units result.0.0) (F.page_total result.0.0)) }
+        → IsPromised D.defaults F.units F.page_total F.operates first past happening.now result.1 flash.0 result.0.0 }
     ensures takes { Takes D.defaults happening.now keyboard.old host.old (image_of (F.units flash.0) (F.page_total flash.0)) result.1 keyboard.new host.new (image_of (F.units result.0.0) (F.page_total result.0.0)) }
+    ensures untouched { IsStill happening.now → result.0 ≡ flash }
+    ensures faultless { happening.now ≡ WorkHappens → F.is_healthy flash.0 → F.is_healthy result.0.0 × (result.1.answer ≢ Worked Failed) }
 {
     take_one(keyboard, host, flash, happening)
+}
+
+/// Events are taken in order, and what is told of each is appended.
+///
+/// The theorem over all sessions: each history of `world` that keyboard, host and flash stood for goes on
+/// by a step for each event, of which `take` says what it is; and what `world` promises holds of the
+/// whole.
+pub fn take_all<D: Defaults, F: EccFlash + Drop>(
+    keyboard: &mut KeyboardOf<D>,
+    host: &mut Host,
+    mut flash: PairedFlash<F>,
+    happenings: &[Happening],
+    told: &mut Vec<Told>,
+) -> PairedFlash<F>
+    requires runs_on { RunsOn D.defaults (image_of (F.units flash.0) (F.page_total flash.0)) keyboard.old }
+    requires room { length happenings.now ≤ room_for told.old }
+    ensures runs_on { RunsOn D.defaults (image_of (F.units result.0) (F.page_total result.0)) keyboard.new }
+    ensures promise { (first : SimValue) (past : List Step) → StandsFor D.defaults first past keyboard.old host.old (image_of (F.units flash.0) (F.page_total flash.0))
+        → AllTaken D.defaults F.units F.page_total F.operates first past keyboard.new host.new flash.0 result.0 happenings.now told.old.items told.new.items }
+{
+    for happening in happenings {
+        let (next, one) = take_one(keyboard, host, flash, happening);
+        flash = next;
+        let _ = told.push(one);
+    }
+    flash
 }
 
 /// One event is taken, and the history goes on.
@@ -115,6 +148,10 @@ fn take_one<D: Defaults, F: EccFlash + Drop>(
     requires { RunsOn D.defaults (image_of (F.units flash.0) (F.page_total flash.0)) keyboard.old }
     ensures runs_on { RunsOn D.defaults (image_of (F.units result.0.0) (F.page_total result.0.0)) keyboard.new }
     ensures takes { Takes D.defaults happening.now keyboard.old host.old (image_of (F.units flash.0) (F.page_total flash.0)) result.1 keyboard.new host.new (image_of (F.units result.0.0) (F.page_total result.0.0)) }
+    ensures leaves { (first : SimValue) (past : List Step) → StandsFor D.defaults first past keyboard.old host.old (image_of (F.units flash.0) (F.page_total flash.0))
+        → Leaves F.units F.operates happening.now (next_of D.defaults first past) flash.0 result.0.0 }
+    ensures untouched { IsStill happening.now → result.0 ≡ flash }
+    ensures faultless { happening.now ≡ WorkHappens → F.is_healthy flash.0 → F.is_healthy result.0.0 × (result.1.answer ≢ Worked Failed) }
 {
     match happening {
         Happening::Scan(scan) => (flash, scanned(keyboard, *scan)),
@@ -203,6 +240,9 @@ fn worked<D: Defaults, F: EccFlash + Drop>(
     requires { RunsOn D.defaults (image_of (F.units flash.old.0) (F.page_total flash.old.0)) keyboard.old }
     ensures runs_on { RunsOn D.defaults (image_of (F.units flash.new.0) (F.page_total flash.new.0)) keyboard.new }
     ensures takes { (host : HostValue) → Takes D.defaults WorkHappens keyboard.old host (image_of (F.units flash.old.0) (F.page_total flash.old.0)) result keyboard.new host (image_of (F.units flash.new.0) (F.page_total flash.new.0)) }
+    ensures leaves { (first : SimValue) (past : List Step) (host : HostValue) → StandsFor D.defaults first past keyboard.old host (image_of (F.units flash.old.0) (F.page_total flash.old.0))
+        → Leaves F.units F.operates WorkHappens (next_of D.defaults first past) flash.old.0 flash.new.0 }
+    ensures faultless { F.is_healthy flash.old.0 → F.is_healthy flash.new.0 × (result.answer ≢ Worked Failed) }
 {
     let _before = flash.pages();
     let work = work(keyboard, flash);
@@ -233,6 +273,8 @@ fn cut_in_work<D: Defaults, F: EccFlash + Drop>(
     requires { RunsOn D.defaults (image_of (F.units flash.0) (F.page_total flash.0)) keyboard.old }
     ensures runs_on { RunsOn D.defaults (image_of (F.units result.0.0) (F.page_total result.0.0)) keyboard.new }
     ensures takes { Takes D.defaults (CutInWork whole) keyboard.old host.old (image_of (F.units flash.0) (F.page_total flash.0)) result.1 keyboard.new host.new (image_of (F.units result.0.0) (F.page_total result.0.0)) }
+    ensures leaves { (first : SimValue) (past : List Step) → StandsFor D.defaults first past keyboard.old host.old (image_of (F.units flash.0) (F.page_total flash.0))
+        → Leaves F.units F.operates (CutInWork whole) (next_of D.defaults first past) flash.0 result.0.0 }
 {
     let _before = flash.pages();
     let left = work_cut(keyboard, flash, whole);

@@ -29,7 +29,7 @@ ghost use Rattle.keymap_store.specs.declared.store.Work.{Work};
 ghost use Rattle.page_turnover.specs.Next.{on_flash};
 ghost use Rattle.ecc_law.specs.WorkCut.{WorkIsCut};
 
-pub use board::{Happening, Told, begin, take};
+pub use board::{Happening, Told, begin, take, take_all};
 use ecc_flash::{CutFlash, EccFlash, PairedFlash};
 use keyboard::laws::{a_command_is_served, acknowledged_is_stored, restarts_are_legal};
 use keyboard::{EpAnswer, KeyboardOf, Room, Work};

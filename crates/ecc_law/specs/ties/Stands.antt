@@ -4,9 +4,12 @@ use Rattle.std.specs.Prelude.{◌≡◌, Option, None, List, ◌∷◌}
 use Rattle.flash_model.specs.Sim.{SimValue}
 use Rattle.host.specs.declared.gatherer.Host.{Host}
 use Rattle.layers.specs.Codes.{DefaultCodes}
+use Rattle.page_turnover.specs.declared.operation.Operation.{Operation as FlashStep}
+use Rattle.keyboard.specs.Commands.{working}
 use Rattle.keyboard.specs.ties.Value.{KeyboardValue}
 use Rattle.world.specs.declared.bench.Operation.{Operation}
-use Rattle.world.specs.History.{flash_after}
+use Rattle.world.specs.Erases.{next_in}
+use Rattle.world.specs.History.{Session, session, flash_after}
 use Rattle.world.specs.Kinds.{Step}
 use Rattle.world.specs.ties.Stands as world
 use Rattle.ecc_law.specs.declared.board.Happening.{Happening}
@@ -21,10 +24,15 @@ module _ (defaults : DefaultCodes) where
     pub image_is : (flash_after start past).image ≡ image
     pub unarmed : (flash_after start past).armed ≡ None
 
+  -- the next operation of the command at work, if one works
+  abbrev pub next_of : SimValue → List Step → Option FlashStep
+  next_of start past =
+      (let now : Session = session start past in next_in defaults now (working defaults now.first now.past))
+
   -- the history goes on by a step: it is what happened, with the answer that was told, and leaves this image
   pub record GoesOn (start : SimValue) (past : List Step) (happening : Happening) (told : Told) (keyboard : KeyboardValue) (host : Host) (image : Bytes) : Type 0 where
     pub step : Step
-    pub event_is : IsAs happening step.event
+    pub event_is : IsAs happening told.answer step.event
     pub answer_is : step.answer ≡ told.answer
     pub refused_is : step.refused ≡ told.refused
     pub stands : StandsFor start (step ∷ past) keyboard host image
