@@ -13,7 +13,7 @@
 
 pub mod board;
 
-pub use board::{Happening, Told, begin, take};
+pub use board::{Happening, Told, begin, take, take_all};
 use wuzhikar_log::parts::ecc_flash::{CutFlash, EccFlash, PairedFlash};
 use wuzhikar::parts::keyboard::{EpAnswer, KeyboardOf, Room, Work};
 use wuzhikar::parts::layers::Defaults;

@@ -68,7 +68,9 @@ pub fn begin<D: Defaults, F: EccFlash>(
 /// The theorem on flash with error correction: each history of `world` that keyboard, host and flash
 /// stood for goes on by one step, which is this event with this answer and leaves this image. What
 /// `world` promises holds of the longer history, whatever the flash made of its operations, and over all
-/// sessions: a power loss inside any unit program or erase is an event as each other.
+/// sessions: a power loss inside any unit program or erase is an event as each other. A step of the flash
+/// work makes the operation that `world` names, and a healthy flash lets none fail; only the work, and a
+/// power loss in it, touch the flash.
 pub fn take<D: Defaults, F: EccFlash>(
     keyboard: &mut KeyboardOf<D>,
     host: &mut Host,
@@ -76,6 +78,26 @@ pub fn take<D: Defaults, F: EccFlash>(
     happening: &Happening,
 ) -> (PairedFlash<F>, Told) {
     take_one(keyboard, host, flash, happening)
+}
+
+/// Events are taken in order, and what is told of each is appended.
+///
+/// The theorem over all sessions: each history of `world` that keyboard, host and flash stood for goes on
+/// by a step for each event, of which `take` says what it is; and what `world` promises holds of the
+/// whole.
+pub fn take_all<D: Defaults, F: EccFlash>(
+    keyboard: &mut KeyboardOf<D>,
+    host: &mut Host,
+    mut flash: PairedFlash<F>,
+    happenings: &[Happening],
+    told: &mut crate::rattle::Vec<Told>,
+) -> PairedFlash<F> {
+    for happening in happenings {
+        let (next, one) = take_one(keyboard, host, flash, happening);
+        flash = next;
+        let _ = told.push_in(one);
+    }
+    flash
 }
 
 /// One event is taken, and the history goes on.
@@ -243,3 +265,6 @@ fn as_answer(answer: EpAnswer) -> Answer {
 fn is_no_memory(reading: &Reading) -> bool {
     matches!(reading, Reading::NoMemory)
 }
+
+#[allow(unused_imports)]
+use crate::rattle::memory::*;
