@@ -4,7 +4,7 @@ use Rattle.std.proofs.lemmas.Bool.{cases_Bool, cases_lt, eq-eqb, ne_eqb}
 use Rattle.std.proofs.lemmas.List.{take_more, take_more_set, take_all, length-set}
 use Rattle.settings.specs.declared.change.Change.{Change}
 use Rattle.settings.specs.Copies.{NoneBetween, IsNext}
-use Rattle.settings.specs.Table.{value_or, kept, one_if_some, ids_below}
+use Rattle.settings.specs.Table.{value_or, kept, ids_below}
 use Rattle.settings.specs.ties.Table.{IsEntry, is_next, is_last, end_of}
 
 or_none : (value : Option (List ℕ)) → value_or value None ≡ value

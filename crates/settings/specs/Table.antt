@@ -1,9 +1,8 @@
 -- Believed: what a table of values says of an id, and when it has the values of an image.
 use Rattle.shapes.specs.Shapes.{Bytes}
-use Rattle.std.specs.Prelude.{◌≡◌, ◌≢◌, ℕ, ◌+◌, ◌<◌, ◌^◌, ◌==◌, zero, suc, if◌then◌else◌, Option, Some, None, List, [], ◌∷◌, ◌++◌, length}
+use Rattle.std.specs.Prelude.{◌≡◌, ◌≢◌, ℕ, ◌+◌, ◌<◌, ◌^◌, ◌==◌, zero, suc, if◌then◌else◌, Option, Some, None, List, [], ◌∷◌}
 use Rattle.settings.specs.declared.change.Change.{Change}
 use Rattle.settings.specs.Settings.{settings_of, Same}
-use Rattle.settings.specs.Copies.{NoneBetween, IsNext}
 
 -- a value, or else another
 abbrev pub value_or : Option Bytes → Option Bytes → Option Bytes

@@ -46,8 +46,8 @@ pub fn table_contains(table: &[Change], id: u16) -> bool
 }
 
 /// Gives a table the value of each id that has one, and no other: `TableTooSmall` exactly where fewer
-/// entries than ids with a value are lent, and then the table is of no use. For each of these ids the
-/// words of the page are read twice.
+/// entries than ids with a value are lent, and then the table is of no use. The words of the page are
+/// read twice for each id that one of them names, and once more.
 pub fn fill_table<F: NorFlash>(
     settings: &Settings,
     flash: &F,

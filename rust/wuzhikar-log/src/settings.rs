@@ -74,8 +74,8 @@ impl<F: NorFlash> FlashSettings<F> {
     /// Gives a table that the caller lends the value of each id that has one, and no other. [`table_value`] and
     /// [`table_contains`] then answer as [`get`](Self::get) and [`contains`](Self::contains) do, without the flash.
     ///
-    /// An entry takes 70 bytes of RAM. The words of the page are read twice for each value. Nothing keeps a table up to date by
-    /// itself: after a change call [`refresh_table`](Self::refresh_table).
+    /// An entry takes 70 bytes of RAM. The words of the page are read twice for each id that one of them names, and once more.
+    /// Nothing keeps a table up to date by itself: after a change call [`refresh_table`](Self::refresh_table).
     ///
     /// `TableTooSmall` exactly where more ids have a value than there are entries; then the table is of no use.
     ///
