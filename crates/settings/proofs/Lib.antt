@@ -5,6 +5,7 @@ pub mod Changes
 pub mod Compacting
 pub mod Reading
 pub mod Naming
+pub mod Tables
 pub mod Values
 pub mod Storing
 pub mod Known

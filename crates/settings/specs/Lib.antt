@@ -1,6 +1,7 @@
 pub mod Words
 pub mod Settings
 pub mod Copies
+pub mod Table
 pub mod Store
 pub mod Begins
 pub mod Places

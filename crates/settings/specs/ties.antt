@@ -2,3 +2,4 @@
 pub mod Reading
 pub mod Store
 pub mod Whole
+pub mod Table

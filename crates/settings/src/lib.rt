@@ -5,20 +5,25 @@
 //! (`laws::whole_or_absent`). Of each id the last change counts. A compaction writes the words of all
 //! values to a new page, and they stand for the same values (`laws::compacted`).
 //!
-//! `Settings` keeps the log and what is under way; values are looked up in the flash. The promise is
-//! that each lookup is exact, whatever words a cut has left, and that at each moment of a call all of
-//! its changes are in force or none, also where the power is cut inside a flash operation. What was
-//! answered `Ok` is in force. A call makes at most 513 operations, and a healthy flash with room
-//! stores each change. `step` makes one operation, for a loop that must not wait.
+//! `Settings` keeps the log and what is under way; values are looked up in the flash, or in a table that
+//! the caller lends (`fill_table`). The promise is that each lookup is exact, whatever words a cut has
+//! left, and that at each moment of a call all of its changes are in force or none, also where the
+//! power is cut inside a flash operation. What was answered `Ok` is in force. A call makes at most 513
+//! operations, and a healthy flash with room stores each change. `step` makes one operation, for a loop
+//! that must not wait.
 #![tactic(auto)]
 
 mod change;
 pub mod laws;
 mod lookup;
 mod store;
+mod table;
 mod words;
 
 pub use change::{Change, MAX_BYTES, Value};
 pub use lookup::{IDS, PAGE_WORDS, all_known, next_value, value_after, value_in, words_alive};
 pub use store::{Job, Settings, SettingsError, Work};
+pub use table::{
+    FREE_ENTRY, TableTooSmall, fill_table, refresh_table, table_contains, table_value,
+};
 pub use words::{size, word_at};

@@ -53,7 +53,9 @@ pub use crate::parts::flash_model::{FlashError, Mask, SimFlash};
 pub use crate::parts::flash_model::{FlashFault, NorFlash, PAGE_BYTES, PAGE_SLOTS, SLOT_BYTES};
 pub use crate::parts::page_turnover::{Log, Step, TurnRefusal, Unsound, Words};
 #[cfg(feature = "settings")]
-pub use crate::parts::settings::{Change, MAX_BYTES, SettingsError, Value, Work};
+pub use crate::parts::settings::{
+    Change, FREE_ENTRY, MAX_BYTES, SettingsError, TableTooSmall, Value, Work, table_contains, table_value,
+};
 #[cfg(feature = "settings")]
 pub use crate::settings::{FlashSettings, UnderWay};
 pub use crate::slot_flash::SlotFlash;

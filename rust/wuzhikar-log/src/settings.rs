@@ -4,7 +4,7 @@ mod values;
 
 use crate::page_count::PageCount;
 use crate::parts::flash_model::{FlashFault, NorFlash};
-use crate::parts::settings::{Change, IDS, Settings, SettingsError, Value, Work};
+use crate::parts::settings::{Change, IDS, Settings, SettingsError, TableTooSmall, Value, Work, fill_table, refresh_table};
 use crate::whole::Dropped;
 use crate::{FlashLog, LogRefusal};
 
@@ -69,6 +69,47 @@ impl<F: NorFlash> FlashSettings<F> {
             Some((id, value?))
         })
         .take(IDS as usize)
+    }
+
+    /// Gives a table that the caller lends the value of each id that has one, and no other. [`table_value`] and
+    /// [`table_contains`] then answer as [`get`](Self::get) and [`contains`](Self::contains) do, without the flash.
+    ///
+    /// An entry takes 70 bytes of RAM. The words of the page are read twice for each id that one of them names, and once more.
+    /// Nothing keeps a table up to date by itself: after a change call [`refresh_table`](Self::refresh_table).
+    ///
+    /// `TableTooSmall` exactly where more ids have a value than there are entries; then the table is of no use.
+    ///
+    /// ```
+    /// # fn main() -> Result<(), Box<dyn core::error::Error>> {
+    /// # #[cfg(feature = "sim")]
+    /// # {
+    /// use wuzhikar_log::{FREE_ENTRY, FlashSettings, SimFlash, Value, table_value};
+    ///
+    /// let mut settings = FlashSettings::mount(SimFlash::blank(2)?)?;
+    /// settings.set(7, "my network")?;
+    /// let mut table = [FREE_ENTRY; 20];
+    /// settings.fill_table(&mut table)?;
+    /// assert_eq!(table_value(&table, 7).and_then(Value::as_str), Some("my network"));
+    /// settings.set(7, "another one")?;
+    /// settings.refresh_table(&mut table, 7)?;
+    /// assert_eq!(table_value(&table, 7).and_then(Value::as_str), Some("another one"));
+    /// # }
+    /// # Ok(())
+    /// # }
+    /// ```
+    ///
+    /// [`table_value`]: crate::table_value
+    /// [`table_contains`]: crate::table_contains
+    pub fn fill_table(&self, table: &mut [Change]) -> Result<(), TableTooSmall> {
+        fill_table(&self.settings, &self.flash, table)
+    }
+
+    /// Gives a table that was filled the value that an id has now: call it once for each id of a change that was stored. The
+    /// words of the page are read once.
+    ///
+    /// `TableTooSmall` where the id has a value and no entry is free: then the table has all values but this one.
+    pub fn refresh_table(&self, table: &mut [Change], id: u16) -> Result<(), TableTooSmall> {
+        refresh_table(&self.settings, &self.flash, table, id)
     }
 
     /// How many words of the 511 of a page no value takes: a new value of n bytes takes 1 + (n + 2) / 3 of them.
@@ -162,6 +203,14 @@ impl core::fmt::Display for SettingsError {
 }
 
 impl core::error::Error for SettingsError {}
+
+impl core::fmt::Display for TableTooSmall {
+    fn fmt(&self, f: &mut core::fmt::Formatter<'_>) -> core::fmt::Result {
+        f.write_str("more ids have a value than the table has entries")
+    }
+}
+
+impl core::error::Error for TableTooSmall {}
 
 #[cfg(all(test, feature = "sim"))]
 mod tests;

@@ -185,3 +185,32 @@ fn bytes_text_and_values_are_stored_as_they_are() {
     assert_eq!((&one, three.as_u64()), (&two, Some(7)));
     assert_eq!(settings.set(4, "x".repeat(65)), Err(SettingsError::TooLong));
 }
+
+#[test]
+fn a_table_has_the_values_of_the_flash() {
+    use crate::{FREE_ENTRY, TableTooSmall, table_contains, table_value};
+    let mut random = Random(0x0FED_CBA9_8765_4321);
+    let mut settings = FlashSettings::mount(SimFlash::blank(2).expect("memory")).expect("2 pages");
+    let mut table = [FREE_ENTRY; 8];
+    assert_eq!(settings.fill_table(&mut table), Ok(()));
+    for _ in 0..300 {
+        let changes = [random.change()];
+        settings.transaction(&changes).expect("there is room");
+        assert_eq!(settings.refresh_table(&mut table, changes[0].id), Ok(()));
+        let mut anew = [FREE_ENTRY; 8];
+        assert_eq!(settings.fill_table(&mut anew), Ok(()));
+        for id in [0, 1, 3, 7, 8, 9, 10, 500, 65_535] {
+            let value = settings.get(id);
+            for table in [&table, &anew] {
+                assert_eq!(table_value(table, id).map(Value::as_bytes), value.as_ref().map(Value::as_bytes));
+                assert_eq!(table_contains(table, id), value.is_some());
+            }
+        }
+        let count = settings.iter().count();
+        assert_eq!(settings.fill_table(&mut anew[..count]), Ok(()));
+        if count > 0 {
+            assert_eq!(settings.fill_table(&mut anew[..count - 1]), Err(TableTooSmall));
+        }
+    }
+    assert_eq!(core::mem::size_of::<Change>(), 70);
+}
