@@ -24,7 +24,7 @@ from changes import replace_once  # noqa: E402
 from debian_crates import OF_PROGRAM, environment  # noqa: E402
 
 EDITS = f"{ROOT}/tests/wrong_fronts"
-SECONDS = 300  # a program that takes so many seconds of the processor, which takes one or two, hangs; that refuses it
+SECONDS = 100  # a program that takes so many seconds of the processor, which takes one or two, hangs; that refuses it
 
 
 def read_edit(path):
