@@ -181,7 +181,7 @@ _kbsim() {
             return 0
             ;;
         kbsim__parse)
-            opts="-h --from --items --details --json --help [FILE]"
+            opts="-h --from --items --details --json --lenient --help [FILE]"
             if [[ ${cur} == -* || ${COMP_CWORD} -eq 2 ]] ; then
                 COMPREPLY=( $(compgen -W "${opts}" -- "${cur}") )
                 return 0
@@ -199,7 +199,7 @@ _kbsim() {
             return 0
             ;;
         kbsim__read)
-            opts="-h --names --json --changes --raw --live --kind --from --help <DESCRIPTOR> [REPORTS]"
+            opts="-h --names --json --changes --raw --live --lenient --kind --from --help <DESCRIPTOR> [REPORTS]"
             if [[ ${cur} == -* || ${COMP_CWORD} -eq 2 ]] ; then
                 COMPREPLY=( $(compgen -W "${opts}" -- "${cur}") )
                 return 0

@@ -195,7 +195,7 @@ class HidReader(unittest.TestCase):
             ["nm", "-D", "--defined-only", f"{self.release}/libhid_reader.so"], stdout=subprocess.PIPE, check=True, text=True
         ).stdout
         self.assertEqual({line.split()[-1] for line in listed.splitlines()}, declared)
-        self.assertEqual(len(declared), 40)
+        self.assertEqual(len(declared), 41)
 
     def test_what_is_installed(self):
         lacks = [tool for tool in ("make", "pkg-config", "readelf") if not shutil.which(tool)]

@@ -12,7 +12,7 @@ sys.path.insert(0, f"{os.path.dirname(os.path.abspath(__file__))}/../tools")
 from debian_crates import environment, lacking, unlocked  # noqa: E402
 
 # Each example, and its crates.
-EXAMPLES = {"real_host": ["arrayvec"], "keymap": ["arrayvec", "serde_json", "serde_derive"]}
+EXAMPLES = {"real_host": ["arrayvec"], "usb_device_class": ["arrayvec"], "keymap": ["arrayvec", "serde_json", "serde_derive"]}
 
 
 def test(name, crates, work):

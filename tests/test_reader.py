@@ -66,6 +66,30 @@ class Maker:
                 pieces[at % len(pieces)] = self.changed(pieces[at % len(pieces)])
         return b"".join(pieces)
 
+    def loosened(self):
+        """A descriptor that the strict reader mostly refuses, and the lenient one reads: with sets of alternatives, large items, or a
+        late Report ID."""
+        pieces = [piece for piece in self.pieces(self.random.choice(self.texts)) if piece]
+        for _ in range(self.random.randint(1, 3)):
+            act, at = self.random.randrange(4), self.random.randrange(len(pieces) + 1)
+            if act == 0:
+                others = b"".join(self.local() for _ in range(self.random.randrange(5)))
+                ends = self.random.choice((b"\xa9\x00", b"\xa9\x00", b"\xa9\x00", b"\xa8", b""))
+                pieces[at:at + 1] = [b"\xa9\x01", *pieces[at:at + 1], *self.pieces(others + ends)]
+            elif act == 3:
+                found = [place for place, piece in enumerate(pieces) if piece[0] & 0xFC == 0x84]
+                pieces.insert(at, pieces.pop(found[0]) if found else b"\x85\x01")
+            else:
+                code, few = ((0x74, 32), (0x94, 1024))[act - 1]
+                found = [place for place, piece in enumerate(pieces) if piece[0] & 0xFC == code]
+                number = self.random.choice((few, few + 1, 4 * few, 0xFFFF, self.random.randrange(few, 0x4000)))
+                pieces.insert(self.random.choice(found) + 1 if found else at, bytes([code + 2]) + number.to_bytes(2, "little"))
+        return b"".join(pieces)
+
+    def local(self):
+        """A Local item of a set."""
+        return bytes([self.random.choice((0x09, 0x09, 0x19, 0x29, 0x79, 0x89, 0x99, 0x39, 0xA9)), self.random.randrange(1, 9)])
+
     @staticmethod
     def pieces(text):
         """The bytes of each item."""
@@ -150,6 +174,21 @@ def told(descriptor):
     return line
 
 
+def told_lenient(text):
+    """What is told of a descriptor in the lenient mode."""
+    try:
+        descriptor = plain.parse_lenient(text)
+    except plain.Refused as fault:
+        return f"fault {fault.number} {fault.offset}"
+    line = "".join(f"{number}:{offset}," for number, offset in descriptor.passed)
+    for item in descriptor.fields:
+        numbers = (item.id, item.bit, item.size, item.count, item.least, item.greatest)
+        ranges = ", ".join(f"({first}, {last})" for first, last in item.usages)
+        line += f";{item.kind} ({', '.join(map(str, numbers))}, {str(item.array).lower()}) [{ranges}]"
+        line += f" {descriptor.length(item.kind, item.id)}"
+    return line
+
+
 def report_told(descriptor, kind, number):
     """A report with its length, its data items and its applications."""
     bits, members = descriptor.bits(kind, number), descriptor.members(kind, number)
@@ -207,7 +246,8 @@ class Case:
         self.wanted.append(wanted)
 
     def add(self, maker, text, reports):
-        """A descriptor, reports of it, and writes."""
+        """A descriptor, in the lenient mode too, reports of it, and writes."""
+        self.ask(f"L {text.hex()}", told_lenient(text))
         try:
             descriptor = plain.parse(text)
         except plain.Refused as fault:
@@ -286,6 +326,8 @@ class Shown:
     def wrong_refusals(self):
         """The words that are refused otherwise than they should be: status, standard output, and a part of standard error."""
         pad, none = "examples/hid_driver/gamepad.hex", "status 2, '' and"
+        # X or Y, bracketed by Delimiters.
+        set_of_two = "0501a90109300931a900257f750895018102"
         # Three Buffered Bytes with a usage, and a place of 8 bits without one.
         buffered, bytes_of = "0600ff090175089503150026ff00b202019501b102", "echo 0102ff07 |"
         asked = [
@@ -301,6 +343,9 @@ class Shown:
             (f"{bytes_of} bin/kbsim read --kind feature <(echo {buffered})", "status 0, '0 ff000001=bytes:0102ff f1[0]=7' and "),
             (f"""{bytes_of} bin/kbsim read --json --kind feature <(echo {buffered}) | grep -o '"buffered":[^]]*]'""",
              """status 0, '"buffered":[{"bytes":[1,2,255]' and """),
+            (f"echo {set_of_two} | bin/kbsim parse --lenient", "status 0, 'passed 2 at 2\ninput 0 0 8 1 0 127 variable 00010030' and "),
+            (f"echo 05 | bin/kbsim read --lenient <(echo {set_of_two})", "status 0, 'passed 2 at 2\n0 00010030=5' and "),
+            (f"echo {set_of_two}c0 | bin/kbsim parse --lenient", "status 1, 'passed 2 at 2\nfault parse 8 at 18' and "),
             (f"bin/kbsim write --kind input {pad} 0 00010030=40000", "status 1, 'fault write TooLarge 0' and does not fit"),
             (f"bin/kbsim write --kind input {pad} 0 00010039=9", "status 1, 'fault write OutOfRange 0' and is out of range"),
             (f"bin/kbsim write --kind input {pad} 0 00010030=1 00010030=none", "status 1, 'fault write Twice 1' and set twice"),
@@ -359,6 +404,10 @@ def main():
     maker = Maker(words.seed, texts)
     taken = sum(case.add(maker, text, 20) for text in texts)
     good = sum(case.add(maker, maker.mutated(), 2) for _ in range(words.count))
+    loose = [text for text in (maker.loosened() for _ in range(words.count)) if not sound(text)]
+    for text in loose:
+        case.ask(f"L {text.hex()}", told_lenient(text))
+    read = sum(not told_lenient(text).startswith("fault") for text in loose)
     with tempfile.TemporaryDirectory() as work:
         made = subprocess.run([words.program or program(work)], input="\n".join(case.asked) + "\n", capture_output=True, text=True)
         fine = commands([text for text in texts if sound(text)]) if words.program is None else True
@@ -370,8 +419,8 @@ def main():
     if missing:
         print(f"{made.stderr[-500:]}asked   {case.asked[min(len(answers), len(case.asked) - 1)][:500]}")
     print(f"{len(texts)} descriptors of the repository, {taken} of them sound; {words.count} mutated, {good} sound; "
-          f"{len(case.asked)} answers, {len(wrong)} differences{', and answers are missing' if missing else ''}")
-    return int(bool(wrong) or missing or not fine)
+          f"{len(loose)} that are refused, {read} of them read in the lenient mode; {len(case.asked)} answers, {len(wrong)} differences{', and answers are missing' if missing else ''}")
+    return int(bool(wrong) or missing or not fine or read < min(50, words.count // 20))
 
 
 if __name__ == "__main__":

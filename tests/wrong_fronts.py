@@ -4,7 +4,8 @@ An edit names a file of the crate, a text that stands there once, and what takes
 code and not what it does: the tests have to pass. Each worker has a copy of rust/ and a target folder of its own, so that a try builds
 one crate anew. It takes some minutes.
 
-What is exported has its mutants beside its source, in crates/usb_device/must-fail.
+What is exported has its mutants beside its source, in crates/usb_device/must-fail and crates/usb_keyboard/must-fail; here stand those of
+it that no clause speaks of.
 """
 
 import argparse

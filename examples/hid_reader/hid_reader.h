@@ -164,6 +164,11 @@ hidr_status hidr_pressed(hidr_descriptor descriptor, const uint8_t *report, size
  * *error; HIDR_NO_MEMORY; HIDR_FULL. */
 hidr_status hidr_reader_open(const uint8_t *text, size_t length, hidr_reader *reader, hidr_error *error);
 
+/* The same in the lenient mode of docs/reader.md. The faults that were passed over, 2, 6, 7 or 14 with their offsets: the first
+ * `room`, and in *count how many there are. Where there are any, offsets of details are those of the text that was read instead. */
+hidr_status hidr_reader_open_lenient(const uint8_t *text, size_t length, hidr_reader *reader, hidr_error *error,
+                                     hidr_error *passed, size_t room, size_t *count);
+
 /* No place in a list. */
 #define HIDR_NONE UINT32_MAX
 

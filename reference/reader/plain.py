@@ -127,6 +127,8 @@ class Descriptor:
     declared: list = field(default_factory=list)
     collections: list = field(default_factory=list)     # offset, data, usage or None, the one around it or None
     uses_ids: bool = False
+    skipped: dict = field(default_factory=dict)         # the bits of data items past the limits, by kind and ID
+    passed: list = field(default_factory=list)          # number and offset of each fault that was passed over
 
     @property
     def fields(self):
@@ -135,7 +137,8 @@ class Descriptor:
 
     def bits(self, kind, number):
         """The bits of a report."""
-        return sum(item.size * item.count for item in self.declared if (item.kind, item.id) == (kind, number))
+        declared = sum(item.size * item.count for item in self.declared if (item.kind, item.id) == (kind, number))
+        return declared + self.skipped.get((kind, number), 0)
 
     def length(self, kind, number):
         """The bytes of a report with its ID, or None."""
@@ -318,6 +321,87 @@ def parse(text):
         parser.take(offset, code, data)
     if len(text) > 4096:
         raise Refused(16, 4096)
+    if parser.open:
+        raise Refused(15, len(text))
+    return parser.out
+
+
+class LenientParser(Parser):
+    """Reads on where Linux does: sets by their first, large data items as bits alone, nothing before a late Report ID."""
+
+    def data_faults(self, data):
+        """Those of a data item: one that is only skipped has neither of the faults of its size and its count."""
+        skips = self.skips(data)
+        return (number for number in super().data_faults(data) if not (skips and number in (6, 7, 12, 13)))
+
+    def skips(self, data):
+        """The fault for which a data item is bits alone, or None."""
+        size, count = self.number(SIZE), self.number(COUNT)
+        if size * count > 1 << 20:
+            return None
+        return 6 if size > (1024 if unsigned(data) & 1 else 32) else 7 if count > 1024 else None
+
+    def main(self, offset, code, data):
+        """Takes a Main item."""
+        if code in DATA and self.skips(data):
+            self.out.passed.append((self.skips(data), offset))
+            key = DATA[code], self.number(ID)
+            self.out.skipped[key] = self.out.skipped.get(key, 0) + self.number(SIZE) * self.number(COUNT)
+            self.bare |= not self.number(ID)
+        else:
+            super().main(offset, code, data)
+
+
+def late(found):
+    """The places of the data items before a late Report ID, and of their Local items."""
+    codes = [code for _, code, _ in found]
+    first = codes.index(ID) if ID in codes else 0
+    data = {place for place in range(first) if codes[place] in DATA}
+    local = set()
+    for place in data:
+        while place and codes[place - 1] not in MAIN:
+            place -= 1
+            local |= {place} if codes[place] & 0x0C == 0x08 else set()
+    return data, local
+
+
+def alternatives(found):
+    """The places of Delimiters that begin a whole set, of those that end one, and of what is not the first in it."""
+    begins, ends, others = set(), set(), set()
+    bounds = [place for place, (_, code, _) in enumerate(found) if code in MAIN | {DELIMITER}]
+    for first, last in zip(bounds, bounds[1:]):
+        if first in ends or {found[first][1], found[last][1]} != {DELIMITER} or not any(found[first][2]) or any(found[last][2]):
+            continue
+        begins.add(first)
+        ends.add(last)
+        whole = {"usage": 0, "string": 0, "designator": 0}
+        for place in range(first + 1, last):
+            code = found[place][1]
+            name = "usage" if code in (USAGE, USAGE_MINIMUM, USAGE_MAXIMUM) else NAMING.get(code)
+            if name and whole[name] > 1:
+                others.add(place)
+            elif name:
+                whole[name] += 2 if code in INDICES | {USAGE} else 1
+    return begins, ends, others
+
+
+def parse_lenient(text):
+    """The same in the lenient mode; `passed` says which faults were passed over."""
+    if len(text) > 4096:
+        return parse(text)
+    parser = LenientParser()
+    found = list(items(text))
+    whole = found[:-1] if found and found[-1][2] is None else found
+    (data, local), (begins, ends, others) = late(whole), alternatives(whole)
+    for place, (offset, code, given) in enumerate(found):
+        if place in begins | data:
+            parser.out.passed.append((14 if place in data else 2, offset))
+        if place in data | local | begins | ends | others:
+            continue
+        fault = 1 if given is None else min(parser.faults(code, given), default=None)
+        if fault:
+            raise Refused(fault, offset)
+        parser.take(offset, code, given)
     if parser.open:
         raise Refused(15, len(text))
     return parser.out

@@ -46,7 +46,7 @@ FAULTS = [
     Fault("a unit of which one cell is cleared is taken for an erased one",
           [Edit(f"{FIRMWARE}/ecc.rs", "if corrected && right == [0xff; 8]", "if corrected && right == [0; 8]"),
            Edit(f"{FIRMWARE}/ecc.rs", "if self.words(at)? != ([0xff; 8], [0xff; 4])", "if self.words(at)?.0 == [0; 8]")],
-          ["random", "300", "1"], "BROKEN", "ecc"),
+          ["random", "1500", "1"], "BROKEN", "ecc"),
     Fault("the firmware waits for a flash that is ready",
           [Edit(f"{FIRMWARE}/nvmc.rs", "while read(READY) & 1 == 0 {}", "while read(READY) & 1 == 1 {}")],
           ["session"], "SILENT.*it runs, and gives none"),

@@ -69,7 +69,7 @@ class Bench:
     """The firmware, the power switch and the host."""
 
     def __init__(self, room, more, clock):
-        self.room, self.more, self.clock, self.building = room, more, clock, threading.Lock()
+        self.room, self.more, self.clock, self.building, self.detached = room, more, clock, threading.Lock(), False
         room.environment.update(environment(room.folder, "arrayvec"))
         self.folder = room.copy("examples/chip_nrf51", f"{ROOT}/examples/chip_nrf51")
         self.switch = room.path("switch.so")
@@ -99,7 +99,7 @@ class Bench:
         """Runs a test: whether it passed, and what it told. The rig ends by itself where the chip is silent."""
         try:
             ran = subprocess.run([*self.board(firmware), *map(str, words)], text=True, stdout=subprocess.PIPE,
-                                 stderr=subprocess.STDOUT, timeout=self.clock.left())
+                                 stderr=subprocess.STDOUT, timeout=self.clock.left(), start_new_session=self.detached)
         except subprocess.TimeoutExpired as error:
             raise NoTime from error
         return ran.returncode == 0, ran.stdout

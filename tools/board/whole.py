@@ -3,6 +3,7 @@ done is kept in a file of the folder, so that a later run goes on behind it."""
 
 import concurrent.futures
 import re
+import signal
 import time
 from typing import NamedTuple
 
@@ -41,6 +42,7 @@ class Whole:
 
     def __init__(self, bench, given):
         self.bench, self.path = bench, bench.room.path("long.tsv")
+        bench.detached = True  # a signal ends this program alone, so that the pieces under way come to their counts
         self.sums = {name: bench.sum(features) for name, features in FIRMWARES.items()}
         lengths = {name: [int(word) for word in bench.told(name, features, "lengths").split()] for name, features in FIRMWARES.items()}
         rows = [pieces(name, features, lengths[name], given.long, given.seed) for name, features in FIRMWARES.items()]
@@ -91,7 +93,8 @@ class Whole:
         whole, done = sum(one.cuts for one in self.pieces), sum(one.cuts for one in self.pieces if self.key(one) in self.done)
         rate = self.cut / (time.monotonic() - self.begun)
         left = f"{(whole - done) / rate / 60:.0f} min left" if rate else "no cut yet"
-        say(f"{piece.name}, {' '.join(map(str, piece.words))}: {counts[0]} cuts, lost 0; {100 * done // whole} % of all, {rate:.0f} a second, {left}")
+        say(f"{piece.name}, {' '.join(map(str, piece.words))}: {counts[0]} cuts, lost 0; "
+            f"{done} of about {whole}, {100 * done // whole} %, {rate:.0f} a second, {left}")
 
     def take(self, thread, piece):
         """Keeps what a piece came to, where it was reached; whether it did not fail."""
@@ -105,7 +108,8 @@ class Whole:
         return True
 
     def run(self, jobs):
-        """Runs what is left, so many pieces at once, up to the first that fails. Whether none did."""
+        """Runs what is left, so many pieces at once, up to the first that fails or a signal. Whether none did."""
+        signal.signal(signal.SIGTERM, signal.default_int_handler)
         left = [piece for piece in self.pieces if self.key(piece) not in self.done]
         say(f"{len(self.pieces)} pieces, {len(self.pieces) - len(left)} of them done before ({self.path})")
         threads = concurrent.futures.ThreadPoolExecutor(jobs)
@@ -113,9 +117,11 @@ class Whole:
         try:
             passed = all(self.take(thread, started[thread]) for thread in concurrent.futures.as_completed(started))
         except KeyboardInterrupt:
-            say("ended by hand")
+            say("ended by a signal, once the pieces under way are done")
             passed = True
         threads.shutdown(cancel_futures=True)
+        ended = [thread for thread in started if thread.done() and not thread.cancelled() and self.key(started[thread]) not in self.done]
+        passed &= all([self.take(thread, started[thread]) for thread in ended if passed])
         return self.summary() and passed
 
     def summary(self):

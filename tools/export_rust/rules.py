@@ -84,13 +84,12 @@ KEYBOARD = Rules(
            ("debounce", "Scan::has"): "ScanCalls", ("debounce", "Scan::with"): "ScanCalls", ("debounce", "Debouncer::is_down"): "DebouncerCalls"},
     derives={("reports", "InputReport"): ("Clone", "Copy")},
     unstarted={("layers", "Code"): None, ("layers", "LayerNo"): None, ("layers", "KeyNo"): None, ("layers", "KeymapOf"): None,
-               ("layers", "Command"): "Command::SetKey { layer: LayerNo::UNSTARTED, key: KeyNo::UNSTARTED, code: Code::UNSTARTED }",
                ("layers", "Held"): None, ("layers", "Usages"): None, ("debounce", "Scan"): None, ("debounce", "Matrix"): None,
                ("reports", "Protocol"): "Protocol::Boot", ("reports", "Input"): "Input::Boot", ("reports", "Sent"): None,
                ("reports", "Queue"): None, ("reports", "InputReport"): None, ("reports", "Idle"): None, ("reports", "Poller"): None, ("key_reports", "KeyReports"): None,
                ("control_ep", "Source"): "Source::Copied(ArrayVec::new_const())", ("control_ep", "ReadData"): None,
                ("control_ep", "Sending"): None, ("control_ep", "Stage"): "Stage::Sending(Sending::UNSTARTED)",
-               ("control_ep", "ControlEp"): None, ("keymap_store", "Job"): "Job::Turning { command: Command::UNSTARTED, from: 0 }",
+               ("control_ep", "ControlEp"): None, ("keymap_store", "Job"): "Job::Resting",
                ("keymap_store", "StoreOf"): None, ("keyboard", "KeyboardOf"): None},
     docs={("descriptor_build", ""): [("`parse_lines` prints them", "the crate `kbsim` prints them")],
           ("keyboard", ""): [("A firmware calls it; `world` does on", "A firmware calls it; the crate `kbsim` does on")]},
@@ -98,7 +97,7 @@ KEYBOARD = Rules(
 
 READER = Rules(
     name="wuzhikar-reader",
-    crates=("descriptor_parse", "host_extract"),
+    crates=("descriptor_parse", "host_extract", "lenient_parse"),
     allocs=True,
     hidden=frozenset({("descriptor_parse", "Parser::new")}),
     calls={("descriptor_parse", "Parser::new"): "ParserCalls"},
@@ -108,7 +107,8 @@ READER = Rules(
                 for name in ("Reports", "Totals", "Link", "IdReports", "ReportBits", "FirstFields")}},
     inlined=frozenset({("descriptor_parse", name) for name in ("Items::next", "Item::tag", "read_usage", "Usage::on")}),
     docs={("host_extract", ""): [("by the descriptor that [`descriptor_parse`] gives", "by the descriptor that `descriptor_parse` gives"),
-                                 ("The crate `host` calls it", "The crate `kbsim` calls it")]},
+                                 ("The crate `host` calls it", "The crate `kbsim` calls it")],
+          ("lenient_parse", ""): [("`descriptor_parse::parse`", "`wuzhikar_reader::parse`")]},
 )
 
 DETAILS = Rules(
@@ -144,14 +144,21 @@ SIMULATOR = Rules(
 
 USB = Rules(
     name="wuzhikar-device",
-    crates=("usb_device",),
-    below=(KEYBOARD,),
+    crates=("usb_device", "usb_keyboard"),
+    below=(LOG, KEYBOARD),
+    hidden=frozenset({("usb_keyboard", "UsbKeyboardOf::start_in")}),
     conditions={("usb_device", module): LEFT_OUT
                 for module in ("played_buffers", "played_controller", "quiet_controller", "tests")},
     docs={("usb_device", ""): [("acknowledgements were lost (`laws::confirmed_on_the_bus`); `usb_keyboard` leads\n//! on to the flash. Each", "acknowledgements were lost. Each"),
-                               ("feature commands (`guard_laws`). It", "feature commands. It"),
+                               ("feature commands (`guard_laws`), and", "feature commands, and"),
                                ("events before give (`laws::endpoint_is_looked_back`). The", "events before give. The"),
                                ("their order (`laws::reports_are_got_in_order`): once", "their order: once")],
+          ("usb_keyboard", "transfers"): [("`usb_device::Guarded` stands", "`Guarded` stands")],
+          ("usb_keyboard", ""): [("a lock and a pace before it (`usb_device::Guarded`). `UsbKeyboard", "a lock and a pace before it (`Guarded`). `UsbKeyboard"),
+                                 ("`usb_device::Forgetting` stands before it\n//! (`laws::stored_where_forgotten`).", "`Forgetting` stands before it."),
+                                 ("writes the entry (`laws::seen_is_stored`, `laws::stored_until_written`). The", "writes the entry. The"),
+                                 ("one for each pace\n//! (`laws::accepted_behind_a_guard`).", "one for each pace."),
+                                 ("and is a premise of `laws::stored_until_written`.", "and is a premise of the guarantee.")],
           ("usb_device", "control_buffers"): [("confirmed by the device: `laws::seen_is_confirmed` of the link that the call keeps. And", "confirmed by the device. And")],
           ("usb_device", "usb_device"): [("the device behind (`laws::confirmed_on_the_bus`), and the", "the device behind, and the"),
                                          ("in their order (`laws::reports_are_got_in_order`). Nothing", "in their order. Nothing")]},

@@ -27,7 +27,7 @@ KILLED = f"{ROOT}/tools/statements/killed.tsv"
 
 KINDS = ("clause", "definition", "row", "test", "edit")
 
-OWNER = re.compile(r"^(?:pub )?(?:impl(?:<.*?>)? (?:(?P<of>.+?) for )?|trait )(?P<type>[\w:]+)")
+OWNER = re.compile(r"^(?:pub )?(?:impl(?:<(?:[^<>]|<[^<>]*>)*>)? (?:(?P<of>.+?) for )?|trait )(?P<type>[\w:]+)")
 FUNCTION = re.compile(r"^\s*(?:pub(?:\([^)]*\))? )?(?:const |ghost |final )*fn (\w+)")
 CLAUSE = re.compile(r"^\s*(ensures|requires)\b\s*(\w+)?")
 MODIFIERS = {"pub", "abbrev", "unfoldable", "record", "data", "opaque", "mutual"}

@@ -1,6 +1,6 @@
 //! The packets that data are cut into.
 
-ghost use Rattle.std.specs.Prelude.{◌≡◌, ℕ, ◌*◌, ◌≤◌, List, length, take, OnSome};
+ghost use Rattle.std.specs.Prelude.{◌≡◌, ℕ, ◌*◌, ◌<◌, ◌≤◌, List, length, take, OnSome};
 ghost use Rattle.std.specs.Option.{option_map};
 ghost use Rattle.control_ep.specs.Packets.{packet_at};
 
@@ -25,8 +25,19 @@ pub(crate) fn packet_at(bytes: &[u8], asked: u16, index: u16) -> Option<ArrayVec
     }
 }
 
-/// The first 8 of the bytes, or all of fewer.
+/// The first 8 of the bytes, which are copied as one, or all of fewer.
 fn first_packet(bytes: &[u8]) -> ArrayVec<u8, 8>
+    ensures { result.items ≡ take 8 bytes.now }
+{
+    match bytes.first_chunk::<8>() {
+        Some(full) => ArrayVec::from(*full),
+        None => short_packet(bytes),
+    }
+}
+
+/// All of fewer than 8 bytes.
+fn short_packet(bytes: &[u8]) -> ArrayVec<u8, 8>
+    requires { length bytes.now < 8 }
     ensures { result.items ≡ take 8 bytes.now }
 {
     let mut packet = ArrayVec::new();

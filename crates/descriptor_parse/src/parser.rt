@@ -15,6 +15,18 @@ use std::fmt::Debug;
 ///
 /// An item is judged once all its bytes are there, and at most 258 bytes of an item that is not whole yet are kept. A
 /// refusal ends the parser for good: each later call answers it again.
+///
+/// ```rust
+/// use wuzhikar_reader::Parser;
+///
+/// let mut parser = Parser::default();
+/// // A descriptor as it comes off endpoint 0, eight bytes a packet.
+/// for packet in [&[0x05, 0x09, 0x09, 1, 0x25, 1, 0x75, 8][..], &[0x95, 1, 0x81, 0x02]] {
+///     parser.feed(packet)?;
+/// }
+/// assert_eq!(parser.finish()?.fields().len(), 1);
+/// # Ok::<(), wuzhikar_reader::ParseError>(())
+/// ```
 #[derive(Drop)]
 pub struct Parser {
     reading: Reading,

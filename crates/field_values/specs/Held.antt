@@ -1,7 +1,9 @@
 -- Believed: which values the bits of a place hold, and which writes into one are refused (HID 1.11, 5.8 and 6.2.2.7).
 use Rattle.shapes.specs.Shapes.{Bytes}
-use Rattle.std.specs.Prelude.{ℕ, ◌+◌, ◌*◌, ◌^◌, if◌then◌else◌, nat_lt, not, ◌&&◌, Bool, length, ℤ, pos, ◌+ℤ◌, ◌-ℤ◌, int_lt, Option, Some, None}
+use Rattle.std.specs.Prelude.{◌≡◌, ℕ, ◌+◌, ◌*◌, ◌^◌, ◌<◌, if◌then◌else◌, nat_lt, not, ◌&&◌, Bool, length, ℤ, pos, ◌+ℤ◌, ◌-ℤ◌, int_lt, Option, Some, None}
+use Rattle.std.specs.Int.{bit_at}
 use Rattle.descriptor_parse.specs.declared.field.Field.{Field}
+use Rattle.host_extract.specs.Numbers.{report_bit, value_under}
 use Rattle.field_values.specs.declared.place.PlaceError.{PlaceError}
 use Rattle.field_values.specs.declared.place.PlaceError.TheVariants.{NoPlace, Short, TooLarge, OutOfRange}
 
@@ -18,6 +20,13 @@ place_bit field place = field.bit + field.size * place
 -- the bytes have all bits of a place
 abbrev pub has_bits : Field → Bytes → ℕ → Bool
 has_bits field bytes place = not (nat_lt (8 * length bytes) (place_bit field place + field.size))
+
+-- the bits of a report from one on are those of a value, as far as there are bytes: of the number of so many bits that is it
+pub record AreBitsOf (minimum : ℤ) (size : ℕ) (value : ℤ) (bytes : Bytes) (from : ℕ) : Type 0 where
+  pub number : ℕ
+  pub small : number < 2 ^ size
+  pub is_value : value_under minimum size number ≡ value
+  pub inside : (i : ℕ) → i < size → from + i < 8 * length bytes → report_bit bytes (from + i) ≡ bit_at number i
 
 -- a value is within the logical extents, which are within themselves
 abbrev pub is_within : Field → ℤ → Bool

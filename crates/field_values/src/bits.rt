@@ -13,6 +13,7 @@ pub fn put_number(bytes: &mut [u8], from: u64, size: u8, number: u32)
     requires counted { from + size < 2 ^ 64 }
     ensures length { length bytes.new ≡ length bytes.old }
     ensures there { from + size ≤ 8 * length bytes.old → number_at bytes.new from size ≡ number }
+    ensures inside { (i : ℕ) → i < size → from + i < 8 * length bytes.old → report_bit bytes.new (from + i) ≡ bit_at number i }
     ensures others { (bit : ℕ) → IsOutside from size bit → report_bit bytes.new bit ≡ report_bit bytes.old bit }
 {
     for place in 0..size {

@@ -5,7 +5,7 @@ ghost use Rattle.host_extract.specs.ties.Fits.{FitsReading};
 ghost use Rattle.host_extract.specs.Found.{value_at};
 ghost use Rattle.host_extract.specs.Numbers.{report_bit, number_at, value_under};
 ghost use Rattle.field_values.specs.Places.{IsOutside};
-ghost use Rattle.field_values.specs.Held.{is_held, place_bit, has_bits, is_within, refusal};
+ghost use Rattle.field_values.specs.Held.{AreBitsOf, is_held, place_bit, has_bits, is_within, refusal};
 
 use crate::bits::put_number;
 use descriptor_parse::Field;
@@ -56,6 +56,7 @@ pub(crate) fn put_place(field: &Field, bytes: &mut [u8], place: u16, value: i64)
     requires held { is_held field.now.min field.now.size value ≡ true }
     ensures length { length bytes.new ≡ length bytes.old }
     ensures there { has_bits field.now bytes.old place ≡ true → value_at field.now bytes.new place ≡ value }
+    ensures inside { AreBitsOf field.now.min field.now.size value bytes.new (place_bit field.now place) }
     ensures others { (bit : ℕ) → IsOutside (place_bit field.now place) field.now.size bit → report_bit bytes.new bit ≡ report_bit bytes.old bit }
 {
     let from = field.bit + field.size as u64 * place as u64;
@@ -140,13 +141,14 @@ fn is_unsigned(numbers: i64, value: i64) -> bool
     value >= 0 && value < numbers
 }
 
-/// Writes a value of `size` bits from the bit `from` on.
+/// Writes a value of `size` bits from the bit `from` on; those past the end of the bytes are left out.
 pub fn put_value(bytes: &mut [u8], from: u64, size: u8, minimum: i64, value: i64)
     requires few { size ≤ 32 }
     requires held { is_held minimum size value ≡ true }
     requires counted { from + size < 2 ^ 64 }
     ensures length { length bytes.new ≡ length bytes.old }
     ensures there { from + size ≤ 8 * length bytes.old → value_under minimum size (number_at bytes.new from size) ≡ value }
+    ensures inside { AreBitsOf minimum size value bytes.new from }
     ensures others { (bit : ℕ) → IsOutside from size bit → report_bit bytes.new bit ≡ report_bit bytes.old bit }
 {
     put_number(bytes, from, size, number_of(minimum, size, value));

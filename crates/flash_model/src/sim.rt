@@ -28,6 +28,16 @@ pub enum FlashError {
 
 /// A flash in memory. No operation of it fails, but that which comes after `fault_next`. Two are equal
 /// where their bytes, what is armed and both counts are.
+///
+/// ```rust
+/// use wuzhikar_log::{Mask, NorFlash, SimFlash};
+///
+/// let mut flash = SimFlash::blank(2).unwrap();
+/// // The next operation fails, and of its bits those of the mask take effect.
+/// flash.fault_next(Mask::from_iter([0x0f]));
+/// assert!(flash.program_slot(0, 0, [0; 8]).is_err());
+/// assert_eq!(flash.read_slot(0, 0), [0xf0; 8]);
+/// ```
 #[derive(Clone, Debug, Drop)]
 pub struct SimFlash {
     bytes: Vec<u8>,

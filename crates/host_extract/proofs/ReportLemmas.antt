@@ -1,5 +1,7 @@
-use Rattle.std.proofs.Common.{◌≡◌, ℕ, suc, Bool, List, [], ◌∷◌, ◌++◌, append_assoc, arith, refl, sym, ◌∙◌, ap, inl, inr}
+use Rattle.std.proofs.Common.{◌≡◌, ℕ, suc, ◌+◌, ◌*◌, ◌≤◌, length, Bool, List, [], ◌∷◌, ◌++◌, append_assoc, arith, refl, sym, ◌∙◌, ap, inl, inr}
 use Rattle.std.specs.Prelude.{All, filter, zip}
+use Rattle.std.specs.List.{sum_by}
+use Rattle.std.proofs.lemmas.List.Sums.{sum_by-cons}
 use Rattle.std.proofs.lemmas.Bool.{cases_Bool}
 use Rattle.std.proofs.lemmas.List.{append-nil}
 use Rattle.descriptor_parse.specs.declared.field.Kind.{Kind}
@@ -35,6 +37,32 @@ all-reading d fields w h k other l = fits-reading d _ w (h k other l)
 
 pub fit-all : (d : DescriptorValue) (kind : Kind) (id : ℕ) → IsWellFormed d → AllFit (fields_of d kind id)
 fit-all d kind id w = fit-zip (is_of_report kind id) d.fields d.ranges (all-reading d d.fields w w.fields)
+
+-- ---- how many places there are
+
+-- so many places of these fields
+abbrev pub places_of : List (Field × List (ℕ × ℕ)) → ℕ
+places_of ps = sum_by (λ p. p.0.count) ps
+
+-- a field more
+pub more-places : (p : Field × List (ℕ × ℕ)) (ps : List (Field × List (ℕ × ℕ))) → places_of (p ∷ ps) ≡ p.0.count + places_of ps
+more-places p ps = sum_by-cons (λ q. q.0.count) p ps
+
+few-zip : (d : DescriptorValue) (test : Field → Bool) (fields : List Field) (ranges : List (List (ℕ × ℕ))) → All (FitsField d) fields
+    → places_of (filter (λ q. test q.0) (zip fields ranges)) ≤ 1024 * length fields
+few-zip d test [] ranges h = omega arith
+few-zip d test (f ∷ fs) [] h = omega arith
+few-zip d test (f ∷ fs) (r ∷ rs) h =
+    let rest = few-zip d test fs rs (λ k e l. h (suc k) e (omega arith)) in
+    let one = (h 0 f (omega arith)).count in
+    elim (cases_Bool (test f)) [
+      | inl kept ↦ rw kept (let more = more-places (f, r) (filter (λ q. test q.0) (zip fs rs)) in omega (arith, rest, one, more))
+      | inr dropped ↦ rw dropped (omega (arith, rest))
+    ]
+
+-- the fields of a descriptor have few places together
+pub few-places : (d : DescriptorValue) (kind : Kind) (id : ℕ) → IsWellFormed d → places_of (fields_of d kind id) ≤ 1024 * 256
+few-places d kind id w = omega (arith, few-zip d (is_of_report kind id) d.fields d.ranges w.fields, w.few)
 
 pub none-left-over : (xs : List Found) (bytes : List ℕ) (all : List Found) → xs ++ found_in [] bytes ≡ all → xs ≡ all
 unfolding found_in

@@ -1,6 +1,7 @@
 //! A report as the usages that it names.
 
 ghost use Rattle.std.specs.Prelude.{◌≡◌, ◌≢◌, [], IfOk, IfErr, Some, None};
+ghost use Rattle.std.specs.List.{sum_by};
 ghost use Rattle.descriptor_parse.specs.Readers.{fields_of};
 ghost use Rattle.descriptor_parse.specs.declared.field.Kind.{Kind};
 ghost use Rattle.host_extract.specs.Found.{found, found_in, id_of, bytes_of};
@@ -85,10 +86,12 @@ fn read_fields(
 }
 
 /// How many places the fields of an input report have together.
-fn places(descriptor: &Descriptor, id: u8) -> usize {
-    let mut places = 0usize;
+fn places(descriptor: &Descriptor, id: u8) -> usize
+    ensures { result ≡ sum_by (λ p. p.0.count) (fields_of descriptor.now Kind.Input id) }
+{
+    let mut places = 0;
     for declared in descriptor.report(Kind::Input, id) {
-        places = places.saturating_add(declared.field.count as usize);
+        places += declared.field.count as usize;
     }
     places
 }

@@ -35,6 +35,26 @@ use std::alloc::{AllocError, Global};
 use std::marker::Model;
 
 /// A keyboard of 96 keys on a NOR flash that keeps its keymap, with these defaults.
+///
+/// ```rust
+/// # #[cfg(feature = "sim")]
+/// # fn main() -> Result<(), wuzhikar::PageCount> {
+/// use wuzhikar::{EpAnswer, Keyboard, SimFlash, Work};
+///
+/// let mut flash = SimFlash::blank(2).unwrap();
+/// let mut keyboard = Keyboard::on(&flash)?;
+/// // SET_REPORT of the feature report: operation 1 writes code 0029h (Escape) on layer 0, key 5.
+/// keyboard.setup([0x21, 0x09, 3, 3, 0, 0, 6, 0]);
+/// assert_eq!(keyboard.out(&[3, 1, 0, 5, 0x29, 0]), EpAnswer::Ack);
+/// // The status packet waits until the flash has the assignment.
+/// assert_eq!(keyboard.in_packet(), EpAnswer::Nak);
+/// while keyboard.work(&mut flash) == Work::Working {}
+/// assert!(matches!(keyboard.in_packet(), EpAnswer::Packet(packet) if packet.is_empty()));
+/// # Ok(())
+/// # }
+/// # #[cfg(not(feature = "sim"))]
+/// # fn main() {}
+/// ```
 #[derive(Debug, Drop)]
 pub struct KeyboardOf<D: Defaults> {
     ep: ControlEp,

@@ -7,6 +7,7 @@
 //! for it.
 #![tactic(auto)]
 
+mod command_word;
 pub mod laws;
 mod store;
 

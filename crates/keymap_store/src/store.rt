@@ -19,6 +19,7 @@ ghost use Rattle.keymap_store.specs.declared.store.Job.{Job};
 ghost use Rattle.keymap_store.specs.declared.store.Taken.{Taken};
 ghost use Rattle.keymap_store.specs.declared.store.Work.{Work};
 
+use crate::command_word::CommandWord;
 use flash_model::NorFlash;
 use layers::{Command, Defaults, KeymapOf, Standard};
 use page_turnover::{Log, Step};
@@ -66,10 +67,10 @@ pub enum Job {
     /// Nothing.
     Resting,
     /// The append of a command's record.
-    Appending(Command),
+    Appending(CommandWord),
     /// A turn to a page with the entries that differ from the default, which makes room for the
     /// command; those below a place were offered.
-    Turning { command: Command, from: u16 },
+    Turning { command: CommandWord, from: u16 },
 }
 
 /// A keymap in RAM, kept equal to that of a flash's image, with these defaults.
@@ -187,16 +188,14 @@ impl<D: Defaults> StoreOf<D> {
         if !self.keymap.changes(*command) {
             return Ok(Taken::Settled);
         }
+        let command = CommandWord::of(*command);
         if self.log.room() {
             self.log.begin_append(command.word());
-            self.job = Job::Appending(*command);
+            self.job = Job::Appending(command);
         } else {
             match self.log.begin_turn() {
                 Ok(()) => {
-                    self.job = Job::Turning {
-                        command: *command,
-                        from: 0,
-                    };
+                    self.job = Job::Turning { command, from: 0 };
                 }
                 Err(_) => return Err(SubmitRefusal::Worn),
             }
@@ -229,7 +228,8 @@ impl<D: Defaults> StoreOf<D> {
         ensures order { TakesFirst result (rest_of D.defaults (F.image flash.old) self.old) (rest_of D.defaults (F.image flash.new) self.new) }
         ensures faultless { F.is_faultless flash.old → F.is_faultless flash.new × (result ≢ Work.Failed) }
     {
-        match self.job {
+        let job = self.job;
+        match job {
             Job::Resting => Work::Idle,
             Job::Appending(command) => self.append(flash, command),
             Job::Turning { command, from } => self.turn(flash, command, from),
@@ -237,7 +237,7 @@ impl<D: Defaults> StoreOf<D> {
     }
 
     /// Appends the record of a command.
-    fn append<F: NorFlash>(&mut self, flash: &mut F, command: Command) -> Work
+    fn append<F: NorFlash>(&mut self, flash: &mut F, command: CommandWord) -> Work
         requires mirrors { Mirrors D.defaults (F.image flash.old) self.old }
         requires job { self.old.job ≡ Job.Appending command }
         ensures leaves { WorkLeaves D.defaults (F.image flash.old) self.old result (F.image flash.new) self.new }
@@ -249,7 +249,7 @@ impl<D: Defaults> StoreOf<D> {
     {
         match self.log.step(flash) {
             Step::Committed => {
-                self.keymap.apply(command);
+                self.keymap.apply(command.command());
                 self.job = Job::Resting;
                 Work::Settled
             }
@@ -262,7 +262,7 @@ impl<D: Defaults> StoreOf<D> {
     }
 
     /// Goes on with a turn; its commit makes room for the command.
-    fn turn<F: NorFlash>(&mut self, flash: &mut F, command: Command, from: u16) -> Work
+    fn turn<F: NorFlash>(&mut self, flash: &mut F, command: CommandWord, from: u16) -> Work
         requires mirrors { Mirrors D.defaults (F.image flash.old) self.old }
         requires job { self.old.job ≡ Job.Turning command from }
         ensures leaves { WorkLeaves D.defaults (F.image flash.old) self.old result (F.image flash.new) self.new }
@@ -273,8 +273,6 @@ impl<D: Defaults> StoreOf<D> {
         ensures fewer { result ≡ Work.Working → left D.defaults (F.image flash.new) self.new + 1 ≡ left D.defaults (F.image flash.old) self.old }
         ensures order { TakesFirst result (rest_of D.defaults (F.image flash.old) self.old) (rest_of D.defaults (F.image flash.new) self.new) }
     {
-        // By reference, since more than one way takes it.
-        let command = &command;
         let from = offer_next(&mut self.log, &self.keymap, from);
         match self.log.step(flash) {
             Step::Moved => {
@@ -283,7 +281,7 @@ impl<D: Defaults> StoreOf<D> {
             }
             Step::Committed => {
                 self.log.begin_append(command.word());
-                self.job = Job::Appending(*command);
+                self.job = Job::Appending(command);
                 Work::Working
             }
             Step::Failed => {

@@ -5,6 +5,7 @@ use Rattle.std.proofs.lemmas.Bool.Decides.{nat_tests}
 use Rattle.std.proofs.lemmas.Nat.{and_mask}
 use Rattle.layers.specs.Codes.{layers, keys, is_between, is_code}
 use Rattle.layers.specs.Commands.{IsCommand, unused_is_zero, command_read, command_with, command_of, word_of, word_with}
+use Rattle.layers.specs.ties.CommandWords.{command_at}
 use Rattle.std.specs.Result.{result_ok}
 use Rattle.layers.specs.declared.code.KeymapError.TheVariants.{BadOperation, BadLayer, BadKey, BadCode}
 use Rattle.layers.specs.declared.command.Command.{Command}
@@ -134,3 +135,27 @@ word_of_command word command e =
 pub exact_by : (word : ℕ) (o : Option Command) → command_of word ≡ o → MatchOption o ((c : Command) → IsCommand c → word_of c ≢ word) (λ c. IsCommand c × (word_of c ≡ word))
 exact_by word None e = λ c is w. let f : command_of word ≡ Some c = command_of_its_word c word (sym w) is in cc
 exact_by word (Some c) e = word_of_command word c e
+
+-- a word that stands for a command has its fields
+pub at_from : (word : ℕ) (command : Command) → command_of word ≡ Some command → command_at word ≡ command
+unfolding command_of
+at_from word command e =
+    let op = word / 2 ^ 28 in
+    let layer = word / 2 ^ 24 % 2 ^ 4 in
+    let key = word / 2 ^ 16 % 2 ^ 8 in
+    let code = word % 2 ^ 16 in
+    let t = some_if _ _ command e in
+    (result_if (not (is_between 1 3 op)) (nat_le op 2 && not (nat_lt layer layers)) (nat_le op 1 && not (nat_lt key keys)) (nat_le op 1 && not (is_code code)) (command_with op layer key code) command t.1).4
+
+-- so it is the word of the command whose fields it has
+pub at_kept : (word : ℕ) (command : Command) → command_of word ≡ Some command → IsCommand command → word ≡ word_of command
+    → IsCommand (command_at word) × (word_of (command_at word) ≡ word)
+at_kept word command e is w = rw (at_from word command e) (is, sym w)
+
+-- the parts of such a word, by its operation
+pub at_1 : (word : ℕ) → IsCommand (command_at word) → word / 2 ^ 28 ≡ 1
+    → (word / 2 ^ 24 % 2 ^ 4 < layers) × (word / 2 ^ 16 % 2 ^ 8 < keys) × (is_code (word % 2 ^ 16) ≡ true)
+at_1 word is o = rw o at is
+
+pub at_2 : (word : ℕ) → IsCommand (command_at word) → word / 2 ^ 28 ≡ 2 → word / 2 ^ 24 % 2 ^ 4 < layers
+at_2 word is o = rw o at is

@@ -1,2 +1,3 @@
 -- Only ties code to its definitions: the files of this folder.
+pub mod CommandWords
 pub mod HeldStands

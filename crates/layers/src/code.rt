@@ -56,6 +56,15 @@ const MOMENTARY_LAST: u16 = 0x5003;
 /// 00A4h and 00E0h to 00E7h this usage of the keyboard page (HUT section 10), 4001h to 43FFh the
 /// usage 001h to 3FFh of the consumer page (HUT section 15), 5001h to 5003h to activate layer 1 to
 /// 3 while it is held. Nothing else is a code.
+///
+/// ```rust
+/// use wuzhikar::{Code, KeymapError};
+///
+/// let escape = Code::read(0x0029)?;
+/// assert_eq!(escape.bits(), 0x0029);
+/// assert_eq!(Code::read(0xffff), Err(KeymapError::BadCode));
+/// # Ok::<(), KeymapError>(())
+/// ```
 #[derive(Clone, Copy, Debug, PartialEq, Eq)]
 pub struct Code {
     bits: u16,
@@ -130,6 +139,15 @@ impl Code {
             | MOMENTARY_FIRST..=MOMENTARY_LAST => Ok(Code { bits }),
             _ => Err(KeymapError::BadCode),
         }
+    }
+
+    /// The code of bits that are known to be one.
+    #[inline(always)]
+    pub const fn known(bits: u16) -> Code
+        requires { IsTrue (is_code bits) }
+        ensures { result ≡ bits }
+    {
+        Code { bits }
     }
 
     /// The standard default code of the entry at a place, 96 times the layer plus the key.

@@ -31,6 +31,7 @@ const CONSUMER_LIST: [u16; 16] = [
 impl Command {
     /// The command of operation 1, 2 or 3; what the operation does not use is ignored. In this
     /// order `BadOperation` for another operation, `BadLayer`, `BadKey` and `BadCode`.
+    #[inline(always)]
     pub fn read(op: u8, layer: u8, key: u8, code: u16) -> Result<Command, KeymapError>
         ensures value { result ≡ command_read op layer key code }
         ensures a_command { IfOk result (λ c. IsCommand c) }
@@ -50,6 +51,7 @@ impl Command {
     /// The command that a word stands for: bits 28 to 31 the operation, 24 to 27 the layer, 16 to
     /// 23 the key, 0 to 15 the code, and 0 in what the operation does not use. None where the word
     /// is that of no command.
+    #[inline(always)]
     pub fn from_word(word: u32) -> Option<Command>
         ensures value { result ≡ command_of word }
         ensures exact { MatchOption result ((c : Command) → IsCommand c → word_of c ≢ word) (λ c. IsCommand c × (word_of c ≡ word)) }
@@ -78,6 +80,7 @@ impl Command {
     }
 
     /// The word of the command.
+    #[inline(always)]
     pub fn word(self) -> u32
         ensures value { result ≡ word_of self }
         ensures read_back { command_of result ≡ Some self }
@@ -120,6 +123,5 @@ fn word_with(op: u8, layer: u8, key: u8, code: u16) -> u32
     requires in_layer { layer < 16 }
     ensures { result ≡ word_with op layer key code }
 {
-    let [low, high] = code.to_le_bytes();
-    u32::from_le_bytes([low, high, key, 16 * op + layer])
+    0x1000_0000 * op as u32 + 0x100_0000 * layer as u32 + 0x1_0000 * key as u32 + code as u32
 }

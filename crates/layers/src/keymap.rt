@@ -16,6 +16,16 @@ use crate::{Code, Command, Defaults, KeyNo, LayerNo, Standard};
 use std::marker::Model;
 
 /// The code of each key on each layer, with these defaults.
+///
+/// ```rust
+/// use wuzhikar::{KeyNo, Keymap, LayerNo};
+///
+/// let keymap = Keymap::standard();
+/// // Key 0 of layer 0 is usage 04h, the letter A.
+/// assert_eq!(keymap.get(LayerNo::read(0)?, KeyNo::read(0)?).bits(), 0x0004);
+/// assert!(KeyNo::read(96).is_err());
+/// # Ok::<(), wuzhikar::KeymapError>(())
+/// ```
 #[derive(Clone, Debug, Drop)]
 pub struct KeymapOf<D: Defaults> {
     codes: [Code; ENTRIES],
@@ -67,6 +77,7 @@ impl<D: Defaults> KeymapOf<D> {
     }
 
     /// Takes a command: the entries that it writes get their codes, the others stay.
+    #[inline(always)]
     pub fn apply(&mut self, command: Command)
         ensures entries { (entries : ℕ → ℕ → ℕ) → HasEntries entries self.old → HasEntries (changed D.defaults entries (command ∷ [])) self.new }
         ensures stands { (format : ℕ) (words : List ℕ) (word : ℕ) → StandsFor D.defaults format words self.old → command_in format word ≡ Some command → StandsFor D.defaults format (words ++ word ∷ []) self.new }

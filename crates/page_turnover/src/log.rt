@@ -73,6 +73,18 @@ pub enum Task {
 /// Of a flash with one unsound slot 0 (`usable`) the words are read, but nothing is ever written, so
 /// no header is lost that a damaged page may have had. No cut and no fault of an operation of a log
 /// makes a slot 0 unsound; whoever makes the device has to erase such a page by other means.
+///
+/// ```rust
+/// # #[cfg(feature = "sim")]
+/// # {
+/// use wuzhikar_log::{Log, SimFlash};
+///
+/// let flash = SimFlash::blank(2).unwrap();
+/// let log = Log::mount(&flash);
+/// assert_eq!(log.active(), None);
+/// assert_eq!(log.words(&flash).next(), None);
+/// # }
+/// ```
 #[derive(Debug, Drop)]
 pub struct Log {
     active: Option<ActivePage>,

@@ -1,9 +1,9 @@
 -- The address of the controller: told, or set to 0 by a reset.
-use Rattle.std.proofs.Common.{◌≡◌, ℕ, Bool, true, false, List, [], ◌∷◌, Option, Some, None, refl, sym, ap, subst, ◌∙◌, inl, inr}
-use Rattle.usb_device.specs.Calls.{EpCall}
+use Rattle.std.proofs.Common.{◌≡◌, ℕ, Bool, true, false, List, [], ◌∷◌, ◌++◌, append_assoc, Option, Some, None, refl, sym, ap, subst, ◌∙◌, inl, inr}
+use Rattle.usb_device.specs.Calls.{EpCall, SetUp, Out, In, Polled, BusReset}
 use Rattle.usb_device.specs.Addresses.{StaysBy, Stays, StaysOrReset, Tells, Addressed}
 use Rattle.usb_device.specs.Bus.{Bus, InMode, OutMode, Happens, sets_up, takes_in, loses_ack, brings_out, stalls, resets, Goes, is_pending, unless_pending, with_input, with_output}
-use Rattle.usb_device.specs.Bus1.{beside, KeptOrReset, KeptUnless}
+use Rattle.usb_device.specs.Bus1.{beside, Adds, KeptOrReset, KeptUnless}
 
 was_reset : (b next c : Bus) → next ≡ c → (b.met.reset ≡ true → c.met.reset ≡ true) → b.met.reset ≡ true → next.met.reset ≡ true
 was_reset b next c e h r = ap (λ (x : Bus). x.met.reset) e ∙ h r
@@ -61,9 +61,24 @@ served_stays true false calls later x y z s t k = inr (k, t ∙ s)
 served_stays false true calls later x y z s t k = inl (k, t)
 served_stays false false calls later x y z s t k = inl (k, t ∙ s)
 
-pub kept_further : (reset : Bool) (calls mid later : List EpCall) → KeptUnless reset calls mid → beside later ≡ beside mid → KeptUnless reset calls later
-kept_further true calls mid later k e = e ∙ k
-kept_further false calls mid later k e = e ∙ k
+pub adds_none : (calls : List EpCall) → Adds [] calls calls
+adds_none calls = ([], refl, refl)
+
+beside_more : (more since : List EpCall) → beside more ≡ [] → beside (more ++ since) ≡ beside since
+beside_more [] since e = refl
+beside_more (SetUp bytes ∷ more) since e = beside_more more since e
+beside_more (Out packet answer ∷ more) since e = beside_more more since e
+beside_more (In answer ∷ more) since e = beside_more more since e
+beside_more (Polled answer ∷ more) since e = cc
+beside_more (BusReset ∷ more) since e = cc
+
+pub adds_more : (others calls mid later : List EpCall) → Adds others calls mid → Adds [] mid later → Adds others calls later
+adds_more others calls mid later a b =
+    (b.0 ++ a.0, b.1 ∙ ap (λ x. b.0 ++ x) a.1 ∙ sym (append_assoc b.0 a.0 calls), beside_more b.0 a.0 b.2 ∙ a.2)
+
+pub kept_further : (reset : Bool) (calls mid later : List EpCall) → KeptUnless reset calls mid → Adds [] mid later → KeptUnless reset calls later
+kept_further true calls mid later k e = adds_more (BusReset ∷ []) calls mid later k e
+kept_further false calls mid later k e = adds_more [] calls mid later k e
 
 pub kept_or : (reset : Bool) (calls later : List EpCall) → KeptUnless reset calls later → KeptOrReset calls later
 kept_or true calls later k = inr k

@@ -1,34 +1,17 @@
--- What a device with its layer confirmed, the device behind confirmed; and what the host saw.
-use Rattle.std.proofs.Common.{◌≡◌, ℕ, true, List, [], ◌∷◌, ◌++◌, Option, Some, None, refl, subst, ◌∙◌, inl, inr}
+-- What a device with its layer confirmed, the device behind confirmed.
+use Rattle.std.proofs.Common.{◌≡◌, ℕ, List, [], ◌∷◌, Option, Some, None, refl, ◌∙◌, inl, inr}
 use Rattle.usb_device.specs.declared.answer.EpAnswer.{EpAnswer}
 use Rattle.usb_device.specs.declared.answer.EpAnswer.TheVariants.{Ack, Nak, Packet, Stall}
 use Rattle.usb_device.specs.declared.answer.Endpoint1.{Endpoint1}
 use Rattle.usb_device.specs.declared.answer.Endpoint1.TheVariants.{Off, Ready, Halted}
 use Rattle.usb_device.specs.Calls.{EpCall, SetUp, Out, In, Polled, BusReset}
 use Rattle.usb_device.specs.Requests.{Lent}
-use Rattle.usb_device.specs.Events.{Event, SetupCame, OutCame, InAsked, PollAsked, ResetCame}
+use Rattle.usb_device.specs.Events.{Event, SetupCame, OutCame, InAsked, PollAsked, ResetCame, SuspendCame, ResumeCame, WakeAsked}
 use Rattle.usb_device.specs.Steps.{Stage, Theirs, Sending, Status, Over, state_of, session, AllAnswered, InAnswer, after_in, after_out, begun, call_if_theirs, call_if_ready, polled_of}
 use Rattle.usb_device.specs.Through.{calls_of}
-use Rattle.usb_device.specs.Bus.{Seen, SetupSent, OutTaken, InGot, WasStalled, WasReset, Bus, setup_of, write_of, is_write}
-use Rattle.usb_device.specs.Confirmed.{asked_of, taken_of, WasConfirmed, AllKept, confirmation}
-use Rattle.usb_device.specs.Transfers.{TransferState}
-use Rattle.usb_device.specs.ties.Link.{Link}
-
--- of the seen
-kept_at : (after before : List Seen) (calls : List EpCall) → AllKept (after ++ (InGot [] ∷ before)) calls → AllKept (InGot [] ∷ before) calls
-kept_at [] before calls k = k
-kept_at (InGot [] ∷ after) before calls k = kept_at after before calls k.1
-kept_at (InGot (x ∷ xs) ∷ after) before calls k = kept_at after before calls k
-kept_at (SetupSent bytes ∷ after) before calls k = kept_at after before calls k
-kept_at (OutTaken packet ∷ after) before calls k = kept_at after before calls k
-kept_at (WasStalled ∷ after) before calls k = kept_at after before calls k
-kept_at (WasReset ∷ after) before calls k = kept_at after before calls k
-
-pub seen_confirmed : (t : TransferState) (b : Bus) (calls : List EpCall) (after before : List Seen) (setup data_ : List ℕ) → Link t b calls
-    → b.seen ≡ after ++ (InGot [] ∷ before) → setup_of before ≡ Some setup → is_write setup ≡ true → write_of before ≡ Some data_ → WasConfirmed setup data_ calls
-seen_confirmed t b calls after before setup data_ h e es ew ed =
-    let K : List Seen → Type 0 = λ seen. AllKept seen calls in
-    (kept_at after before calls (subst K e h.kept)).0 setup data_ es ew ed
+use Rattle.usb_device.specs.Bus.{Seen}
+use Rattle.usb_device.specs.Confirmed.{asked_of, taken_of, TakesOnly, ConfirmedBefore, confirmation}
+use Rattle.usb_device.proofs.Linked.{takes_as}
 
 -- of the device layer
 Aligned : Stage → List EpCall → List EpCall → Type 0
@@ -91,11 +74,14 @@ at_start = refl
 aligned : (lent : Lent) (past : List Event) → Aligned (state_of lent past).stage (session lent past) (calls_of past)
 unfolding state_of session
 aligned lent [] = at_start
-aligned lent (SetupCame bytes ∷ past) = at_setup (begun (state_of lent past).lent (state_of lent past).endpoint bytes) bytes (session lent past) (calls_of past)
+aligned lent (SetupCame bytes ∷ past) = at_setup (begun (state_of lent past).lent (state_of lent past).endpoint (state_of lent past).wakeup bytes) bytes (session lent past) (calls_of past)
 aligned lent (OutCame packet answer ∷ past) = at_out (state_of lent past).stage packet answer (session lent past) (calls_of past) (aligned lent past)
 aligned lent (InAsked answer ∷ past) = at_in (state_of lent past).stage answer (session lent past) (calls_of past) (aligned lent past)
 aligned lent (PollAsked answer ∷ past) = at_poll (state_of lent past).stage (state_of lent past).endpoint (polled_of answer) (session lent past) (calls_of past) (aligned lent past)
 aligned lent (ResetCame ∷ past) = at_reset (session lent past) (calls_of past)
+aligned lent (SuspendCame ∷ past) = aligned lent past
+aligned lent (ResumeCame ∷ past) = aligned lent past
+aligned lent (WakeAsked has_report answer ∷ past) = aligned lent past
 
 asked_if_theirs : (stage : Stage) (call : EpCall) (behind : List EpCall) → asked_of (call ∷ behind) ≡ asked_of behind → asked_of (call_if_theirs stage call behind) ≡ asked_of behind
 asked_if_theirs Theirs call behind e = e
@@ -116,39 +102,52 @@ asked_same lent (OutCame packet answer ∷ past) = asked_if_theirs (state_of len
 asked_same lent (InAsked answer ∷ past) = asked_if_theirs (state_of lent past).stage (In answer) (session lent past) refl ∙ asked_same lent past
 asked_same lent (PollAsked answer ∷ past) = asked_if_ready (state_of lent past).endpoint (polled_of answer) (session lent past) ∙ asked_same lent past
 asked_same lent (ResetCame ∷ past) = refl
+asked_same lent (SuspendCame ∷ past) = asked_same lent past
+asked_same lent (ResumeCame ∷ past) = asked_same lent past
+asked_same lent (WakeAsked has_report answer ∷ past) = asked_same lent past
 
-grows_theirs : (stage : Stage) (call : EpCall) (behind : List EpCall) (s d : List ℕ) → WasConfirmed s d behind → WasConfirmed s d (call_if_theirs stage call behind)
-grows_theirs Theirs call behind s d w = inr w
-grows_theirs (Sending bytes asked sent) call behind s d w = w
-grows_theirs (Status change) call behind s d w = w
-grows_theirs Over call behind s d w = w
+grows_theirs : (stage : Stage) (call : EpCall) (behind : List EpCall) (sent : List Seen) (s d : List ℕ) → TakesOnly sent behind call → ConfirmedBefore sent s d behind
+    → ConfirmedBefore sent s d (call_if_theirs stage call behind)
+grows_theirs Theirs call behind sent s d t w = inr (t, w)
+grows_theirs (Sending bytes asked count) call behind sent s d t w = w
+grows_theirs (Status change) call behind sent s d t w = w
+grows_theirs Over call behind sent s d t w = w
 
-grows_ready : (endpoint : Endpoint1) (call : EpCall) (behind : List EpCall) (s d : List ℕ) → WasConfirmed s d behind → WasConfirmed s d (call_if_ready endpoint call behind)
-grows_ready Off call behind s d w = w
-grows_ready Ready call behind s d w = inr w
-grows_ready Halted call behind s d w = w
+grows_ready : (endpoint : Endpoint1) (answer : Option (List ℕ)) (behind : List EpCall) (sent : List Seen) (s d : List ℕ) → ConfirmedBefore sent s d behind
+    → ConfirmedBefore sent s d (call_if_ready endpoint (Polled answer) behind)
+grows_ready Off answer behind sent s d w = w
+grows_ready Ready answer behind sent s d w = inr (tt, w)
+grows_ready Halted answer behind sent s d w = w
 
 -- the empty packet of a write is that of the device behind
-confirms : (stage : Stage) (answer : EpAnswer) (behind calls : List EpCall) (s d : List ℕ) → Aligned stage behind calls → InAnswer stage answer
+confirms : (stage : Stage) (answer : EpAnswer) (behind calls : List EpCall) (sent : List Seen) (s d : List ℕ) → Aligned stage behind calls → InAnswer stage answer
     → asked_of behind ≡ asked_of calls → In answer ≡ confirmation → asked_of calls ≡ Some s → taken_of calls ≡ Some d
-    → WasConfirmed s d (call_if_theirs stage (In answer) behind)
+    → ConfirmedBefore sent s d (call_if_theirs stage (In answer) behind)
 unfolding Aligned
-confirms Theirs answer behind calls s d a i q e es ed = inl (e, q ∙ es, a ∙ ed)
-confirms (Sending bytes asked sent) answer behind calls s d a i q e es ed = cc
-confirms (Status change) answer behind calls s d a i q e es ed = cc
-confirms Over answer behind calls s d a i q e es ed = cc
+confirms Theirs answer behind calls sent s d a i q e es ed = inl (e, q ∙ es, a ∙ ed)
+confirms (Sending bytes asked count) answer behind calls sent s d a i q e es ed = cc
+confirms (Status change) answer behind calls sent s d a i q e es ed = cc
+confirms Over answer behind calls sent s d a i q e es ed = cc
 
-pub behind_confirmed : (lent : Lent) (past : List Event) (s d : List ℕ) → AllAnswered lent past → WasConfirmed s d (calls_of past) → WasConfirmed s d (session lent past)
+pub behind_confirmed : (lent : Lent) (past : List Event) (sent : List Seen) (s d : List ℕ) → AllAnswered lent past → ConfirmedBefore sent s d (calls_of past)
+    → ConfirmedBefore sent s d (session lent past)
 unfolding session
-behind_confirmed lent [] s d all w = w
-behind_confirmed lent (SetupCame bytes ∷ past) s d all (inl (e, es, ed)) = cc
-behind_confirmed lent (SetupCame bytes ∷ past) s d all (inr w) = inr (behind_confirmed lent past s d all.1 w)
-behind_confirmed lent (OutCame packet answer ∷ past) s d all (inl (e, es, ed)) = cc
-behind_confirmed lent (OutCame packet answer ∷ past) s d all (inr w) = grows_theirs (state_of lent past).stage (Out packet answer) (session lent past) s d (behind_confirmed lent past s d all.1 w)
-behind_confirmed lent (InAsked answer ∷ past) s d all (inl (e, es, ed)) =
-    confirms (state_of lent past).stage answer (session lent past) (calls_of past) s d (aligned lent past) all.0 (asked_same lent past) e es ed
-behind_confirmed lent (InAsked answer ∷ past) s d all (inr w) = grows_theirs (state_of lent past).stage (In answer) (session lent past) s d (behind_confirmed lent past s d all.1 w)
-behind_confirmed lent (PollAsked answer ∷ past) s d all (inl (e, es, ed)) = cc
-behind_confirmed lent (PollAsked answer ∷ past) s d all (inr w) = grows_ready (state_of lent past).endpoint (Polled (polled_of answer)) (session lent past) s d (behind_confirmed lent past s d all.1 w)
-behind_confirmed lent (ResetCame ∷ past) s d all (inl (e, es, ed)) = cc
-behind_confirmed lent (ResetCame ∷ past) s d all (inr w) = inr (behind_confirmed lent past s d all.1 w)
+behind_confirmed lent [] sent s d all w = w
+behind_confirmed lent (SetupCame bytes ∷ past) sent s d all (inl (e, es, ed)) = cc
+behind_confirmed lent (SetupCame bytes ∷ past) sent s d all (inr w) = inr (tt, behind_confirmed lent past sent s d all.1 w.1)
+behind_confirmed lent (OutCame packet answer ∷ past) sent s d all (inl (e, es, ed)) = cc
+behind_confirmed lent (OutCame packet answer ∷ past) sent s d all (inr w) =
+    grows_theirs (state_of lent past).stage (Out packet answer) (session lent past) sent s d (takes_as sent packet answer (session lent past) (calls_of past) (asked_same lent past) w.0)
+    (behind_confirmed lent past sent s d all.1 w.1)
+behind_confirmed lent (InAsked answer ∷ past) sent s d all (inl (e, es, ed)) =
+    confirms (state_of lent past).stage answer (session lent past) (calls_of past) sent s d (aligned lent past) all.0 (asked_same lent past) e es ed
+behind_confirmed lent (InAsked answer ∷ past) sent s d all (inr w) =
+    grows_theirs (state_of lent past).stage (In answer) (session lent past) sent s d tt (behind_confirmed lent past sent s d all.1 w.1)
+behind_confirmed lent (PollAsked answer ∷ past) sent s d all (inl (e, es, ed)) = cc
+behind_confirmed lent (PollAsked answer ∷ past) sent s d all (inr w) =
+    grows_ready (state_of lent past).endpoint (polled_of answer) (session lent past) sent s d (behind_confirmed lent past sent s d all.1 w.1)
+behind_confirmed lent (ResetCame ∷ past) sent s d all (inl (e, es, ed)) = cc
+behind_confirmed lent (ResetCame ∷ past) sent s d all (inr w) = inr (tt, behind_confirmed lent past sent s d all.1 w.1)
+behind_confirmed lent (SuspendCame ∷ past) sent s d all w = behind_confirmed lent past sent s d all.1 w
+behind_confirmed lent (ResumeCame ∷ past) sent s d all w = behind_confirmed lent past sent s d all.1 w
+behind_confirmed lent (WakeAsked has_report answer ∷ past) sent s d all w = behind_confirmed lent past sent s d all.1 w

@@ -1,11 +1,11 @@
 -- What keeps the link of endpoint 1 where the buffers are emptied.
-use Rattle.std.proofs.Common.{◌≡◌, ℕ, ◌+◌, Bool, true, false, not, List, [], ◌∷◌, ◌++◌, length, ◌-◌, ◌&&◌, ◌<◌, ◌≤◌, refl, sym, ap, subst, ◌∙◌, inl, inr, nat_lt, arith}
+use Rattle.std.proofs.Common.{◌≡◌, ℕ, Bool, true, false, not, List, [], ◌∷◌, ◌++◌, length, ◌-◌, ◌&&◌, ◌<◌, ◌≤◌, refl, sym, ap, subst, ◌∙◌, inl, inr, nat_lt, arith}
 use Rattle.usb_device.specs.declared.report_buffers.Course.{Course}
 use Rattle.usb_device.specs.declared.report_buffers.Course.TheVariants.{Rests, Begins, Goes}
 use Rattle.usb_device.specs.Calls.{EpCall}
 use Rattle.usb_device.specs.Confirmed.{asked_of}
 use Rattle.usb_device.specs.declared.answer.Endpoint1.{Endpoint1}
-use Rattle.usb_device.specs.Bus1.{Got, Anew, GivenUp, Sent, Changed, sent_of, is_old, newest, sets_protocol, given_up, Bus1, told, unless_reset, anew}
+use Rattle.usb_device.specs.Bus1.{Got, Anew, GivenUp, Sent, Changed, sent_of, is_old, newest, sets_protocol, given_up, Bus1, unless_reset, anew}
 use Rattle.usb_device.specs.Reports.{cut, count_of, packets_of, Carries, Begun}
 use Rattle.usb_device.specs.ties.Link1.{ReportState, is_begun, to_hand, copies, Agrees, Resting, Going, Now1, Link1}
 use Rattle.usb_device.proofs.Carrying.{true_false, marked_carries, any_carries, gives_up, newest_now, length-append, length-cut}

@@ -3,13 +3,17 @@ use Rattle.std.proofs.Common.{◌≡◌, inl, inr, ℕ, Bool, true, false, List,
 use Rattle.usb_device.specs.declared.answer.Endpoint1.{Endpoint1}
 use Rattle.usb_device.specs.declared.answer.EpAnswer.TheVariants.{Ack, Nak, Packet, Stall}
 use Rattle.usb_device.specs.Calls.{EpCall, SetUp, Out, In, Polled, BusReset}
-use Rattle.usb_device.specs.Confirmed.{asked_of, taken_of, WasConfirmed}
-use Rattle.usb_device.specs.Events.{Event}
+use Rattle.usb_device.specs.Bus.{Seen}
+use Rattle.usb_device.specs.Confirmed.{asked_of, taken_of, ConfirmedBefore}
+use Rattle.usb_device.specs.Events.{Event, SuspendCame, ResumeCame, WakeAsked}
+use Rattle.usb_device.specs.Requests.{Lent}
+use Rattle.usb_device.specs.Steps.{session}
 use Rattle.usb_device.specs.Through.{calls_of}
 use Rattle.usb_device.specs.ties.Layered.{PolledOnce}
 use Rattle.usb_device.specs.Bus1.{Got, Bus1, agree, received, Happens1, takes, loses, host_begins, resets1, Goes1, told, unless_reset, filled, given_up, anew, begun_if, with_host_anew, states_told, no_polls}
 use Rattle.usb_device.specs.ties.Link1.{ReportState, Link1, InStep}
 use Rattle.usb_device.proofs.Carrying.{true_false}
+use Rattle.usb_device.proofs.Linked.{takes_as}
 use Rattle.usb_device.proofs.Reporting.{step1, goes1}
 
 received_states : (a : Bool) (packet : List ℕ) (got : List Got) → states_told (received a packet got) ≡ states_told got
@@ -83,6 +87,19 @@ begun_host false b o e = absurd (true_false (sym e ∙ o))
 pub began_host : (mid new : Bus1) → new ≡ begun_if mid.opened mid → new.opened ≡ true → new.host ≡ false
 began_host mid new e = let P : Bus1 → Type 0 = λ x. x.opened ≡ true → x.host ≡ false in subst P (sym e) (begun_host mid.opened mid refl)
 
+-- suspend, resume and wakeup are nothing to the device behind
+pub suspend_session : (lent : Lent) (past : List Event) → session lent (SuspendCame ∷ past) ≡ session lent past
+unfolding session
+suspend_session lent past = refl
+
+pub resume_session : (lent : Lent) (past : List Event) → session lent (ResumeCame ∷ past) ≡ session lent past
+unfolding session
+resume_session lent past = refl
+
+pub wake_session : (lent : Lent) (past : List Event) (has_report answer : Bool) → session lent (WakeAsked has_report answer ∷ past) ≡ session lent past
+unfolding session
+wake_session lent past has_report answer = refl
+
 -- a poll is nothing to endpoint 0
 pub polled_once : (past later : List Event) → PolledOnce past later → no_polls (calls_of later) ≡ no_polls (calls_of past)
 polled_once past later (inl e) = ap (λ x. no_polls (calls_of x)) e
@@ -107,32 +124,34 @@ taken_same (In answer ∷ before) = taken_same before
 taken_same (Polled answer ∷ before) = taken_same before
 taken_same (BusReset ∷ before) = refl
 
-confirmed_to : (s d : List ℕ) (calls : List EpCall) → WasConfirmed s d calls → WasConfirmed s d (no_polls calls)
-confirmed_to s d [] w = w
-confirmed_to s d (SetUp bytes ∷ before) (inl e) = cc
-confirmed_to s d (SetUp bytes ∷ before) (inr w) = inr (confirmed_to s d before w)
-confirmed_to s d (Out packet answer ∷ before) (inl e) = cc
-confirmed_to s d (Out packet answer ∷ before) (inr w) = inr (confirmed_to s d before w)
-confirmed_to s d (In answer ∷ before) (inl e) = inl (e.0, asked_same before ∙ e.1, taken_same before ∙ e.2)
-confirmed_to s d (In answer ∷ before) (inr w) = inr (confirmed_to s d before w)
-confirmed_to s d (Polled answer ∷ before) (inl e) = cc
-confirmed_to s d (Polled answer ∷ before) (inr w) = confirmed_to s d before w
-confirmed_to s d (BusReset ∷ before) (inl e) = cc
-confirmed_to s d (BusReset ∷ before) (inr w) = inr (confirmed_to s d before w)
+confirmed_to : (sent : List Seen) (s d : List ℕ) (calls : List EpCall) → ConfirmedBefore sent s d calls → ConfirmedBefore sent s d (no_polls calls)
+confirmed_to sent s d [] w = w
+confirmed_to sent s d (SetUp bytes ∷ before) (inl e) = cc
+confirmed_to sent s d (SetUp bytes ∷ before) (inr w) = inr (tt, confirmed_to sent s d before w.1)
+confirmed_to sent s d (Out packet answer ∷ before) (inl e) = cc
+confirmed_to sent s d (Out packet answer ∷ before) (inr w) =
+    inr (takes_as sent packet answer (no_polls before) before (asked_same before) w.0, confirmed_to sent s d before w.1)
+confirmed_to sent s d (In answer ∷ before) (inl e) = inl (e.0, asked_same before ∙ e.1, taken_same before ∙ e.2)
+confirmed_to sent s d (In answer ∷ before) (inr w) = inr (tt, confirmed_to sent s d before w.1)
+confirmed_to sent s d (Polled answer ∷ before) (inl e) = cc
+confirmed_to sent s d (Polled answer ∷ before) (inr w) = confirmed_to sent s d before w.1
+confirmed_to sent s d (BusReset ∷ before) (inl e) = cc
+confirmed_to sent s d (BusReset ∷ before) (inr w) = inr (tt, confirmed_to sent s d before w.1)
 
-confirmed_from : (s d : List ℕ) (calls : List EpCall) → WasConfirmed s d (no_polls calls) → WasConfirmed s d calls
-confirmed_from s d [] w = w
-confirmed_from s d (SetUp bytes ∷ before) (inl e) = cc
-confirmed_from s d (SetUp bytes ∷ before) (inr w) = inr (confirmed_from s d before w)
-confirmed_from s d (Out packet answer ∷ before) (inl e) = cc
-confirmed_from s d (Out packet answer ∷ before) (inr w) = inr (confirmed_from s d before w)
-confirmed_from s d (In answer ∷ before) (inl e) = inl (e.0, sym (asked_same before) ∙ e.1, sym (taken_same before) ∙ e.2)
-confirmed_from s d (In answer ∷ before) (inr w) = inr (confirmed_from s d before w)
-confirmed_from s d (Polled answer ∷ before) w = inr (confirmed_from s d before w)
-confirmed_from s d (BusReset ∷ before) (inl e) = cc
-confirmed_from s d (BusReset ∷ before) (inr w) = inr (confirmed_from s d before w)
+confirmed_from : (sent : List Seen) (s d : List ℕ) (calls : List EpCall) → ConfirmedBefore sent s d (no_polls calls) → ConfirmedBefore sent s d calls
+confirmed_from sent s d [] w = w
+confirmed_from sent s d (SetUp bytes ∷ before) (inl e) = cc
+confirmed_from sent s d (SetUp bytes ∷ before) (inr w) = inr (tt, confirmed_from sent s d before w.1)
+confirmed_from sent s d (Out packet answer ∷ before) (inl e) = cc
+confirmed_from sent s d (Out packet answer ∷ before) (inr w) =
+    inr (takes_as sent packet answer before (no_polls before) (sym (asked_same before)) w.0, confirmed_from sent s d before w.1)
+confirmed_from sent s d (In answer ∷ before) (inl e) = inl (e.0, sym (asked_same before) ∙ e.1, sym (taken_same before) ∙ e.2)
+confirmed_from sent s d (In answer ∷ before) (inr w) = inr (tt, confirmed_from sent s d before w.1)
+confirmed_from sent s d (Polled answer ∷ before) w = inr (tt, confirmed_from sent s d before w)
+confirmed_from sent s d (BusReset ∷ before) (inl e) = cc
+confirmed_from sent s d (BusReset ∷ before) (inr w) = inr (tt, confirmed_from sent s d before w.1)
 
 -- but for polls the calls are the same
-pub confirmed_same : (s d : List ℕ) (calls others : List EpCall) → no_polls others ≡ no_polls calls → WasConfirmed s d calls → WasConfirmed s d others
-confirmed_same s d calls others e w =
-    let P : List EpCall → Type 0 = λ x. WasConfirmed s d x in confirmed_from s d others (subst P (sym e) (confirmed_to s d calls w))
+pub confirmed_same : (sent : List Seen) (s d : List ℕ) (calls others : List EpCall) → no_polls others ≡ no_polls calls → ConfirmedBefore sent s d calls → ConfirmedBefore sent s d others
+confirmed_same sent s d calls others e w =
+    let P : List EpCall → Type 0 = λ x. ConfirmedBefore sent s d x in confirmed_from sent s d others (subst P (sym e) (confirmed_to sent s d calls w))

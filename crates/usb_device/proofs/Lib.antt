@@ -13,7 +13,9 @@ pub mod Characters
 pub mod Scans
 pub mod Layering
 pub mod Wholes
+pub mod Receiving
 mod Playing
 mod Playing0
 pub mod Locking
 pub mod Pacing
+pub mod Blanks

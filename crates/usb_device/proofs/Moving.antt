@@ -1,53 +1,78 @@
 -- What each move of the endpoint makes of the link.
-use Rattle.std.proofs.Common.{◌≡◌, ℕ, Bool, true, false, ◌||◌, is_some, List, [], ◌∷◌, Option, Some, None, refl, sym, subst, ◌∙◌, inl, inr}
+use Rattle.std.proofs.Common.{◌≡◌, ℕ, Bool, true, false, ◌||◌, is_some, List, [], ◌∷◌, ◌++◌, Option, Some, None, refl, sym, subst, ◌∙◌, inl, inr}
 use Rattle.usb_device.specs.declared.answer.EpAnswer.{EpAnswer}
-use Rattle.usb_device.specs.declared.answer.EpAnswer.TheVariants.{Ack, Nak, Packet}
+use Rattle.usb_device.specs.declared.answer.EpAnswer.TheVariants.{Ack, Nak, Packet, Stall}
 use Rattle.usb_device.specs.Calls.{EpCall, SetUp, Out, In, BusReset, Polled}
-use Rattle.usb_device.specs.Bus.{Bus, Met, Seen, SetupSent, OutTaken, InGot, WasStalled, WasReset, InMode, Naks, Sends, Stalls, OutMode, Takes, StallsOut, Goes, looked, is_pending, is_write, unless_pending, with_input, with_output}
+use Rattle.usb_device.specs.Bus.{Bus, Met, Seen, InGot, InMode, Naks, Sends, Stalls, OutMode, Takes, StallsOut, Goes, looked, is_pending, is_out, is_write, setup_of, unless_pending, with_input, with_output}
 use Rattle.usb_device.specs.Bus1.{KeptUnless}
-use Rattle.usb_device.specs.Confirmed.{asked_of, AllKept}
+use Rattle.usb_device.specs.Confirmed.{asked_of, TakesOnly, WasSent, AllKept}
 use Rattle.usb_device.specs.Transfers.{TransferState, Idle, Refused, Over, Reads, ReadDue, Sent, Closing, Closed, Opening, Writes, Keeps, Asking, Due, Status, Done}
-use Rattle.usb_device.specs.ties.Link.{IsQuiet, IsClosed, ClosedIf, ConfirmsIf, StageLink, Link}
-use Rattle.usb_device.proofs.Linked.{goes}
+use Rattle.usb_device.specs.ties.Link.{IsQuiet, IsClosed, ClosedIf, ConfirmsIf, StageLink, HasNoData, Link}
+use Rattle.usb_device.proofs.Linked.{goes, sent_since}
 
 abbrev set_to : Bus → InMode → OutMode → Bus
 set_to b input output = record { seen = b.seen; input = input; output = output; met = b.met }
 
 -- a command to the controller
 commanded_by : (pending : Bool) (t u : TransferState) (b : Bus) (input : InMode) (output : OutMode) (calls : List EpCall) → is_pending b.met ≡ pending → Link t b calls
-    → (StageLink t b calls → StageLink u (set_to b input output) calls) → Link u (unless_pending pending b (set_to b input output)) calls
-commanded_by true t u b input output calls p h k = record {
+    → (StageLink t b calls → StageLink u (set_to b input output) calls) → (HasNoData t → HasNoData u) → Link u (unless_pending pending b (set_to b input output)) calls
+commanded_by true t u b input output calls p h k n = record {
   kept = h.kept;
   fresh = h.fresh;
   current = λ q. absurd (let r : true ≡ false = sym p ∙ q in cc);
 }
-commanded_by false t u b input output calls p h k = record {
+commanded_by false t u b input output calls p h k n = record {
   kept = h.kept;
   fresh = λ q. absurd (let r : true ≡ false = sym q ∙ p in cc);
-  current = λ q. let c = h.current q in record { setup = c.setup; stage = λ s es ew. k (c.stage s es ew) };
+  current = λ q. let c = h.current q in record { setup = c.setup; stage = λ s es ew. k (c.stage s es ew); none = λ s es eo ew. n (c.none s es eo ew) };
 }
 
 commanded : (t u : TransferState) (b : Bus) (input : InMode) (output : OutMode) (calls : List EpCall) → Link t b calls
-    → (StageLink t b calls → StageLink u (set_to b input output) calls) → Link u (unless_pending (is_pending b.met) b (set_to b input output)) calls
-commanded t u b input output calls h k = commanded_by (is_pending b.met) t u b input output calls refl h k
+    → (StageLink t b calls → StageLink u (set_to b input output) calls) → (HasNoData t → HasNoData u) → Link u (unless_pending (is_pending b.met) b (set_to b input output)) calls
+commanded t u b input output calls h k n = commanded_by (is_pending b.met) t u b input output calls refl h k n
 
--- one more call of the device
-grown : (seen : List Seen) (call : EpCall) (calls : List EpCall) → AllKept seen calls → AllKept seen (call ∷ calls)
-grown [] call calls k = tt
-grown (InGot [] ∷ before) call calls k = ((λ s d es ew ed. inr (k.0 s d es ew ed)), grown before call calls k.1)
-grown (InGot (x ∷ xs) ∷ before) call calls k = grown before call calls k
-grown (SetupSent bytes ∷ before) call calls k = grown before call calls k
-grown (OutTaken packet ∷ before) call calls k = grown before call calls k
-grown (WasStalled ∷ before) call calls k = grown before call calls k
-grown (WasReset ∷ before) call calls k = grown before call calls k
+-- one more call of the device: data that it takes are such that the host sent since
+abbrev TakesSince : List Seen → List EpCall → EpCall → Type 0
+TakesSince seen calls call = (after before : List Seen) → seen ≡ after ++ (InGot [] ∷ before) → TakesOnly after calls call
 
-answered : (t u : TransferState) (b : Bus) (call : EpCall) (calls : List EpCall) → asked_of (call ∷ calls) ≡ asked_of calls → Link t b calls
-    → (StageLink t b calls → StageLink u b (call ∷ calls)) → Link u b (call ∷ calls)
-answered t u b call calls e h k = record {
-  kept = grown b.seen call calls h.kept;
+grown : (seen : List Seen) (call : EpCall) (calls : List EpCall) → TakesSince seen calls call → AllKept seen calls → AllKept seen (call ∷ calls)
+grown seen call calls f k after before s d e es ew ed = inr (f after before e, k after before s d e es ew ed)
+
+answered : (t u : TransferState) (b : Bus) (call : EpCall) (calls : List EpCall) → asked_of (call ∷ calls) ≡ asked_of calls → TakesSince b.seen calls call → Link t b calls
+    → (StageLink t b calls → StageLink u b (call ∷ calls)) → (HasNoData t → HasNoData u) → Link u b (call ∷ calls)
+answered t u b call calls e f h k n = record {
+  kept = grown b.seen call calls f h.kept;
   fresh = h.fresh;
-  current = λ q. let c = h.current q in record { setup = c.setup ∙ sym e; stage = λ s es ew. k (c.stage s es ew) };
+  current = λ q. let c = h.current q in record { setup = c.setup ∙ sym e; stage = λ s es ew. k (c.stage s es ew); none = λ s es eo ew. n (c.none s es eo ew) };
 }
+
+-- the packet of a write
+taken_by : (w : Bool) (packet : List ℕ) (b : Bus) (calls : List EpCall) (after before : List Seen) (setup : List ℕ) → is_pending b.met ≡ false → Link (Keeps packet) b calls
+    → b.seen ≡ after ++ (InGot [] ∷ before) → asked_of calls ≡ Some setup → is_out setup ≡ true → is_write setup ≡ w → WasSent setup packet after
+taken_by true packet b calls after before setup p h e a o w =
+    let c = h.current p in
+    let es : setup_of b.seen ≡ Some setup = c.setup ∙ a in
+    let s = c.stage setup es w in
+    sent_since b.seen after before setup packet e es s.2 s.4
+taken_by false packet b calls after before setup p h e a o w = let c = h.current p in absurd (c.none setup (c.setup ∙ a) o w)
+
+takes_kept : (packet : List ℕ) (answer : EpAnswer) (b : Bus) (calls : List EpCall) → is_pending b.met ≡ false → Link (Keeps packet) b calls → TakesSince b.seen calls (Out packet answer)
+takes_kept packet Ack b calls p h after before e = λ setup a o. taken_by (is_write setup) packet b calls after before setup p h e a o refl
+takes_kept packet Nak b calls p h after before e = tt
+takes_kept packet (Packet bytes) b calls p h after before e = tt
+takes_kept packet Stall b calls p h after before e = tt
+
+-- the packet of a read ends it
+closed_by : (w : Bool) (b : Bus) (calls : List EpCall) (setup : List ℕ) → is_pending b.met ≡ false → Link Closing b calls → asked_of calls ≡ Some setup → is_out setup ≡ true
+    → is_write setup ≡ w → ⊥
+closed_by true b calls setup p h a o w = let c = h.current p in c.stage setup (c.setup ∙ a) w
+closed_by false b calls setup p h a o w = let c = h.current p in c.none setup (c.setup ∙ a) o w
+
+takes_none : (packet : List ℕ) (answer : EpAnswer) (b : Bus) (calls : List EpCall) → is_pending b.met ≡ false → Link Closing b calls → TakesSince b.seen calls (Out packet answer)
+takes_none packet Ack b calls p h after before e = λ setup a o. absurd (closed_by (is_write setup) b calls setup p h a o refl)
+takes_none packet Nak b calls p h after before e = tt
+takes_none packet (Packet bytes) b calls p h after before e = tt
+takes_none packet Stall b calls p h after before e = tt
 
 -- the controller is opened for the packet of a write
 pub opened : (steps : List Bus) (mid b new : Bus) (t : TransferState) (calls : List EpCall) → Goes steps b mid → new ≡ with_output mid Takes → t ≡ Opening → Link t b calls
@@ -56,14 +81,14 @@ opened steps mid b new t calls g e i h =
     let P : Bus → Type 0 = λ x. Link Writes x calls in
     let T : TransferState → Type 0 = λ x. Link x b calls in
     subst P (sym e) (commanded Opening Writes mid mid.input Takes calls (goes steps Opening b mid calls g (subst T i h))
-    (λ s. let C : Option (List ℕ) → Type 0 = λ out. ClosedIf out Takes in (s.0, s.2 ∙ sym s.4, subst C (sym s.4) tt, s.3)))
+    (λ s. let C : Option (List ℕ) → Type 0 = λ out. ClosedIf out Takes in (s.0, s.2 ∙ sym s.4, subst C (sym s.4) tt, s.3, s.5)) (λ x. x))
 
 -- OUT is opened again
 pub reopened : (t : TransferState) (steps : List Bus) (mid b new : Bus) (calls : List EpCall) → Goes steps b mid → new ≡ with_output mid Takes → t ≡ Due → Link t b calls → Link Due new calls
 reopened t steps mid b new calls g e i h =
     let P : Bus → Type 0 = λ x. Link Due x calls in
     let T : TransferState → Type 0 = λ x. Link x b calls in
-    subst P (sym e) (commanded Due Due mid mid.input Takes calls (goes steps Due b mid calls g (subst T i h)) (λ s. s))
+    subst P (sym e) (commanded Due Due mid mid.input Takes calls (goes steps Due b mid calls g (subst T i h)) (λ s. s) (λ x. x))
 
 -- no write is under way: nothing is owed
 unfoldable pub owes_nothing : TransferState → Type 0
@@ -72,7 +97,6 @@ owes_nothing (ReadDue left) = Unit {0}
 owes_nothing Sent = Unit {0}
 owes_nothing Closing = Unit {0}
 owes_nothing Closed = Unit {0}
-owes_nothing Asking = Unit {0}
 owes_nothing _ = ⊥
 
 nothing_owed : (t u : TransferState) (b next : Bus) (calls later : List EpCall) → owes_nothing t → StageLink t b calls → StageLink u next later
@@ -82,7 +106,7 @@ nothing_owed (ReadDue left) u b next calls later o s = absurd s
 nothing_owed Sent u b next calls later o s = absurd s
 nothing_owed Closing u b next calls later o s = absurd s
 nothing_owed Closed u b next calls later o s = absurd s
-nothing_owed Asking u b next calls later o s = absurd s
+nothing_owed Asking u b next calls later o s = absurd o
 nothing_owed Idle u b next calls later o s = absurd o
 nothing_owed Over u b next calls later o s = absurd o
 nothing_owed Refused u b next calls later o s = absurd o
@@ -93,24 +117,41 @@ nothing_owed Due u b next calls later o s = absurd o
 nothing_owed Status u b next calls later o s = absurd o
 nothing_owed Done u b next calls later o s = absurd o
 
--- from such a transfer to any
-pub freely : (t u : TransferState) (b : Bus) (calls : List EpCall) → owes_nothing t → Link t b calls → Link u b calls
-freely t u b calls o h = record {
-  kept = h.kept;
-  fresh = h.fresh;
-  current = λ q. let c = h.current q in record { setup = c.setup; stage = λ s es ew. nothing_owed t u b b calls calls o (c.stage s es ew) };
-}
-
-pub asking_due : (t : TransferState) (b : Bus) (calls : List EpCall) → t ≡ Asking → Link t b calls → Link Due b calls
+nothing_had : (t u : TransferState) → owes_nothing t → HasNoData t → HasNoData u
 unfolding owes_nothing
-asking_due t b calls i h = let T : TransferState → Type 0 = λ x. Link x b calls in freely Asking Due b calls tt (subst T i h)
+nothing_had (Reads left) u o n = absurd n
+nothing_had (ReadDue left) u o n = absurd n
+nothing_had Sent u o n = absurd n
+nothing_had Closing u o n = absurd n
+nothing_had Closed u o n = absurd n
+nothing_had Asking u o n = absurd o
+nothing_had Idle u o n = absurd o
+nothing_had Over u o n = absurd o
+nothing_had Refused u o n = absurd o
+nothing_had Opening u o n = absurd o
+nothing_had Writes u o n = absurd o
+nothing_had (Keeps kept) u o n = absurd o
+nothing_had Due u o n = absurd o
+nothing_had Status u o n = absurd o
+nothing_had Done u o n = absurd o
+
+-- the status stage of a request without data
+pub asking_due : (t : TransferState) (b : Bus) (calls : List EpCall) → t ≡ Asking → Link t b calls → Link Due b calls
+asking_due t b calls i h =
+    let T : TransferState → Type 0 = λ x. Link x b calls in
+    let a = subst T i h in
+    record {
+      kept = a.kept;
+      fresh = a.fresh;
+      current = λ q. let c = a.current q in record { setup = c.setup; stage = λ s es ew. absurd (c.stage s es ew); none = λ s es eo ew. tt };
+    }
 
 -- the read is over, and OUT is opened again
 pub closed_again : (t : TransferState) (steps : List Bus) (mid b new : Bus) (calls : List EpCall) → Goes steps b mid → new ≡ with_output mid Takes → t ≡ Closing → Link t b calls → Link Closed new calls
 closed_again t steps mid b new calls g e i h =
     let P : Bus → Type 0 = λ x. Link Closed x calls in
     let T : TransferState → Type 0 = λ x. Link x b calls in
-    subst P (sym e) (commanded Closing Closed mid mid.input Takes calls (goes steps Closing b mid calls g (subst T i h)) (λ s. absurd s))
+    subst P (sym e) (commanded Closing Closed mid mid.input Takes calls (goes steps Closing b mid calls g (subst T i h)) (λ s. absurd s) (λ x. x))
 
 -- the transfer is refused
 pub refused : (t : TransferState) (steps : List Bus) (mid b middle : Bus) (more : List Bus) (end new : Bus) (calls : List EpCall)
@@ -118,27 +159,29 @@ pub refused : (t : TransferState) (steps : List Bus) (mid b middle : Bus) (more 
 refused t steps mid b middle more end new calls g e i f q h =
     let P : Bus → Type 0 = λ x. Link Over x calls in
     let T : TransferState → Type 0 = λ x. Link x b calls in
-    let first = commanded Refused Over mid Stalls mid.output calls (goes steps Refused b mid calls g (subst T q h)) (λ s. tt) in
+    let first = commanded Refused Over mid Stalls mid.output calls (goes steps Refused b mid calls g (subst T q h)) (λ s. tt) (λ x. tt) in
     let then = subst P (sym e) first in
-    subst P (sym f) (commanded Over Over end end.input StallsOut calls (goes more Over middle end calls i then) (λ s. s))
+    subst P (sym f) (commanded Over Over end end.input StallsOut calls (goes more Over middle end calls i then) (λ s. s) (λ x. x))
 
 -- the device takes the packet of a write
-pub offered_ack : (b : Bus) (t : TransferState) (packet : List ℕ) (calls : List EpCall) → t ≡ Keeps packet → Link t b calls → Link Due b (Out packet Ack ∷ calls)
-offered_ack b t packet calls i h =
+pub offered_ack : (b : Bus) (t : TransferState) (packet : List ℕ) (calls : List EpCall) → t ≡ Keeps packet → is_pending b.met ≡ false → Link t b calls → Link Due b (Out packet Ack ∷ calls)
+offered_ack b t packet calls i p h =
     let T : TransferState → Type 0 = λ x. Link x b calls in
-    answered (Keeps packet) Due b (Out packet Ack) calls refl (subst T i h) (λ s. (s.0, (packet, s.2, refl)))
+    let k = subst T i h in
+    answered (Keeps packet) Due b (Out packet Ack) calls refl (takes_kept packet Ack b calls p k) k (λ s. (s.0, (packet, s.2, refl))) (λ x. tt)
 
 pub offered_nak : (b : Bus) (t : TransferState) (packet : List ℕ) (calls : List EpCall) → t ≡ Keeps packet → Link t b calls → Link t b (Out packet Nak ∷ calls)
 offered_nak b t packet calls i h =
     let T : TransferState → Type 0 = λ x. Link x b calls in
     let U : TransferState → Type 0 = λ x. Link x b (Out packet Nak ∷ calls) in
-    subst U (sym i) (answered (Keeps packet) (Keeps packet) b (Out packet Nak) calls refl (subst T i h) (λ s. s))
+    subst U (sym i) (answered (Keeps packet) (Keeps packet) b (Out packet Nak) calls refl (λ after before e. tt) (subst T i h) (λ s. s) (λ x. x))
 
 -- any other answer to it
-pub offered_else : (b : Bus) (t : TransferState) (packet : List ℕ) (answer : EpAnswer) (calls : List EpCall) → t ≡ Keeps packet → Link t b calls → Link Refused b (Out packet answer ∷ calls)
-offered_else b t packet answer calls i h =
+pub offered_else : (b : Bus) (t : TransferState) (packet : List ℕ) (answer : EpAnswer) (calls : List EpCall) → t ≡ Keeps packet → is_pending b.met ≡ false → Link t b calls → Link Refused b (Out packet answer ∷ calls)
+offered_else b t packet answer calls i p h =
     let T : TransferState → Type 0 = λ x. Link x b calls in
-    answered (Keeps packet) Refused b (Out packet answer) calls refl (subst T i h) (λ s. inl s.0)
+    let k = subst T i h in
+    answered (Keeps packet) Refused b (Out packet answer) calls refl (takes_kept packet answer b calls p k) k (λ s. inl s.0) (λ x. tt)
 
 quiet_confirms : (mode : InMode) (calls : List EpCall) → IsQuiet mode → ConfirmsIf mode calls
 quiet_confirms Naks calls q = tt
@@ -156,42 +199,42 @@ handed steps mid b new t packet calls i h g e =
     let T : TransferState → Type 0 = λ x. Link x b calls in
     let after = In (Packet (record { items = packet })) ∷ calls in
     let P : Bus → Type 0 = λ x. Link Status x after in
-    let due = answered Due Status b (In (Packet (record { items = packet }))) calls refl (subst T i h) (λ s. (quiet_confirms b.input after s.0, s.1)) in
-    subst P (sym e) (commanded Status Status mid (Sends packet false) mid.output after (goes steps Status b mid after g due) (λ s. (sends_now packet calls, s.1)))
+    let due = answered Due Status b (In (Packet (record { items = packet }))) calls refl (λ x y q. tt) (subst T i h) (λ s. (quiet_confirms b.input after s.0, s.1)) (λ x. x) in
+    subst P (sym e) (commanded Status Status mid (Sends packet false) mid.output after (goes steps Status b mid after g due) (λ s. (sends_now packet calls, s.1)) (λ x. x))
 
 pub due_nak : (b : Bus) (t : TransferState) (calls : List EpCall) → t ≡ Due → Link t b calls → Link t b (In Nak ∷ calls)
 due_nak b t calls i h =
     let T : TransferState → Type 0 = λ x. Link x b calls in
     let U : TransferState → Type 0 = λ x. Link x b (In Nak ∷ calls) in
-    subst U (sym i) (answered Due Due b (In Nak) calls refl (subst T i h) (λ s. s))
+    subst U (sym i) (answered Due Due b (In Nak) calls refl (λ x y q. tt) (subst T i h) (λ s. s) (λ x. x))
 
 pub due_else : (b : Bus) (t : TransferState) (answer : EpAnswer) (calls : List EpCall) → t ≡ Due → Link t b calls → Link Refused b (In answer ∷ calls)
 due_else b t answer calls i h =
     let T : TransferState → Type 0 = λ x. Link x b calls in
-    answered Due Refused b (In answer) calls refl (subst T i h) (λ s. inl s.0)
+    answered Due Refused b (In answer) calls refl (λ x y q. tt) (subst T i h) (λ s. inl s.0) (λ x. x)
 
 -- reads owe nothing
 pub read_answer : (left : ℕ) (u : TransferState) (b : Bus) (answer : EpAnswer) (calls : List EpCall) → Link (ReadDue left) b calls → Link u b (In answer ∷ calls)
-read_answer left u b answer calls h = answered (ReadDue left) u b (In answer) calls refl h (λ s. absurd s)
+read_answer left u b answer calls h = answered (ReadDue left) u b (In answer) calls refl (λ x y q. tt) h (λ s. absurd s) (λ x. absurd x)
 
 pub read_hands : (steps : List Bus) (mid b middle : Bus) (more : List Bus) (end new : Bus) (left : ℕ) (packet : List ℕ) (calls : List EpCall)
     → Goes steps b mid → middle ≡ with_output mid Takes → Goes more middle end → new ≡ with_input end (Sends packet false) → Link (Reads left) b calls → Link (Reads left) new calls
 read_hands steps mid b middle more end new left packet calls g e i f h =
     let P : Bus → Type 0 = λ x. Link (Reads left) x calls in
-    let first = commanded (Reads left) (Reads left) mid mid.input Takes calls (goes steps (Reads left) b mid calls g h) (λ s. s) in
+    let first = commanded (Reads left) (Reads left) mid mid.input Takes calls (goes steps (Reads left) b mid calls g h) (λ s. s) (λ x. x) in
     let then = subst P (sym e) first in
-    subst P (sym f) (commanded (Reads left) (Reads left) end (Sends packet false) end.output calls (goes more (Reads left) middle end calls i then) (λ s. s))
+    subst P (sym f) (commanded (Reads left) (Reads left) end (Sends packet false) end.output calls (goes more (Reads left) middle end calls i then) (λ s. s) (λ x. x))
 
 -- what was met is looked at
 pub not_pending : (met : Met) → met.reset ≡ false → met.setup ≡ None → is_pending met ≡ false
 not_pending met e f = cc
 
 pub looked_on : (t u : TransferState) (b : Bus) (calls : List EpCall) → Link t b calls → b.met.reset ≡ false → b.met.setup ≡ None
-    → (StageLink t b calls → StageLink u (looked b) calls) → Link u (looked b) calls
-looked_on t u b calls h e f k = record {
+    → (StageLink t b calls → StageLink u (looked b) calls) → (HasNoData t → HasNoData u) → Link u (looked b) calls
+looked_on t u b calls h e f k n = record {
   kept = h.kept;
   fresh = λ q. absurd (let r : false ≡ true = q in cc);
-  current = λ q. let c = h.current (not_pending b.met e f) in record { setup = c.setup; stage = λ s es ew. k (c.stage s es ew) };
+  current = λ q. let c = h.current (not_pending b.met e f) in record { setup = c.setup; stage = λ s es ew. k (c.stage s es ew); none = λ s es eo ew. n (c.none s es eo ew) };
 }
 
 looked_stage : (t : TransferState) (b : Bus) (calls : List EpCall) → (t ≡ Writes → b.met.out ≡ None) → StageLink t b calls → StageLink t (looked b) calls
@@ -204,8 +247,8 @@ looked_stage Sent b calls n s = s
 looked_stage Closing b calls n s = s
 looked_stage Closed b calls n s = s
 looked_stage Asking b calls n s = s
-looked_stage Opening b calls n s = (s.0, s.1, s.2, s.3, refl)
-looked_stage Writes b calls n s = (s.0, s.1 ∙ n refl, tt, s.3)
+looked_stage Opening b calls n s = (s.0, s.1, s.2, s.3, refl, s.5)
+looked_stage Writes b calls n s = (s.0, s.1 ∙ n refl, tt, s.3, s.4)
 looked_stage (Keeps kept) b calls n s = s
 looked_stage Due b calls n s = s
 looked_stage Status b calls n s = s
@@ -213,18 +256,18 @@ looked_stage Done b calls n s = s
 
 pub looked_same : (t : TransferState) (b : Bus) (calls : List EpCall) → Link t b calls → b.met.reset ≡ false → b.met.setup ≡ None → (t ≡ Writes → b.met.out ≡ None)
     → Link t (looked b) calls
-looked_same t b calls h e f n = looked_on t t b calls h e f (looked_stage t b calls n)
+looked_same t b calls h e f n = looked_on t t b calls h e f (looked_stage t b calls n) (λ x. x)
 
 pub looked_keeps : (t : TransferState) (b : Bus) (packet : List ℕ) (calls : List EpCall) → t ≡ Writes → Link t b calls → b.met.reset ≡ false → b.met.setup ≡ None → b.met.out ≡ Some packet
     → Link (Keeps packet) (looked b) calls
 looked_keeps t b packet calls i h e f o =
     let T : TransferState → Type 0 = λ x. Link x b calls in
     let C : Option (List ℕ) → Type 0 = λ out. ClosedIf out b.output in
-    looked_on Writes (Keeps packet) b calls (subst T i h) e f (λ s. (s.0, subst C o s.2, s.1 ∙ o, s.3))
+    looked_on Writes (Keeps packet) b calls (subst T i h) e f (λ s. (s.0, subst C o s.2, s.1 ∙ o, s.3, s.4)) (λ x. x)
 
 -- to another stage while it is looked at what was met
 pub looked_free : (t u : TransferState) (b : Bus) (calls : List EpCall) → owes_nothing t → Link t b calls → b.met.reset ≡ false → b.met.setup ≡ None → Link u (looked b) calls
-looked_free t u b calls o h e f = looked_on t u b calls h e f (λ s. nothing_owed t u b (looked b) calls calls o s)
+looked_free t u b calls o h e f = looked_on t u b calls h e f (λ s. nothing_owed t u b (looked b) calls calls o s) (nothing_had t u o)
 
 pub is_behind : TransferState → Type 0
 is_behind Due = Unit {0}
@@ -252,15 +295,15 @@ behind_refused (Keeps kept) b calls k s = absurd k
 
 -- a packet that is not due: the transfer will be stalled
 pub looked_refused : (t : TransferState) (b : Bus) (calls : List EpCall) → Link t b calls → b.met.reset ≡ false → b.met.setup ≡ None → is_behind t → Link Refused (looked b) calls
-looked_refused t b calls h e f k = looked_on t Refused b calls h e f (λ s. behind_refused t b calls k s)
+looked_refused t b calls h e f k = looked_on t Refused b calls h e f (λ s. behind_refused t b calls k s) (λ x. tt)
 
 -- the host has the empty packet
 pub looked_done : (t : TransferState) (b : Bus) (calls : List EpCall) → t ≡ Status → Link t b calls → b.met.reset ≡ false → b.met.setup ≡ None → Link Done (looked b) calls
-looked_done t b calls i h e f = let T : TransferState → Type 0 = λ x. Link x b calls in looked_on Status Done b calls (subst T i h) e f (λ s. s)
+looked_done t b calls i h e f = let T : TransferState → Type 0 = λ x. Link x b calls in looked_on Status Done b calls (subst T i h) e f (λ s. s) (λ x. x)
 
 -- the OUT packet of a read ends it
-pub closes : (u : TransferState) (b : Bus) (packet : List ℕ) (answer : EpAnswer) (calls : List EpCall) → Link Closing b calls → Link u b (Out packet answer ∷ calls)
-closes u b packet answer calls h = answered Closing u b (Out packet answer) calls refl h (λ s. absurd s)
+pub closes : (u : TransferState) (b : Bus) (packet : List ℕ) (answer : EpAnswer) (calls : List EpCall) → is_pending b.met ≡ false → Link Closing b calls → Link u b (Out packet answer ∷ calls)
+closes u b packet answer calls p h = answered Closing u b (Out packet answer) calls refl (takes_none packet answer b calls p h) h (λ s. absurd s) (λ x. absurd x)
 
 -- a SETUP packet was met
 pending_setup : (x : Bool) (o : Option (List ℕ)) (setup : List ℕ) → o ≡ Some setup → (x || is_some o) ≡ true
@@ -268,26 +311,29 @@ pending_setup true o s e = refl
 pending_setup false o s e = cc
 
 pub begins : (t u : TransferState) (b : Bus) (before calls : List EpCall) (setup : List ℕ) → Link t b before → b.met.setup ≡ Some setup → AllKept b.seen calls
-    → (is_write setup ≡ true → u ≡ Opening) → Link u (looked b) (SetUp setup ∷ calls)
-begins t u b before calls setup h e k o =
+    → (is_write setup ≡ true → u ≡ Opening) → (is_out setup ≡ true → is_write setup ≡ false → u ≡ Asking) → Link u (looked b) (SetUp setup ∷ calls)
+begins t u b before calls setup h e k o a =
     let f = h.fresh (pending_setup b.met.reset b.met.setup setup e) in
     let quiet : IsQuiet b.input = subst IsQuiet (sym f.input) tt in
     let closed : IsClosed b.output = subst IsClosed (sym f.output) tt in
     let W : List ℕ → Type 0 = λ x. is_write x ≡ true in
+    let first : (s : List ℕ) → setup_of b.seen ≡ Some s → s ≡ setup = λ s es. (let x : Some s ≡ Some setup = sym es ∙ (f.setup ∙ e) in cc) in
     record {
-      kept = grown b.seen (SetUp setup) calls k;
+      kept = grown b.seen (SetUp setup) calls (λ x y q. tt) k;
       fresh = λ q. absurd (let r : false ≡ true = q in cc);
       current = λ q. record {
         setup = f.setup ∙ e;
         stage = λ s es ew.
-            let same : s ≡ setup = (let x : Some s ≡ Some setup = sym es ∙ (f.setup ∙ e) in cc) in
             let S : TransferState → Type 0 = λ x. StageLink x (looked b) (SetUp setup ∷ calls) in
-            subst S (sym (o (subst W same ew))) (quiet, closed, f.write, refl, refl);
+            subst S (sym (o (subst W (first s es) ew))) (quiet, closed, f.write, refl, refl, f.ended);
+        none = λ s es eo ew.
+            let same = first s es in
+            subst HasNoData (sym (a (subst (λ x. is_out x ≡ true) same eo) (subst (λ x. is_write x ≡ false) same ew))) tt;
       };
     }
 
 was_reset : (t : TransferState) (b : Bus) (calls : List EpCall) → Link t b calls → AllKept b.seen (BusReset ∷ calls)
-was_reset t b calls h = grown b.seen BusReset calls h.kept
+was_reset t b calls h = grown b.seen BusReset calls (λ x y q. tt) h.kept
 
 -- the calls before a SETUP packet, with the reset that came before it
 abbrev pub behind_reset : Bool → List EpCall → List EpCall
@@ -304,19 +350,20 @@ kept_behind true t b calls h = was_reset t b calls h
 kept_behind false t b calls h = h.kept
 
 pub same_behind : (reset : Bool) (setup : List ℕ) (calls : List EpCall) → KeptUnless reset calls (SetUp setup ∷ behind_reset reset calls)
-same_behind true setup calls = refl
-same_behind false setup calls = refl
+same_behind true setup calls = (SetUp setup ∷ BusReset ∷ [], refl, refl)
+same_behind false setup calls = (SetUp setup ∷ [], refl, refl)
 
 pub resets : (t : TransferState) (b : Bus) (calls : List EpCall) → Link t b calls → b.met.reset ≡ true → b.met.setup ≡ None → Link Idle (looked b) (BusReset ∷ calls)
 resets t b calls h e n =
     let p : is_pending b.met ≡ true = cc in
     let f = h.fresh p in
     record {
-      kept = grown b.seen BusReset calls h.kept;
+      kept = grown b.seen BusReset calls (λ x y q. tt) h.kept;
       fresh = λ q. absurd (let r : false ≡ true = q in cc);
       current = λ q. record {
         setup = f.setup ∙ n;
         stage = λ s es ew. subst IsQuiet (sym f.input) tt;
+        none = λ s es eo ew. tt;
       };
     }
 
@@ -324,7 +371,7 @@ resets t b calls h e n =
 polled_confirms : (mode : InMode) (answer : Option (List ℕ)) (calls : List EpCall) → ConfirmsIf mode calls → ConfirmsIf mode (Polled answer ∷ calls)
 polled_confirms Naks answer calls c = tt
 polled_confirms Stalls answer calls c = tt
-polled_confirms (Sends [] has) answer calls c = λ s d es ed. inr (c s d es ed)
+polled_confirms (Sends [] has) answer calls c = λ s d es ed. inr (tt, c s d es ed)
 polled_confirms (Sends (x ∷ xs) has) answer calls c = tt
 
 polled_stage : (t : TransferState) (b : Bus) (answer : Option (List ℕ)) (calls : List EpCall) → StageLink t b calls → StageLink t b (Polled answer ∷ calls)
@@ -346,4 +393,4 @@ polled_stage Asking b answer calls s = s
 polled_stage Due b answer calls s = s
 
 pub polled_link : (t : TransferState) (b : Bus) (answer : Option (List ℕ)) (calls : List EpCall) → Link t b calls → Link t b (Polled answer ∷ calls)
-polled_link t b answer calls h = answered t t b (Polled answer) calls refl h (polled_stage t b answer calls)
+polled_link t b answer calls h = answered t t b (Polled answer) calls refl (λ x y q. tt) h (polled_stage t b answer calls) (λ x. x)

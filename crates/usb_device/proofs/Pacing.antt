@@ -3,8 +3,10 @@ use Rattle.std.proofs.Common.{◌≡◌, ℕ, ◌+◌, ◌*◌, ◌≤◌, ◌<�
 use Rattle.usb_device.specs.declared.answer.EpAnswer.{EpAnswer}
 use Rattle.usb_device.specs.declared.answer.EpAnswer.TheVariants.{Ack, Nak, Packet, Stall}
 use Rattle.usb_device.specs.Calls.{EpCall, SetUp, Out, In, Polled, BusReset}
-use Rattle.usb_device.specs.Confirmed.{asked_of, taken_of, confirmation, WasConfirmed}
+use Rattle.usb_device.specs.Bus.{Seen}
+use Rattle.usb_device.specs.Confirmed.{asked_of, taken_of, confirmation, TakesOnly, ConfirmedBefore}
 use Rattle.usb_device.specs.Guarding.{GuardCall, Met, Locked, Scanned, calls_met, scans, is_feature, writes, is_command, one_if, commands_shown, commands_taken, is_locked, is_refused, zero_if, scans_since, Passage, Refuses, Waits, Passes, passage_by, passage, OutAnswer, StallIf, IsGuarded, AllGuarded, call_by, call_unless, passed, StaysLocked, IsStatusStage}
+use Rattle.usb_device.proofs.Linked.{takes_as}
 
 -- ---- what goes on to the device behind is of the same transfer
 
@@ -206,40 +208,41 @@ same_data pace (Met BusReset ∷ past) all = refl
 same_data pace (Locked on ∷ past) all = same_data pace past all.1
 same_data pace (Scanned ∷ past) all = same_data pace past all.1
 
-shown_deeper : (call : EpCall) (calls : List EpCall) (setup data_ : List ℕ) → WasConfirmed setup data_ calls → WasConfirmed setup data_ (call ∷ calls)
-shown_deeper call calls setup data_ w = inr w
+deeper_out : (p : Passage) (call : EpCall) (calls : List EpCall) (sent : List Seen) (setup data_ : List ℕ) → TakesOnly sent calls call → ConfirmedBefore sent setup data_ calls
+    → ConfirmedBefore sent setup data_ (call_by p call calls)
+deeper_out Refuses call calls sent setup data_ t w = w
+deeper_out Waits call calls sent setup data_ t w = w
+deeper_out Passes call calls sent setup data_ t w = inr (t, w)
 
-deeper_out : (p : Passage) (call : EpCall) (calls : List EpCall) (setup data_ : List ℕ) → WasConfirmed setup data_ calls → WasConfirmed setup data_ (call_by p call calls)
-deeper_out Refuses call calls setup data_ w = w
-deeper_out Waits call calls setup data_ w = w
-deeper_out Passes call calls setup data_ w = inr w
+deeper_in : (b : Bool) (answer : EpAnswer) (calls : List EpCall) (sent : List Seen) (setup data_ : List ℕ) → ConfirmedBefore sent setup data_ calls
+    → ConfirmedBefore sent setup data_ (call_unless b (In answer) calls)
+deeper_in true answer calls sent setup data_ w = w
+deeper_in false answer calls sent setup data_ w = inr (tt, w)
 
-deeper_in : (b : Bool) (call : EpCall) (calls : List EpCall) (setup data_ : List ℕ) → WasConfirmed setup data_ calls → WasConfirmed setup data_ (call_unless b call calls)
-deeper_in true call calls setup data_ w = w
-deeper_in false call calls setup data_ w = inr w
+confirmed_in : (b : Bool) (answer : EpAnswer) (calls : List EpCall) (sent : List Seen) (setup data_ : List ℕ) → StallIf b answer → In answer ≡ confirmation → asked_of calls ≡ Some setup → taken_of calls ≡ Some data_
+    → ConfirmedBefore sent setup data_ (call_unless b (In answer) calls)
+confirmed_in true answer calls sent setup data_ a e s d = absurd (let x : answer ≡ Stall = a in let y = e in cc)
+confirmed_in false answer calls sent setup data_ a e s d = inl (e, s, d)
 
-confirmed_in : (b : Bool) (answer : EpAnswer) (calls : List EpCall) (setup data_ : List ℕ) → StallIf b answer → In answer ≡ confirmation → asked_of calls ≡ Some setup → taken_of calls ≡ Some data_
-    → WasConfirmed setup data_ (call_unless b (In answer) calls)
-confirmed_in true answer calls setup data_ a e s d = absurd (let x : answer ≡ Stall = a in let y = e in cc)
-confirmed_in false answer calls setup data_ a e s d = inl (e, s, d)
-
-pub confirmed : (pace : ℕ) (past : List GuardCall) (setup data_ : List ℕ) → AllGuarded pace past → WasConfirmed setup data_ (calls_met past) → WasConfirmed setup data_ (passed pace past)
+pub confirmed : (pace : ℕ) (past : List GuardCall) (sent : List Seen) (setup data_ : List ℕ) → AllGuarded pace past → ConfirmedBefore sent setup data_ (calls_met past)
+    → ConfirmedBefore sent setup data_ (passed pace past)
 unfolding passed
-confirmed pace [] setup data_ all w = absurd w
-confirmed pace (Met (SetUp bytes) ∷ past) setup data_ all (inl w) = absurd (let e = w.0 in cc)
-confirmed pace (Met (SetUp bytes) ∷ past) setup data_ all (inr w) = inr (confirmed pace past setup data_ all.1 w)
-confirmed pace (Met (Out packet answer) ∷ past) setup data_ all (inl w) = absurd (let e = w.0 in cc)
-confirmed pace (Met (Out packet answer) ∷ past) setup data_ all (inr w) =
-    deeper_out (passage pace past packet) (Out packet answer) (passed pace past) setup data_ (confirmed pace past setup data_ all.1 w)
-confirmed pace (Met (In answer) ∷ past) setup data_ all (inl w) =
-    confirmed_in (is_refused past) answer (passed pace past) setup data_ all.0 w.0 (same_asked pace past ∙ w.1) (same_data pace past all.1 ∙ w.2)
-confirmed pace (Met (In answer) ∷ past) setup data_ all (inr w) = deeper_in (is_refused past) (In answer) (passed pace past) setup data_ (confirmed pace past setup data_ all.1 w)
-confirmed pace (Met (Polled answer) ∷ past) setup data_ all (inl w) = absurd (let e = w.0 in cc)
-confirmed pace (Met (Polled answer) ∷ past) setup data_ all (inr w) = inr (confirmed pace past setup data_ all.1 w)
-confirmed pace (Met BusReset ∷ past) setup data_ all (inl w) = absurd (let e = w.0 in cc)
-confirmed pace (Met BusReset ∷ past) setup data_ all (inr w) = inr (confirmed pace past setup data_ all.1 w)
-confirmed pace (Locked on ∷ past) setup data_ all w = confirmed pace past setup data_ all.1 w
-confirmed pace (Scanned ∷ past) setup data_ all w = confirmed pace past setup data_ all.1 w
+confirmed pace [] sent setup data_ all w = absurd w
+confirmed pace (Met (SetUp bytes) ∷ past) sent setup data_ all (inl w) = absurd (let e = w.0 in cc)
+confirmed pace (Met (SetUp bytes) ∷ past) sent setup data_ all (inr w) = inr (tt, confirmed pace past sent setup data_ all.1 w.1)
+confirmed pace (Met (Out packet answer) ∷ past) sent setup data_ all (inl w) = absurd (let e = w.0 in cc)
+confirmed pace (Met (Out packet answer) ∷ past) sent setup data_ all (inr w) =
+    deeper_out (passage pace past packet) (Out packet answer) (passed pace past) sent setup data_ (takes_as sent packet answer (passed pace past) (calls_met past) (same_asked pace past) w.0)
+    (confirmed pace past sent setup data_ all.1 w.1)
+confirmed pace (Met (In answer) ∷ past) sent setup data_ all (inl w) =
+    confirmed_in (is_refused past) answer (passed pace past) sent setup data_ all.0 w.0 (same_asked pace past ∙ w.1) (same_data pace past all.1 ∙ w.2)
+confirmed pace (Met (In answer) ∷ past) sent setup data_ all (inr w) = deeper_in (is_refused past) answer (passed pace past) sent setup data_ (confirmed pace past sent setup data_ all.1 w.1)
+confirmed pace (Met (Polled answer) ∷ past) sent setup data_ all (inl w) = absurd (let e = w.0 in cc)
+confirmed pace (Met (Polled answer) ∷ past) sent setup data_ all (inr w) = inr (tt, confirmed pace past sent setup data_ all.1 w.1)
+confirmed pace (Met BusReset ∷ past) sent setup data_ all (inl w) = absurd (let e = w.0 in cc)
+confirmed pace (Met BusReset ∷ past) sent setup data_ all (inr w) = inr (tt, confirmed pace past sent setup data_ all.1 w.1)
+confirmed pace (Locked on ∷ past) sent setup data_ all w = confirmed pace past sent setup data_ all.1 w
+confirmed pace (Scanned ∷ past) sent setup data_ all w = confirmed pace past sent setup data_ all.1 w
 
 -- ---- the pace
 

@@ -4,7 +4,7 @@ use Rattle.usb_device.specs.declared.report_buffers.Course.{Course}
 use Rattle.usb_device.specs.declared.report_buffers.Course.TheVariants.{Rests, Begins, Goes}
 use Rattle.usb_device.specs.Calls.{EpCall, SetUp, Polled}
 use Rattle.usb_device.specs.Confirmed.{asked_of}
-use Rattle.usb_device.specs.Bus1.{Got, Sent, Reported, sent_of, is_old, newest, sets_protocol, Bus1, blank, same, agree, received, with_taken1, with_lost1, with_host_anew, Happens1, takes, loses, host_begins, resets1, Goes1, told, anew}
+use Rattle.usb_device.specs.Bus1.{Got, Sent, Reported, sent_of, is_old, newest, sets_protocol, Bus1, blank, same, agree, received, with_taken1, with_lost1, with_host_anew, Happens1, takes, loses, host_begins, resets1, Goes1, told}
 use Rattle.usb_device.specs.Reports.{cut, HasNew, packets_of, with_new, Carries, GotInOrder, all, but_one}
 use Rattle.usb_device.specs.ties.Link1.{ReportState, is_more, is_over, to_hand, copies, new_of, ArePackets, Agrees, Free, Resting, Beginning, Going, Now1, Link1}
 use Rattle.usb_device.proofs.Carrying.{true_false, newest_carries, received_has, received_begun, received_will, same_self, same_not}

@@ -150,7 +150,7 @@ ready_same Closing b calls r n f = absurd r
 ready_same Closed b calls r n f = (opened_none b n r.0, r.1)
 ready_same Opening b calls r n f = tt
 ready_same Writes b calls r n f = opened_none b n r
-ready_same (Keeps packet) b calls r n f = tt
+ready_same (Keeps packet) b calls r n f = refl
 ready_same Asking b calls r n f = tt
 ready_same Due b calls r n f = opened_none b n r.1
 ready_same Status b calls r n f = ((r.0.0, r.0.1, handed_still b r.0.0 f r.0.2), opened_none b n r.1)
@@ -216,7 +216,7 @@ ready_taken Closing b calls r n = absurd r
 ready_taken Closed b calls r n = (opened_none b n r.0, r.1)
 ready_taken Opening b calls r n = tt
 ready_taken Writes b calls r n = opened_none b n r
-ready_taken (Keeps packet) b calls r n = tt
+ready_taken (Keeps packet) b calls r n = refl
 ready_taken Asking b calls r n = tt
 ready_taken Due b calls r n = opened_none b n r.1
 ready_taken Status b calls r n = (opened_none b n r.1, asked_in (last_0 calls) (Packet (record { items = r.0.0 })) r.0.1)

@@ -1,8 +1,8 @@
 -- Believed: the address that a controller answers to (USB 2.0 sections 9.2.6.3 and 9.4.6).
-use Rattle.std.specs.Prelude.{◌≡◌, ◌⊎◌, ℕ, Bool, true, false, List, ◌∷◌, Option, Some}
+use Rattle.std.specs.Prelude.{◌≡◌, ◌⊎◌, ℕ, Bool, true, false, List, [], ◌∷◌, Option, Some}
 use Rattle.usb_device.specs.Calls.{EpCall, BusReset}
 use Rattle.usb_device.specs.Bus.{Bus}
-use Rattle.usb_device.specs.Bus1.{beside}
+use Rattle.usb_device.specs.Bus1.{Adds}
 
 -- a reset of the bus sets it to 0; else it stays
 abbrev pub StaysBy : Bool → ℕ → ℕ → Type 0
@@ -16,7 +16,7 @@ Stays b next old new = (b.met.reset ≡ true → next.met.reset ≡ true) × ((b
 -- likewise where a reset may be handed on to the device meanwhile
 abbrev pub StaysOrReset : Bool → List EpCall → List EpCall → ℕ → ℕ → Type 0
 StaysOrReset reset calls later old new =
-    ((beside later ≡ beside calls) × StaysBy reset old new) ⊎ ((beside later ≡ BusReset ∷ beside calls) × (new ≡ 0))
+    (Adds [] calls later × StaysBy reset old new) ⊎ (Adds (BusReset ∷ []) calls later × (new ≡ 0))
 
 -- behind a status stage that brings an address the controller is told it; else it is told nothing
 abbrev pub Tells : Bool → Option ℕ → Bus → Bus → ℕ → ℕ → Type 0

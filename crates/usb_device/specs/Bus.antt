@@ -134,9 +134,13 @@ with_input b mode = unless_pending (is_pending b.met) b (record { seen = b.seen;
 abbrev pub with_output : Bus → OutMode → Bus
 with_output b mode = unless_pending (is_pending b.met) b (record { seen = b.seen; input = b.input; output = mode; met = b.met })
 
--- a control write: bit 7 of bmRequestType is clear, and wLength is not 0
+-- bit 7 of bmRequestType is clear: data go to the device (section 9.3.1)
+abbrev pub is_out : List ℕ → Bool
+is_out setup = nat_lt (slice_index setup 0) 128
+
+-- a control write: data go to the device, and wLength is not 0
 abbrev pub is_write : List ℕ → Bool
-is_write setup = nat_lt (slice_index setup 0) 128 && not (word_at setup 6 == 0)
+is_write setup = is_out setup && not (word_at setup 6 == 0)
 
 -- the SETUP packet of the host's transfer
 abbrev pub setup_of : List Seen → Option (List ℕ)
@@ -157,3 +161,11 @@ write_of (SetupSent bytes ∷ before) = None
 write_of (WasReset ∷ before) = None
 write_of (OutTaken packet ∷ before) = first_out (write_of before) packet
 write_of (_ ∷ before) = write_of before
+
+-- the host got the empty packet in its transfer
+abbrev pub has_ended : List Seen → Bool
+has_ended [] = false
+has_ended (SetupSent bytes ∷ before) = false
+has_ended (WasReset ∷ before) = false
+has_ended (InGot [] ∷ before) = true
+has_ended (_ ∷ before) = has_ended before

@@ -203,11 +203,15 @@ beside (Polled answer ∷ before) = Polled answer ∷ beside before
 beside (BusReset ∷ before) = BusReset ∷ beside before
 beside (_ ∷ before) = beside before
 
--- these are kept, or the bus was reset
-abbrev pub KeptOrReset : List EpCall → List EpCall → Type 0
-KeptOrReset calls later = (beside later ≡ beside calls) ⊎ (beside later ≡ BusReset ∷ beside calls)
+-- more calls came on top of these, and beside endpoint 0 they are such
+abbrev pub Adds : List EpCall → List EpCall → List EpCall → Type 0
+Adds others calls later = (since : List EpCall) × (later ≡ since ++ calls) × (beside since ≡ others)
 
--- they are kept unless it was
+-- none but those of endpoint 0, or the bus was reset
+abbrev pub KeptOrReset : List EpCall → List EpCall → Type 0
+KeptOrReset calls later = Adds [] calls later ⊎ Adds (BusReset ∷ []) calls later
+
+-- none but those of endpoint 0 unless it was
 abbrev pub KeptUnless : Bool → List EpCall → List EpCall → Type 0
-KeptUnless true calls later = beside later ≡ BusReset ∷ beside calls
-KeptUnless false calls later = beside later ≡ beside calls
+KeptUnless true calls later = Adds (BusReset ∷ []) calls later
+KeptUnless false calls later = Adds [] calls later

@@ -1,5 +1,5 @@
 -- Believed: what the USB device layer met on the bus, and what it answered.
-use Rattle.std.specs.Prelude.{ℕ, List}
+use Rattle.std.specs.Prelude.{ℕ, Bool, List}
 use Rattle.usb_device.specs.declared.answer.EpAnswer.{EpAnswer}
 use Rattle.usb_device.specs.declared.answer.PollAnswer.{PollAnswer}
 
@@ -14,3 +14,8 @@ pub data Event : Type 0 where
   PollAsked : (answer : PollAnswer) → Event
   -- a bus reset
   ResetCame : Event
+  -- the bus is suspended (section 7.1.7.6), and goes on (section 7.1.7.7)
+  SuspendCame : Event
+  ResumeCame : Event
+  -- it was asked whether to signal a remote wakeup, where a report was under way or not, and its answer
+  WakeAsked : (has_report : Bool) → (answer : Bool) → Event

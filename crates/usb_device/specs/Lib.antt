@@ -8,8 +8,10 @@ pub mod Steps
 pub mod States
 pub mod Bus
 pub mod Confirmed
+pub mod Forgetting
 pub mod Guarding
 pub mod Whole
+pub mod WholeReads
 pub mod Transfers
 pub mod Bus1
 pub mod Reports

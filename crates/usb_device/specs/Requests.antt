@@ -1,10 +1,10 @@
 -- Believed: which standard requests the USB device layer serves, by what endpoint 1 is (USB 2.0 sections 9.3 and 9.4).
-use Rattle.std.specs.Prelude.{ℕ, ◌+◌, ◌*◌, ◌==◌, ◌&&◌, ◌||◌, nat_lt, not, Bool, true, false, List, [], ◌∷◌, length, if◌then◌else◌, slice_index, Option, Some, None}
+use Rattle.std.specs.Prelude.{ℕ, ◌+◌, ◌*◌, ◌==◌, ◌&&◌, ◌||◌, nat_lt, not, bit_and, Bool, true, false, List, [], ◌∷◌, length, if◌then◌else◌, slice_index, Option, Some, None}
 use Rattle.usb_device.specs.Strings.{string_descriptor}
 use Rattle.usb_device.specs.declared.answer.Endpoint1.{Endpoint1}
 use Rattle.usb_device.specs.declared.answer.Endpoint1.TheVariants.{Off, Ready, Halted}
 use Rattle.usb_device.specs.declared.answer.Change.{Change}
-use Rattle.usb_device.specs.declared.answer.Change.TheVariants.{Address, Endpoint}
+use Rattle.usb_device.specs.declared.answer.Change.TheVariants.{Address, Endpoint, Wakeup}
 
 -- the fields of a SETUP packet: bmRequestType, bRequest, wValue, wIndex, wLength (table 9-2)
 pub record SetupFields : Type 0 where
@@ -63,9 +63,10 @@ served_if false served = None
 abbrev pub names : SetupFields → ℕ → ℕ → Bool
 names r value index = (r.value == value) && (r.index == index)
 
--- GET_STATUS (9.4.5): of the device, of interface 0, of endpoint 0 in either direction, of endpoint 1
-abbrev pub device_status : SetupFields → Option Served
-device_status r = served_if (names r 0 0) (Reads (0 ∷ 0 ∷ []))
+-- GET_STATUS (9.4.5): of the device, whose bit 1 is whether remote wakeup is enabled, of interface 0, of endpoint 0 in either
+-- direction, of endpoint 1
+abbrev pub device_status : Bool → SetupFields → Option Served
+device_status wakeup r = served_if (names r 0 0) (Reads (2 * bit wakeup ∷ 0 ∷ []))
 
 abbrev pub interface_status : Endpoint1 → SetupFields → Option Served
 interface_status state r = served_if (is_configured state && names r 0 0) (Reads (0 ∷ 0 ∷ []))
@@ -74,6 +75,14 @@ abbrev pub endpoint_status : Endpoint1 → SetupFields → Option Served
 endpoint_status state r =
     if names r 0 0 || names r 0 0x80 then Some (Reads (0 ∷ 0 ∷ []))
     else served_if (is_configured state && names r 0 0x81) (Reads (bit (is_halted state) ∷ 0 ∷ []))
+
+-- the configuration descriptor says that the device can wake its host (bit 5 of bmAttributes, table 9-10)
+abbrev pub can_wake : Lent → Bool
+can_wake lent = nat_lt 7 (length lent.configuration) && not (bit_and (slice_index lent.configuration 7) 0x20 == 0)
+
+-- CLEAR_FEATURE and SET_FEATURE of DEVICE_REMOTE_WAKEUP (9.4.1, 9.4.9), of a device that can
+abbrev pub remote_wakeup : Lent → SetupFields → Bool → Option Served
+remote_wakeup lent r next = served_if (can_wake lent && names r 1 0 && (r.size == 0)) (Sets (Wakeup next))
 
 -- CLEAR_FEATURE and SET_FEATURE of ENDPOINT_HALT of endpoint 1 (9.4.1, 9.4.9)
 abbrev pub halt : Endpoint1 → SetupFields → Endpoint1 → Option Served
@@ -128,14 +137,16 @@ descriptor lent r = at_value (descriptors lent r) r.value
 abbrev pub hid_descriptor : Lent → SetupFields → Option Served
 hid_descriptor lent r = served_if (names r 0x2100 0) (Reads lent.hid)
 
--- each request by bmRequestType and bRequest (tables 9-3, 9-4)
-abbrev pub rows : Lent → Endpoint1 → SetupFields → List (ℕ × ℕ × Option Served)
-rows lent state r =
-    (0x80, 0x00, device_status r) ∷
+-- each request by bmRequestType and bRequest (tables 9-3, 9-4), by what endpoint 1 is and whether remote wakeup is enabled
+abbrev pub rows : Lent → Endpoint1 → Bool → SetupFields → List (ℕ × ℕ × Option Served)
+rows lent state wakeup r =
+    (0x80, 0x00, device_status wakeup r) ∷
     (0x81, 0x00, interface_status state r) ∷
     (0x82, 0x00, endpoint_status state r) ∷
     (0x02, 0x01, halt state r Ready) ∷
     (0x02, 0x03, halt state r Halted) ∷
+    (0x00, 0x01, remote_wakeup lent r false) ∷
+    (0x00, 0x03, remote_wakeup lent r true) ∷
     (0x00, 0x05, set_address state r) ∷
     (0x80, 0x06, descriptor lent r) ∷
     (0x81, 0x06, hid_descriptor lent r) ∷
@@ -149,5 +160,5 @@ row_at [] kind code = None
 row_at (row ∷ rest) kind code = if (kind == row.0) && (code == row.1) then row.2 else row_at rest kind code
 
 -- what a SETUP packet is served with; none where the request is left to the device behind
-unfoldable pub served : Lent → Endpoint1 → SetupFields → Option Served
-served lent state r = row_at (rows lent state r) r.kind r.code
+unfoldable pub served : Lent → Endpoint1 → Bool → SetupFields → Option Served
+served lent state wakeup r = row_at (rows lent state wakeup r) r.kind r.code

@@ -1,5 +1,5 @@
 -- Believed where this crate is called: what each event does to the USB device layer, and what it is answered.
-use Rattle.std.specs.Prelude.{◌≡◌, ℕ, ◌+◌, ◌==◌, List, [], ◌∷◌, if◌then◌else◌, Option, Some, None}
+use Rattle.std.specs.Prelude.{◌≡◌, ℕ, ◌+◌, ◌==◌, ◌&&◌, ◌||◌, not, Bool, true, false, List, [], ◌∷◌, if◌then◌else◌, Option, Some, None}
 use Rattle.usb_device.specs.declared.answer.EpAnswer.{EpAnswer}
 use Rattle.usb_device.specs.declared.answer.EpAnswer.TheVariants.{Ack, Packet, Stall}
 use Rattle.usb_device.specs.declared.answer.PollAnswer.{PollAnswer}
@@ -7,11 +7,11 @@ use Rattle.usb_device.specs.declared.answer.PollAnswer.TheVariants as Polls
 use Rattle.usb_device.specs.declared.answer.Endpoint1.{Endpoint1}
 use Rattle.usb_device.specs.declared.answer.Endpoint1.TheVariants.{Off, Ready, Halted}
 use Rattle.usb_device.specs.declared.answer.Change.{Change}
-use Rattle.usb_device.specs.declared.answer.Change.TheVariants.{Address, Endpoint}
+use Rattle.usb_device.specs.declared.answer.Change.TheVariants.{Address, Endpoint, Wakeup}
 use Rattle.usb_device.specs.Packets.{packet_at}
 use Rattle.usb_device.specs.Calls.{EpCall, SetUp, Out, In, Polled, BusReset}
 use Rattle.usb_device.specs.Requests.{Lent, Served, Reads, Sets, request_of, served}
-use Rattle.usb_device.specs.Events.{Event, SetupCame, OutCame, InAsked, PollAsked, ResetCame}
+use Rattle.usb_device.specs.Events.{Event, SetupCame, OutCame, InAsked, PollAsked, ResetCame, SuspendCame, ResumeCame, WakeAsked}
 
 -- where the transfer on endpoint 0 stands (section 8.5.3)
 pub data Stage : Type 0 where
@@ -24,20 +24,25 @@ pub data Stage : Type 0 where
   -- it is over or was stalled
   Over : Stage
 
--- the descriptors that are lent, what endpoint 1 is, where the transfer stands, and the address that its status packet brought
+-- the descriptors that are lent, what endpoint 1 is, where the transfer stands, what its status packet brought: an address, and
+-- whether endpoint 1 begins anew; whether remote wakeup is enabled, the bus is suspended, and was woken since
 pub record LayerState : Type 0 where
   pub lent : Lent
   pub endpoint : Endpoint1
   pub stage : Stage
   pub due : Option ℕ
+  pub renewed : Bool
+  pub wakeup : Bool
+  pub suspended : Bool
+  pub woken : Bool
 
 abbrev pub first_stage : Option Served → ℕ → Stage
 first_stage None asked = Theirs
 first_stage (Some (Reads bytes)) asked = if asked == 0 then Status None else Sending bytes asked 0
 first_stage (Some (Sets change)) asked = Status (Some change)
 
-abbrev pub begun : Lent → Endpoint1 → List ℕ → Stage
-begun lent state setup = first_stage (served lent state (request_of setup)) (request_of setup).size
+abbrev pub begun : Lent → Endpoint1 → Bool → List ℕ → Stage
+begun lent state wakeup setup = first_stage (served lent state wakeup (request_of setup)) (request_of setup).size
 
 abbrev pub packet_or_stall : Option (List ℕ) → EpAnswer
 packet_or_stall (Some packet) = Packet (record { items = packet })
@@ -69,6 +74,15 @@ abbrev pub due_then : Option ℕ → Option Change → Option ℕ
 due_then due (Some (Address address)) = Some address
 due_then due _ = due
 
+-- whether the transfer's status packet set endpoint 1
+abbrev pub renewed_then : Bool → Option Change → Bool
+renewed_then renewed (Some (Endpoint state)) = true
+renewed_then renewed _ = renewed
+
+abbrev pub wakeup_then : Bool → Option Change → Bool
+wakeup_then wakeup (Some (Wakeup next)) = next
+wakeup_then wakeup _ = wakeup
+
 -- an empty OUT packet ends a read
 abbrev pub closing : List ℕ → EpAnswer
 closing [] = Ack
@@ -89,29 +103,45 @@ PollAnswers Off answer = answer ≡ Polls.Nothing
 PollAnswers Halted answer = answer ≡ Polls.Stall
 PollAnswers Ready answer = Unit {0}
 
+-- where it stands at first, and behind a reset of the bus
+abbrev pub start : Lent → LayerState
+start lent = record { lent = lent; endpoint = Off; stage = Theirs; due = None; renewed = false; wakeup = false; suspended = false; woken = false }
+
 -- what an event does to the device layer
 abbrev pub state_then : LayerState → Event → LayerState
-state_then now (SetupCame bytes) = record { lent = now.lent; endpoint = now.endpoint; stage = begun now.lent now.endpoint bytes; due = None }
-state_then now (OutCame packet answer) = record { lent = now.lent; endpoint = now.endpoint; stage = after_out now.stage; due = now.due }
+state_then now (SetupCame bytes) = record { lent = now.lent; endpoint = now.endpoint; stage = begun now.lent now.endpoint now.wakeup bytes; due = None; renewed = false; wakeup = now.wakeup; suspended = false; woken = now.woken }
+state_then now (OutCame packet answer) = record { lent = now.lent; endpoint = now.endpoint; stage = after_out now.stage; due = now.due; renewed = now.renewed; wakeup = now.wakeup; suspended = now.suspended; woken = now.woken }
 state_then now (InAsked answer) = record {
   lent = now.lent;
   endpoint = endpoint_then now.endpoint (change_of now.stage);
   stage = after_in now.stage answer;
   due = due_then now.due (change_of now.stage);
+  renewed = renewed_then now.renewed (change_of now.stage);
+  wakeup = wakeup_then now.wakeup (change_of now.stage);
+  suspended = now.suspended;
+  woken = now.woken;
 }
 state_then now (PollAsked answer) = now
-state_then now ResetCame = record { lent = now.lent; endpoint = Off; stage = Theirs; due = None }
+state_then now ResetCame = start now.lent
+state_then now SuspendCame = record now { suspended = true; woken = false }
+state_then now ResumeCame = record now { suspended = false }
+state_then now (WakeAsked has_report answer) = record now { woken = now.woken || answer }
 
 -- where the device layer stands after these events, newest first
 unfoldable pub state_of : Lent → List Event → LayerState
-state_of lent [] = record { lent = lent; endpoint = Off; stage = Theirs; due = None }
+state_of lent [] = start lent
 state_of lent (event ∷ past) = state_then (state_of lent past) event
+
+-- a remote wakeup is to be signalled: the host has enabled it, and a report waits for it while the bus is suspended; once
+abbrev pub wakes : LayerState → Bool → Bool
+wakes now has_report = now.suspended && not now.woken && now.wakeup && has_report
 
 -- the answer of an event is the standard's
 abbrev pub IsAnswered : LayerState → Event → Type 0
 IsAnswered now (OutCame packet answer) = OutAnswer now.stage packet answer
 IsAnswered now (InAsked answer) = InAnswer now.stage answer
 IsAnswered now (PollAsked answer) = PollAnswers now.endpoint answer
+IsAnswered now (WakeAsked has_report answer) = answer ≡ wakes now has_report
 IsAnswered now _ = Unit {0}
 
 abbrev pub AllAnswered : Lent → List Event → Type 0
@@ -140,6 +170,7 @@ calls_then now (OutCame packet answer) calls = call_if_theirs now.stage (Out pac
 calls_then now (InAsked answer) calls = call_if_theirs now.stage (In answer) calls
 calls_then now (PollAsked answer) calls = call_if_ready now.endpoint (Polled (polled_of answer)) calls
 calls_then now ResetCame calls = BusReset ∷ calls
+calls_then now _ calls = calls
 
 -- the session of the device behind
 unfoldable pub session : Lent → List Event → List EpCall

@@ -4,13 +4,15 @@ use Rattle.usb_device.specs.Calls.{EpCall, SetUp, Out, In, Polled, BusReset}
 use Rattle.usb_device.specs.Events.{Event, SetupCame, OutCame, InAsked, PollAsked, ResetCame}
 use Rattle.usb_device.specs.Steps.{polled_of}
 
-abbrev pub call_of : Event → EpCall
-call_of (SetupCame bytes) = SetUp bytes
-call_of (OutCame packet answer) = Out packet answer
-call_of (InAsked answer) = In answer
-call_of (PollAsked answer) = Polled (polled_of answer)
-call_of ResetCame = BusReset
+-- the call that an event is, on those before; suspend, resume and wakeup are none
+abbrev pub with_call : Event → List EpCall → List EpCall
+with_call (SetupCame bytes) calls = SetUp bytes ∷ calls
+with_call (OutCame packet answer) calls = Out packet answer ∷ calls
+with_call (InAsked answer) calls = In answer ∷ calls
+with_call (PollAsked answer) calls = Polled (polled_of answer) ∷ calls
+with_call ResetCame calls = BusReset ∷ calls
+with_call _ calls = calls
 
 abbrev pub calls_of : List Event → List EpCall
 calls_of [] = []
-calls_of (event ∷ past) = call_of event ∷ calls_of past
+calls_of (event ∷ past) = with_call event (calls_of past)

@@ -4,7 +4,10 @@ pub mod Stands
 pub mod Link
 pub mod Link1
 pub mod Waited
+pub mod Whole
+pub mod WholeReads
 pub mod Layered
 pub mod Played
 pub mod Played0
+pub mod Forgetting
 pub mod Guarded

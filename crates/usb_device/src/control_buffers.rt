@@ -4,10 +4,10 @@ ghost use Rattle.std.specs.Prelude.{◌≡◌, ◌∷◌, [], Bool, true, false,
 ghost use Rattle.std.specs.Option.{option_map};
 ghost use Rattle.usb_device.specs.Requests.{word_at};
 ghost use Rattle.usb_device.specs.Calls.{EpCall, SetUp, BusReset};
-ghost use Rattle.usb_device.specs.Bus.{is_pending, Bus, Goes, Sends, Takes, with_input, with_output, is_write, looked, mode_of, out_mode_of};
+ghost use Rattle.usb_device.specs.Bus.{is_pending, Bus, Goes, Sends, Takes, with_input, with_output, is_out, is_write, looked, mode_of, out_mode_of};
 ghost use Rattle.usb_device.specs.Addresses.{Stays, StaysOrReset};
-ghost use Rattle.usb_device.specs.Bus1.{beside, KeptOrReset, KeptUnless};
-ghost use Rattle.usb_device.specs.Transfers.{is_done, is_over, TransferState, Idle, Refused, Over, ReadDue, Closing, Opening, Due, IsOpen, WasAsked, last_0, Rests, NothingWithheld0};
+ghost use Rattle.usb_device.specs.Bus1.{Adds, KeptOrReset, KeptUnless};
+ghost use Rattle.usb_device.specs.Transfers.{is_done, is_over, TransferState, Idle, Refused, Over, ReadDue, Closing, Opening, Asking, Due, IsOpen, WasAsked, last_0, Rests, NothingWithheld0};
 ghost use Rattle.usb_device.specs.ties.Link.{Link, Ready, IsBegun, ended, on_taken, met_view, transfer_view};
 
 use crate::controller::{Controller, Input, Output, Waiting};
@@ -71,6 +71,7 @@ impl Model for ControlBuffers {
 /// The transfer that a SETUP packet begins.
 fn first_transfer(setup: [u8; 8]) -> Transfer
     ensures write { is_write setup ≡ true → transfer_view result ≡ Opening }
+    ensures no_data { is_out setup ≡ true → is_write setup ≡ false → transfer_view result ≡ Asking }
     ensures begun { IsBegun (transfer_view result) }
 {
     let length = u16::from_le_bytes([setup[6], setup[7]]);
@@ -195,12 +196,13 @@ impl ControlBuffers {
     }
 
     /// Takes what was met in the transfer under way.
+    #[tactic(auto, using(crate::proofs::Addressing::adds_none))]
     fn follow<E: Endpoints>(&mut self, taken: bool, out: Option<ArrayVec<u8, 8>>, device: &mut E)
         ensures { (b : Bus) (calls : List EpCall) → E.stands calls device.old → Link self.old b calls
             → b.met.reset ≡ false → b.met.setup ≡ None → b.met.out ≡ option_map (λ p. p.items) out → b.met.taken ≡ taken
             → Rests self.old b calls
             → (later : List EpCall) × E.stands later device.new × Link self.new (looked b) later × Ready self.new (looked b) later
-            × (beside later ≡ beside calls) }
+            × Adds [] calls later }
     {
         match out {
             Some(packet) => match &self.transfer {
@@ -224,9 +226,9 @@ impl ControlBuffers {
 
     /// The OUT packet of a read, which ends it.
     fn close<E: Endpoints>(&mut self, packet: ArrayVec<u8, 8>, device: &mut E)
-        ensures { (b : Bus) (calls : List EpCall) → E.stands calls device.old → Link Closing b calls
+        ensures { (b : Bus) (calls : List EpCall) → E.stands calls device.old → is_pending b.met ≡ false → Link Closing b calls
             → (later : List EpCall) × E.stands later device.new × Link self.new b later × Ready self.new b later
-            × (beside later ≡ beside calls) }
+            × Adds [] calls later }
     {
         let answer = device.out(packet.as_slice());
         self.transfer = ended(answer);
@@ -247,12 +249,12 @@ impl ControlBuffers {
     }
 
     /// Does what is due.
-    #[tactic(auto, using(crate::proofs::Addressing::stays_still))]
+    #[tactic(auto, using(crate::proofs::Addressing::stays_still, crate::proofs::Addressing::adds_none))]
     fn go_on<E: Endpoints, C: Controller>(&mut self, device: &mut E, controller: &mut C)
         ensures linked { (calls : List EpCall) → E.stands calls device.old → Link self.old (C.bus controller.old) calls
             → Ready self.old (C.bus controller.old) calls
             → (later : List EpCall) × E.stands later device.new × Link self.new (C.bus controller.new) later
-            × NothingWithheld0 self.new (C.bus controller.new) later × (beside later ≡ beside calls) }
+            × NothingWithheld0 self.new (C.bus controller.new) later × Adds [] calls later }
         ensures stays { Stays (C.bus controller.old) (C.bus controller.new) (C.address_of controller.old) (C.address_of controller.new) }
     {
         match &self.transfer {
@@ -285,7 +287,7 @@ impl ControlBuffers {
     fn ask<E: Endpoints, C: Controller>(&mut self, device: &mut E, controller: &mut C)
         ensures linked { (calls : List EpCall) → E.stands calls device.old → Link Due (C.bus controller.old) calls
             → (later : List EpCall) × E.stands later device.new × Link self.new (C.bus controller.new) later
-            × NothingWithheld0 self.new (C.bus controller.new) later × (beside later ≡ beside calls) }
+            × NothingWithheld0 self.new (C.bus controller.new) later × Adds [] calls later }
         ensures stays { Stays (C.bus controller.old) (C.bus controller.new) (C.address_of controller.old) (C.address_of controller.new) }
     {
         open(controller);
@@ -298,7 +300,7 @@ impl ControlBuffers {
         ensures linked { (calls : List EpCall) → E.stands calls device.old → Link Due (C.bus controller.old) calls
             → (is_pending (C.bus controller.old).met ≡ false → IsOpen (C.bus controller.old))
             → (later : List EpCall) × E.stands later device.new × Link self.new (C.bus controller.new) later
-            × NothingWithheld0 self.new (C.bus controller.new) later × (beside later ≡ beside calls) }
+            × NothingWithheld0 self.new (C.bus controller.new) later × Adds [] calls later }
         ensures stays { Stays (C.bus controller.old) (C.bus controller.new) (C.address_of controller.old) (C.address_of controller.new) }
     {
         match device.in_packet() {
@@ -328,7 +330,7 @@ impl ControlBuffers {
     fn read<E: Endpoints, C: Controller>(&mut self, left: u16, device: &mut E, controller: &mut C)
         ensures linked { (calls : List EpCall) → E.stands calls device.old → Link (ReadDue left) (C.bus controller.old) calls
             → (later : List EpCall) × E.stands later device.new × Link self.new (C.bus controller.new) later
-            × NothingWithheld0 self.new (C.bus controller.new) later × (beside later ≡ beside calls) }
+            × NothingWithheld0 self.new (C.bus controller.new) later × Adds [] calls later }
         ensures stays { Stays (C.bus controller.old) (C.bus controller.new) (C.address_of controller.old) (C.address_of controller.new) }
     {
         match device.in_packet() {

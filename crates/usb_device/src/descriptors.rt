@@ -3,7 +3,7 @@
 ghost use Rattle.std.specs.Prelude.{◌≡◌, ◌*◌, ◌≤◌, OnSome};
 ghost use Rattle.std.specs.Option.{option_map};
 ghost use Rattle.usb_device.specs.Packets.{packet_at};
-ghost use Rattle.usb_device.specs.Requests.{has_names};
+ghost use Rattle.usb_device.specs.Requests.{has_names, can_wake};
 ghost use Rattle.usb_device.specs.ties.Value.{lent_view, data_bytes};
 
 use crate::packets::packet_at;
@@ -29,7 +29,17 @@ pub struct Descriptors<'a> {
     pub serial_number: &'a [u16],
 }
 
+/// Bit 5 of bmAttributes (table 9-10).
+const REMOTE_WAKEUP: u8 = 0x20;
+
 impl<'a> Descriptors<'a> {
+    /// Whether the device can wake its host.
+    pub(crate) fn can_wake(self) -> bool
+        ensures { result ≡ can_wake (lent_view self.entry) }
+    {
+        self.configuration.len() > 7 && self.configuration[7] & REMOTE_WAKEUP != 0
+    }
+
     /// Whether there is a name.
     pub(crate) fn has_names(self) -> bool
         ensures { result ≡ has_names (lent_view self.entry) }

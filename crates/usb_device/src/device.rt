@@ -4,18 +4,18 @@ ghost use Rattle.std.specs.Prelude.{◌≡◌, ◌&&◌, ◌-◌, ◌∷◌, [],
 ghost use Rattle.std.specs.Option.{option_map};
 ghost use Rattle.usb_device.specs.declared.report_buffers.Course.TheVariants.{Rests};
 ghost use Rattle.usb_device.specs.Steps.{polled_of};
-ghost use Rattle.usb_device.specs.States.{is_empty_packet};
+ghost use Rattle.usb_device.specs.States.{is_empty_packet, has_renewed, wakes_by};
 ghost use Rattle.usb_device.specs.ties.Stands.{StandsFor};
 ghost use Rattle.usb_device.specs.declared.answer.Endpoint1.{Endpoint1};
 ghost use Rattle.usb_device.specs.Calls.{EpCall, Polled, Out};
 ghost use Rattle.usb_device.specs.Bus1.{no_polls, room_of, blank, OnlyTold};
 ghost use Rattle.usb_device.specs.Requests.{Lent};
-ghost use Rattle.usb_device.specs.Events.{Event};
+ghost use Rattle.usb_device.specs.Events.{Event, SuspendCame, ResumeCame, WakeAsked};
 ghost use Rattle.usb_device.specs.Through.{calls_of};
 ghost use Rattle.usb_device.specs.Waits.{Moment, Scanned, Released};
 ghost use Rattle.usb_device.specs.ties.Waited.{Waited};
 ghost use Rattle.usb_device.specs.ties.Link1.{Link1, InStep, NothingWithheld, may_send};
-ghost use Rattle.usb_device.specs.ties.Layered.{Layered, PolledOnce, endpoint_set, with_state, is_ready};
+ghost use Rattle.usb_device.specs.ties.Layered.{Layered, PolledOnce, endpoint_set, with_state, is_ready, report_waits};
 
 use crate::buffers::Buffers;
 use crate::report_buffers::ReportBuffers;
@@ -38,7 +38,7 @@ fn endpoint_set(change: Option<Change>) -> Option<Endpoint1>
 {
     match change {
         Some(Change::Endpoint(state)) => Some(state),
-        Some(Change::Address(_)) | None => None,
+        Some(Change::Address(_) | Change::Wakeup(_)) | None => None,
     }
 }
 
@@ -106,15 +106,58 @@ impl<'a, E: Endpoints, B: Buffers> Device<'a, E, B> {
         self.reports.scan();
     }
 
-    /// The host has the status packet of its transfer.
+    /// The host has the status packet of its transfer. Where that set endpoint 1, the host has begun anew. Behind any other transfer
+    /// it may have given such a request up, and it stays open which data toggle it wants.
     pub fn is_done(&mut self)
         ensures stands { (lent : Lent) (past : List Event)
             → Layered E.stands lent past self.old.layer self.old.behind self.old.reports (B.bus self.old.buffers)
             → Layered E.stands lent past self.new.layer self.new.behind self.new.reports (B.bus self.new.buffers) }
         ensures waits { (moments : List Moment) → Waited (Released ∷ moments) self.new.reports.left }
+        ensures others { (lent : Lent) (past : List Event) → StandsFor lent past self.old.layer → has_renewed lent past ≡ false
+            → (self.new.buffers ≡ self.old.buffers) × (self.new.reports ≡ record self.old.reports { left = 0 }) }
     {
-        self.buffers.host_began();
         self.reports.release();
+        if self.layer.has_renewed() {
+            self.buffers.host_began();
+            self.reports.agree();
+        }
+    }
+
+    /// The bus is suspended.
+    pub fn suspend(&mut self)
+        ensures { (lent : Lent) (past : List Event)
+            → Layered E.stands lent past self.old.layer self.old.behind self.old.reports (B.bus self.old.buffers)
+            → Layered E.stands lent (SuspendCame ∷ past) self.new.layer self.new.behind self.new.reports (B.bus self.new.buffers) }
+    {
+        self.layer.suspend();
+    }
+
+    /// The bus goes on.
+    pub fn resume(&mut self)
+        ensures { (lent : Lent) (past : List Event)
+            → Layered E.stands lent past self.old.layer self.old.behind self.old.reports (B.bus self.old.buffers)
+            → Layered E.stands lent (ResumeCame ∷ past) self.new.layer self.new.behind self.new.reports (B.bus self.new.buffers) }
+    {
+        self.layer.resume();
+    }
+
+    /// Whether to signal a remote wakeup: a report waits for the host, which has enabled it and has suspended the bus; once.
+    pub fn wakes(&mut self) -> bool
+        ensures stands { (lent : Lent) (past : List Event)
+            → Layered E.stands lent past self.old.layer self.old.behind self.old.reports (B.bus self.old.buffers)
+            → Layered E.stands lent (WakeAsked (report_waits self.old.layer self.old.reports) result ∷ past) self.new.layer self.new.behind self.new.reports (B.bus self.new.buffers) }
+        ensures answer { (lent : Lent) (past : List Event) → StandsFor lent past self.old.layer
+            → result ≡ wakes_by lent past (report_waits self.old.layer self.old.reports) }
+    {
+        let has_report = self.report_waits();
+        self.layer.wakes(has_report)
+    }
+
+    /// Whether a report waits for the host.
+    fn report_waits(&self) -> bool
+        ensures { result ≡ report_waits self.now.layer self.now.reports }
+    {
+        self.is_ready() && self.reports.is_under_way()
     }
 
     /// Takes what the host has taken of endpoint 1, and fills its buffers where it is ready and nothing is waited for: with

@@ -1,13 +1,14 @@
 //! The USB device layer: which answers are its own, and which calls go on to the device behind it.
 
-ghost use Rattle.std.specs.Prelude.{◌≡◌, ◌∷◌, [], ◌+◌, ℕ, List, None, IsSome, Some};
+ghost use Rattle.std.specs.Prelude.{◌≡◌, ◌∷◌, [], ◌+◌, ℕ, false, List, None, IsSome, Some};
 ghost use Rattle.std.specs.Option.{option_map};
 ghost use Rattle.usb_device.specs.Packets.{packet_at};
 ghost use Rattle.usb_device.specs.Requests.{Lent};
 ghost use Rattle.usb_device.specs.Calls.{EpCall};
-ghost use Rattle.usb_device.specs.Events.{Event, SetupCame, OutCame, InAsked, PollAsked, ResetCame};
-ghost use Rattle.usb_device.specs.Steps.{LayerState, begun, InAnswer, OutAnswer, PollAnswers, change_of, endpoint_then, due_then, state_then, calls_then, session, state_of, first_stage};
+ghost use Rattle.usb_device.specs.Events.{Event, SetupCame, OutCame, InAsked, PollAsked, ResetCame, SuspendCame, ResumeCame, WakeAsked};
+ghost use Rattle.usb_device.specs.Steps.{LayerState, begun, InAnswer, OutAnswer, PollAnswers, change_of, endpoint_then, due_then, renewed_then, wakeup_then, wakes, state_then, calls_then, session, state_of, first_stage};
 ghost use Rattle.usb_device.specs.ties.Value.{lent_view, data_bytes, stage_view, begun_view};
+ghost use Rattle.usb_device.specs.States.{wakes_by};
 ghost use Rattle.usb_device.specs.ties.Stands.{StandsFor};
 
 use crate::descriptors::{Data, Descriptors};
@@ -55,6 +56,10 @@ pub struct DeviceLayer<'a> {
     endpoint: Endpoint1,
     stage: Stage<'a>,
     due: Option<u8>,
+    renewed: bool,
+    wakeup: bool,
+    suspended: bool,
+    woken: bool,
 }
 
 impl<'a> Model for DeviceLayer<'a> {
@@ -63,7 +68,7 @@ impl<'a> Model for DeviceLayer<'a> {
 
     ghost Value = { LayerState };
 
-    ghost view = { λ f. record { lent = lent_view f.lent; endpoint = f.endpoint; stage = stage_view f.stage; due = f.due } };
+    ghost view = { λ f. record { lent = lent_view f.lent; endpoint = f.endpoint; stage = stage_view f.stage; due = f.due; renewed = f.renewed; wakeup = f.wakeup; suspended = f.suspended; woken = f.woken } };
 }
 
 /// The stage that a request begins in.
@@ -93,6 +98,10 @@ impl<'a> DeviceLayer<'a> {
             endpoint: Endpoint1::Off,
             stage: Stage::Theirs,
             due: None,
+            renewed: false,
+            wakeup: false,
+            suspended: false,
+            woken: false,
         }
     }
 
@@ -104,11 +113,70 @@ impl<'a> DeviceLayer<'a> {
         self.due
     }
 
+    /// Whether the status packet of the transfer under way set endpoint 1, which then begins anew.
+    pub fn has_renewed(&self) -> bool
+        ensures { result ≡ self.now.renewed }
+    {
+        self.renewed
+    }
+
     /// What endpoint 1 is.
     pub fn endpoint_1(&self) -> Endpoint1
         ensures { result ≡ self.now.endpoint }
     {
         self.endpoint
+    }
+
+    /// Whether the host has enabled remote wakeup (section 9.4.5).
+    pub fn may_wake(&self) -> bool
+        ensures { result ≡ self.now.wakeup }
+    {
+        self.wakeup
+    }
+
+    /// The bus is suspended: it was idle for 3 ms (section 7.1.7.6). Address and configuration stay.
+    pub fn suspend(&mut self)
+        ensures { (lent : Lent) (past : List Event) → StandsFor lent past self.old → StandsFor lent (SuspendCame ∷ past) self.new }
+    {
+        self.answer_suspend();
+    }
+
+    fn answer_suspend(&mut self)
+        ensures { self.new ≡ state_then self.old SuspendCame }
+    {
+        self.suspended = true;
+        self.woken = false;
+    }
+
+    /// The bus goes on.
+    pub fn resume(&mut self)
+        ensures { (lent : Lent) (past : List Event) → StandsFor lent past self.old → StandsFor lent (ResumeCame ∷ past) self.new }
+    {
+        self.answer_resume();
+    }
+
+    fn answer_resume(&mut self)
+        ensures { self.new ≡ state_then self.old ResumeCame }
+    {
+        self.suspended = false;
+    }
+
+    /// Whether to signal a remote wakeup (section 7.1.7.7), where a report waits for the host or not: once in each suspend, if the
+    /// host has enabled it.
+    pub fn wakes(&mut self, has_report: bool) -> bool
+        ensures stands { (lent : Lent) (past : List Event) → StandsFor lent past self.old → StandsFor lent (WakeAsked has_report result ∷ past) self.new }
+        ensures answer { (lent : Lent) (past : List Event) → StandsFor lent past self.old → result ≡ wakes_by lent past has_report }
+    {
+        self.answer_wakes(has_report)
+    }
+
+    fn answer_wakes(&mut self, has_report: bool) -> bool
+        ensures answer { result ≡ wakes self.old has_report }
+        ensures left { self.new ≡ state_then self.old (WakeAsked has_report result) }
+    {
+        let wakes = self.suspended && !self.woken && self.wakeup && has_report;
+        self.woken |= wakes;
+        wakes
     }
 
     /// A SETUP packet of endpoint 0, which ends the transfer before it.
@@ -126,8 +194,20 @@ impl<'a> DeviceLayer<'a> {
         ensures { self.new ≡ state_then self.old (SetupCame packet) }
     {
         let request = Request::read(packet);
-        self.stage = first_stage(request.served(self.endpoint, self.lent), request.length);
+        self.suspended = false;
+        self.stage = first_stage(
+            request.served(self.endpoint, self.wakeup, self.lent),
+            request.length,
+        );
+        self.forget();
+    }
+
+    /// No status packet of the transfer has come.
+    fn forget(&mut self)
+        ensures { self.new ≡ record self.old { due = None; renewed = false } }
+    {
         self.due = None;
+        self.renewed = false;
     }
 
     /// An OUT packet of endpoint 0. An empty one ends a read.
@@ -199,11 +279,19 @@ impl<'a> DeviceLayer<'a> {
           endpoint = endpoint_then self.old.endpoint change;
           stage = self.old.stage;
           due = due_then self.old.due change;
+          renewed = renewed_then self.old.renewed change;
+          wakeup = wakeup_then self.old.wakeup change;
+          suspended = self.old.suspended;
+          woken = self.old.woken;
         } }
     {
         match change {
-            Some(Change::Endpoint(state)) => self.endpoint = state,
+            Some(Change::Endpoint(state)) => {
+                self.endpoint = state;
+                self.renewed = true;
+            }
             Some(Change::Address(address)) => self.due = Some(address),
+            Some(Change::Wakeup(on)) => self.wakeup = on,
             None => {}
         }
     }
@@ -250,6 +338,9 @@ impl<'a> DeviceLayer<'a> {
         behind.bus_reset();
         self.endpoint = Endpoint1::Off;
         self.stage = Stage::Theirs;
-        self.due = None;
+        self.wakeup = false;
+        self.suspended = false;
+        self.woken = false;
+        self.forget();
     }
 }

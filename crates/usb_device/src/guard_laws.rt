@@ -2,8 +2,9 @@
 
 ghost use Rattle.std.specs.Prelude.{◌≡◌, ◌≤◌, ◌<◌, ◌+◌, ◌*◌, ◌∷◌, ◌++◌, ℕ, true, false, List};
 ghost use Rattle.usb_device.specs.declared.answer.EpAnswer.{EpAnswer};
+ghost use Rattle.usb_device.specs.Bus.{Seen};
 ghost use Rattle.usb_device.specs.Calls.{Out};
-ghost use Rattle.usb_device.specs.Confirmed.{WasConfirmed, asked_of};
+ghost use Rattle.usb_device.specs.Confirmed.{ConfirmedBefore, asked_of};
 ghost use Rattle.usb_device.specs.Guarding.{GuardCall, Met, Passes, calls_met, scans, is_feature, is_command, is_locked, is_refused, passage, passed, AllGuarded, StaysLocked, IsStatusStage, commands_shown, commands_taken};
 
 /// While the lock is set a feature command is stalled, and the device behind sees none: so it accepts none.
@@ -27,8 +28,8 @@ pub fn what_began_goes_on()
 
 /// What a guarded device confirmed, the device behind confirmed.
 pub fn guarded_is_confirmed()
-    ensures { (pace : ℕ) (past : List GuardCall) (setup data_ : List ℕ) → AllGuarded pace past → WasConfirmed setup data_ (calls_met past)
-        → WasConfirmed setup data_ (passed pace past) }
+    ensures { (pace : ℕ) (past : List GuardCall) (sent : List Seen) (setup data_ : List ℕ) → AllGuarded pace past
+        → ConfirmedBefore sent setup data_ (calls_met past) → ConfirmedBefore sent setup data_ (passed pace past) }
 {}
 
 /// A device acknowledges at most one feature command in fewer scans than the pace, and since the start at most one for each pace.

@@ -6,14 +6,14 @@ ghost use Rattle.usb_device.specs.Requests.{Lent};
 ghost use Rattle.usb_device.specs.Strings.{Utf16, held_units};
 ghost use Rattle.usb_device.specs.Events.{Event};
 ghost use Rattle.usb_device.specs.Steps.{AllAnswered, session, state_of};
-ghost use Rattle.usb_device.specs.States.{endpoint_by};
+ghost use Rattle.usb_device.specs.States.{endpoint_by, has_renewed, wakeup_by};
 ghost use Rattle.usb_device.specs.Through.{calls_of};
 ghost use Rattle.usb_device.specs.Bus.{Bus, Seen, InGot, Naks, NaksOut, nothing_met, is_write, setup_of, write_of};
 ghost use Rattle.usb_device.specs.Bus1.{Bus1, sent_of, no_polls};
 ghost use Rattle.usb_device.specs.Reports.{GotInOrder};
 ghost use Rattle.usb_device.specs.Waits.{Moment, is_waiting, scans_last};
 ghost use Rattle.usb_device.specs.ties.Link1.{ReportState, Link1};
-ghost use Rattle.usb_device.specs.Confirmed.{WasConfirmed, asked_of};
+ghost use Rattle.usb_device.specs.Confirmed.{ConfirmedBefore, asked_of, three_writes, last_is_lost};
 ghost use Rattle.usb_device.specs.Transfers.{TransferState, Idle, NothingWithheld0};
 ghost use Rattle.usb_device.specs.ties.Link.{Link};
 
@@ -25,33 +25,48 @@ pub fn begins()
 
 /// A control write that the host saw the end of was confirmed by the device: the host sent this SETUP packet, the controller
 /// took this data first, and the host got the empty packet, whatever was lost on the way and whatever came since. Then the
-/// device acknowledged just this data in the transfer of just this SETUP packet, and gave the empty packet for it.
+/// device acknowledged just this data in the transfer of just this SETUP packet, and gave the empty packet for it. Since then
+/// it acknowledged no data but those that the host sent since.
 pub fn seen_is_confirmed()
-    ensures { (t : TransferState) (b : Bus) (calls : List EpCall) (after before : List Seen) (setup data_ : List ℕ) → Link t b calls
+    ensures confirmed { (t : TransferState) (b : Bus) (calls : List EpCall) (after before : List Seen) (setup data_ : List ℕ) → Link t b calls
         → b.seen ≡ after ++ (InGot [] ∷ before) → setup_of before ≡ Some setup → is_write setup ≡ true → write_of before ≡ Some data_
-        → WasConfirmed setup data_ calls }
+        → ConfirmedBefore after setup data_ calls }
+    // so one, another and the first again are not met where the last is lost
+    ensures last_counts { (t : TransferState) (b : Bus) (setup one other : List ℕ) → is_write setup ≡ true → (other ≡ one → ⊥)
+        → b.seen ≡ three_writes setup one other → Link t b (last_is_lost setup one other) → ⊥ }
 {}
 
 /// What a device with its USB device layer confirmed, the device behind the layer confirmed.
 #[tactic(auto, using(crate::proofs::Behind::behind_confirmed))]
 pub fn confirmed_behind()
-    ensures { (lent : Lent) (past : List Event) (setup data_ : List ℕ) → AllAnswered lent past → WasConfirmed setup data_ (calls_of past)
-        → WasConfirmed setup data_ (session lent past) }
+    ensures { (lent : Lent) (past : List Event) (sent : List Seen) (setup data_ : List ℕ) → AllAnswered lent past
+        → ConfirmedBefore sent setup data_ (calls_of past) → ConfirmedBefore sent setup data_ (session lent past) }
 {}
 
 /// The guarantee, from the bus to the device behind the layer: what `UsbDevice::serve` keeps of a control write that the host
 /// saw the end of. The host sent this SETUP packet, the controller took this data first, and the host got the empty packet:
-/// then the device behind acknowledged just this data in the transfer of just this SETUP packet, and gave the empty packet.
+/// then the device behind acknowledged just this data in the transfer of just this SETUP packet, and gave the empty packet,
+/// before it acknowledged any data that the host sent since.
 pub fn confirmed_on_the_bus()
     ensures { (t : TransferState) (b : Bus) (calls : List EpCall) (lent : Lent) (past : List Event) (after before : List Seen) (setup data_ : List ℕ)
         → Link t b calls → AllAnswered lent past → no_polls (calls_of past) ≡ no_polls calls
         → b.seen ≡ after ++ (InGot [] ∷ before) → setup_of before ≡ Some setup → is_write setup ≡ true → write_of before ≡ Some data_
-        → WasConfirmed setup data_ (session lent past) }
+        → ConfirmedBefore after setup data_ (session lent past) }
 {}
 
 /// What endpoint 1 is, is what the last completed request says that sets it.
 pub fn endpoint_is_looked_back()
     ensures { (lent : Lent) (past : List Event) → AllAnswered lent past → (state_of lent past).endpoint ≡ endpoint_by lent past }
+{}
+
+/// Whether remote wakeup is enabled, is what the last completed request says that sets it.
+pub fn remote_wakeup_is_looked_back()
+    ensures { (lent : Lent) (past : List Event) → AllAnswered lent past → (state_of lent past).wakeup ≡ wakeup_by lent past }
+{}
+
+/// Whether the transfer under way has set endpoint 1, is whether one of its requests was completed that sets it.
+pub fn what_a_transfer_set_is_looked_back()
+    ensures { (lent : Lent) (past : List Event) → AllAnswered lent past → (state_of lent past).renewed ≡ has_renewed lent past }
 {}
 
 /// What the host took as new since the last reset are the reports that the device gave, whole and in their order: all of them, or

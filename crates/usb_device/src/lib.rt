@@ -4,7 +4,8 @@
 //! device, with descriptors and names that a maker lends (`Descriptors`), and hands everything else on to the device behind
 //! it (`Endpoints`). `ControlBuffers` and `ReportBuffers` hand the packets of endpoints 0 and 1 to a controller beforehand
 //! (`Controller`, `Buffers`). `write` makes a whole control write, for a stack that keeps endpoint 0 to itself. `Guarded` is a
-//! maker's lock and pace of feature commands (`guard_laws`). It takes no memory and needs no `unsafe`. Sections are those of
+//! maker's lock and pace of feature commands (`guard_laws`), and `Forgetting` lets a host forget a report that was under way
+//! while the protocol was set. It takes no memory and needs no `unsafe`. Sections are those of
 //! USB 2.0.
 //!
 //! The guarantee: a control write that the host saw the end of was acknowledged, and then confirmed by the empty packet, in
@@ -19,7 +20,7 @@
 //! The controller is told its address once the host has acknowledged the status packet of SET_ADDRESS and no later SETUP packet
 //! came, and at no other time.
 //!
-//! Not yet here: suspend and remote wakeup.
+//! A remote wakeup is asked for once in each suspend, where the host enabled it and a report waits (`UsbDevice::wakes`).
 #![tactic(auto)]
 
 mod answer;
@@ -30,6 +31,7 @@ mod descriptors;
 mod device;
 mod device_layer;
 mod endpoints;
+mod forgetting;
 mod guard;
 pub mod guard_laws;
 mod guarded;
@@ -44,6 +46,7 @@ mod strings;
 #[cfg(test)]
 mod tests;
 mod usb_device;
+mod whole_reads;
 mod whole_transfers;
 
 pub use answer::{Change, Endpoint1, EpAnswer, PollAnswer, Report};
@@ -54,6 +57,7 @@ pub use descriptors::Descriptors;
 pub use device::Device;
 pub use device_layer::DeviceLayer;
 pub use endpoints::Endpoints;
+pub use forgetting::Forgetting;
 pub use guarded::{Guarded, ScansMatrix};
 pub use played_buffers::{Brought, Played, PlayedBuffers};
 pub use played_controller::{Played0, PlayedController, Saw};
@@ -61,4 +65,5 @@ pub use quiet_controller::QuietController;
 pub use report_buffers::ReportBuffers;
 pub use strings::string_descriptor;
 pub use usb_device::UsbDevice;
-pub use whole_transfers::{Status, TransferError, Works, status_of, write};
+pub use whole_reads::{ReadBytes, read};
+pub use whole_transfers::{Status, TransferError, Works, data_status_of, status_of, write};

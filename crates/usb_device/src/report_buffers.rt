@@ -9,7 +9,7 @@ ghost use Rattle.usb_device.specs.States.{is_empty_packet};
 ghost use Rattle.usb_device.specs.Reports.{count_of};
 ghost use Rattle.usb_device.specs.Waits.{Moment, Held, Scanned, Released};
 ghost use Rattle.usb_device.specs.ties.Waited.{Waited};
-ghost use Rattle.usb_device.specs.ties.Link1.{ReportState, Link1, to_hand, is_more, is_over, is_begun, IsHeld, InStep};
+ghost use Rattle.usb_device.specs.ties.Link1.{ReportState, Link1, to_hand, is_more, is_over, is_begun, is_under_way, IsHeld, InStep};
 ghost use Rattle.usb_device.specs.declared.report_buffers.Course.TheVariants.{Rests, Begins, Goes};
 
 use crate::{Buffers, EpAnswer, PacketSize, Report};
@@ -107,14 +107,14 @@ fn behind(bytes: &[u8], count: usize) -> Report
 }
 
 /// Whether a SETUP packet is SET_PROTOCOL.
-fn sets_protocol(setup: [u8; 8]) -> bool
+pub(crate) fn sets_protocol(setup: [u8; 8]) -> bool
     ensures { result ≡ sets_protocol (Some setup) }
 {
     setup[0] == 0x21 && setup[1] == 0x0b
 }
 
 /// Whether an answer is the empty packet.
-fn is_empty(answer: &EpAnswer) -> bool
+pub(crate) fn is_empty(answer: &EpAnswer) -> bool
     ensures { result ≡ is_empty_packet answer.now }
 {
     match answer {
@@ -182,13 +182,21 @@ impl ReportBuffers {
         self.waits = self.waits.saturating_sub(1);
     }
 
-    /// The host has taken the status packet. A host that has it has begun anew with DATA0, where the device has.
+    /// The host has taken the status packet: nothing is waited for.
     pub fn release(&mut self)
         ensures waits { (moments : List Moment) → Waited (Released ∷ moments) self.new.left }
-        ensures linked { (b : Bus1) (calls : List EpCall) → (b.opened ≡ true → b.host ≡ false)
-            → Link1 self.old b calls → Link1 self.new b calls }
+        ensures linked { (b : Bus1) (calls : List EpCall) → Link1 self.old b calls → Link1 self.new b calls }
+        ensures same { self.new ≡ record self.old { left = 0 } }
     {
         self.waits = 0;
+    }
+
+    /// The host has begun anew with DATA0, where the device has: the toggles agree.
+    pub fn agree(&mut self)
+        ensures linked { (b : Bus1) (calls : List EpCall) → (b.opened ≡ true → b.host ≡ false)
+            → Link1 self.old b calls → Link1 self.new b calls }
+        ensures waits { self.new.left ≡ self.old.left }
+    {
         if !self.lost {
             self.unsure = false;
         }
@@ -344,6 +352,13 @@ impl ReportBuffers {
         ensures { result ≡ (self.now.left == 0) }
     {
         self.waits == 0
+    }
+
+    /// Whether a report is under way.
+    pub fn is_under_way(&self) -> bool
+        ensures { result ≡ is_under_way self.now.course }
+    {
+        !matches!(self.course, Course::Rests)
     }
 
     /// Whether no report is under way.

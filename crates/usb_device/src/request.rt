@@ -1,7 +1,7 @@
 //! What a SETUP packet asks for.
 
 ghost use Rattle.std.specs.Prelude.{◌≡◌, ◌∷◌, [], ◌==◌, ◌&&◌};
-ghost use Rattle.usb_device.specs.Requests.{request_of, served, is_configured, is_halted, bit, names, device_status, interface_status, endpoint_status, halt, set_address, configuration, set_configuration, interface, set_interface, string, descriptor, hid_descriptor};
+ghost use Rattle.usb_device.specs.Requests.{request_of, served, is_configured, is_halted, bit, names, device_status, remote_wakeup, interface_status, endpoint_status, halt, set_address, configuration, set_configuration, interface, set_interface, string, descriptor, hid_descriptor};
 ghost use Rattle.usb_device.specs.ties.Value.{fields_view, begun_view, lent_view};
 
 use crate::descriptors::{Data, Descriptors};
@@ -54,15 +54,22 @@ impl Request {
 
     /// What the USB device layer serves it with; none where it is left to the device behind.
     #[tactic(auto, unfolding(crate::specs::Requests::served))]
-    pub(crate) fn served<'a>(self, state: Endpoint1, lent: Descriptors<'a>) -> Option<Served<'a>>
-        ensures { begun_view result ≡ served (lent_view lent.entry) state (fields_view self) }
+    pub(crate) fn served<'a>(
+        self,
+        state: Endpoint1,
+        wakeup: bool,
+        lent: Descriptors<'a>,
+    ) -> Option<Served<'a>>
+        ensures { begun_view result ≡ served (lent_view lent.entry) state wakeup (fields_view self) }
     {
         match (self.kind, self.code) {
-            (0x80, 0x00) => self.device_status(),
+            (0x80, 0x00) => self.device_status(wakeup),
             (0x81, 0x00) => self.interface_status(state),
             (0x82, 0x00) => self.endpoint_status(state),
             (0x02, 0x01) => self.halt(state, Endpoint1::Ready),
             (0x02, 0x03) => self.halt(state, Endpoint1::Halted),
+            (0x00, 0x01) => self.remote_wakeup(lent, false),
+            (0x00, 0x03) => self.remote_wakeup(lent, true),
             (0x00, 0x05) => self.set_address(state),
             (0x80, 0x06) => self.descriptor(lent),
             (0x81, 0x06) => self.hid_descriptor(lent),
@@ -81,10 +88,14 @@ impl Request {
         self.value == value && self.index == index
     }
 
-    fn device_status<'a>(self) -> Option<Served<'a>>
-        ensures { begun_view result ≡ device_status (fields_view self) }
+    fn device_status<'a>(self, wakeup: bool) -> Option<Served<'a>>
+        ensures { begun_view result ≡ device_status wakeup (fields_view self) }
     {
-        if self.names(0, 0) { Some(two(0)) } else { None }
+        if self.names(0, 0) {
+            Some(two(if wakeup { 2 } else { 0 }))
+        } else {
+            None
+        }
     }
 
     fn interface_status<'a>(self, state: Endpoint1) -> Option<Served<'a>>
@@ -104,6 +115,16 @@ impl Request {
             Some(two(0))
         } else if state.is_configured() && self.names(0, 0x81) {
             Some(two(if state == Endpoint1::Halted { 1 } else { 0 }))
+        } else {
+            None
+        }
+    }
+
+    fn remote_wakeup<'a>(self, lent: Descriptors<'a>, next: bool) -> Option<Served<'a>>
+        ensures { begun_view result ≡ remote_wakeup (lent_view lent.entry) (fields_view self) next }
+    {
+        if lent.can_wake() && self.names(1, 0) && self.length == 0 {
+            Some(Served::Sets(Change::Wakeup(next)))
         } else {
             None
         }

@@ -4,16 +4,17 @@ ghost use Rattle.std.specs.Prelude.{◌≡◌, ◌-◌, ◌∷◌, [], false, �
 ghost use Rattle.usb_device.specs.Calls.{EpCall};
 ghost use Rattle.usb_device.specs.Addresses.{Addressed, Tells};
 ghost use Rattle.usb_device.specs.Bus.{Bus, Goes};
-ghost use Rattle.usb_device.specs.Bus1.{blank, room_of};
+ghost use Rattle.usb_device.specs.Bus1.{KeptOrReset, blank, room_of};
 ghost use Rattle.usb_device.specs.Requests.{Lent};
-ghost use Rattle.usb_device.specs.Events.{Event};
+ghost use Rattle.usb_device.specs.Events.{Event, SuspendCame, ResumeCame, WakeAsked};
+ghost use Rattle.usb_device.specs.States.{wakes_by};
 ghost use Rattle.usb_device.specs.Through.{calls_of};
 ghost use Rattle.usb_device.specs.Transfers.{Idle, is_done};
 ghost use Rattle.usb_device.specs.Guarding.{GuardCall, Locked};
 ghost use Rattle.usb_device.specs.ties.Guarded.{Guards, guarded_stands};
 ghost use Rattle.usb_device.specs.ties.Stands.{StandsFor};
 ghost use Rattle.usb_device.specs.ties.Link1.{NothingWithheld, may_send};
-ghost use Rattle.usb_device.specs.ties.Layered.{Layered, Runs, is_ready};
+ghost use Rattle.usb_device.specs.ties.Layered.{Layered, Runs, is_ready, report_waits};
 
 use crate::buffers::Buffers;
 use crate::{
@@ -70,12 +71,47 @@ impl<'a, E: Endpoints, B: Buffers> UsbDevice<'a, E, B> {
             × Runs E.stands self.new.control (C.bus controller.new) later named since self.new.device.layer self.new.device.behind self.new.device.reports (B.bus self.new.device.buffers)
             × NothingWithheld (may_send (is_ready self.new.device.layer.endpoint) self.new.device.reports.left) (room_of B.two) self.new.device.reports
             (B.bus self.new.device.buffers) (calls_of since)
-            × Addressed (is_done self.new.control) self.new.device.layer.due (C.bus controller.new).met.reset calls later (C.address_of controller.old) (C.address_of controller.new) }
+            × Addressed (is_done self.new.control) self.new.device.layer.due (C.bus controller.new).met.reset calls later (C.address_of controller.old) (C.address_of controller.new)
+            × KeptOrReset calls later }
     {
         self.control.serve(&mut self.device, controller);
         self.settle();
         self.device.serve_reports();
         self.tell(controller);
+    }
+
+    /// The bus is suspended: the controller saw it idle for 3 ms (section 7.1.7.6). Address and configuration stay. `resumed`, a SETUP
+    /// packet and a reset of the bus end it.
+    pub fn suspended(&mut self)
+        ensures { (b : Bus) (calls : List EpCall) (lent : Lent) (past : List Event)
+            → Runs E.stands self.old.control b calls lent past self.old.device.layer self.old.device.behind self.old.device.reports (B.bus self.old.device.buffers)
+            → Runs E.stands self.new.control b calls lent (SuspendCame ∷ past) self.new.device.layer self.new.device.behind self.new.device.reports (B.bus self.new.device.buffers) }
+    {
+        self.device.suspend();
+    }
+
+    /// The bus goes on: the controller saw it resume (section 7.1.7.7).
+    pub fn resumed(&mut self)
+        ensures { (b : Bus) (calls : List EpCall) (lent : Lent) (past : List Event)
+            → Runs E.stands self.old.control b calls lent past self.old.device.layer self.old.device.behind self.old.device.reports (B.bus self.old.device.buffers)
+            → Runs E.stands self.new.control b calls lent (ResumeCame ∷ past) self.new.device.layer self.new.device.behind self.new.device.reports (B.bus self.new.device.buffers) }
+    {
+        self.device.resume();
+    }
+
+    /// Whether the controller is to signal a remote wakeup (section 7.1.7.7), asked behind `serve`: a report waits for the host, which
+    /// has enabled remote wakeup and has suspended the bus. It is `true` once in each suspend.
+    ///
+    /// The driver signals K for 1 to 15 ms, and not before the bus was idle for 5 ms.
+    pub fn wakes(&mut self) -> bool
+        ensures runs { (b : Bus) (calls : List EpCall) (lent : Lent) (past : List Event)
+            → Runs E.stands self.old.control b calls lent past self.old.device.layer self.old.device.behind self.old.device.reports (B.bus self.old.device.buffers)
+            → Runs E.stands self.new.control b calls lent (WakeAsked (report_waits self.old.device.layer self.old.device.reports) result ∷ past) self.new.device.layer self.new.device.behind self.new.device.reports (B.bus self.new.device.buffers) }
+        ensures answer { (b : Bus) (calls : List EpCall) (lent : Lent) (past : List Event)
+            → Runs E.stands self.old.control b calls lent past self.old.device.layer self.old.device.behind self.old.device.reports (B.bus self.old.device.buffers)
+            → result ≡ wakes_by lent past (report_waits self.old.device.layer self.old.device.reports) }
+    {
+        self.device.wakes()
     }
 
     /// The controller has the address once the host has the status packet that brings it.

@@ -1,9 +1,9 @@
 //! Whole control transfers, for a stack that keeps endpoint 0 to itself and hands over a request with its data.
 
-ghost use Rattle.std.specs.Prelude.{◌≡◌, ℕ, List, Some, MatchResult};
+ghost use Rattle.std.specs.Prelude.{◌≡◌, ◌++◌, ℕ, List, MatchResult};
 ghost use Rattle.usb_device.specs.Calls.{EpCall};
-ghost use Rattle.usb_device.specs.Confirmed.{WasConfirmed, asked_of, taken_of};
-ghost use Rattle.usb_device.specs.Whole.{FailedBy, naks, status_of};
+ghost use Rattle.usb_device.specs.Whole.{FailedBy, IsWritten, data_status_of, status_of};
+ghost use Rattle.usb_device.specs.ties.Whole.{Gives, IsConfirmed, NotConfirmed};
 
 use crate::{Endpoints, EpAnswer};
 
@@ -21,41 +21,57 @@ pub trait Works: Endpoints {
 /// Why a whole transfer failed.
 #[derive(Clone, Copy, Debug, PartialEq, Eq)]
 pub enum TransferError {
-    /// The device refused the request or its data.
+    /// The device stalled the request, its data or its status stage.
     Refused,
-    /// The device was not done after the steps that it was given.
+    /// The device put the data off by NAK, and took nothing. The same transfer may be made again later.
+    Busy,
+    /// The device took the data, and was not done after the steps that it was given: it goes on with them.
     Unfinished,
 }
 
-/// Makes a control write: its data, and its status stage, for which the device works at most so many steps.
+/// Makes a control write: its SETUP packet, its data in one packet if there are any, and its status stage, for which the
+/// device works at most so many steps (USB 2.0 section 8.5.3).
 ///
 /// `Ok` says that the device took the data and then confirmed them by the empty packet: so they are stored, where that is
-/// what the device confirms. The stack may then acknowledge the status stage, and on an error it stalls it.
+/// what the device confirms. The stack may then acknowledge the status stage, and on an error it stalls it. Each error says
+/// what the device was asked: behind `Unfinished` it has the data, and behind `Busy` it has not.
 pub fn write<E: Works>(
     device: &mut E,
     setup: [u8; 8],
     bytes: &[u8],
     steps: u16,
 ) -> Result<(), TransferError>
-    ensures { (past : List EpCall) → E.stands past device.old → (later : List EpCall) × E.stands later device.new
-        × MatchResult result (λ _. WasConfirmed setup bytes.now later) (λ e. FailedBy e steps later) }
+    ensures { (past : List EpCall) → E.stands past device.old → (since : List EpCall) × E.stands (since ++ past) device.new
+        × MatchResult result (λ _. IsWritten setup bytes.now since) (λ e. FailedBy e steps setup bytes.now since) }
 {
     device.setup(setup);
-    match device.out(bytes) {
-        EpAnswer::Ack => confirm(device, steps),
-        EpAnswer::Nak | EpAnswer::Packet(_) | EpAnswer::Stall => Err(TransferError::Refused),
+    match give(device, bytes) {
+        Status::Done => confirm(device, steps),
+        Status::Waits => Err(TransferError::Busy),
+        Status::Refuses => Err(TransferError::Refused),
     }
 }
 
-/// What an IN token of a status stage brings.
+/// What an answer says of its stage.
 #[derive(Clone, Copy, Debug, PartialEq, Eq)]
 pub enum Status {
-    /// The empty packet.
+    /// The stage is over: ACK of the data, or the empty packet of the status stage.
     Done,
     /// NAK.
     Waits,
     /// Anything else.
     Refuses,
+}
+
+/// Reads an answer to the data.
+pub fn data_status_of(answer: EpAnswer) -> Status
+    ensures { result ≡ data_status_of answer }
+{
+    match answer {
+        EpAnswer::Ack => Status::Done,
+        EpAnswer::Nak => Status::Waits,
+        EpAnswer::Packet(_) | EpAnswer::Stall => Status::Refuses,
+    }
 }
 
 /// Reads an answer in a status stage.
@@ -75,11 +91,22 @@ pub fn status_of(answer: EpAnswer) -> Status
     }
 }
 
+/// Hands over the data of a write, if there are any.
+fn give<E: Endpoints>(device: &mut E, bytes: &[u8]) -> Status
+    ensures { (past : List EpCall) → E.stands past device.old → (since : List EpCall) × E.stands (since ++ past) device.new
+        × Gives result bytes.now since }
+{
+    if bytes.is_empty() {
+        Status::Done
+    } else {
+        data_status_of(device.out(bytes))
+    }
+}
+
 /// Asks for the empty packet of the status stage.
 fn confirm<E: Works>(device: &mut E, steps: u16) -> Result<(), TransferError>
-    ensures { (past : List EpCall) (setup data_ : List ℕ) → E.stands past device.old → asked_of past ≡ Some setup → taken_of past ≡ Some data_
-        → naks past ≡ 0 → (later : List EpCall) × E.stands later device.new
-        × MatchResult result (λ _. WasConfirmed setup data_ later) (λ e. FailedBy e steps later) }
+    ensures { (past : List EpCall) → E.stands past device.old → (since : List EpCall) × E.stands (since ++ past) device.new
+        × MatchResult result (λ _. IsConfirmed since) (λ e. NotConfirmed e steps since) }
 {
     for _step in 0..steps {
         match status_of(device.in_packet()) {

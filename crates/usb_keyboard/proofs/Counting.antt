@@ -35,7 +35,7 @@ both true true c e f = f
 both true false c e f = cc
 both false b c e f = cc
 
-feature_named : (setup : Option (List ℕ)) → report_named setup ≡ Some FeatureData → is_feature setup ≡ true
+pub feature_named : (setup : Option (List ℕ)) → report_named setup ≡ Some FeatureData → is_feature setup ≡ true
 unfolding report_named
 feature_named None e = cc
 feature_named (Some setup) e =

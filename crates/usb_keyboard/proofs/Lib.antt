@@ -2,7 +2,9 @@ pub mod Sizes
 pub mod Keeping
 pub mod Confirming
 pub mod Once
-pub mod Here
+pub mod Since
 pub mod Counting
 pub mod Seen
+pub mod Ending
 pub mod Writing
+pub mod Forgotten

@@ -1,44 +1,13 @@
--- From the session of the bus to the flash.
+-- What a keyboard behind a lock and a pace accepts.
 use Rattle.std.proofs.Common.{◌≡◌, ℕ, ◌+◌, ◌*◌, ◌≤◌, ◌<◌, List, ◌++◌, length, true, sym, ap, subst, ◌∙◌, arith}
-use Rattle.layers.specs.declared.command.Command.{Command}
 use Rattle.layers.specs.Codes.{DefaultCodes}
 use Rattle.keyboard.specs.Calls.{Call}
 use Rattle.keyboard.specs.Commands.{accepted}
-use Rattle.keyboard.specs.ties.Value.{KeyboardValue}
-use Rattle.keyboard.proofs.Confirming as keyboard
 use Rattle.usb_device.specs.Calls.{EpCall}
-use Rattle.usb_device.specs.Confirmed.{WasConfirmed}
 use Rattle.usb_device.specs.Guarding.{GuardCall, AllGuarded, StaysLocked, is_locked, passed, scans, commands_taken}
 use Rattle.usb_device.proofs.Pacing.{taken, between, since_start}
 use Rattle.usb_keyboard.specs.Plain.{usb_calls}
-use Rattle.usb_keyboard.specs.Stored.{Brings}
-use Rattle.usb_keyboard.specs.ties.Stands.{RunsSince, StandsForUsb, IsStored}
-use Rattle.usb_keyboard.proofs.Confirming.{confirmed}
-use Rattle.usb_keyboard.proofs.Keeping.{has_confirmed}
 use Rattle.usb_keyboard.proofs.Counting.{no_more, no_less, at_most_taken}
-
-module _ (defaults : DefaultCodes) where
-  pub stored_by : (start : List ℕ) (past : List Call) (keyboard : KeyboardValue) (image setup data_ : List ℕ) (command : Command) → RunsSince defaults start past keyboard image
-      → WasConfirmed setup data_ (usb_calls past) → Brings setup data_ command → IsStored defaults keyboard image command
-  stored_by start past keyboard_ image setup data_ command r w b =
-      let at = confirmed past setup data_ command w b.named b.read in
-      record {
-        start = start;
-        past = past;
-        runs = r;
-        before = at.0;
-        confirmed = at.1;
-        settled = keyboard.confirmed defaults start past at.0 command r.stands.answered at.1;
-        has = λ layer key code l k x n. has_confirmed defaults start past at.0 command layer key code l k r.stands.answered at.1 x n;
-      }
-
-  pub stored : (calls : List EpCall) (keyboard : KeyboardValue) (image setup data_ : List ℕ) (command : Command) → StandsForUsb defaults calls keyboard image → WasConfirmed setup data_ calls → Brings setup data_ command
-      → IsStored defaults keyboard image command
-  stored calls keyboard_ image setup data_ command s w b =
-      let P : List EpCall → Type 0 = λ x. WasConfirmed setup data_ x in
-      stored_by s.0 s.1 keyboard_ image setup data_ command s.2 (subst P (sym s.3) w) b
-
--- ---- behind a guard
 
 equal : (a b : ℕ) → a ≤ b → b ≤ a → a ≡ b
 equal a b l k = omega (arith, l, k)

@@ -1,5 +1,6 @@
 -- A whole control write, call by call.
-use Rattle.std.proofs.Common.{◌≡◌, ◌==◌, ℕ, ◌+◌, ◌≤◌, length, Bool, false, drop, List, [], ◌∷◌, ◌++◌, Some, Result, Ok, Err, refl, sym, ap, subst, ◌∙◌, append_assoc, arith}
+use Rattle.std.proofs.Common.{◌≡◌, ◌==◌, ℕ, ◌+◌, length, true, false, drop, List, [], ◌∷◌, ◌++◌, Some, Result, Ok, Err, refl, sym, ap, subst, ◌∙◌, append_assoc, arith}
+use Rattle.std.proofs.lemmas.List.{nil_from_length}
 use Rattle.std.specs.Result.{result_ok}
 use Rattle.std.specs.Prelude.{MatchResult}
 use Rattle.keyboard.specs.ties.Value.{KeyboardValue}
@@ -8,162 +9,89 @@ use Rattle.layers.specs.declared.command.Command.{Command}
 use Rattle.layers.specs.Codes.{DefaultCodes}
 use Rattle.control_ep.specs.declared.answer.EpAnswer.{EpAnswer as Answer}
 use Rattle.control_ep.specs.declared.answer.EpAnswer.TheVariants as Answers
-use Rattle.usb_device.specs.declared.answer.EpAnswer.TheVariants as Plains
 use Rattle.usb_device.specs.declared.whole_transfers.TransferError.{TransferError}
-use Rattle.usb_device.specs.declared.whole_transfers.TransferError.TheVariants.{Refused, Unfinished}
+use Rattle.usb_device.specs.declared.whole_transfers.TransferError.TheVariants.{Refused, Busy}
+use Rattle.usb_device.specs.declared.whole_transfers.Status.{Status}
 use Rattle.usb_device.specs.declared.whole_transfers.Status.TheVariants.{Done, Waits, Refuses}
-use Rattle.usb_device.specs.Calls.{EpCall}
-use Rattle.usb_device.specs.Calls as Eps
-use Rattle.usb_device.specs.Whole.{WasRefused, naks, status_by, status_of}
-use Rattle.usb_device.proofs.Wholes.{refuses_is}
+use Rattle.usb_device.specs.Whole.{data_status_of, status_by, status_of}
 use Rattle.keymap_store.specs.declared.store.Work.{Work}
-use Rattle.keyboard.specs.Acknowledged.{confirmation, SameTransfer, NoneAcceptedWrites, IsConfirmed}
-use Rattle.keyboard.specs.Calls.{Call, Scanned, SetUp, Out, In, Polled, Worked, BusReset}
+use Rattle.keyboard.specs.Acknowledged.{confirmation, NoneAcceptedWrites, IsConfirmed}
+use Rattle.keyboard.specs.Bounded.{IsInTime}
+use Rattle.keyboard.specs.Calls.{Call, SetUp, Out, In, Worked}
 use Rattle.keyboard.specs.Commands.{accepts}
 use Rattle.keyboard.specs.Feature.{command_in}
 use Rattle.keyboard.specs.Lawful.{IsLawful}
-use Rattle.usb_keyboard.specs.Plain.{plain, usb_calls}
-use Rattle.usb_keyboard.specs.Whole.{AreWaits, data_calls, IsWritten, most_asked, Fails, Stores}
-use Rattle.usb_keyboard.specs.ties.Whole.{is_ack, AreTaken, IsStatusStage}
+use Rattle.usb_keyboard.specs.Plain.{plain}
+use Rattle.usb_keyboard.specs.Whole.{put_off, data_calls, IsWritten, Fails, in_data, HasNoEffect, Stores}
+use Rattle.usb_keyboard.specs.ties.Whole.{Gives, IsStatusStage, WasInTime, NotConfirmed}
 use Rattle.usb_keyboard.proofs.Confirming.{accepted_by}
+use Rattle.usb_keyboard.proofs.Ending.{same_transfer, ended, not_taken, none_taken}
 use Rattle.usb_keyboard.proofs.Keeping.{has_confirmed}
 
 -- ---- the data
 
-taken_by : (byte : ℕ) (bytes : List ℕ) (answer : Answer) → AreTaken (is_ack (plain answer)) (byte ∷ bytes) (Out (byte ∷ bytes) answer ∷ [])
-taken_by byte bytes Answers.Ack = refl
-taken_by byte bytes Answers.Nak = tt
-taken_by byte bytes (Answers.Packet packet) = tt
-taken_by byte bytes (Answers.Stall why) = tt
+gives_by : (byte : ℕ) (bytes : List ℕ) (answer : Answer) → Gives (data_status_of (plain answer)) (byte ∷ bytes) (Out (byte ∷ bytes) answer ∷ [])
+gives_by byte bytes Answers.Ack = refl
+gives_by byte bytes Answers.Nak = refl
+gives_by byte bytes (Answers.Packet packet) = (Answers.Packet packet, refl, refl)
+gives_by byte bytes (Answers.Stall why) = (Answers.Stall why, refl, refl)
 
-pub taken_any : (data_ : List ℕ) (answer : Answer) (b : Bool) → (length data_ == 0) ≡ false → b ≡ is_ack (plain answer) → AreTaken b data_ (Out data_ answer ∷ [])
-taken_any [] answer b e a = cc
-taken_any (byte ∷ bytes) answer b e a =
-    let P : Bool → Type 0 = λ x. AreTaken x (byte ∷ bytes) (Out (byte ∷ bytes) answer ∷ []) in
-    subst P (sym a) (taken_by byte bytes answer)
+pub gives : (data_ : List ℕ) (answer : Answer) (status : Status) → (length data_ == 0) ≡ false → status ≡ data_status_of (plain answer) → Gives status data_ (Out data_ answer ∷ [])
+gives [] answer status e s = cc
+gives (byte ∷ bytes) answer status e s =
+    let P : Status → Type 0 = λ x. Gives x (byte ∷ bytes) (Out (byte ∷ bytes) answer ∷ []) in
+    subst P (sym s) (gives_by byte bytes answer)
+
+pub gives_none : (data_ : List ℕ) → (length data_ == 0) ≡ true → Gives Done data_ []
+gives_none data_ e = let n : length data_ ≡ 0 = grind (arith, e) in rw (nil_from_length data_ n) refl
 
 -- ---- the status stage
 
--- IN packets that were answered by NAK so often, with steps of the flash work behind each
-pub record Waited (since : List Call) (count : ℕ) : Type 0 where
-  pub are : AreWaits since
-  pub counted : naks (usb_calls since) ≡ count
-
-pub nothing_waited : Waited [] 0
-nothing_waited = record { are = tt; counted = refl }
+never : (bytes : List ℕ) → status_by bytes ≡ Waits → ⊥
+never [] f = cc
+never (x ∷ rest) f = cc
 
 nak_is : (answer : Answer) → status_of (plain answer) ≡ Waits → answer ≡ Answers.Nak
 nak_is Answers.Nak e = refl
 nak_is Answers.Ack e = cc
 nak_is (Answers.Packet packet) e = absurd (never packet.items e)
-  where
-    never : (bytes : List ℕ) → status_by bytes ≡ Waits → ⊥
-    never [] f = cc
-    never (x ∷ rest) f = cc
 nak_is (Answers.Stall why) e = cc
 
-pub waited_more : (since : List Call) (count : ℕ) (answer : Answer) (work : Work) (image : List ℕ) → status_of (plain answer) ≡ Waits → Waited since count
-    → Waited (Worked work image ∷ In answer ∷ since) (count + 1)
-waited_more since count answer work image e w =
-    let n : answer ≡ Answers.Nak = nak_is answer e in
-    let P : Answer → Type 0 = λ a. Waited (Worked work image ∷ In a ∷ since) (count + 1) in
-    subst P (sym n) (record { are = w.are; counted = ap (λ (x : ℕ). x + 1) w.counted })
+empty : (bytes : List ℕ) → status_by bytes ≡ Done → bytes ≡ []
+empty [] f = refl
+empty (x ∷ rest) f = cc
 
-pub done_by : (since : List Call) (answer : Answer) → status_of (plain answer) ≡ Done → AreWaits since → IsStatusStage (In answer ∷ since)
-done_by since Answers.Ack e w = cc
-done_by since Answers.Nak e w = cc
-done_by since (Answers.Packet packet) e w = (since, w, ap (λ xs. In (Answers.Packet (record { items = xs })) ∷ since) (empty packet.items e))
-  where
-    empty : (bytes : List ℕ) → status_by bytes ≡ Done → bytes ≡ []
-    empty [] f = refl
-    empty (x ∷ rest) f = cc
-done_by since (Answers.Stall why) e w = cc
+pub done_by : (steps : List (Work × List ℕ)) (answer : Answer) → status_of (plain answer) ≡ Done → IsStatusStage (In answer ∷ put_off steps)
+done_by steps Answers.Ack e = cc
+done_by steps Answers.Nak e = cc
+done_by steps (Answers.Packet packet) e = (steps, ap (λ xs. In (Answers.Packet (record { items = xs })) ∷ put_off steps) (empty packet.items e))
+done_by steps (Answers.Stall why) e = cc
 
-pub refused_by : (since : List Call) (answer : Answer) → status_of (plain answer) ≡ Refuses → Fails Refused (In answer ∷ since)
-refused_by since answer e = refuses_is (plain answer) (usb_calls since) e
+module _ (defaults : DefaultCodes) where
+  pub waited_more : (start : List ℕ) (past : List Call) (steps : List (Work × List ℕ)) (answer : Answer) (work : Work) (keyboard : KeyboardValue) (image : List ℕ) (count : ℕ) → status_of (plain answer) ≡ Waits
+      → RunsSince defaults start (Worked work image ∷ In answer ∷ put_off steps ++ past) keyboard image → IsInTime defaults start (put_off steps ++ past) → length steps ≡ count
+      → (more : List (Work × List ℕ)) × RunsSince defaults start (put_off more ++ past) keyboard image × (length more ≡ count + 1) × WasInTime defaults start past more
+  waited_more start past steps answer work keyboard image count e r t n =
+      let P : Answer → Type 0 = λ a. RunsSince defaults start (Worked work image ∷ In a ∷ put_off steps ++ past) keyboard image in
+      ((work, image) ∷ steps, subst P (nak_is answer e) r, omega (arith, n), t)
 
 -- ---- the whole
 
-calls_append : (xs ys : List Call) → usb_calls (xs ++ ys) ≡ usb_calls xs ++ usb_calls ys
-calls_append [] ys = refl
-calls_append (Scanned scan ∷ xs) ys = calls_append xs ys
-calls_append (SetUp bytes ∷ xs) ys = ap (λ l. Eps.SetUp bytes ∷ l) (calls_append xs ys)
-calls_append (Out packet answer ∷ xs) ys = ap (λ l. Eps.Out packet (plain answer) ∷ l) (calls_append xs ys)
-calls_append (In answer ∷ xs) ys = ap (λ l. Eps.In (plain answer) ∷ l) (calls_append xs ys)
-calls_append (Polled answer ∷ xs) ys = ap (λ l. Eps.Polled answer ∷ l) (calls_append xs ys)
-calls_append (Worked work image ∷ xs) ys = calls_append xs ys
-calls_append (BusReset ∷ xs) ys = ap (λ l. Eps.BusReset ∷ l) (calls_append xs ys)
-
-more_refused : (xs ys : List EpCall) → WasRefused xs → WasRefused (xs ++ ys)
-more_refused [] ys w = absurd w
-more_refused (Eps.SetUp bytes ∷ xs) ys w = absurd w
-more_refused (Eps.Out packet Plains.Ack ∷ xs) ys w = absurd w
-more_refused (Eps.Out packet Plains.Nak ∷ xs) ys w = tt
-more_refused (Eps.Out packet (Plains.Packet bytes) ∷ xs) ys w = tt
-more_refused (Eps.Out packet Plains.Stall ∷ xs) ys w = tt
-more_refused (Eps.In Plains.Ack ∷ xs) ys w = tt
-more_refused (Eps.In Plains.Nak ∷ xs) ys w = absurd w
-more_refused (Eps.In (Plains.Packet packet) ∷ xs) ys w = w
-more_refused (Eps.In Plains.Stall ∷ xs) ys w = tt
-more_refused (Eps.Polled answer ∷ xs) ys w = absurd w
-more_refused (Eps.BusReset ∷ xs) ys w = absurd w
-
-more_naks : (xs ys : List EpCall) → naks xs ≤ naks (xs ++ ys)
-more_naks [] ys = omega arith
-more_naks (Eps.SetUp bytes ∷ xs) ys = omega arith
-more_naks (Eps.Out packet answer ∷ xs) ys = omega arith
-more_naks (Eps.In Plains.Ack ∷ xs) ys = omega arith
-more_naks (Eps.In Plains.Nak ∷ xs) ys = let h = more_naks xs ys in omega (arith, h)
-more_naks (Eps.In (Plains.Packet packet) ∷ xs) ys = omega arith
-more_naks (Eps.In Plains.Stall ∷ xs) ys = omega arith
-more_naks (Eps.Polled answer ∷ xs) ys = omega arith
-more_naks (Eps.BusReset ∷ xs) ys = omega arith
-
-pub fails_more : (e : TransferError) (xs ys : List Call) → Fails e xs → Fails e (xs ++ ys)
-fails_more Refused xs ys f = let P : List EpCall → Type 0 = λ l. WasRefused l in subst P (sym (calls_append xs ys)) (more_refused (usb_calls xs) (usb_calls ys) f)
-fails_more Unfinished xs ys f =
-    let P : List EpCall → Type 0 = λ l. most_asked ≤ naks l in
-    let h = more_naks (usb_calls xs) (usb_calls ys) in
-    subst P (sym (calls_append xs ys)) (omega (arith, f, h))
-
-pub written_by : (setup data_ : List ℕ) (status taken : List Call) → IsStatusStage status → taken ≡ data_calls data_ → IsWritten setup data_ (status ++ taken ++ SetUp setup ∷ [])
+written_by : (setup data_ : List ℕ) (status taken : List Call) → IsStatusStage status → taken ≡ data_calls data_ → IsWritten setup data_ (status ++ (taken ++ SetUp setup ∷ []))
 written_by setup data_ status taken s t = record {
-  waits = s.0;
-  are_waits = s.1;
-  since_is = ap (λ l. l ++ taken ++ SetUp setup ∷ []) s.2 ∙ ap (λ l. confirmation ∷ s.0 ++ l ++ SetUp setup ∷ []) t;
+  steps = s.0;
+  since_is = ap (λ l. l ++ (taken ++ SetUp setup ∷ [])) s.1 ∙ ap (λ l. confirmation ∷ put_off s.0 ++ (l ++ SetUp setup ∷ [])) t;
 }
 
-same_transfer : (waits : List Call) → AreWaits waits → SameTransfer waits
-same_transfer [] w = tt
-same_transfer (Scanned scan ∷ waits) w = absurd w
-same_transfer (SetUp bytes ∷ waits) w = absurd w
-same_transfer (Out packet answer ∷ waits) w = absurd w
-same_transfer (In Answers.Ack ∷ waits) w = absurd w
-same_transfer (In Answers.Nak ∷ waits) w = same_transfer waits w
-same_transfer (In (Answers.Packet packet) ∷ waits) w = absurd w
-same_transfer (In (Answers.Stall why) ∷ waits) w = absurd w
-same_transfer (Polled answer ∷ waits) w = absurd w
-same_transfer (Worked work image ∷ waits) w = same_transfer waits w
-same_transfer (BusReset ∷ waits) w = absurd w
-
 module _ (defaults : DefaultCodes) where
-  none_accepted : (waits past : List Call) (layer key : ℕ) → AreWaits waits → NoneAcceptedWrites defaults waits past layer key
+  none_accepted_by : (steps : List (Work × List ℕ)) (past : List Call) (layer key : ℕ) → NoneAcceptedWrites defaults (put_off steps) past layer key
   unfolding accepts
-  none_accepted [] past layer key w = tt
-  none_accepted (Scanned scan ∷ waits) past layer key w = absurd w
-  none_accepted (SetUp bytes ∷ waits) past layer key w = absurd w
-  none_accepted (Out packet answer ∷ waits) past layer key w = absurd w
-  none_accepted (In Answers.Ack ∷ waits) past layer key w = absurd w
-  none_accepted (In Answers.Nak ∷ waits) past layer key w = (tt, none_accepted waits past layer key w)
-  none_accepted (In (Answers.Packet packet) ∷ waits) past layer key w = absurd w
-  none_accepted (In (Answers.Stall why) ∷ waits) past layer key w = absurd w
-  none_accepted (Polled answer ∷ waits) past layer key w = absurd w
-  none_accepted (Worked work image ∷ waits) past layer key w = (tt, none_accepted waits past layer key w)
-  none_accepted (BusReset ∷ waits) past layer key w = absurd w
+  none_accepted_by [] past layer key = tt
+  none_accepted_by (step ∷ before) past layer key = (tt, (tt, none_accepted_by before past layer key))
 
-  confirmation_leaves : (waits past : List Call) (layer key : ℕ) → AreWaits waits → NoneAcceptedWrites defaults (confirmation ∷ waits) past layer key
+  confirmation_leaves : (steps : List (Work × List ℕ)) (past : List Call) (layer key : ℕ) → NoneAcceptedWrites defaults (confirmation ∷ put_off steps) past layer key
   unfolding accepts
-  confirmation_leaves waits past layer key w = (tt, none_accepted waits past layer key w)
+  confirmation_leaves steps past layer key = (tt, none_accepted_by steps past layer key)
 
 no_data : (command : Command) → result_ok (command_in (drop 1 [])) ≡ Some command → ⊥
 no_data command e = cc
@@ -174,43 +102,51 @@ module _ (defaults : DefaultCodes) where
   stores start past since setup (byte ∷ bytes) lawful w = λ command layer key code b l k x.
       let packet : Call = Out (byte ∷ bytes) Answers.Ack in
       let before : List Call = SetUp setup ∷ past in
-      let is : since ++ past ≡ confirmation ∷ w.waits ++ packet ∷ before =
-      ap (λ l. l ++ past) w.since_is ∙ append_assoc (confirmation ∷ w.waits ++ packet ∷ []) (SetUp setup ∷ []) past
-      ∙ append_assoc (confirmation ∷ w.waits) (packet ∷ []) before in
+      let is : since ++ past ≡ confirmation ∷ put_off w.steps ++ packet ∷ before =
+      ap (λ l. l ++ past) w.since_is ∙ append_assoc (confirmation ∷ put_off w.steps) (packet ∷ SetUp setup ∷ []) past in
       let c : IsConfirmed (since ++ past) before command = record {
         packet = packet;
-        between = w.waits;
+        between = put_off w.steps;
         after = [];
         past_is = is;
         accepted = accepted_by before setup (byte ∷ bytes) command refl b.named b.read;
-        same_transfer = same_transfer w.waits w.are_waits;
+        same_transfer = same_transfer w.steps;
       } in
-      has_confirmed defaults start (since ++ past) before command layer key code l k lawful c x (confirmation_leaves defaults w.waits (packet ∷ before) layer key w.are_waits)
+      has_confirmed defaults start (since ++ past) before command layer key code l k lawful c x (confirmation_leaves defaults w.steps (packet ∷ before) layer key)
 
-by_result : {U A B : Type 0} (result : Result U TransferError) (since : List Call) (P : TransferError → Type 0) → MatchResult result (λ _. A) P → (A → B) → ((e : TransferError) → P e → Fails e since)
-    → MatchResult result (λ _. B) (λ e. Fails e since)
-by_result (Ok u) since P m f h = f m
-by_result (Err e) since P m f h = h e m
+  by_result : {U A B : Type 0} (result : Result U TransferError) (P Q : TransferError → Type 0) → MatchResult result (λ _. A) P → (A → B) → ((e : TransferError) → P e → Q e) → MatchResult result (λ _. B) Q
+  by_result (Ok u) P Q m f h = f m
+  by_result (Err e) P Q m f h = h e m
 
-module _ (defaults : DefaultCodes) where
   pub whole : {U : Type 0} (start : List ℕ) (past : List Call) (setup data_ : List ℕ) (taken status : List Call) (keyboard : KeyboardValue) (image : List ℕ) (result : Result U TransferError)
-      → taken ≡ data_calls data_ → RunsSince defaults start (status ++ (taken ++ SetUp setup ∷ past)) keyboard image
-      → MatchResult result (λ _. IsStatusStage status) (λ e. Fails e status)
-      → (since : List Call) × RunsSince defaults start (since ++ past) keyboard image × MatchResult result (λ _. IsWritten setup data_ since × Stores defaults start (since ++ past) setup data_) (λ e. Fails e since)
+      → Gives Done data_ taken → RunsSince defaults start (status ++ (taken ++ SetUp setup ∷ past)) keyboard image
+      → MatchResult result (λ _. IsStatusStage status) (λ e. NotConfirmed defaults start (taken ++ SetUp setup ∷ past) e status)
+      → (since : List Call) × RunsSince defaults start (since ++ past) keyboard image
+      × MatchResult result (λ _. IsWritten setup data_ since × Stores defaults start (since ++ past) setup data_) (λ e. Fails e setup data_ since × HasNoEffect defaults start past since)
   whole start past setup data_ taken status keyboard image result t r m =
-      let since : List Call = status ++ taken ++ SetUp setup ∷ [] in
-      let same : since ++ past ≡ status ++ (taken ++ SetUp setup ∷ past) = append_assoc (status ++ taken) (SetUp setup ∷ []) past ∙ append_assoc status taken (SetUp setup ∷ past) in
+      let since : List Call = status ++ (taken ++ SetUp setup ∷ []) in
+      let same : since ++ past ≡ status ++ (taken ++ SetUp setup ∷ past) =
+      append_assoc status (taken ++ SetUp setup ∷ []) past ∙ ap (λ l. status ++ l) (append_assoc taken (SetUp setup ∷ []) past) in
       let P : List Call → Type 0 = λ xs. RunsSince defaults start xs keyboard image in
       let runs : RunsSince defaults start (since ++ past) keyboard image = subst P (sym same) r in (
         since,
         runs,
-        by_result result since (λ e. Fails e status) m
-            (λ s. (let w = written_by setup data_ status taken s t in (w, stores defaults start past since setup data_ runs.stands.answered w)))
-            (λ e f. (let Q : List Call → Type 0 = λ xs. Fails e xs in subst Q (sym (append_assoc status taken (SetUp setup ∷ []))) (fails_more e status (taken ++ SetUp setup ∷ []) f))),
+        by_result result (λ e. NotConfirmed defaults start (taken ++ SetUp setup ∷ past) e status) (λ e. Fails e setup data_ since × HasNoEffect defaults start past since) m
+            (λ s. (let w = written_by setup data_ status taken s t in (w, stores start past since setup data_ runs.stands.answered w)))
+            (λ e n. ended defaults start past setup data_ e taken status t r.stands.answered n),
       )
 
-  pub not_taken : (start : List ℕ) (past : List Call) (setup : List ℕ) (taken : List Call) (keyboard : KeyboardValue) (image : List ℕ) → WasRefused (usb_calls taken)
-      → RunsSince defaults start (taken ++ SetUp setup ∷ past) keyboard image → (since : List Call) × RunsSince defaults start (since ++ past) keyboard image × Fails Refused since
-  not_taken start past setup taken keyboard image w r =
-      let P : List Call → Type 0 = λ xs. RunsSince defaults start xs keyboard image in
-      (taken ++ SetUp setup ∷ [], subst P (sym (append_assoc taken (SetUp setup ∷ []) past)) r, fails_more Refused taken (SetUp setup ∷ []) w)
+  pub put_off_data : (start : List ℕ) (past : List Call) (setup data_ : List ℕ) (taken : List Call) (keyboard : KeyboardValue) (image : List ℕ) → Gives Waits data_ taken
+      → RunsSince defaults start (taken ++ SetUp setup ∷ past) keyboard image → (since : List Call) × RunsSince defaults start (since ++ past) keyboard image × (Fails Busy setup data_ since × HasNoEffect defaults start past since)
+  put_off_data start past setup data_ taken keyboard image t r =
+      let P : List Call → Type 0 = λ xs. RunsSince defaults start (xs ++ SetUp setup ∷ past) keyboard image in
+      (Out data_ Answers.Nak ∷ SetUp setup ∷ [], subst P t r, (refl, none_taken defaults start past setup data_ Answers.Nak not_nak))
+    where
+      not_nak : Answers.Nak ≡ Answers.Ack → ⊥
+      not_nak e = cc
+
+  pub refused_data : (start : List ℕ) (past : List Call) (setup data_ : List ℕ) (taken : List Call) (keyboard : KeyboardValue) (image : List ℕ) → Gives Refuses data_ taken
+      → RunsSince defaults start (taken ++ SetUp setup ∷ past) keyboard image → (since : List Call) × RunsSince defaults start (since ++ past) keyboard image × (Fails Refused setup data_ since × HasNoEffect defaults start past since)
+  refused_data start past setup data_ taken keyboard image t r =
+      let P : List Call → Type 0 = λ xs. RunsSince defaults start (xs ++ SetUp setup ∷ past) keyboard image in
+      (Out data_ t.0 ∷ SetUp setup ∷ [], subst P t.2 r, (in_data t.0 t.1 refl, none_taken defaults start past setup data_ t.0 (not_taken t.0 t.1)))

@@ -10,31 +10,35 @@ ghost use Rattle.keyboard.specs.Calls.{Call, SetUp, Out, In, Polled, Worked, Bus
 ghost use Rattle.usb_keyboard.specs.Plain.{plain};
 ghost use Rattle.usb_keyboard.specs.ties.Stands.{RunsSince};
 
+use crate::held::{HoldsKeyboard, PhantomData};
 use arrayvec::ArrayVec;
-use keyboard::{KeyboardOf, NorFlash, Room, Scan, Work};
+use keyboard::{KeyboardOf, NorFlash, Room, Scan, Why, Work};
 use layers::{Defaults, Standard};
 use std::marker::Model;
 use usb_device::{Endpoints, EpAnswer, Report, ScansMatrix, Works};
 
-/// A keyboard with these defaults, with the flash that keeps its keymap.
+/// A keyboard with these defaults, or one that is lent, with the flash that keeps its keymap.
 #[derive(Drop)]
-pub struct UsbKeyboardOf<D: Defaults, F: NorFlash + Drop> {
-    keyboard: KeyboardOf<D>,
-    flash: F,
+pub struct UsbKeyboardOf<D: Defaults, K: HoldsKeyboard<D> + Drop, F: NorFlash + Drop> {
+    keyboard: K,
+    pub(crate) flash: F,
+    defaults: PhantomData<D>,
+    may_work: bool,
+    why: Option<Why>,
 }
 
 /// A keyboard with the standard defaults, with its flash.
-pub type UsbKeyboard<F> = UsbKeyboardOf<Standard, F>;
+pub type UsbKeyboard<F> = UsbKeyboardOf<Standard, KeyboardOf<Standard>, F>;
 
 // The keyboard runs on this flash.
-impl<D: Defaults, F: NorFlash + Drop> Model for UsbKeyboardOf<D, F> {
+impl<D: Defaults, K: HoldsKeyboard<D> + Drop, F: NorFlash + Drop> Model for UsbKeyboardOf<D, K, F> {
     ghost use Rattle.keyboard.specs.ties.Value.{KeyboardValue, RunsOn};
 
     ghost Value = { KeyboardValue × F };
 
-    ghost view = { λ k. (k.keyboard, k.flash) };
+    ghost view = { λ k. (K.held k.keyboard, k.flash) };
 
-    ghost invariant = { λ k. RunsOn D.defaults (F.image k.flash) k.keyboard };
+    ghost invariant = { λ k. RunsOn D.defaults (F.image k.flash) (K.held k.keyboard) };
 }
 
 /// An answer without the reason of a STALL, which a host does not see.
@@ -49,8 +53,25 @@ fn plain(answer: keyboard::EpAnswer) -> EpAnswer
     }
 }
 
+/// The reason of a STALL.
+fn reason(answer: &keyboard::EpAnswer) -> Option<Why> {
+    match answer {
+        keyboard::EpAnswer::Stall(why) => Some(*why),
+        keyboard::EpAnswer::Ack | keyboard::EpAnswer::Nak | keyboard::EpAnswer::Packet(_) => None,
+    }
+}
+
+/// Whether a packet was acknowledged.
+fn is_taken(answer: &keyboard::EpAnswer) -> bool {
+    match answer {
+        keyboard::EpAnswer::Ack => true,
+        keyboard::EpAnswer::Nak | keyboard::EpAnswer::Packet(_) | keyboard::EpAnswer::Stall(_) =>
+            false,
+    }
+}
+
 /// The bytes of a report, of which there are at most 23.
-fn short(bytes: &[u8]) -> Report
+pub(crate) fn short(bytes: &[u8]) -> Report
     ensures { length bytes.now ≤ 23 → result.items ≡ bytes.now }
 {
     let mut report = ArrayVec::new();
@@ -58,32 +79,92 @@ fn short(bytes: &[u8]) -> Report
     report
 }
 
-impl<D: Defaults, F: NorFlash + Drop> UsbKeyboardOf<D, F> {
+impl<D: Defaults, F: NorFlash + Drop> UsbKeyboardOf<D, KeyboardOf<D>, F> {
     /// The power comes: the keyboard starts on this flash, whose keymap it reads.
-    pub fn start_in(room: Room, flash: F) -> UsbKeyboardOf<D, F>
+    pub fn start_in(room: Room, flash: F) -> UsbKeyboardOf<D, KeyboardOf<D>, F>
         ensures { RunsSince D.defaults (F.image flash) [] result.0 (F.image result.1) }
     {
         let keyboard = KeyboardOf::start_in(room, &flash);
-        UsbKeyboardOf { keyboard, flash }
+        UsbKeyboardOf {
+            keyboard,
+            flash,
+            defaults: PhantomData,
+            may_work: false,
+            why: None,
+        }
+    }
+}
+
+impl<D: Defaults, K: HoldsKeyboard<D> + Drop, F: NorFlash + Drop> UsbKeyboardOf<D, K, F> {
+    /// The power comes: the keyboard, which may be a `&mut` of one, starts over on this flash, whose keymap it reads.
+    pub fn start_on(keyboard: K, flash: F) -> UsbKeyboardOf<D, K, F>
+        ensures { RunsSince D.defaults (F.image flash) [] result.0 (F.image result.1) }
+    {
+        let mut keyboard = keyboard;
+        keyboard.restart(&flash);
+        UsbKeyboardOf {
+            keyboard,
+            flash,
+            defaults: PhantomData,
+            may_work: false,
+            why: None,
+        }
     }
 
-    /// A step of the flash work, and what it came to.
+    /// The power went and came back: the keyboard starts over on its flash as it is.
+    pub fn restart(&mut self)
+        ensures { RunsSince D.defaults (F.image self.old.1) [] self.new.0 (F.image self.new.1) }
+    {
+        self.keyboard.restart(&self.flash);
+        self.may_work = false;
+        self.why = None;
+    }
+
+    /// A step of the flash work, at most one program or erase, and what it came to.
     pub fn step(&mut self) -> Work
         ensures told { (start : List ℕ) (past : List Call) → RunsSince D.defaults start past self.old.0 (F.image self.old.1)
             → RunsSince D.defaults start (Worked result (F.image self.new.1) ∷ past) self.new.0 (F.image self.new.1) }
     {
-        self.keyboard.work(&mut self.flash)
+        let work = self.keyboard.work(&mut self.flash);
+        self.may_work = work == Work::Working;
+        work
     }
 
-    /// The keyboard.
+    /// The keyboard, to be looked at: its keymap, its LEDs, its protocol.
     pub fn keyboard(&self) -> &KeyboardOf<D>
         ensures { result.now ≡ self.now.0 }
     {
-        &self.keyboard
+        self.keyboard.keyboard()
+    }
+
+    /// The flash, to be looked at.
+    pub fn flash(&self) -> &F
+        ensures { result.now ≡ self.now.1 }
+    {
+        &self.flash
+    }
+
+    /// The power goes: the flash.
+    pub fn into_flash(self) -> F
+        ensures { result ≡ self.1 }
+    {
+        self.flash
+    }
+
+    /// Whether a command may work: where this is false, a step makes no flash operation. It is true from an OUT packet that
+    /// was acknowledged until a step finds no more to do. No clause says it.
+    pub fn may_work(&self) -> bool {
+        self.may_work
+    }
+
+    /// Why endpoint 0 was stalled last in the transfer under way, if it was. No clause says it.
+    pub fn why(&self) -> Option<Why> {
+        self.why
     }
 }
 
-impl<D: Defaults, F: NorFlash + Drop> Endpoints for UsbKeyboardOf<D, F> {
+impl<D: Defaults, K: HoldsKeyboard<D> + Drop, F: NorFlash + Drop> Endpoints
+    for UsbKeyboardOf<D, K, F> {
     ghost use Rattle.usb_keyboard.specs.ties.Stands.{StandsForUsb};
 
     ghost stands = { λ calls k. StandsForUsb D.defaults calls k.0 (F.image k.1) };
@@ -94,6 +175,7 @@ impl<D: Defaults, F: NorFlash + Drop> Endpoints for UsbKeyboardOf<D, F> {
         ensures stands { (calls : List EpCall) → StandsForUsb D.defaults calls self.old.0 (F.image self.old.1) → StandsForUsb D.defaults (Eps.SetUp packet ∷ calls) self.new.0 (F.image self.new.1) }
     {
         self.keyboard.setup(packet);
+        self.why = None;
     }
 
     fn out(&mut self, packet: &[u8]) -> EpAnswer
@@ -101,7 +183,10 @@ impl<D: Defaults, F: NorFlash + Drop> Endpoints for UsbKeyboardOf<D, F> {
             → (answer : Answer) × RunsSince D.defaults start (Out packet.now answer ∷ past) self.new.0 (F.image self.new.1) × (result ≡ plain answer) }
         ensures stands { (calls : List EpCall) → StandsForUsb D.defaults calls self.old.0 (F.image self.old.1) → StandsForUsb D.defaults (Eps.Out packet.now result ∷ calls) self.new.0 (F.image self.new.1) }
     {
-        plain(self.keyboard.out(packet))
+        let answer = self.keyboard.out(packet);
+        self.may_work = self.may_work || is_taken(&answer);
+        self.why = reason(&answer);
+        plain(answer)
     }
 
     fn in_packet(&mut self) -> EpAnswer
@@ -109,7 +194,9 @@ impl<D: Defaults, F: NorFlash + Drop> Endpoints for UsbKeyboardOf<D, F> {
             → (answer : Answer) × RunsSince D.defaults start (In answer ∷ past) self.new.0 (F.image self.new.1) × (result ≡ plain answer) }
         ensures stands { (calls : List EpCall) → StandsForUsb D.defaults calls self.old.0 (F.image self.old.1) → StandsForUsb D.defaults (Eps.In result ∷ calls) self.new.0 (F.image self.new.1) }
     {
-        plain(self.keyboard.in_packet())
+        let answer = self.keyboard.in_packet();
+        self.why = reason(&answer);
+        plain(answer)
     }
 
     fn poll(&mut self) -> Option<Report>
@@ -132,7 +219,7 @@ impl<D: Defaults, F: NorFlash + Drop> Endpoints for UsbKeyboardOf<D, F> {
     }
 }
 
-impl<D: Defaults, F: NorFlash + Drop> Works for UsbKeyboardOf<D, F> {
+impl<D: Defaults, K: HoldsKeyboard<D> + Drop, F: NorFlash + Drop> Works for UsbKeyboardOf<D, K, F> {
     ghost use Rattle.usb_keyboard.specs.ties.Stands.{StepIs};
 
     ghost works = { λ k n. StepIs D.defaults k.0 (F.image k.1) n.0 (F.image n.1) };
@@ -142,7 +229,8 @@ impl<D: Defaults, F: NorFlash + Drop> Works for UsbKeyboardOf<D, F> {
     }
 }
 
-impl<D: Defaults, F: NorFlash + Drop> ScansMatrix for UsbKeyboardOf<D, F> {
+impl<D: Defaults, K: HoldsKeyboard<D> + Drop, F: NorFlash + Drop> ScansMatrix
+    for UsbKeyboardOf<D, K, F> {
     ghost use Rattle.usb_keyboard.specs.ties.Stands.{ScanIs};
 
     ghost scans = { λ k rows n. ScanIs D.defaults k.0 (F.image k.1) rows n.0 (F.image n.1) };

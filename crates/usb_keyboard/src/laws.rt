@@ -12,7 +12,7 @@ ghost use Rattle.keyboard.specs.ties.Value.{KeyboardValue};
 ghost use Rattle.usb_device.specs.Bus.{Bus, Seen, InGot, is_write, setup_of, write_of};
 ghost use Rattle.usb_device.specs.Bus1.{no_polls};
 ghost use Rattle.usb_device.specs.Calls.{EpCall};
-ghost use Rattle.usb_device.specs.Confirmed.{WasConfirmed};
+ghost use Rattle.usb_device.specs.Confirmed.{ConfirmedBefore, WasConfirmed};
 ghost use Rattle.usb_device.specs.Events.{Event};
 ghost use Rattle.usb_device.specs.Guarding.{GuardCall, AllGuarded, StaysLocked, calls_met, is_locked, passed, scans};
 ghost use Rattle.usb_device.specs.Requests.{Lent};
@@ -20,9 +20,9 @@ ghost use Rattle.usb_device.specs.Steps.{AllAnswered, session};
 ghost use Rattle.usb_device.specs.Through.{calls_of};
 ghost use Rattle.usb_device.specs.Transfers.{TransferState};
 ghost use Rattle.usb_device.specs.ties.Link.{Link};
-ghost use Rattle.usb_keyboard.specs.Here.{ConfirmedHere, NoneBrings, last_is_lost};
+ghost use Rattle.usb_device.specs.Forgetting.{Shows};
 ghost use Rattle.usb_keyboard.specs.Plain.{usb_calls};
-ghost use Rattle.usb_keyboard.specs.Stored.{Brings, Session, Follow, NoneWrites, HasNow, Has};
+ghost use Rattle.usb_keyboard.specs.Stored.{Brings, Session, Follow, NoneSent, NoneWrites, HasNow, Has};
 ghost use Rattle.usb_keyboard.specs.ties.Stands.{StandsForUsb, IsStored};
 
 /// A feature command that the bus saw the end of is confirmed in the session of the keyboard, and settled.
@@ -43,36 +43,36 @@ pub fn stored_until_written()
         → HasNow defaults (since ++ session ∷ earlier) layer key code }
 {}
 
-/// A feature command that was confirmed in its own transfer is in the flash, also behind a power loss, while no later transfer
-/// brings a command that writes the entry. So of equal commands each counts for itself: of one, another and the first again, the
-/// last is there, or it was not confirmed.
-pub fn confirmed_here_is_stored()
-    ensures stored { (defaults : DefaultCodes) (later here : List EpCall) (keyboard : KeyboardValue) (image setup data_ : List ℕ) (command : Command)
-        (layer key code : ℕ) → (session : StandsForUsb defaults (later ++ here) keyboard image) → ConfirmedHere setup data_ here
-        → Brings setup data_ command → layer < layers → key < keys → written defaults command layer key ≡ Some code
-        → NoneBrings defaults later layer key → Has defaults session.0 session.1 layer key code }
-    // a session in which the last of three is lost: it was confirmed, but not here
-    ensures last_counts { (setup one other : List ℕ) → WasConfirmed setup one (last_is_lost setup one other)
-        × (ConfirmedHere setup one (last_is_lost setup one other) → ⊥) }
-{}
-
 /// The guarantee, from the bus to the flash: what `UsbDevice::serve` keeps of a feature command whose status stage the host
 /// saw. The host sent this SETUP packet, the controller took this data first, and the host got the empty packet, whatever
 /// acknowledgements were lost: then the command is confirmed in the session of the keyboard and settled, and it is in the
-/// flash, also behind a power loss, until a later command that writes the entry is accepted.
+/// flash, also behind a power loss, until a later command that writes the entry is accepted. The commands that were accepted
+/// since are those that the host sent behind this status stage: of one, another, and the first again, the last stays.
 pub fn seen_is_stored()
     ensures direct { (defaults : DefaultCodes) (t : TransferState) (b : Bus) (calls : List EpCall) (lent : Lent) (past : List Event) (after before : List Seen)
         (keyboard : KeyboardValue) (image setup data_ : List ℕ) (command : Command)
         → Link t b calls → AllAnswered lent past → no_polls (calls_of past) ≡ no_polls calls → StandsForUsb defaults (session lent past) keyboard image
         → b.seen ≡ after ++ (InGot [] ∷ before) → setup_of before ≡ Some setup → is_write setup ≡ true → write_of before ≡ Some data_
-        → Brings setup data_ command → IsStored defaults keyboard image command }
+        → Brings setup data_ command → IsStored defaults after keyboard image command }
     // likewise where a lock and a pace stand between
     ensures guarded { (defaults : DefaultCodes) (t : TransferState) (b : Bus) (calls : List EpCall) (lent : Lent) (past : List Event) (after before : List Seen)
         (pace : ℕ) (met : List GuardCall) (keyboard : KeyboardValue) (image setup data_ : List ℕ) (command : Command)
         → Link t b calls → AllAnswered lent past → no_polls (calls_of past) ≡ no_polls calls
         → calls_met met ≡ session lent past → AllGuarded pace met → StandsForUsb defaults (passed pace met) keyboard image
         → b.seen ≡ after ++ (InGot [] ∷ before) → setup_of before ≡ Some setup → is_write setup ≡ true → write_of before ≡ Some data_
-        → Brings setup data_ command → IsStored defaults keyboard image command }
+        → Brings setup data_ command → IsStored defaults after keyboard image command }
+    // in the host's words: until it sends a later command that writes the entry
+    ensures until_sent { (defaults : DefaultCodes) (later : List Seen) (keyboard : KeyboardValue) (image : List ℕ) (command : Command) (layer key code : ℕ)
+        → (stored : IsStored defaults later keyboard image command) → layer < layers → key < keys → written defaults command layer key ≡ Some code
+        → NoneSent defaults later layer key → Has defaults stored.start stored.past layer key code }
+{}
+
+/// The same where polls are answered between, by reports without usages that let a host forget: what such a session confirms is
+/// stored. `usb_device::laws::seen_is_confirmed` says what the session of a device confirms.
+pub fn stored_where_forgotten()
+    ensures { (defaults : DefaultCodes) (calls kept : List EpCall) (keyboard : KeyboardValue) (image : List ℕ) (later : List Seen) (setup data_ : List ℕ) (command : Command)
+        → ConfirmedBefore later setup data_ calls → Shows calls kept → StandsForUsb defaults kept keyboard image → Brings setup data_ command
+        → IsStored defaults later keyboard image command }
 {}
 
 /// A keyboard behind a lock and a pace accepts no command while the lock is set, at most one in fewer scans than the pace, and

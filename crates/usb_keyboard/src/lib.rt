@@ -3,23 +3,24 @@
 //! `UsbKeyboard` is a keyboard with the flash that keeps its keymap, as the device behind the USB device layer
 //! (`usb_device::UsbDevice`), or behind a lock and a pace before it (`usb_device::Guarded`). `UsbKeyboard::write` makes a whole
 //! control write, for a stack that keeps endpoint 0 to itself, and knows no lock. Each of its calls says how the session goes
-//! on, from the image that the keyboard started on. `UsbKeyboardOf` has a maker's own defaults, and all of this holds for them.
+//! on, from the image that the keyboard started on. `UsbKeyboardOf` has a maker's own defaults, and a keyboard that is its own or
+//! is lent (`HoldsKeyboard`), and all of this holds for them, and where `usb_device::Forgetting` stands before it
+//! (`laws::stored_where_forgotten`).
 //!
 //! The guarantee: a feature command that the host saw the end of is in the flash, also behind every power loss, until a later
-//! command is accepted that writes the entry (`laws::seen_is_stored`, `laws::stored_until_written`). What the session confirms in
-//! a command's own transfer is there while no later transfer writes the entry (`laws::confirmed_here_is_stored`). Behind a lock
-//! and a pace the keyboard accepts no command while the lock is set, and at most one for each pace
+//! command is accepted that writes the entry (`laws::seen_is_stored`, `laws::stored_until_written`). The commands accepted since
+//! are those that the host sent behind that status stage: of one command, another, and the first again, the last stays. Behind a
+//! lock and a pace the keyboard accepts no command while the lock is set, and at most one for each pace
 //! (`laws::accepted_behind_a_guard`).
-//!
-//! Of equal commands `laws::seen_is_stored` names one that was confirmed, and not which: what `UsbDevice` says of the device
-//! behind it gives no more. `UsbKeyboard::write` names its own.
 //!
 //! What `UsbDevice` says of the device behind it names no first image. So that a session began on what the power loss before
 //! it left is said by the clauses of `UsbKeyboard`, and is a premise of `laws::stored_until_written`.
 #![tactic(auto)]
 
 mod device;
+mod held;
 pub mod laws;
 mod transfers;
 
 pub use device::{UsbKeyboard, UsbKeyboardOf};
+pub use held::HoldsKeyboard;

@@ -23,7 +23,7 @@ impl<'b> Frame<'b> {
 
     pub fn with(self, change: Option<Change>) -> Frame<'b> {
         let change = match change {
-            None => self.change,
+            None | Some(Change::Wakeup(_)) => self.change,
             Some(Change::Address(address)) => [2, address],
             Some(Change::Endpoint(state)) => [3, state as u8],
         };

@@ -104,6 +104,7 @@ impl Chip for Generic {
         match change {
             Change::Address(address) => STAND.address.store(address, Ordering::Relaxed),
             Change::Endpoint(state) => STAND.endpoint_1_state.store(state as u8, Ordering::Relaxed),
+            Change::Wakeup(_) => {}
         }
     }
 

@@ -143,6 +143,7 @@ impl Chip for Played {
         match change {
             Change::Address(address) => println!("address {address}"),
             Change::Endpoint(state) => println!("endpoint 1 is {state:?}"),
+            Change::Wakeup(on) => println!("remote wakeup: {on}"),
         }
     }
 

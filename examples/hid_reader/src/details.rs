@@ -90,13 +90,39 @@ pub fn put_text(places: Places<c_char>, write: impl FnOnce(&mut Text) -> fmt::Re
 pub extern "C" fn hidr_reader_open(text: Input, length: usize, reader: Output<u64>, error: Output<Error>) -> Status {
     told(|| {
         let reader = reader.place()?;
-        let made = Reader::new(text.bytes(length)?).map_err(|found| match found {
-            ReaderError::Parse(found) => tell(found, error.place_if_any()),
-            ReaderError::Memory => Status::NoMemory,
-        })?;
+        let made = Reader::new(text.bytes(length)?).map_err(|found| refused(found, error))?;
         reader.put(TABLE.open(Entry::Reader(made))?);
         Ok(())
     })
+}
+
+#[unsafe(no_mangle)]
+pub extern "C" fn hidr_reader_open_lenient(
+    text: Input,
+    length: usize,
+    reader: Output<u64>,
+    error: Output<Error>,
+    passed: Outputs<Error>,
+    room: usize,
+    count: Output<usize>,
+) -> Status {
+    told(|| {
+        let ((reader, count), (text, passed)) =
+            both(both(reader.place(), count.place()), both(text.bytes(length), passed.places(room)))?;
+        let (made, lenient) = Reader::lenient(text).map_err(|found| refused(found, error))?;
+        let found = lenient.iter().flat_map(|lenient| lenient.passed()).copied().map(Error::from);
+        reader.put(TABLE.open(Entry::Reader(made))?);
+        count.put(passed.put_all(found));
+        Ok(())
+    })
+}
+
+/// The status of a text without a reader.
+fn refused(found: ReaderError, error: Output<Error>) -> Status {
+    match found {
+        ReaderError::Parse(found) => tell(found, error.place_if_any()),
+        ReaderError::Memory => Status::NoMemory,
+    }
 }
 
 #[unsafe(no_mangle)]

@@ -30,6 +30,12 @@ pub struct Error {
     fault: u32,
 }
 
+impl From<ParseError> for Error {
+    fn from(error: ParseError) -> Error {
+        Error { offset: error.offset as u64, fault: error.fault.number().into() }
+    }
+}
+
 /// The kind of reports with this number.
 pub fn kind_of(number: u8) -> Option<Kind> {
     [Kind::Input, Kind::Output, Kind::Feature].get(usize::from(number)).copied()
@@ -84,7 +90,7 @@ pub fn tell(found: ParseError, error: Option<Place<Error>>) -> Status {
         return Status::NoMemory;
     }
     if let Some(place) = error {
-        place.put(Error { offset: found.offset as u64, fault: found.fault.number().into() });
+        place.put(found.into());
     }
     Status::Fault
 }

@@ -178,6 +178,45 @@ static void tell_descriptor(const char *hex) {
     print_items();
 }
 
+/* The fields of a reader, with their usages and the lengths of their reports. */
+static void print_fields(hidr_reader read) {
+    static hidr_range ranges[MOST];
+    size_t fields, count, bytes;
+    hidr_field field;
+    ANSWERS(HIDR_OK, hidr_field_count(read, &fields));
+    for (size_t at = 0; at < fields; at++) {
+        ANSWERS(HIDR_OK, hidr_field_at(read, at, &field));
+        ANSWERS(HIDR_OK, hidr_ranges(read, at, ranges, MOST, &count));
+        ANSWERS(HIDR_OK, hidr_report_length(read, field.kind, field.id, &bytes));
+        CHECK(count <= MOST);
+        printf(";%s (%u, %" PRIu64 ", %u, %u, %" PRId64 ", %" PRId64 ", %s) [", kinds[field.kind], field.id, field.bit, field.size,
+               field.count, field.min, field.max, field.array ? "true" : "false");
+        for (size_t range = 0; range < count; range++)
+            printf("%s(%" PRIu32 ", %" PRIu32 ")", range > 0 ? ", " : "", ranges[range].first, ranges[range].last);
+        printf("] %zu", bytes);
+    }
+}
+
+static void tell_lenient(const char *hex) {
+    static uint8_t bytes[BYTES];
+    static hidr_error passed[MOST];
+    hidr_error error;
+    hidr_reader read;
+    size_t length = bytes_of(hex, bytes), count;
+    memcpy(text_end - length, bytes, length);
+    hidr_status status = hidr_reader_open_lenient(text_end - length, length, &read, &error, passed, MOST, &count);
+    if (status == HIDR_FAULT) {
+        printf("fault %" PRIu32 " %" PRIu64, error.fault, error.offset);
+        return;
+    }
+    ANSWERS(HIDR_OK, status);
+    CHECK(count <= MOST);
+    for (size_t at = 0; at < count; at++)
+        printf("%" PRIu32 ":%" PRIu64 ",", passed[at].fault, passed[at].offset);
+    print_fields(read);
+    ANSWERS(HIDR_OK, hidr_close(read));
+}
+
 /* A value is that which is so much, where the power of ten is one that the fraction can take in. */
 static void goes_back(const hidr_value *value, hidr_fraction exact) {
     hidr_detail detail;
@@ -309,6 +348,8 @@ int main(void) {
         line[strcspn(line, "\n")] = 0;
         if (line[0] == 'D')
             tell_descriptor(line + 2);
+        else if (line[0] == 'L')
+            tell_lenient(line + 2);
         else if (reader == 0)
             printf("no descriptor");
         else if (line[0] == 'R')

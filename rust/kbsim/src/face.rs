@@ -3,8 +3,9 @@
 use crate::parts::host::Host;
 use crate::parts::kbsim::{self, RunError, Sink};
 use crate::parts::parse_lines::{self, LinesError};
-use crate::parts::world::World;
+use crate::parts::world::WorldOf;
 use std::io::{Read, Write};
+use wuzhikar::Defaults;
 use wuzhikar_log::SimFlash;
 use wuzhikar_reader::AllocError;
 
@@ -55,14 +56,14 @@ pub fn parse_text<R: Read, W: Write>(reader: &mut R, writer: &mut W) -> Result<(
     parse_lines::parse_text((), reader, writer)
 }
 
-impl World {
+impl<D: Defaults> WorldOf<D> {
     /// Starts a keyboard on a flash, beside a host that has read nothing.
     ///
     /// # Errors
     ///
     /// `AllocError` if memory was refused. The flash is dropped then.
-    pub fn on(flash: SimFlash) -> Result<World, AllocError> {
-        World::new((), flash)
+    pub fn on(flash: SimFlash) -> Result<WorldOf<D>, AllocError> {
+        WorldOf::new((), flash)
     }
 }
 

@@ -30,7 +30,7 @@ pub use crate::face::{blank_flash, image_flash, parse_text, run_on, run_script, 
 pub use crate::parts::host::{Host, Reading, UsageList};
 pub use crate::parts::kbsim::{Line, LineFault, Outcome, RunError, Silent, Sink, Step, print_fault};
 pub use crate::parts::parse_lines::{LinesError, describe};
-pub use crate::parts::world::{Answer, Event, Operation, World};
+pub use crate::parts::world::{Answer, Event, Operation, World, WorldOf};
 pub use wuzhikar::{EpAnswer, FlashError, Mask, Report, Scan, SimFlash, Why, Work};
 pub use wuzhikar_hid::texts;
 pub use wuzhikar_reader::AllocError;

@@ -61,3 +61,4 @@ pub fn word(line: &str) -> (&str, &str) {
 }
 
 pub mod images;
+pub mod other;

@@ -100,7 +100,7 @@ impl<F: NorFlash, K: HasKeyboard> Device<'_, F, K> {
 }
 
 /// A device whose packets are offered again where they are told to wait.
-struct Bus<'b, 'a, F, K, N> {
+struct Bus<'b, 'a, F: NorFlash, K: HasKeyboard, N> {
     device: &'b mut Device<'a, F, K>,
     at_nak: N,
 }

@@ -47,7 +47,7 @@ impl Buffers for Slot {
 /// the token has met, and the answer is what it puts onto the bus. The host is taken to have what it was given.
 ///
 /// A loss of power is `restart`, or `into_flash` and another `start`: the flash is all that is left.
-pub struct Device<'a, F, K = Keyboard> {
+pub struct Device<'a, F: NorFlash, K: HasKeyboard = Keyboard> {
     layered: Layered<'a, Keys<F, K>, Slot>,
     product: &'a Product<'a>,
 }
@@ -118,7 +118,7 @@ impl<'a, F: NorFlash, K: HasKeyboard> Device<'a, F, K> {
         self.layered.behind.flash()
     }
 
-    /// The flash, with the condition of [`Keys::flash_mut`].
+    /// The flash, with the condition of `flash_mut` of [`Keys`].
     pub fn flash_mut(&mut self) -> &mut F {
         self.layered.behind.flash_mut()
     }
@@ -173,13 +173,23 @@ impl<'a, F: NorFlash, K: HasKeyboard> Device<'a, F, K> {
         self.layered.bus_reset();
     }
 
+    /// The bus is suspended (USB 2.0 section 7.1.7.6). [`resumed`](Self::resumed), a SETUP packet and a bus reset end it.
+    pub fn suspended(&mut self) {
+        self.layered.suspend();
+    }
+
+    /// The bus goes on.
+    pub fn resumed(&mut self) {
+        self.layered.resume();
+    }
+
     /// A step of the flash work, at most one program or erase. After `Settled` and `Failed` the status stage is due of a
     /// transfer that was told to wait.
     pub fn work(&mut self) -> Work {
         self.layered.behind.work()
     }
 
-    /// Whether a command works: [`Keys::may_work`].
+    /// Whether a command may work: `may_work` of [`Keys`].
     pub fn may_work(&self) -> bool {
         self.layered.behind.may_work()
     }

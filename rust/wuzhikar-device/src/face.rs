@@ -31,6 +31,11 @@ impl<E: Endpoints, B: Buffers> UsbDevice<'_, E, B> {
     pub fn endpoint_1(&self) -> Endpoint1 {
         self.device.layer.endpoint_1()
     }
+
+    /// Whether the host has enabled remote wakeup (USB 2.0 section 9.4.5).
+    pub fn may_wake(&self) -> bool {
+        self.device.layer.may_wake()
+    }
 }
 
 impl<E> Guarded<E> {

@@ -6,6 +6,9 @@
 use crate::{Descriptors, PacketSize};
 use wuzhikar::usb::{CONFIGURATION_DESCRIPTOR, DEVICE_DESCRIPTOR, HID_DESCRIPTOR};
 
+/// Bit 5 of bmAttributes.
+const REMOTE_WAKEUP: u8 = 0x20;
+
 /// The indices of the strings.
 const MANUFACTURER: u8 = 1;
 const PRODUCT: u8 = 2;
@@ -118,6 +121,9 @@ pub struct Identity<'a> {
     pub interval: Interval,
     /// What the keyboard takes from the bus.
     pub power: Power,
+    /// Whether the keyboard can wake its host (bit 5 of bmAttributes, USB 2.0 section 9.6.3): then a host may enable it
+    /// ([`DeviceLayer::may_wake`](crate::DeviceLayer::may_wake)).
+    pub remote_wakeup: bool,
     /// bCountryCode (HID 1.11 section 6.2.1): the country whose layout is printed on the keys, 33 for the United States,
     /// and 0 where that is not said.
     pub country: u8,
@@ -125,7 +131,7 @@ pub struct Identity<'a> {
 
 impl Identity<'static> {
     /// An identity for tests and not for products: vendor 1209h, product 0001h, without names; packets of up to 16 bytes,
-    /// each millisecond, 100 mA, no country.
+    /// each millisecond, 100 mA, no remote wakeup, no country.
     pub const TEST: Identity<'static> = Identity {
         vendor_id: 0x1209,
         product_id: 0x0001,
@@ -136,6 +142,7 @@ impl Identity<'static> {
         packet_size: PacketSize::Bytes16,
         interval: Interval::MILLISECOND,
         power: Power(50),
+        remote_wakeup: false,
         country: 0,
     };
 }
@@ -165,6 +172,7 @@ impl<'a> Product<'a> {
         device[14] = named(identity.manufacturer, MANUFACTURER);
         device[15] = named(identity.product, PRODUCT);
         device[16] = named(identity.serial_number, SERIAL_NUMBER);
+        configuration[7] |= if identity.remote_wakeup { REMOTE_WAKEUP } else { 0 };
         configuration[8] = identity.power.0;
         configuration[22] = identity.country;
         configuration[31] = identity.packet_size.byte();

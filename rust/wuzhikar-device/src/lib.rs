@@ -7,14 +7,15 @@
 //! - [`DeviceLayer`] serves the standard requests of USB 2.0 chapter 9, with descriptors that a maker lends.
 //! - [`Keys`] is the keyboard on its flash, as the [`Endpoints`] behind the layer; [`Product`] makes descriptors of an
 //!   [`Identity`].
+//! - [`UsbKeyboardOf::write`] makes a whole control write, for a stack that keeps endpoint 0 to itself.
 //! - [`Device`] is the same device at the token, for controllers that ask there, and for tests. [`Device::control`] makes a
 //!   whole control transfer from the host's side.
 //!
-//! **What is proved.** The device layer and both buffers are exported from a proved source (`crates/usb_device`), as the
-//! keyboard is: a control write that the host saw the end of was confirmed by the device behind the layer, and the host takes
-//! as new each report that SET_PROTOCOL did not drop, whole and in their order, whatever acknowledgements are lost. Written by hand, and tested, are
-//! `Keys`, `Identity`, `Product`, `Device`, and the calls of `UsbDevice` that name the keyboard. `no_std`, no allocator, no
-//! unsafe code.
+//! **What is proved.** The device layer, both buffers and what `Keys` does on the bus are exported from a proved source
+//! (`crates/usb_device`, `crates/usb_keyboard`), as the keyboard is: a control write that the host saw the end of was confirmed
+//! by the device behind the layer, so a command is stored. The host takes as new each report that SET_PROTOCOL did not drop,
+//! whole and in their order, whatever acknowledgements are lost. Written by hand, and tested, are how `Keys` starts, `Identity`,
+//! `Product`, `Device`, and the calls of `UsbDevice` that name the keyboard. `no_std`, no allocator, no unsafe code.
 //!
 //! ```
 //! use wuzhikar::{Scan, SimFlash};
@@ -51,6 +52,8 @@ pub use device::Device;
 pub use identity::{Identity, Interval, Power, Product, unit_count, units};
 pub use keys::{HasKeyboard, Keys};
 pub use parts::usb_device::{
-    Buffers, Change, ControlBuffers, Controller, Descriptors, DeviceLayer, Endpoint1, Endpoints, EpAnswer, Guarded, Input,
-    Output, PacketSize, PollAnswer, Report, ReportBuffers, ScansMatrix, TransferError, UsbDevice, Waiting, Works, write,
+    Buffers, Change, ControlBuffers, Controller, Descriptors, DeviceLayer, Endpoint1, Endpoints, EpAnswer, Forgetting, Guarded,
+    Input, Output, PacketSize, PollAnswer, ReadBytes, Report, ReportBuffers, ScansMatrix, TransferError, UsbDevice, Waiting,
+    Works, read, write,
 };
+pub use parts::usb_keyboard::{HoldsKeyboard, UsbKeyboard, UsbKeyboardOf};

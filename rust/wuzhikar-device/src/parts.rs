@@ -4,3 +4,4 @@
 #![allow(dead_code, unused_imports, unused_variables, clippy::all)]
 
 pub mod usb_device;
+pub mod usb_keyboard;

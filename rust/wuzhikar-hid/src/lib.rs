@@ -211,4 +211,4 @@ pub use crate::values::{
     Asked, Changed, NoPhysical, NoValue, Physical, Reader, ReaderError, Reading, ReadingError, Setting, Target, Value, Within,
     WriteError,
 };
-pub use wuzhikar_reader::{AllocError, Descriptor, Field, FieldUsages, Kind, ParseError, ParseFault};
+pub use wuzhikar_reader::{AllocError, Descriptor, Field, FieldUsages, Kind, Lenient, ParseError, ParseFault};

@@ -1,5 +1,6 @@
 //! Values of reports, by a kept reader. Written by hand; what reads and writes is exported.
 
+mod lenient;
 mod physical;
 mod reader;
 mod write;

@@ -40,10 +40,11 @@ pub mod parts;
 #[doc(hidden)]
 pub mod rattle;
 
-pub use crate::face::{extract, parse, pressed};
+pub use crate::face::{extract, parse, parse_lenient, pressed};
 pub use crate::parts::descriptor_parse::{
     Descriptor, Field, FieldUsages, GlobalTag, Item, Items, Kind, LocalTag, MainTag, ParseError, ParseFault, Parser,
     ReportFields, Tag, Usages,
 };
 pub use crate::parts::host_extract::{BOOT_DESCRIPTOR, ExtractError, Found};
+pub use crate::parts::lenient_parse::Lenient;
 pub use crate::rattle::alloc::AllocError;

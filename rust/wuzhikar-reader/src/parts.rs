@@ -5,3 +5,4 @@
 
 pub mod descriptor_parse;
 pub mod host_extract;
+pub mod lenient_parse;

@@ -5,6 +5,7 @@ use crate::parts::debounce::{Debouncer, Scan};
 use crate::parts::keyboard::{KeyboardOf, Room};
 use crate::parts::layers::{Defaults, KeyNo, LayerNo};
 use crate::rattle::alloc::{AllocError, Global};
+use crate::unstarted::UnstartedKeyboardOf;
 use wuzhikar_log::NorFlash;
 
 /// Numbers of layers and keys that are known to be some.
@@ -70,5 +71,17 @@ impl<D: Defaults> KeyboardCalls for KeyboardOf<D> {
 
     fn start_in<F: NorFlash>(room: Room, flash: &F) -> KeyboardOf<D> {
         KeyboardOf::start_in(room, flash)
+    }
+}
+
+/// The memory of a keyboard that has not started.
+pub trait PlaceCalls<D: Defaults> {
+    /// **Needs** that the first call is `restart`.
+    fn place(&mut self) -> &mut KeyboardOf<D>;
+}
+
+impl<D: Defaults> PlaceCalls<D> for UnstartedKeyboardOf<D> {
+    fn place(&mut self) -> &mut KeyboardOf<D> {
+        UnstartedKeyboardOf::place(self)
     }
 }

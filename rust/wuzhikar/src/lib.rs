@@ -59,11 +59,43 @@ pub use wuzhikar_log::{FlashError, Mask, SimFlash};
 pub use wuzhikar_log::{FlashFault, NorFlash, PAGE_BYTES, PAGE_SLOTS, PageCount, SLOT_BYTES};
 
 /// Debouncing by itself: a key changes where five samples in a row say so.
+///
+/// ```
+/// use wuzhikar::debounce::{Debouncer, Scan};
+///
+/// let mut debouncer = Debouncer::new();
+/// let closed = Scan { rows: [1, 0, 0, 0, 0, 0] };
+/// for _ in 0..4 {
+///     assert!(debouncer.feed(closed).is_none());
+/// }
+/// assert_eq!(debouncer.feed(closed).pressed.keys().collect::<Vec<_>>(), [0]);
+/// ```
 pub mod debounce {
     pub use crate::parts::debounce::{Debouncer, Edges, Keys, Scan};
 }
 
 /// Control transfers by themselves: endpoint 0 of a device that has the keyboard's requests.
+///
+/// ```
+/// use wuzhikar::Protocol;
+/// use wuzhikar::control_ep::{ControlEp, DeviceView, Effect, EpAnswer, OutStep};
+///
+/// let view = DeviceView {
+///     protocol: Protocol::Report,
+///     idle_one: 0,
+///     idle_two: 0,
+///     leds: 0,
+///     feature: [3, 0, 0, 0, 4, 0],
+///     bitmap: [1; 23],
+///     consumer: [2; 9],
+///     boot: [0; 8],
+/// };
+/// let mut endpoint = ControlEp::new();
+/// // SET_REPORT of the LEDs.
+/// endpoint.setup([0x21, 0x09, 1, 2, 0, 0, 2, 0], &view);
+/// assert_eq!(endpoint.out(&[1, 0b11]), OutStep::Leds(0b11));
+/// assert!(matches!(endpoint.in_packet(), (EpAnswer::Packet(_), Effect::Nothing)));
+/// ```
 pub mod control_ep {
     pub use crate::parts::control_ep::{ControlEp, DeviceReports, DeviceView, Effect, EpAnswer, OutStep, Verdict, Why};
 }

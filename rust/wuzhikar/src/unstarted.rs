@@ -54,6 +54,11 @@ impl<D: Defaults> UnstartedKeyboardOf<D> {
         self.keyboard.restart(flash);
         Ok(&mut self.keyboard)
     }
+
+    /// The memory, for a caller that starts a keyboard there at once.
+    pub(crate) fn place(&mut self) -> &mut KeyboardOf<D> {
+        &mut self.keyboard
+    }
 }
 
 impl<D: Defaults> fmt::Debug for UnstartedKeyboardOf<D> {

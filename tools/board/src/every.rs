@@ -62,6 +62,15 @@ impl Session {
         (0..10).try_for_each(|_| host::scan(chip, &[0]).map(drop)).map_err(|lost| (stored, lost))
     }
 
+    /// Cuts at each of these places, all of which the session has to reach.
+    fn at_each(&self, shop: &Shop, what: &str, orders: Vec<Order>) -> Answer<Counts> {
+        let (wanted, counts) = (orders.len(), self.at_all(shop, what, orders.into_iter())?);
+        if counts.cuts as usize != wanted {
+            return Err(Lost::Dead(format!("of {wanted} ordered cuts {} were made", counts.cuts)));
+        }
+        Ok(counts)
+    }
+
     /// Cuts at these places, up to the first that the session does not reach.
     fn at_all(&self, shop: &Shop, what: &str, orders: impl Iterator<Item = Order>) -> Answer<Counts> {
         let (mut chip, began) = (shop.chip()?, Instant::now());
@@ -170,7 +179,7 @@ pub fn operations(shop: &Shop, stride: u64) -> Answer<()> {
     let (_, _, all) = compacting().length(shop, Order::NEVER)?;
     let places = (1..=all).filter(|at| *at <= 8 || at % stride == 0 || at + 4 > all);
     compacting()
-        .at_all(shop, &format!("every {stride}. operation of {all} of a compaction"), places.flat_map(at_operation))?
+        .at_each(shop, &format!("every {stride}. operation of {all} of a compaction"), places.flat_map(at_operation).collect())?
         .met()
 }
 
@@ -185,5 +194,5 @@ pub fn words(shop: &Shop, tears: u64, seed: u64) -> Answer<()> {
     let count = if shop.chip()?.corrects() { 6 } else { 2 };
     let orders = (1..=count).flat_map(in_word);
     let seeded = orders.flat_map(|order| (seed..seed + tears).map(move |seed| Order { seed, ..order }));
-    with_room().at_all(shop, "the words of a record", seeded)?.met()
+    with_room().at_each(shop, "the words of a record", seeded.collect())?.met()
 }

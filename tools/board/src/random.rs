@@ -8,6 +8,9 @@ use crate::model::{self, Command, Keymap, Numbers};
 use crate::silence::Waits;
 use std::time::Instant;
 
+/// So many requests a session takes at most until its cut, which comes by its 850th operation or its tick 3,000,000.
+const REQUESTS: u32 = 100_000;
+
 /// What was seen.
 #[derive(Default)]
 struct Counts {
@@ -50,7 +53,13 @@ impl Session {
         host::enumerate(chip)?;
         let mut refused = 0;
         self.press(chip, numbers, counts)?;
-        while refused < 20 {
+        for request in 0.. {
+            if refused == 20 {
+                break;
+            }
+            if request == REQUESTS {
+                return Err(Lost::Dead(format!("no cut in {REQUESTS} requests, though one was ordered")));
+            }
             match numbers.below(8) {
                 0 => self.press(chip, numbers, counts)?,
                 1 => self.read(chip, numbers, counts)?,

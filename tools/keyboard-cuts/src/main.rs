@@ -16,6 +16,8 @@ mod code;
 #[path = "../../../tests/settings/src/ecc.rs"]
 mod ecc;
 mod ledger;
+#[path = "../../../rust/tests/src/other.rs"]
+mod other;
 #[allow(dead_code)]
 #[path = "../../../tests/settings/src/power.rs"]
 mod power;
@@ -26,10 +28,12 @@ mod session;
 mod wrong;
 
 use ecc::EccChip;
+use other::Other;
 use power::Power;
 use random::Random;
 use session::{Board, Counts};
 use wrong::{WAYS, Way, Wrong};
+use wuzhikar::{Defaults, Standard};
 use wuzhikar_log::UnitFlash;
 
 /// Pages that the keymap is kept on.
@@ -56,20 +60,26 @@ fn main() {
     }
 }
 
-/// Units as they should be, over flashes until so many calls were made.
+/// Units as they should be, over flashes until so many calls were made. One half of the keyboards has the standard default codes,
+/// the other half another layout.
 fn right(events: u64) -> Result<String, String> {
     let mut counts = Counts::default();
     let mut seed = 34;
     while counts.events < events {
-        let ran = match seed % 3 {
-            0 => paired::<8, 2048>(seed, &mut counts),
-            1 => paired::<16, 8192>(seed, &mut counts),
-            _ => paired::<32, 131_072>(seed, &mut counts),
-        };
+        let ran = if seed % 2 == 0 { one::<Standard>(seed, &mut counts) } else { one::<Other>(seed, &mut counts) };
         ran.map_err(|wrong| format!("flash {seed}: {wrong}"))?;
         seed += 1;
     }
     Ok(counts.to_string())
+}
+
+/// A flash with units of one size.
+fn one<D: Defaults>(seed: u64, counts: &mut Counts) -> Result<(), String> {
+    match seed % 3 {
+        0 => paired::<D, 8, 2048>(seed, counts),
+        1 => paired::<D, 16, 8192>(seed, counts),
+        _ => paired::<D, 32, 131_072>(seed, counts),
+    }
 }
 
 /// A new flash of units, its power, and the numbers that its sessions are drawn from.
@@ -85,9 +95,9 @@ fn new_flash<const WRITE: usize, const ERASE: usize>(
     Ok((units, power, random))
 }
 
-fn paired<const WRITE: usize, const ERASE: usize>(seed: u64, counts: &mut Counts) -> Result<(), String> {
+fn paired<D: Defaults, const WRITE: usize, const ERASE: usize>(seed: u64, counts: &mut Counts) -> Result<(), String> {
     let (units, power, random) = new_flash::<WRITE, ERASE>(seed)?;
-    Board::new(units, power, random, counts).sessions()
+    Board::<D, _>::new(units, power, random, counts).sessions()
 }
 
 /// Wrong units of each way: what the runs find of them.
@@ -105,5 +115,5 @@ fn wrong_ways() -> Result<String, String> {
 
 fn tried(seed: u64, way: Way) -> Result<(), String> {
     let (units, power, random) = new_flash::<8, 2048>(seed)?;
-    Board::new(Wrong::new(units, way), power, random, &mut Counts::default()).sessions()
+    Board::<Standard, _>::new(Wrong::new(units, way), power, random, &mut Counts::default()).sessions()
 }

@@ -6,7 +6,7 @@ use std::fmt;
 use kbsim::parts::ecc_law::{self, Happening};
 use kbsim::{Answer, Host, Reading, Scan, Work};
 use wuzhikar::parts::keyboard::Room;
-use wuzhikar::{KeyNo, Keyboard};
+use wuzhikar::{Defaults, KeyNo, KeyboardOf};
 use wuzhikar_log::{EccFlash, PairedFlash};
 
 use crate::ledger::{Ledger, Sets};
@@ -52,8 +52,8 @@ impl fmt::Display for Counts {
 }
 
 /// A keyboard with its host on a flash, and what its keymap has to be.
-pub struct Board<'a, F: EccFlash> {
-    keyboard: Keyboard,
+pub struct Board<'a, D: Defaults, F: EccFlash> {
+    keyboard: KeyboardOf<D>,
     host: Host,
     flash: Option<PairedFlash<F>>,
     power: Power,
@@ -62,8 +62,8 @@ pub struct Board<'a, F: EccFlash> {
     ledger: Ledger,
 }
 
-impl<'a, F: EccFlash> Board<'a, F> {
-    pub fn new(units: F, power: Power, random: Random, counts: &'a mut Counts) -> Board<'a, F> {
+impl<'a, D: Defaults, F: EccFlash> Board<'a, D, F> {
+    pub fn new(units: F, power: Power, random: Random, counts: &'a mut Counts) -> Board<'a, D, F> {
         let flash = PairedFlash::mount(units);
         let Ok(room) = Room::take(());
         let (keyboard, host) = ecc_law::begin(room, (), &flash);
@@ -183,8 +183,12 @@ impl<'a, F: EccFlash> Board<'a, F> {
             self.happens(Happening::InPacket);
         }
         self.out([]);
-        let Ok(key) = KeyNo::read(self.random.below(5) as u8) else { return Err("no key".to_string()) };
-        let code = self.ledger.get(Sets { layer: 0, key: key.number(), code: 0 });
+        let first = self.random.below(5) as u8;
+        let mut codes = (first..96).map(|key| (key, self.ledger.get(Sets { layer: 0, key, code: 0 })));
+        let Some((key, code)) = codes.find(|(_, code)| matches!(code, 0x04..=0xA4 | 0xE0..=0xE7)) else {
+            return Err("no key types".to_string());
+        };
+        let Ok(key) = KeyNo::read(key) else { return Err("no key".to_string()) };
         self.counts.typed += 1;
         for scan in [Scan::NONE.with_key(key, true), Scan::NONE] {
             (0..5).for_each(|_| drop(self.happens(Happening::Scan(scan))));

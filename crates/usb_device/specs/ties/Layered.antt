@@ -1,5 +1,5 @@
 -- Only ties code to its definitions: a device with its layer, and with endpoint 1 behind buffers, stands for the events that it met.
-use Rattle.std.specs.Prelude.{◌≡◌, ◌⊎◌, Bool, true, false, List, [], ◌∷◌, Option, Some, None}
+use Rattle.std.specs.Prelude.{◌≡◌, ◌⊎◌, ◌&&◌, Bool, true, false, List, [], ◌∷◌, Option, Some, None}
 use Rattle.usb_device.specs.declared.answer.Endpoint1.{Endpoint1}
 use Rattle.usb_device.specs.declared.answer.Endpoint1.TheVariants.{Ready}
 use Rattle.usb_device.specs.declared.answer.PollAnswer.{PollAnswer}
@@ -15,7 +15,7 @@ use Rattle.usb_device.specs.Bus.{Bus}
 use Rattle.usb_device.specs.Transfers.{TransferState, NothingWithheld0}
 use Rattle.usb_device.specs.ties.Link.{Link}
 use Rattle.usb_device.specs.ties.Stands.{StandsFor}
-use Rattle.usb_device.specs.ties.Link1.{ReportState, Link1, InStep}
+use Rattle.usb_device.specs.ties.Link1.{ReportState, Link1, InStep, is_under_way}
 
 abbrev pub endpoint_set : Option Change → Option Endpoint1
 endpoint_set (Some (Endpoint state)) = Some state
@@ -39,6 +39,10 @@ Layered stands lent past layer behind reports b =
 abbrev pub is_ready : Endpoint1 → Bool
 is_ready Ready = true
 is_ready _ = false
+
+-- a report waits for the host: one is under way, and endpoint 1 is ready
+abbrev pub report_waits : LayerState → ReportState → Bool
+report_waits layer reports = is_ready layer.endpoint && is_under_way reports.course
 
 -- these events, or one poll more
 abbrev pub PolledOnce : List Event → List Event → Type 0

@@ -6,9 +6,9 @@ use Rattle.std.specs.Option.{option_map}
 use Rattle.usb_device.specs.declared.answer.EpAnswer.{EpAnswer}
 use Rattle.usb_device.specs.declared.answer.EpAnswer.TheVariants.{Ack}
 use Rattle.usb_device.specs.Calls.{EpCall}
-use Rattle.usb_device.specs.Bus.{Bus, Met, InMode, Naks, Sends, OutMode, NaksOut, Takes, is_pending, is_write, setup_of, write_of}
+use Rattle.usb_device.specs.Bus.{Bus, Met, InMode, Naks, Sends, OutMode, NaksOut, Takes, is_pending, is_out, is_write, setup_of, write_of, has_ended}
 use Rattle.usb_device.specs.Transfers.{TransferState, Idle, Refused, Over, Reads, ReadDue, Sent, Closing, Closed, Opening, Writes, Keeps, Asking, Due, Status, Done, IsOpen, HandsOver, WasAsked, last_0, Rests}
-use Rattle.usb_device.specs.Confirmed.{asked_of, taken_of, WasConfirmed, AllKept}
+use Rattle.usb_device.specs.Confirmed.{asked_of, taken_of, ConfirmedBefore, AllKept}
 
 abbrev pub transfer_view : Kept.Transfer → TransferState
 transfer_view Kept.TheVariants.Idle = Idle
@@ -44,10 +44,10 @@ abbrev pub ClosedIf : Option (List ℕ) → OutMode → Type 0
 ClosedIf (Some packet) mode = IsClosed mode
 ClosedIf None mode = Unit {0}
 
--- the transfer under way was confirmed
+-- the transfer under way was confirmed, and no data were acknowledged since
 abbrev pub IsConfirmedNow : List EpCall → Type 0
 IsConfirmedNow calls =
-    (setup data_ : List ℕ) → asked_of calls ≡ Some setup → taken_of calls ≡ Some data_ → WasConfirmed setup data_ calls
+    (setup data_ : List ℕ) → asked_of calls ≡ Some setup → taken_of calls ≡ Some data_ → ConfirmedBefore [] setup data_ calls
 
 -- an empty packet in the buffer confirms
 abbrev pub ConfirmsIf : InMode → List EpCall → Type 0
@@ -63,13 +63,25 @@ abbrev pub StageLink : TransferState → Bus → List EpCall → Type 0
 StageLink Idle b calls = IsQuiet b.input
 StageLink Refused b calls = IsQuiet b.input ⊎ (ConfirmsIf b.input calls × IsSame b calls)
 StageLink Over b calls = IsQuiet b.input
-StageLink Opening b calls = IsQuiet b.input × IsClosed b.output × (write_of b.seen ≡ None) × (taken_of calls ≡ None) × (b.met.out ≡ None)
-StageLink Writes b calls = IsQuiet b.input × (write_of b.seen ≡ b.met.out) × ClosedIf b.met.out b.output × (taken_of calls ≡ None)
-StageLink (Keeps packet) b calls = IsQuiet b.input × IsClosed b.output × (write_of b.seen ≡ Some packet) × (taken_of calls ≡ None)
+StageLink Opening b calls = IsQuiet b.input × IsClosed b.output × (write_of b.seen ≡ None) × (taken_of calls ≡ None) × (b.met.out ≡ None) × (has_ended b.seen ≡ false)
+StageLink Writes b calls = IsQuiet b.input × (write_of b.seen ≡ b.met.out) × ClosedIf b.met.out b.output × (taken_of calls ≡ None) × (has_ended b.seen ≡ false)
+StageLink (Keeps packet) b calls = IsQuiet b.input × IsClosed b.output × (write_of b.seen ≡ Some packet) × (taken_of calls ≡ None) × (has_ended b.seen ≡ false)
 StageLink Due b calls = IsQuiet b.input × IsSame b calls
 StageLink Status b calls = ConfirmsIf b.input calls × IsSame b calls
 StageLink Done b calls = ConfirmsIf b.input calls × IsSame b calls
 StageLink _ b calls = ⊥
+
+-- of a transfer that brings no data: the device is offered none
+abbrev pub HasNoData : TransferState → Type 0
+HasNoData (Reads left) = ⊥
+HasNoData (ReadDue left) = ⊥
+HasNoData Sent = ⊥
+HasNoData Closing = ⊥
+HasNoData Closed = ⊥
+HasNoData Opening = ⊥
+HasNoData Writes = ⊥
+HasNoData (Keeps packet) = ⊥
+HasNoData _ = Unit {0}
 
 -- a SETUP packet or a reset has come: the buffers are empty
 pub record Fresh (b : Bus) : Type 0 where
@@ -77,11 +89,13 @@ pub record Fresh (b : Bus) : Type 0 where
   pub output : b.output ≡ NaksOut
   pub setup : setup_of b.seen ≡ b.met.setup
   pub write : write_of b.seen ≡ None
+  pub ended : has_ended b.seen ≡ false
 
 -- the host's transfer is the session's
 pub record Current (t : TransferState) (b : Bus) (calls : List EpCall) : Type 0 where
   pub setup : setup_of b.seen ≡ asked_of calls
   pub stage : (setup : List ℕ) → setup_of b.seen ≡ Some setup → is_write setup ≡ true → StageLink t b calls
+  pub none : (setup : List ℕ) → setup_of b.seen ≡ Some setup → is_out setup ≡ true → is_write setup ≡ false → HasNoData t
 
 pub record Link (t : TransferState) (b : Bus) (calls : List EpCall) : Type 0 where
   pub kept : AllKept b.seen calls
@@ -101,7 +115,7 @@ Ready Refused b calls = WasAsked (last_0 calls)
 Ready (ReadDue left) b calls = Unit {0}
 Ready Closing b calls = WasAsked (last_0 calls)
 Ready Opening b calls = Unit {0}
-Ready (Keeps packet) b calls = Unit {0}
+Ready (Keeps packet) b calls = is_pending b.met ≡ false
 Ready Asking b calls = Unit {0}
 Ready Due b calls = IsOpen b
 Ready Idle b calls = Rests Idle b calls

@@ -120,6 +120,11 @@ pub record Link1 (s : ReportState) (b : Bus1) (calls : List EpCall) : Type 0 whe
   pub fresh : b.reset ≡ true → b ≡ blank true
   pub current : b.reset ≡ false → Now1 s.course s b calls
 
+-- a report is under way
+abbrev pub is_under_way : Course → Bool
+is_under_way Rests = false
+is_under_way _ = true
+
 -- all is handed over, or the buffers are full
 abbrev pub IsHeld : ℕ → ReportState → Type 0
 IsHeld room s = (to_hand s ≡ []) ⊎ (room ≤ s.buffered)

@@ -4,6 +4,7 @@ use Rattle.std.specs.Prelude.{◌≡◌, ◌<◌, ◌∷◌, ◌++◌, ℕ, Some
 use Rattle.layers.specs.Codes.{layers, keys, DefaultCodes}
 use Rattle.layers.specs.Entries.{written}
 use Rattle.layers.specs.declared.command.Command.{Command}
+use Rattle.usb_device.specs.Bus.{Seen}
 use Rattle.usb_device.specs.Calls.{EpCall}
 use Rattle.keyboard.specs.Acknowledged.{confirmation, IsConfirmed, IsSettled, NoneAcceptedWrites}
 use Rattle.keymap_store.specs.declared.store.Work.{Work}
@@ -11,7 +12,7 @@ use Rattle.keyboard.specs.Calls.{Call, Scanned, Worked, image_after}
 use Rattle.keyboard.specs.ties.Stands.{StandsFor}
 use Rattle.keyboard.specs.ties.Value.{KeyboardValue}
 use Rattle.usb_keyboard.specs.Plain.{usb_calls}
-use Rattle.usb_keyboard.specs.Stored.{Has}
+use Rattle.usb_keyboard.specs.Stored.{AllSent, Has}
 
 module _ (defaults : DefaultCodes) where
   -- of the session that began on the image `start`, and the flash is as the session left it
@@ -23,15 +24,17 @@ module _ (defaults : DefaultCodes) where
   abbrev pub StandsForUsb : List EpCall → KeyboardValue → Bytes → Type 0
   StandsForUsb calls keyboard image = (start : Bytes) × (past : List Call) × RunsSince start past keyboard image × (usb_calls past ≡ calls)
 
-  -- the keyboard and its flash stand for a session in which the command is confirmed and settled; and each code that it writes is in
-  -- the flash, also behind a power loss, unless a command that was accepted since writes the entry
-  pub record IsStored (keyboard : KeyboardValue) (image : Bytes) (command : Command) : Type 0 where
+  -- the keyboard and its flash stand for a session in which the command is confirmed and settled, before any that the host sent in
+  -- these later transfers; and each code that it writes is in the flash, also behind a power loss, until a command that was accepted
+  -- since writes the entry
+  pub record IsStored (later : List Seen) (keyboard : KeyboardValue) (image : Bytes) (command : Command) : Type 0 where
     pub start : Bytes
     pub past : List Call
     pub runs : RunsSince start past keyboard image
     pub before : List Call
     pub confirmed : IsConfirmed past before command
     pub settled : IsSettled defaults start past before command
+    pub since : AllSent later (confirmed.after ++ confirmation ∷ confirmed.between) (confirmed.packet ∷ before)
     pub has : (layer key code : ℕ) → layer < layers → key < keys → written defaults command layer key ≡ Some code
         → NoneAcceptedWrites defaults (confirmed.after ++ confirmation ∷ confirmed.between) (confirmed.packet ∷ before) layer key → Has defaults start past layer key code
 

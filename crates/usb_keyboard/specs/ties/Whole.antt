@@ -1,22 +1,39 @@
 -- Only ties code to its definitions: the parts of a whole control write.
 use Rattle.shapes.specs.Shapes.{Bytes}
-use Rattle.std.specs.Prelude.{◌≡◌, Bool, true, false, List, ◌∷◌}
-use Rattle.usb_device.specs.declared.answer.EpAnswer.{EpAnswer}
-use Rattle.usb_device.specs.declared.answer.EpAnswer.TheVariants.{Ack}
-use Rattle.usb_device.specs.Whole.{WasRefused}
+use Rattle.std.specs.Prelude.{◌≡◌, List, [], ◌∷◌, ◌++◌, length}
+use Rattle.layers.specs.Codes.{DefaultCodes}
+use Rattle.control_ep.specs.declared.answer.EpAnswer.{EpAnswer as Answer}
+use Rattle.control_ep.specs.declared.answer.EpAnswer.TheVariants.{Nak}
+use Rattle.keymap_store.specs.declared.store.Work.{Work}
 use Rattle.keyboard.specs.Acknowledged.{confirmation}
-use Rattle.keyboard.specs.Calls.{Call}
-use Rattle.usb_keyboard.specs.Plain.{usb_calls}
-use Rattle.usb_keyboard.specs.Whole.{AreWaits, data_calls}
+use Rattle.keyboard.specs.Bounded.{IsInTime}
+use Rattle.keyboard.specs.Calls.{Call, Out, In}
+use Rattle.usb_device.specs.declared.whole_transfers.Status.{Status}
+use Rattle.usb_device.specs.declared.whole_transfers.Status.TheVariants.{Done, Waits, Refuses}
+use Rattle.usb_device.specs.declared.whole_transfers.TransferError.{TransferError}
+use Rattle.usb_device.specs.declared.whole_transfers.TransferError.TheVariants.{Refused, Busy, Unfinished}
+use Rattle.usb_device.specs.Whole.{data_status_of, status_of}
+use Rattle.usb_keyboard.specs.Plain.{plain}
+use Rattle.usb_keyboard.specs.Whole.{put_off, data_calls}
 
-abbrev pub is_ack : EpAnswer → Bool
-is_ack Ack = true
-is_ack _ = false
+-- the data stage
+abbrev pub Gives : Status → Bytes → List Call → Type 0
+Gives Done data_ since = since ≡ data_calls data_
+Gives Waits data_ since = since ≡ Out data_ Nak ∷ []
+Gives Refuses data_ since = (answer : Answer) × (data_status_of (plain answer) ≡ Refuses) × (since ≡ Out data_ answer ∷ [])
 
--- the data were acknowledged, or not
-abbrev pub AreTaken : Bool → Bytes → List Call → Type 0
-AreTaken true data_ since = since ≡ data_calls data_
-AreTaken false data_ since = WasRefused (usb_calls since)
-
+-- the status stage that was confirmed
 abbrev pub IsStatusStage : List Call → Type 0
-IsStatusStage since = (waits : List Call) × AreWaits waits × (since ≡ confirmation ∷ waits)
+IsStatusStage since = (steps : List (Work × Bytes)) × (since ≡ confirmation ∷ put_off steps)
+
+module _ (defaults : DefaultCodes) where
+  -- before the last of these steps the command at work, if there was one, was in time
+  abbrev pub WasInTime : Bytes → List Call → List (Work × Bytes) → Type 0
+  WasInTime start past [] = Unit {0}
+  WasInTime start past (step ∷ before) = IsInTime defaults start (put_off before ++ past)
+
+  -- and one that was not
+  abbrev pub NotConfirmed : Bytes → List Call → TransferError → List Call → Type 0
+  NotConfirmed start past Refused since = (answer : Answer) × (steps : List (Work × Bytes)) × (status_of (plain answer) ≡ Refuses) × (since ≡ In answer ∷ put_off steps)
+  NotConfirmed start past Busy since = ⊥
+  NotConfirmed start past Unfinished since = (steps : List (Work × Bytes)) × (length steps ≡ 388) × WasInTime start past steps × (since ≡ put_off steps)

@@ -1,7 +1,7 @@
 //! What a report descriptor declares: its fields, its items, or all of it.
 
 use super::ends::Ended;
-use super::texts::{bytes_given, form_of};
+use super::texts::{bytes_given, form_of, lenient_of};
 use super::{details, files, items, json, sentences};
 use clap::ArgMatches;
 use kbsim::texts::Form;
@@ -18,8 +18,8 @@ pub fn describe() -> Result<(), Ended> {
 pub fn parse(given: &ArgMatches) -> Result<(), Ended> {
     let is_whole = given.get_flag("details") || given.get_flag("json");
     let form = form_of(given, if is_whole { None } else { Some(Form::Hex) });
-    let bytes = bytes_given(given.get_one::<OsString>("file"), form)?;
     let mut out = BufWriter::new(files::output()?);
+    let bytes = lenient_of(bytes_given(given.get_one::<OsString>("file"), form)?, given, &mut out)?;
     if given.get_flag("details") {
         details::parse(&bytes, &mut out)?;
     } else if given.get_flag("json") {

@@ -1,7 +1,7 @@
 //! `read`: the values of reports as they come.
 
 use super::ends::{Ended, tell};
-use super::texts::{bytes_in, bytes_of, form_of, reader_of};
+use super::texts::{bytes_in, bytes_of, form_of, lenient_of, reader_of};
 use super::{files, json, sentences, words};
 use clap::ArgMatches;
 use kbsim::texts::{Form, Line, line_of};
@@ -444,7 +444,7 @@ pub fn read(given: &ArgMatches) -> Result<ExitCode, Ended> {
 fn read_live(given: &ArgMatches) -> Result<bool, Ended> {
     let path = given.get_one::<OsString>("descriptor").expect("it is required");
     let (mut from, is_device, text) = files::live(path)?;
-    let reader = reader_of(&text)?;
+    let reader = reader_of(&lenient_of(text, given, &mut files::output()?)?)?;
     let mut teller = teller(given, &reader)?;
     raw(&mut from, is_device, &mut teller)?;
     teller.out.flush()?;
@@ -461,7 +461,7 @@ fn read_reports(given: &ArgMatches) -> Result<bool, Ended> {
     }
     let text = files::text_of(path("descriptor"), "text")?;
     let (form, bytes) = bytes_in(&text, form)?;
-    let reader = reader_of(&bytes)?;
+    let reader = reader_of(&lenient_of(bytes, given, &mut files::output()?)?)?;
     let mut teller = teller(given, &reader)?;
     if has_own(form) {
         lines(&mut text.as_slice(), &mut teller)?;

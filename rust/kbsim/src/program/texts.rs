@@ -6,7 +6,9 @@ use super::{sentences, words};
 use clap::ArgMatches;
 use kbsim::texts::{Form, Why, digits, taken};
 use std::ffi::OsString;
-use wuzhikar_hid::{Reader, ReaderError};
+use std::io::Write;
+use wuzhikar_hid::{Lenient, ParseError, Reader, ReaderError};
+use wuzhikar_reader::parse;
 
 /// The form of the descriptor's text that is named, or else this one; `None` where the text is looked at.
 pub fn form_of(given: &ArgMatches, other: Option<Form>) -> Option<Form> {
@@ -43,12 +45,32 @@ pub fn reader_given(path: Option<&OsString>, given: &ArgMatches) -> Result<Reade
 /// The reader of a report descriptor.
 pub fn reader_of(bytes: &[u8]) -> Result<Reader, Ended> {
     Reader::new(bytes).map_err(|error| match error {
-        ReaderError::Parse(error) => {
-            let line = format!("fault parse {} at {}", error.fault.number(), error.offset);
-            Ended::fault(line, sentences::of_item(bytes, error))
-        }
+        ReaderError::Parse(error) => refused(bytes, error),
         ReaderError::Memory => Ended::memory(),
     })
+}
+
+/// The text that is read in the lenient mode, with a line for each fault that is passed over; the same bytes in the strict mode.
+pub fn lenient_of(bytes: Vec<u8>, given: &ArgMatches, out: &mut impl Write) -> Result<Vec<u8>, Ended> {
+    if !given.get_flag("lenient") || parse(&bytes).is_ok() {
+        return Ok(bytes);
+    }
+    let Some(lenient) = Lenient::of(&bytes).map_err(|_| Ended::memory())? else { return Ok(bytes) };
+    for passed in lenient.passed() {
+        writeln!(out, "passed {} at {}", passed.fault.number(), passed.offset)?;
+    }
+    match parse(lenient.text()) {
+        Ok(_) => Ok(lenient.text().to_vec()),
+        Err(ParseError { fault, offset }) => {
+            out.flush()?;
+            Err(refused(&bytes, ParseError { fault, offset: lenient.origin(offset) }))
+        }
+    }
+}
+
+fn refused(bytes: &[u8], error: ParseError) -> Ended {
+    let line = format!("fault parse {} at {}", error.fault.number(), error.offset);
+    Ended::fault(line, sentences::of_item(bytes, error))
 }
 
 /// The bytes of pairs of hex digits; spaces, tabs, CR and LF are dropped.

@@ -65,6 +65,7 @@ fn parse() -> Command {
             .conflicts_with_all(["details", "json"]),
         flag("details", "Prints a tree of collections and items, in words").conflicts_with("json"),
         flag("json", "Prints an object of JSON"),
+        lenient(["items", "json"]),
         text(),
     ])
 }
@@ -77,6 +78,7 @@ fn read() -> Command {
         flag("raw", "The reports are bytes, and not lines"),
         flag("live", "DESCRIPTOR is a hidraw device, of which the descriptor and the reports are read")
             .conflicts_with_all(["raw", "kind", "from", "reports"]),
+        lenient(["json"]),
         kind("The kind of the reports").default_value("input"),
         form(LOOKED_AT),
         descriptor(),
@@ -117,6 +119,11 @@ fn text() -> Arg {
 
 fn descriptor() -> Arg {
     file("descriptor", "The file of a report descriptor, or - for standard input").value_name("DESCRIPTOR").required(true)
+}
+
+fn lenient<const N: usize>(others: [&'static str; N]) -> Arg {
+    flag("lenient", "Reads on past faults of the descriptor that Linux passes over, with a line for each")
+        .conflicts_with_all(others)
 }
 
 fn form(help: &'static str) -> Arg {

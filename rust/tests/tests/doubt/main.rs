@@ -10,29 +10,38 @@ mod settling;
 
 use sessions::{Loss, bare, settled};
 use settling::Rule;
+use wuzhikar::{Defaults, Standard};
+use wuzhikar_tests::other::Other;
 
-/// How many sessions there are.
+/// How many sessions there are of each table of default codes.
 fn count() -> u64 {
     std::env::var("DOUBT_SESSIONS").ok().and_then(|text| text.parse().ok()).unwrap_or(3_000)
 }
 
-#[test]
-fn nothing_is_lost_with_the_adapter() {
-    let told = settled(count(), None).expect("nothing is lost");
+fn keeps_all<D: Defaults>() {
+    let told = settled::<D>(count(), None).expect("nothing is lost");
     assert!(told.cuts > count() / 4 && told.faults > 0 && told.turns > 0, "{told:?}");
     println!("{told:?}");
 }
 
 #[test]
+fn nothing_is_lost_with_the_adapter() {
+    keeps_all::<Standard>();
+    keeps_all::<Other>();
+}
+
+#[test]
 fn something_is_lost_without_it() {
-    assert!(matches!(bare(count()), Err((_, Loss::Entry | Loss::Refused | Loss::Flickers))));
+    for told in [bare::<Standard>(count()), bare::<Other>(count())] {
+        assert!(matches!(told, Err((_, Loss::Entry | Loss::Refused | Loss::Flickers))));
+    }
 }
 
 /// The histories that break adapters with a rule left out.
 #[test]
 fn each_rule_is_needed() {
     for rule in Rule::ALL {
-        match settled(1_000_000, Some(rule)) {
+        match settled::<Standard>(1_000_000, Some(rule)) {
             Err((session, loss)) => println!("without {rule:?}: {loss:?} in session {session}"),
             Ok(counts) => panic!("{rule:?} is not needed: {counts:?}"),
         }

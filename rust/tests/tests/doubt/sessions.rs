@@ -2,7 +2,7 @@
 
 use crate::flash::{DoubtFlash, Random, Slot};
 use crate::settling::{Rule, Settling};
-use wuzhikar::{EpAnswer, KeyNo, Keyboard, LayerNo, NorFlash, PAGE_SLOTS, Work};
+use wuzhikar::{Defaults, EpAnswer, KeyNo, KeyboardOf, LayerNo, NorFlash, PAGE_SLOTS, Work};
 
 /// What is lost.
 #[derive(Clone, Copy, Debug, PartialEq, Eq)]
@@ -37,7 +37,7 @@ struct Ledger {
 
 impl Ledger {
     /// What a start finds is the keymap of the settled commands, or that with the command that was caught.
-    fn finds(&mut self, keyboard: &Keyboard) -> Result<(), Loss> {
+    fn finds<D: Defaults>(&mut self, keyboard: &KeyboardOf<D>) -> Result<(), Loss> {
         let found: Vec<u16> = (0..384).map(|place| code(keyboard, place)).collect();
         if let Some((place, code)) = self.caught.take() {
             if found[place] == code {
@@ -48,24 +48,25 @@ impl Ledger {
     }
 }
 
-fn code(keyboard: &Keyboard, place: usize) -> u16 {
+fn code<D: Defaults>(keyboard: &KeyboardOf<D>, place: usize) -> u16 {
     let (layer, key) = (LayerNo::read((place / 96) as u8), KeyNo::read((place % 96) as u8));
     keyboard.keymap().get(layer.expect("a layer"), key.expect("a key")).bits()
 }
 
-/// So many sessions with the adapter, or with one that leaves out a rule; else the session in which something is lost.
-pub fn settled(sessions: u64, without: Option<Rule>) -> Result<Counts, (u64, Loss)> {
+/// So many sessions of keyboards with these default codes and the adapter, or with one that leaves out a rule; else the session in
+/// which something is lost.
+pub fn settled<D: Defaults>(sessions: u64, without: Option<Rule>) -> Result<Counts, (u64, Loss)> {
     let mut flash = DoubtFlash::blank(1);
     let mut random = Random(2);
     let mut counts = Counts::default();
-    let mut ledger = Ledger { codes: standard(), caught: None };
+    let mut ledger = Ledger { codes: defaults::<D>(), caught: None };
     for session in 0..sessions {
         power(&mut flash, &mut random, &mut counts);
         no_other_word(&flash).map_err(|loss| (session, loss))?;
-        match Settling::mount(flash, without) {
+        match Settling::<_, D>::mount(flash, without) {
             Err((cut, _)) => flash = cut,
             Ok(mut settling) => {
-                let told = stable(&settling).and_then(|()| run(&mut settling, &mut ledger, &mut random, &mut counts));
+                let told = stable(&settling).and_then(|()| run::<D, _>(&mut settling, &mut ledger, &mut random, &mut counts));
                 let told = told.and_then(|()| few_programs(&settling.flash, &mut counts));
                 flash = settling.flash;
                 told.map_err(|loss| (session, loss))?;
@@ -77,20 +78,20 @@ pub fn settled(sessions: u64, without: Option<Rule>) -> Result<Counts, (u64, Los
 }
 
 /// So many sessions without an adapter.
-pub fn bare(sessions: u64) -> Result<Counts, (u64, Loss)> {
+pub fn bare<D: Defaults>(sessions: u64) -> Result<Counts, (u64, Loss)> {
     let mut flash = DoubtFlash::blank(1);
     let mut random = Random(2);
     let mut counts = Counts::default();
-    let mut ledger = Ledger { codes: standard(), caught: None };
+    let mut ledger = Ledger { codes: defaults::<D>(), caught: None };
     for session in 0..sessions {
         power(&mut flash, &mut random, &mut counts);
-        run(&mut flash, &mut ledger, &mut random, &mut counts).map_err(|loss| (session, loss))?;
+        run::<D, _>(&mut flash, &mut ledger, &mut random, &mut counts).map_err(|loss| (session, loss))?;
     }
     Ok(counts)
 }
 
-fn standard() -> Vec<u16> {
-    let keyboard = Keyboard::on(&DoubtFlash::blank(0)).expect("two pages");
+fn defaults<D: Defaults>() -> Vec<u16> {
+    let keyboard = KeyboardOf::<D>::on(&DoubtFlash::blank(0)).expect("two pages");
     (0..384).map(|place| code(&keyboard, place)).collect()
 }
 
@@ -113,15 +114,20 @@ impl Powered for DoubtFlash {
     }
 }
 
-impl Powered for Settling<DoubtFlash> {
+impl<D: Defaults> Powered for Settling<DoubtFlash, D> {
     fn is_off(&self) -> bool {
         self.flash.off
     }
 }
 
 /// One session: what the start finds, and commands until the power goes.
-fn run<F: Powered>(flash: &mut F, ledger: &mut Ledger, random: &mut Random, counts: &mut Counts) -> Result<(), Loss> {
-    let mut keyboard = Keyboard::on(flash).expect("two pages");
+fn run<D: Defaults, F: Powered>(
+    flash: &mut F,
+    ledger: &mut Ledger,
+    random: &mut Random,
+    counts: &mut Counts,
+) -> Result<(), Loss> {
+    let mut keyboard = KeyboardOf::<D>::on(flash).expect("two pages");
     ledger.finds(&keyboard)?;
     for _ in 0..random.below_one_of([2, 8, 30, 200]) {
         let (place, wanted) = (random.below_one_of([12, 12, 384, 384]) as usize, 4 + random.below(90) as u16);
@@ -159,7 +165,7 @@ fn may_read(slot: &Slot) -> (u32, u32) {
 
 /// Each slot of a page that is shown reads the same each time; or bit 30 or 31 is clear in both halves, so that it is none. On a page
 /// that is full it may also read now as Free, now as spoiled.
-fn stable(settling: &Settling<DoubtFlash>) -> Result<(), Loss> {
+fn stable<D: Defaults>(settling: &Settling<DoubtFlash, D>) -> Result<(), Loss> {
     let shown = (0..2).filter(|page| settling.shown[*page]);
     let mut slots = shown.flat_map(|page| (0..PAGE_SLOTS).map(move |slot| (page, settling.flash.slot(page, slot))));
     let holds = |(page, slot): (usize, Slot)| {

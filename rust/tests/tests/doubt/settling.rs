@@ -14,7 +14,8 @@
 //! - Then a mark follows, which clears bit 31 in both halves: no tear of anything else reads so. Behind a mark a start takes three
 //!   slots, behind a word four. A slot is programmed twice at most, and once more for each cut and fault.
 
-use wuzhikar::{FlashFault, KeyNo, Keyboard, LayerNo, NorFlash, PAGE_SLOTS};
+use std::marker::PhantomData;
+use wuzhikar::{Defaults, FlashFault, KeyNo, KeyboardOf, LayerNo, NorFlash, PAGE_SLOTS};
 
 /// A rule that an adapter may leave out, and the history that then breaks it.
 #[derive(Clone, Copy, Debug, PartialEq, Eq)]
@@ -65,18 +66,20 @@ const LAST: usize = PAGE_SLOTS - 1;
 const TRIES: usize = 8;
 
 #[derive(Debug)]
-pub struct Settling<F> {
+pub struct Settling<F, D> {
     pub flash: F,
     pub shown: [bool; 8],
     /// The page whose last slot is marked: it reads as spoiled, though the mark may be in doubt.
     pub full: Option<usize>,
     without: Option<Rule>,
+    /// It copies the entries that differ from these default codes.
+    defaults: PhantomData<D>,
 }
 
-impl<F: NorFlash> Settling<F> {
+impl<F: NorFlash, D: Defaults> Settling<F, D> {
     /// The adapter at a start, which settles what is in doubt. `FlashFault`: that failed; the power may be off.
-    pub fn mount(flash: F, without: Option<Rule>) -> Result<Settling<F>, (F, FlashFault)> {
-        let mut settling = Settling { flash, shown: [false; 8], full: None, without };
+    pub fn mount(flash: F, without: Option<Rule>) -> Result<Settling<F, D>, (F, FlashFault)> {
+        let mut settling = Settling { flash, shown: [false; 8], full: None, without, defaults: PhantomData };
         match settling.settle() {
             Ok(()) => Ok(settling),
             Err(fault) => Err((settling.flash, fault)),
@@ -211,16 +214,16 @@ impl<F: NorFlash> Settling<F> {
     /// The copies that a compaction of a page makes, as its slots were read.
     fn copies(&self, page: usize, slots: &[[u8; 8]]) -> Vec<[u8; 8]> {
         let pages = self.flash.pages();
-        let keyboard = Keyboard::on(&OnePage { pages, page, slots }).expect("two to eight pages");
-        let standard = Keyboard::on(&OnePage { pages, page: usize::MAX, slots }).expect("two to eight pages");
-        let code = |keyboard: &Keyboard, place: usize| {
+        let keyboard = KeyboardOf::<D>::on(&OnePage { pages, page, slots }).expect("two to eight pages");
+        let blank = KeyboardOf::<D>::on(&OnePage { pages, page: usize::MAX, slots }).expect("two to eight pages");
+        let code = |keyboard: &KeyboardOf<D>, place: usize| {
             let (layer, key) = (LayerNo::read((place / 96) as u8), KeyNo::read((place % 96) as u8));
             keyboard.keymap().get(layer.expect("a layer"), key.expect("a key")).bits()
         };
         let copy = |place: usize| {
             let now = code(&keyboard, place);
             let word = 1 << 28 | (place as u32 / 96) << 24 | (place as u32 % 96) << 16 | u32::from(now);
-            (now != code(&standard, place)).then(|| word_bytes(word))
+            (now != code(&blank, place)).then(|| word_bytes(word))
         };
         (0..384).filter_map(copy).collect()
     }
@@ -252,7 +255,7 @@ impl<F: NorFlash> Settling<F> {
     }
 }
 
-impl<F: NorFlash> NorFlash for Settling<F> {
+impl<F: NorFlash, D: Defaults> NorFlash for Settling<F, D> {
     fn pages(&self) -> usize {
         self.flash.pages()
     }

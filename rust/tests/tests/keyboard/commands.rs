@@ -2,11 +2,12 @@
 //! host is told so, in RAM and after a restart, beside a plain reading of the flash.
 
 use crate::board::BoardOf;
-use crate::layouts::{Known, Other};
+use crate::layouts::Known;
 use proptest::collection::vec;
 use proptest::prelude::*;
 use wuzhikar::{EpAnswer, SimFlash, Standard, Why, Work};
 use wuzhikar_tests::images::{self, Refusal, good};
+use wuzhikar_tests::other::Other;
 
 /// SET_REPORT of the feature report.
 const SET_FEATURE: [u8; 8] = [0x21, 0x09, 0x03, 0x03, 0x00, 0x00, 0x06, 0x00];

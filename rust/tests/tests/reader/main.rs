@@ -3,6 +3,7 @@
 mod faults;
 mod fields;
 mod large;
+mod lenient;
 mod pieces;
 mod questions;
 mod texts;

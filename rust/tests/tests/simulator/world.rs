@@ -1,20 +1,21 @@
 //! A world takes a list of events as it takes them one by one.
 
 use arrayvec::ArrayVec;
-use kbsim::{Answer, Event, World};
+use kbsim::{Answer, Event, WorldOf};
 use proptest::collection::vec;
 use proptest::prelude::*;
-use wuzhikar::{KeyNo, LayerNo, Mask, Scan, SimFlash};
+use wuzhikar::{Defaults, KeyNo, LayerNo, Mask, Scan, SimFlash, Standard};
+use wuzhikar_tests::other::Other;
 
-fn world(image: &[u8], armed: Option<&[u8]>) -> World {
+fn world<D: Defaults>(image: &[u8], armed: Option<&[u8]>) -> WorldOf<D> {
     let mut flash = SimFlash::from_image(image.to_vec()).expect("a flash");
     if let Some(mask) = armed {
         flash.fault_next(Mask::try_from(mask).expect("a mask"));
     }
-    World::on(flash).expect("memory")
+    WorldOf::on(flash).expect("memory")
 }
 
-fn run(world: &mut World, events: &[Event]) -> Vec<Answer> {
+fn run<D: Defaults>(world: &mut WorldOf<D>, events: &[Event]) -> Vec<Answer> {
     let mut answers = Vec::new();
     world.run(events, &mut answers).expect("memory");
     answers
@@ -23,7 +24,7 @@ fn run(world: &mut World, events: &[Event]) -> Vec<Answer> {
 #[test]
 fn ten_thousand_answers_of_one_run() {
     let scan = Event::Scan(Scan { rows: [1, 0, 0, 0, 0, 0] });
-    assert_eq!(run(&mut world(&[0xFF; 8192], None), &vec![scan; 10_000]), vec![Answer::Done; 10_000]);
+    assert_eq!(run(&mut world::<Standard>(&[0xFF; 8192], None), &vec![scan; 10_000]), vec![Answer::Done; 10_000]);
 }
 
 fn packet(bytes: &[u8]) -> ArrayVec<u8, 8> {
@@ -87,6 +88,16 @@ fn events() -> impl Strategy<Value = Vec<Event>> {
     prop_oneof![4 => command(), 3 => request(), 2 => keys, 1 => look, 2 => stray.prop_map(|event| vec![event])]
 }
 
+/// Takes the events one by one, and those between two places as one list: the answers and the flash are the same.
+fn taken_both_ways<D: Defaults>(image: &[u8], armed: Option<&[u8]>, events: &[Event], places: &[usize]) {
+    let (mut one, mut many) = (world::<D>(image, armed), world::<D>(image, armed));
+    let single: Vec<Answer> = events.iter().flat_map(|event| run(&mut one, std::slice::from_ref(event))).collect();
+    let listed: Vec<Answer> = places.windows(2).flat_map(|ends| run(&mut many, &events[ends[0]..ends[1]])).collect();
+    assert_eq!(single.len(), events.len());
+    assert_eq!(single, listed);
+    assert_eq!(one.flash().image(), many.flash().image());
+}
+
 proptest! {
     #[test]
     fn one_by_one_and_as_a_list(
@@ -94,6 +105,7 @@ proptest! {
         cuts in vec(any::<prop::sample::Index>(), 0..5),
         page in proptest::option::of(vec(any::<[u8; 4]>(), 1..9)),
         armed in proptest::option::of(mask()),
+        is_standard in any::<bool>(),
     ) {
         let mut image = vec![0xFF; 8192];
         if let Some(words) = page {
@@ -103,14 +115,10 @@ proptest! {
                 image[8 * slot..][..8].copy_from_slice(&[*a, *b, *c, *d, !a, !b, !c, !d]);
             }
         }
-        let (mut one, mut many) = (world(&image, armed.as_deref()), world(&image, armed.as_deref()));
-        let single: Vec<Answer> = events.iter().flat_map(|event| run(&mut one, std::slice::from_ref(event))).collect();
         let mut places: Vec<usize> = cuts.iter().map(|cut| cut.index(events.len())).collect();
         places.extend([0, events.len()]);
         places.sort_unstable();
-        let listed: Vec<Answer> = places.windows(2).flat_map(|ends| run(&mut many, &events[ends[0]..ends[1]])).collect();
-        prop_assert_eq!(single.len(), events.len());
-        prop_assert_eq!(single, listed);
-        prop_assert_eq!(one.flash().image(), many.flash().image());
+        let taken = if is_standard { taken_both_ways::<Standard> } else { taken_both_ways::<Other> };
+        taken(&image, armed.as_deref(), &events, &places);
     }
 }

@@ -5,7 +5,8 @@
 //! device, with descriptors and names that a maker lends (`Descriptors`), and hands everything else on to the device behind
 //! it (`Endpoints`). `ControlBuffers` and `ReportBuffers` hand the packets of endpoints 0 and 1 to a controller beforehand
 //! (`Controller`, `Buffers`). `write` makes a whole control write, for a stack that keeps endpoint 0 to itself. `Guarded` is a
-//! maker's lock and pace of feature commands. It takes no memory and needs no `unsafe`. Sections are those of
+//! maker's lock and pace of feature commands, and `Forgetting` lets a host forget a report that was under way
+//! while the protocol was set. It takes no memory and needs no `unsafe`. Sections are those of
 //! USB 2.0.
 //!
 //! The guarantee: a control write that the host saw the end of was acknowledged, and then confirmed by the empty packet, in
@@ -19,7 +20,7 @@
 //! The controller is told its address once the host has acknowledged the status packet of SET_ADDRESS and no later SETUP packet
 //! came, and at no other time.
 //!
-//! Not yet here: suspend and remote wakeup.
+//! A remote wakeup is asked for once in each suspend, where the host enabled it and a report waits (`UsbDevice::wakes`).
 
 mod answer;
 mod buffers;
@@ -29,6 +30,7 @@ mod descriptors;
 mod device;
 mod device_layer;
 mod endpoints;
+mod forgetting;
 mod guard;
 mod guarded;
 mod packets;
@@ -36,6 +38,7 @@ mod report_buffers;
 mod request;
 mod strings;
 mod usb_device;
+mod whole_reads;
 mod whole_transfers;
 
 pub use answer::{Change, Endpoint1, EpAnswer, PollAnswer, Report};
@@ -46,8 +49,10 @@ pub use descriptors::Descriptors;
 pub use device::Device;
 pub use device_layer::DeviceLayer;
 pub use endpoints::Endpoints;
+pub use forgetting::Forgetting;
 pub use guarded::{Guarded, ScansMatrix};
 pub use report_buffers::ReportBuffers;
 pub use strings::string_descriptor;
 pub use usb_device::UsbDevice;
-pub use whole_transfers::{Status, TransferError, Works, status_of, write};
+pub use whole_reads::{ReadBytes, read};
+pub use whole_transfers::{Status, TransferError, Works, data_status_of, status_of, write};

@@ -4,11 +4,12 @@ mod bus;
 mod host;
 mod lost;
 
+use super::{Layouted, Other};
 use crate::{DeviceLayer, Endpoint1, EpAnswer, Identity, Keys, PacketSize, Product, UsbDevice};
 use bus::{Bus, COMMANDS, Counts, Played};
 use host::{Act, Numbers, SET_CONFIGURATION};
 use std::cell::RefCell;
-use wuzhikar::{FlashKeyboard, KeyNo, LayerNo, Scan, SimFlash};
+use wuzhikar::{Defaults, KeyNo, KeyboardOf, LayerNo, Scan, SimFlash, Standard};
 
 const fn product(packet_size: PacketSize) -> Product<'static> {
     Product::of(Identity { packet_size, product: crate::utf16!("Keys"), ..Identity::TEST })
@@ -18,34 +19,35 @@ const fn product(packet_size: PacketSize) -> Product<'static> {
 static PRODUCTS: [Product<'static>; 4] =
     [product(PacketSize::Bytes8), product(PacketSize::Bytes16), product(PacketSize::Bytes32), product(PacketSize::Bytes64)];
 
-/// How many histories of a bus are tried, half of them with two buffers: 100,000, or as many as the variable HISTORIES says.
+/// How many histories of a bus are tried, half of them with two buffers, and half of each with either table of default codes:
+/// 100,000, or as many as the variable HISTORIES says.
 fn count() -> u64 {
     std::env::var("HISTORIES").map_or(100_000, |count| count.parse().expect("a number"))
 }
 
-type Usb<'b> = UsbDevice<'static, Keys<SimFlash>, Played<'b>>;
+type Usb<'b, D = Standard> = UsbDevice<'static, Keys<SimFlash, KeyboardOf<D>>, Played<'b>>;
 
 /// A device that has just started, on a bus.
-fn device<'b>(product: &'static Product<'static>, flash: SimFlash, bus: &'b RefCell<Bus>) -> Usb<'b> {
+fn device<'b, D: Layouted>(product: &'static Product<'static>, flash: SimFlash, bus: &'b RefCell<Bus>) -> Usb<'b, D> {
     let layer = DeviceLayer::new(product.descriptors());
-    UsbDevice::new(layer, Keys::start(flash).unwrap(), Played::on(bus), product.identity().packet_size)
+    UsbDevice::new(layer, D::keys(flash), Played::on(bus), product.identity().packet_size)
 }
 
 /// The code of an entry.
-fn code(keyboard: &wuzhikar::Keyboard, layer: u8, key: u8) -> u16 {
+fn code<D: Defaults>(keyboard: &KeyboardOf<D>, layer: u8, key: u8) -> u16 {
     keyboard.keymap().get(LayerNo::read(layer).unwrap(), KeyNo::read(key).unwrap()).bits()
 }
 
 /// The device serves, and what the host saw the end of since is in the flash; an address that the host gave is taken.
-fn serve(usb: &mut Usb, bus: &RefCell<Bus>) {
+fn serve<D: Layouted>(usb: &mut Usb<D>, bus: &RefCell<Bus>) {
     let given = bus.borrow().given;
     let confirmed = std::mem::take(&mut bus.borrow_mut().confirmed);
     if let Some(command) = confirmed.last() {
-        let stored = FlashKeyboard::start(usb.behind().flash().clone()).unwrap();
+        let stored = D::keys(usb.behind().flash().clone());
         let [_, operation, layer, key, low, high] = command[..] else { panic!("six bytes") };
         let expected = match operation {
             1 => u16::from_le_bytes([low, high]),
-            _ => code(FlashKeyboard::start(SimFlash::blank(2).unwrap()).unwrap().keyboard(), layer, key),
+            _ => code(D::keys(SimFlash::blank(2).unwrap()).keyboard(), layer, key),
         };
         assert_eq!(code(stored.keyboard(), layer, key), expected, "{command:?}");
     }
@@ -59,10 +61,10 @@ fn serve(usb: &mut Usb, bus: &RefCell<Bus>) {
 ///
 /// A lawful host then ends its transfer, configures the device and polls: what it knows of each input report is what the
 /// keyboard would report. A host forgets at a bus reset, and when it sets the protocol.
-fn history(seed: u64, lawful: bool, buffers: usize, flash: SimFlash) -> (Counts, SimFlash) {
+fn history<D: Layouted>(seed: u64, lawful: bool, buffers: usize, flash: SimFlash) -> (Counts, SimFlash) {
     let product = &PRODUCTS[seed as usize % 4];
     let bus = &RefCell::new(Bus::new(seed, lawful, product.identity().packet_size.bytes(), buffers));
-    let mut usb = device(product, flash, bus);
+    let mut usb = device::<D>(product, flash, bus);
     let mut numbers = Numbers(seed);
     for _ in 0..40 {
         serve(&mut usb, bus);
@@ -77,7 +79,7 @@ fn history(seed: u64, lawful: bool, buffers: usize, flash: SimFlash) -> (Counts,
 }
 
 /// The host ends its transfer, configures the device, and polls until all is there.
-fn ends(usb: &mut Usb, bus: &RefCell<Bus>) {
+fn ends<D: Layouted>(usb: &mut Usb<D>, bus: &RefCell<Bus>) {
     bus.borrow_mut().quiet = true;
     serve(usb, bus);
     while !bus.borrow().host.is_free() {
@@ -107,7 +109,7 @@ fn ends(usb: &mut Usb, bus: &RefCell<Bus>) {
 }
 
 /// What a host reads, where it is not stalled.
-fn read(usb: &mut Usb, bus: &RefCell<Bus>, setup: [u8; 8]) -> Option<Vec<u8>> {
+fn read<D: Layouted>(usb: &mut Usb<D>, bus: &RefCell<Bus>, setup: [u8; 8]) -> Option<Vec<u8>> {
     let mut keys = Vec::new();
     bus.borrow_mut().act(Act::Setup(setup));
     serve(usb, bus);
@@ -125,7 +127,7 @@ fn read(usb: &mut Usb, bus: &RefCell<Bus>, setup: [u8; 8]) -> Option<Vec<u8>> {
 }
 
 /// A key goes down or up, or the flash works.
-fn step(usb: &mut Usb, bus: &RefCell<Bus>, numbers: &mut Numbers) {
+fn step<D: Layouted>(usb: &mut Usb<D>, bus: &RefCell<Bus>, numbers: &mut Numbers) {
     match numbers.below(8) {
         0 | 1 => {
             let scan = Scan { rows: [numbers.below(8) as u16, 0, 0, 0, 0, numbers.of(&[0, 0, 1 << 15])] };
@@ -144,11 +146,11 @@ fn step(usb: &mut Usb, bus: &RefCell<Bus>, numbers: &mut Numbers) {
 }
 
 /// So many histories by four threads, in each of which the flash goes from one to the next: each of what is counted is met.
-fn histories(count: u64, lawful: bool, buffers: usize) {
+fn histories_of<D: Layouted>(count: u64, lawful: bool, buffers: usize) {
     let in_one_thread = |first: u64| {
         let (mut flash, mut all) = (SimFlash::blank(2).unwrap(), Counts::default());
         for number in (first..count).step_by(4) {
-            let (counts, next) = history(number / 4 + first * count, lawful, buffers, flash);
+            let (counts, next) = history::<D>(number / 4 + first * count, lawful, buffers, flash);
             flash = next;
             all += counts;
         }
@@ -161,6 +163,11 @@ fn histories(count: u64, lawful: bool, buffers: usize) {
     });
     println!("{all:?}");
     assert!(all.0.iter().all(|met| *met as u64 > count / 150), "{all:?}");
+}
+
+fn histories(count: u64, lawful: bool, buffers: usize) {
+    histories_of::<Standard>(count / 2, lawful, buffers);
+    histories_of::<Other>(count / 2, lawful, buffers);
 }
 
 #[test]

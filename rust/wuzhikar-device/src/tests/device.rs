@@ -3,8 +3,9 @@
 //! The device packet by packet, and whole control transfers.
 
 use crate::{Change, Device, Done, Endpoint1, EpAnswer, Identity, Interval, NotDone, PacketSize, PollAnswer, Power, Product};
+use crate::{Endpoints, Keys, TransferError, UsbKeyboard};
 use core::ops::ControlFlow;
-use wuzhikar::{Scan, SimFlash, UnstartedKeyboard, Work};
+use wuzhikar::{KeyNo, LayerNo, Scan, SimFlash, UnstartedKeyboard, Work};
 
 const SET_CONFIGURATION: [u8; 8] = [0x00, 0x09, 1, 0, 0, 0, 0, 0];
 const SET_HALT: [u8; 8] = [0x02, 0x03, 0, 0, 0x81, 0, 0, 0];
@@ -199,11 +200,12 @@ fn an_identity_changes_its_own_bytes_alone() {
         packet_size: PacketSize::Bytes64,
         interval: Interval::milliseconds(255).unwrap(),
         power: Power::milliamperes(499).unwrap(),
+        remote_wakeup: true,
         country: 33,
         ..Identity::TEST
     });
     let mut expected = wuzhikar::usb::CONFIGURATION_DESCRIPTOR;
-    [expected[8], expected[22], expected[31], expected[33]] = [250, 33, 64, 255];
+    [expected[7], expected[8], expected[22], expected[31], expected[33]] = [0xa0, 250, 33, 64, 255];
     assert_eq!(product.descriptors().configuration, expected);
     assert_eq!(product.descriptors().hid, &expected[18..27]);
     assert_eq!(Product::TEST.descriptors().device, {
@@ -236,10 +238,10 @@ fn a_whole_transfer_is_made_or_says_why_not() {
     assert_eq!(b, [3, 0, 0, 0, 5, 0]);
     let stalled = device.control(SET_FEATURE, &mut [3, 1, 4, 0, 5, 0]).unwrap_err();
     assert!(matches!(stalled, NotDone::Stall(why) if why.number() == 8), "{stalled}");
-    assert_eq!(device.control(GET_FEATURE, &mut [0; 5]), Err(NotDone::Buffer));
     // The reason is that of the transfer under way.
     device.setup(GET_FEATURE);
     assert_eq!(device.why().number(), 16);
+    assert_eq!(device.control(GET_FEATURE, &mut [0; 5]), Err(NotDone::Buffer));
     // A read of whole packets is over with the last one, and with its status stage.
     let mut head = [0; 16];
     assert_eq!(device.control([0x80, 6, 0, 1, 0, 0, 16, 0], &mut head), Ok(Done { length: 16, change: None }));
@@ -259,13 +261,13 @@ fn a_whole_transfer_is_made_or_says_why_not() {
 fn what_works_is_told() {
     let mut device = configured(&Product::TEST);
     assert!(!device.may_work());
-    // The LEDs, a selection and a command that changes nothing are no work.
+    // What was acknowledged may work until a step has looked: the LEDs, a selection and a command that changes nothing do not.
     device.control([0x21, 9, 1, 2, 0, 0, 2, 0], &mut [1, 1]).unwrap();
-    device.setup(SET_FEATURE);
-    assert_eq!((device.out(&[3, 0, 0, 1, 0, 0]), device.may_work()), (EpAnswer::Ack, false));
+    device.control(SET_FEATURE, &mut [3, 0, 0, 1, 0, 0]).unwrap();
     device.control(SET_FEATURE, &mut [3, 1, 0, 0, 4, 0]).unwrap();
-    assert!(!device.may_work());
+    assert!(device.may_work());
     assert_eq!(device.work(), Work::Idle);
+    assert!(!device.may_work());
     device.setup(SET_FEATURE);
     assert_eq!(device.out(&[3, 1, 0, 0, 5, 0]), EpAnswer::Ack);
     // It works on behind another transfer, and through a bus reset.
@@ -275,4 +277,32 @@ fn what_works_is_told() {
     assert_eq!([device.work(), device.work()], [Work::Working, Work::Settled]);
     assert!(!device.may_work());
     assert_eq!(device.work(), Work::Idle);
+}
+
+#[test]
+fn a_stack_that_keeps_endpoint_0_writes_a_key() {
+    let mut keyboard = UsbKeyboard::start(SimFlash::blank(2).unwrap()).unwrap();
+    let code = |keyboard: &UsbKeyboard<SimFlash>| {
+        let keymap = keyboard.keyboard().keymap();
+        keymap.get(LayerNo::read(0).unwrap(), KeyNo::read(0).unwrap()).bits()
+    };
+    assert_eq!((code(&keyboard), keyboard.write(SET_FEATURE, &[3, 1, 0, 0, 5, 0])), (4, Ok(())));
+    assert_eq!(code(&keyboard), 5);
+    assert_eq!(keyboard.write(SET_BOOT, &[]), Ok(()));
+    // A layer that there is not, a packet too long, and a write of one that is read.
+    for (setup, bytes) in [(SET_FEATURE, &[3, 1, 4, 0, 5, 0][..]), (SET_FEATURE, &[0; 9]), (GET_FEATURE, &[])] {
+        assert_eq!(keyboard.write(setup, bytes), Err(TransferError::Refused));
+    }
+    assert_eq!(code(&keyboard), 5);
+}
+
+#[test]
+fn a_restart_has_nothing_to_forget() {
+    let mut keys = Keys::start(SimFlash::blank(2).unwrap()).unwrap();
+    (0..5).for_each(|_| keys.scan(Scan { rows: [1, 0, 0, 0, 0, 0] }));
+    assert_eq!(keys.poll().map(|report| report.len()), Some(23));
+    keys.setup(SET_BOOT);
+    assert!(matches!(keys.in_packet(), EpAnswer::Packet(_)));
+    keys.restart();
+    assert_eq!(keys.poll(), None);
 }

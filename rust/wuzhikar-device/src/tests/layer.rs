@@ -5,9 +5,10 @@ mod requests;
 mod states;
 mod transfers;
 
+use super::{Layouted, Other};
 use crate::{Change, DeviceLayer, Endpoint1, Endpoints, EpAnswer, Identity, Keys, PollAnswer, Product, Report, utf16};
 use wuzhikar::usb::{CONFIGURATION, ENDPOINT_1};
-use wuzhikar::{Scan, SimFlash, Work};
+use wuzhikar::{KeyboardOf, Scan, SimFlash, Standard, Work};
 
 const IDENTITY: Identity = Identity {
     vendor_id: 0x1234,
@@ -50,14 +51,14 @@ fn board() -> Board {
 }
 
 /// The device layer and the keyboard behind it.
-struct Device {
+struct Device<D: Layouted = Standard> {
     layer: DeviceLayer<'static>,
-    board: Board,
+    board: Keys<SimFlash, KeyboardOf<D>>,
 }
 
 impl Device {
     fn of(product: &'static Product) -> Device {
-        Device { layer: DeviceLayer::new(product.descriptors()), board: board() }
+        Device::with(product)
     }
 
     /// In the default state.
@@ -82,6 +83,12 @@ impl Device {
         let mut device = Device::configured();
         assert_eq!(device.set(SET_HALT), Some(Some(Change::Endpoint(Endpoint1::Halted))));
         device
+    }
+}
+
+impl<D: Layouted> Device<D> {
+    fn with(product: &'static Product) -> Device<D> {
+        Device { layer: DeviceLayer::new(product.descriptors()), board: D::keys(SimFlash::blank(2).unwrap()) }
     }
 
     fn setup(&mut self, packet: [u8; 8]) {
@@ -182,12 +189,11 @@ impl Numbers {
     }
 }
 
-#[test]
-fn packets_in_any_order_leave_a_lawful_device() {
-    let (mut numbers, mut device, mut endpoint_1) = (Numbers(1), Device::new(), Endpoint1::Off);
+fn packets_in_any_order<D: Layouted>() {
+    let (mut numbers, mut device, mut endpoint_1) = (Numbers(1), Device::<D>::with(&PRODUCT), Endpoint1::Off);
     let rows: Vec<_> =
         requests::REQUESTS.lines().filter_map(|row| row.split_once('|')).map(|(setup, _)| bytes(setup)).collect();
-    for _ in 0..200_000 {
+    for _ in 0..100_000 {
         match numbers.below(100) {
             0..30 => device.setup(rows[numbers.below(rows.len())].clone().try_into().unwrap()),
             30..40 => device.setup([(); 8].map(|_| numbers.below(256) as u8)),
@@ -214,4 +220,10 @@ fn packets_in_any_order_leave_a_lawful_device() {
             }),
         }
     }
+}
+
+#[test]
+fn packets_in_any_order_leave_a_lawful_device() {
+    packets_in_any_order::<Standard>();
+    packets_in_any_order::<Other>();
 }

@@ -12,7 +12,7 @@ impl fmt::Display for NoPhysical {
         f.write_str(match self {
             NoPhysical::EqualLimits => "the logical extents are equal",
             NoPhysical::InvertedLimits => "the Logical Minimum is over the Logical Maximum",
-            NoPhysical::LargeExtents => "a physical extent is no number of 32 bits",
+            NoPhysical::LargeExtents => "a physical extent is over 2^32 or under -2^32",
         })
     }
 }

@@ -41,6 +41,31 @@ pub const PAGE_UNITS: usize = 1024;
 ///   unit at most, and that a program only clears cells and an erase only sets them; the rest follows
 ///   from this. A maker of a flash with another correction shows, or believes, these clauses alone.
 /// - `others`: that no other unit, and no other page, is disturbed.
+///
+/// ```rust
+/// use wuzhikar_log::{EccFlash, FlashFault, PAGE_UNITS, UNIT_BYTES};
+///
+/// /// Units in RAM that read as they were programmed.
+/// struct Ram([[[u8; UNIT_BYTES]; PAGE_UNITS]; 2]);
+///
+/// impl EccFlash for Ram {
+///     fn pages(&self) -> usize {
+///         2
+///     }
+///     fn read_unit(&self, page: usize, unit: usize) -> Option<[u8; UNIT_BYTES]> {
+///         Some(self.0[page][unit])
+///     }
+///     fn program_unit(&mut self, page: usize, unit: usize, bytes: [u8; UNIT_BYTES]) -> Result<(), FlashFault> {
+///         self.0[page][unit] = bytes;
+///         Ok(())
+///     }
+///     fn erase_units(&mut self, page: usize) -> Result<(), FlashFault> {
+///         self.0[page] = [[0xff; UNIT_BYTES]; PAGE_UNITS];
+///         Ok(())
+///     }
+/// }
+/// # assert_eq!(Ram([[[0xff; UNIT_BYTES]; PAGE_UNITS]; 2]).pages(), 2);
+/// ```
 pub trait EccFlash {
     /// Returns how many pages there are, 2 to 8.
     fn pages(&self) -> usize;

@@ -7,6 +7,7 @@
 //! `keyboard` calls it: `submit` takes a command, and each `work` makes at most one flash operation
 //! for it.
 
+mod command_word;
 mod store;
 
 pub use store::{Store, StoreOf, SubmitRefusal, Taken, Work};

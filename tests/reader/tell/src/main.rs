@@ -10,7 +10,7 @@ use std::io::{BufRead, Write};
 use wuzhikar_hid::{
     Asked, Details, Kind, Naming, Reader, ReaderError, Setting, Target, Value, Within, WriteError, details, namings,
 };
-use wuzhikar_reader::extract;
+use wuzhikar_reader::{extract, parse_lenient};
 
 fn bytes_of(hex: &str) -> Vec<u8> {
     (0..hex.len() / 2).map(|at| u8::from_str_radix(&hex[2 * at..2 * at + 2], 16).expect("hex")).collect()
@@ -112,6 +112,26 @@ fn descriptor(text: &[u8]) -> (String, Option<Reader>) {
         tell_item(&mut line, text, told, place);
     }
     (line, Some(reader))
+}
+
+/// The faults that were passed over, the fields, and the bits of the report that each is in.
+fn lenient(text: &[u8]) -> String {
+    let (reader, made) = match Reader::lenient(text) {
+        Ok(made) => made,
+        Err(ReaderError::Parse(error)) => return format!("fault {} {}", error.fault.number(), error.offset),
+        Err(ReaderError::Memory) => return "memory".into(),
+    };
+    let passed = made.as_ref().map_or(&[][..], |made| made.passed());
+    assert_eq!(parse_lenient(text).map(|(_, passed)| passed).as_deref(), Ok(passed));
+    let mut line: String = passed.iter().map(|error| format!("{}:{},", error.fault.number(), error.offset)).collect();
+    for (at, field) in reader.descriptor().fields().iter().enumerate() {
+        let kind = kind_word(field.kind);
+        let numbers = (field.id, field.bit, field.size, field.count, field.min, field.max, field.array);
+        let ranges = reader.descriptor().ranges(at);
+        let len = reader.descriptor().report_len(field.kind, field.id);
+        let _ = write!(line, ";{kind} {numbers:?} {ranges:?} {}", option(len));
+    }
+    line
 }
 
 fn read(reader: &Reader, kind: Kind, report: &[u8]) -> String {
@@ -244,6 +264,7 @@ fn main() -> std::io::Result<()> {
                 kept = reader;
                 told
             }
+            ("L", _) => lenient(&bytes_of(words[1])),
             ("R", Some(reader)) => read(reader, kind_of(words[1]), &bytes_of(words[2])),
             ("W", Some(reader)) => written(reader, &words[1..]),
             _ => "no descriptor".into(),

@@ -41,4 +41,6 @@ pub enum Change {
     Address(u8),
     /// Endpoint 1 is this, with data toggle DATA0.
     Endpoint(Endpoint1),
+    /// Remote wakeup is enabled, or is not: nothing for the controller.
+    Wakeup(bool),
 }

@@ -24,7 +24,15 @@ pub struct Descriptors<'a> {
     pub serial_number: &'a [u16],
 }
 
+/// Bit 5 of bmAttributes (table 9-10).
+const REMOTE_WAKEUP: u8 = 0x20;
+
 impl<'a> Descriptors<'a> {
+    /// Whether the device can wake its host.
+    pub(crate) fn can_wake(self) -> bool {
+        self.configuration.len() > 7 && self.configuration[7] & REMOTE_WAKEUP != 0
+    }
+
     /// Whether there is a name.
     pub(crate) fn has_names(self) -> bool {
         !self.manufacturer.is_empty() || !self.product.is_empty() || !self.serial_number.is_empty()

@@ -19,7 +19,7 @@ pub struct Device<'a, E, B> {
 fn endpoint_set(change: Option<Change>) -> Option<Endpoint1> {
     match change {
         Some(Change::Endpoint(state)) => Some(state),
-        Some(Change::Address(_)) | None => None,
+        Some(Change::Address(_) | Change::Wakeup(_)) | None => None,
     }
 }
 
@@ -68,10 +68,35 @@ impl<'a, E: Endpoints, B: Buffers> Device<'a, E, B> {
         self.reports.scan();
     }
 
-    /// The host has the status packet of its transfer.
+    /// The host has the status packet of its transfer. Where that set endpoint 1, the host has begun anew. Behind any other transfer
+    /// it may have given such a request up, and it stays open which data toggle it wants.
     pub fn is_done(&mut self) {
-        self.buffers.host_began();
         self.reports.release();
+        if self.layer.has_renewed() {
+            self.buffers.host_began();
+            self.reports.agree();
+        }
+    }
+
+    /// The bus is suspended.
+    pub fn suspend(&mut self) {
+        self.layer.suspend();
+    }
+
+    /// The bus goes on.
+    pub fn resume(&mut self) {
+        self.layer.resume();
+    }
+
+    /// Whether to signal a remote wakeup: a report waits for the host, which has enabled it and has suspended the bus; once.
+    pub fn wakes(&mut self) -> bool {
+        let has_report = self.report_waits();
+        self.layer.wakes(has_report)
+    }
+
+    /// Whether a report waits for the host.
+    fn report_waits(&self) -> bool {
+        self.is_ready() && self.reports.is_under_way()
     }
 
     /// Takes what the host has taken of endpoint 1, and fills its buffers where it is ready and nothing is waited for: with

@@ -41,6 +41,10 @@ pub struct DeviceLayer<'a> {
     endpoint: Endpoint1,
     stage: Stage<'a>,
     due: Option<u8>,
+    renewed: bool,
+    wakeup: bool,
+    suspended: bool,
+    woken: bool,
 }
 
 /// The stage that a request begins in.
@@ -65,6 +69,10 @@ impl<'a> DeviceLayer<'a> {
             endpoint: Endpoint1::Off,
             stage: Stage::Theirs,
             due: None,
+            renewed: false,
+            wakeup: false,
+            suspended: false,
+            woken: false,
         }
     }
 
@@ -74,9 +82,50 @@ impl<'a> DeviceLayer<'a> {
         self.due
     }
 
+    /// Whether the status packet of the transfer under way set endpoint 1, which then begins anew.
+    pub fn has_renewed(&self) -> bool {
+        self.renewed
+    }
+
     /// What endpoint 1 is.
     pub fn endpoint_1(&self) -> Endpoint1 {
         self.endpoint
+    }
+
+    /// Whether the host has enabled remote wakeup (section 9.4.5).
+    pub fn may_wake(&self) -> bool {
+        self.wakeup
+    }
+
+    /// The bus is suspended: it was idle for 3 ms (section 7.1.7.6). Address and configuration stay.
+    pub fn suspend(&mut self) {
+        self.answer_suspend();
+    }
+
+    fn answer_suspend(&mut self) {
+        self.suspended = true;
+        self.woken = false;
+    }
+
+    /// The bus goes on.
+    pub fn resume(&mut self) {
+        self.answer_resume();
+    }
+
+    fn answer_resume(&mut self) {
+        self.suspended = false;
+    }
+
+    /// Whether to signal a remote wakeup (section 7.1.7.7), where a report waits for the host or not: once in each suspend, if the
+    /// host has enabled it.
+    pub fn wakes(&mut self, has_report: bool) -> bool {
+        self.answer_wakes(has_report)
+    }
+
+    fn answer_wakes(&mut self, has_report: bool) -> bool {
+        let wakes = self.suspended && !self.woken && self.wakeup && has_report;
+        self.woken |= wakes;
+        wakes
     }
 
     /// A SETUP packet of endpoint 0, which ends the transfer before it.
@@ -88,8 +137,18 @@ impl<'a> DeviceLayer<'a> {
     /// Begins the transfer of a request.
     fn begin(&mut self, packet: [u8; 8]) {
         let request = Request::read(packet);
-        self.stage = first_stage(request.served(self.endpoint, self.lent), request.length);
+        self.suspended = false;
+        self.stage = first_stage(
+            request.served(self.endpoint, self.wakeup, self.lent),
+            request.length,
+        );
+        self.forget();
+    }
+
+    /// No status packet of the transfer has come.
+    fn forget(&mut self) {
         self.due = None;
+        self.renewed = false;
     }
 
     /// An OUT packet of endpoint 0. An empty one ends a read.
@@ -139,8 +198,12 @@ impl<'a> DeviceLayer<'a> {
     /// Takes the change of a status stage.
     fn follow(&mut self, change: Option<Change>) {
         match change {
-            Some(Change::Endpoint(state)) => self.endpoint = state,
+            Some(Change::Endpoint(state)) => {
+                self.endpoint = state;
+                self.renewed = true;
+            }
             Some(Change::Address(address)) => self.due = Some(address),
+            Some(Change::Wakeup(on)) => self.wakeup = on,
             None => {}
         }
     }
@@ -171,6 +234,9 @@ impl<'a> DeviceLayer<'a> {
         behind.bus_reset();
         self.endpoint = Endpoint1::Off;
         self.stage = Stage::Theirs;
-        self.due = None;
+        self.wakeup = false;
+        self.suspended = false;
+        self.woken = false;
+        self.forget();
     }
 }

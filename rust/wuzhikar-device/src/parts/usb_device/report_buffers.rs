@@ -65,12 +65,12 @@ fn behind(bytes: &[u8], count: usize) -> Report {
 }
 
 /// Whether a SETUP packet is SET_PROTOCOL.
-fn sets_protocol(setup: [u8; 8]) -> bool {
+pub(crate) fn sets_protocol(setup: [u8; 8]) -> bool {
     setup[0] == 0x21 && setup[1] == 0x0b
 }
 
 /// Whether an answer is the empty packet.
-fn is_empty(answer: &EpAnswer) -> bool {
+pub(crate) fn is_empty(answer: &EpAnswer) -> bool {
     match answer {
         EpAnswer::Packet(packet) => packet.is_empty(),
         EpAnswer::Ack | EpAnswer::Nak | EpAnswer::Stall => false,
@@ -121,9 +121,13 @@ impl ReportBuffers {
         self.waits = self.waits.saturating_sub(1);
     }
 
-    /// The host has taken the status packet. A host that has it has begun anew with DATA0, where the device has.
+    /// The host has taken the status packet: nothing is waited for.
     pub fn release(&mut self) {
         self.waits = 0;
+    }
+
+    /// The host has begun anew with DATA0, where the device has: the toggles agree.
+    pub fn agree(&mut self) {
         if !self.lost {
             self.unsure = false;
         }
@@ -234,6 +238,11 @@ impl ReportBuffers {
     /// Whether nothing is waited for.
     pub fn is_known(&self) -> bool {
         self.waits == 0
+    }
+
+    /// Whether a report is under way.
+    pub fn is_under_way(&self) -> bool {
+        !matches!(self.course, Course::Rests)
     }
 
     /// Whether no report is under way.

@@ -45,13 +45,20 @@ impl Request {
     }
 
     /// What the USB device layer serves it with; none where it is left to the device behind.
-    pub(crate) fn served<'a>(self, state: Endpoint1, lent: Descriptors<'a>) -> Option<Served<'a>> {
+    pub(crate) fn served<'a>(
+        self,
+        state: Endpoint1,
+        wakeup: bool,
+        lent: Descriptors<'a>,
+    ) -> Option<Served<'a>> {
         match (self.kind, self.code) {
-            (0x80, 0x00) => self.device_status(),
+            (0x80, 0x00) => self.device_status(wakeup),
             (0x81, 0x00) => self.interface_status(state),
             (0x82, 0x00) => self.endpoint_status(state),
             (0x02, 0x01) => self.halt(state, Endpoint1::Ready),
             (0x02, 0x03) => self.halt(state, Endpoint1::Halted),
+            (0x00, 0x01) => self.remote_wakeup(lent, false),
+            (0x00, 0x03) => self.remote_wakeup(lent, true),
             (0x00, 0x05) => self.set_address(state),
             (0x80, 0x06) => self.descriptor(lent),
             (0x81, 0x06) => self.hid_descriptor(lent),
@@ -68,8 +75,12 @@ impl Request {
         self.value == value && self.index == index
     }
 
-    fn device_status<'a>(self) -> Option<Served<'a>> {
-        if self.names(0, 0) { Some(two(0)) } else { None }
+    fn device_status<'a>(self, wakeup: bool) -> Option<Served<'a>> {
+        if self.names(0, 0) {
+            Some(two(if wakeup { 2 } else { 0 }))
+        } else {
+            None
+        }
     }
 
     fn interface_status<'a>(self, state: Endpoint1) -> Option<Served<'a>> {
@@ -85,6 +96,14 @@ impl Request {
             Some(two(0))
         } else if state.is_configured() && self.names(0, 0x81) {
             Some(two(if state == Endpoint1::Halted { 1 } else { 0 }))
+        } else {
+            None
+        }
+    }
+
+    fn remote_wakeup<'a>(self, lent: Descriptors<'a>, next: bool) -> Option<Served<'a>> {
+        if lent.can_wake() && self.names(1, 0) && self.length == 0 {
+            Some(Served::Sets(Change::Wakeup(next)))
         } else {
             None
         }

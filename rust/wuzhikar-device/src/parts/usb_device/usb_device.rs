@@ -46,6 +46,25 @@ impl<'a, E: Endpoints, B: Buffers> UsbDevice<'a, E, B> {
         self.tell(controller);
     }
 
+    /// The bus is suspended: the controller saw it idle for 3 ms (section 7.1.7.6). Address and configuration stay. `resumed`, a SETUP
+    /// packet and a reset of the bus end it.
+    pub fn suspended(&mut self) {
+        self.device.suspend();
+    }
+
+    /// The bus goes on: the controller saw it resume (section 7.1.7.7).
+    pub fn resumed(&mut self) {
+        self.device.resume();
+    }
+
+    /// Whether the controller is to signal a remote wakeup (section 7.1.7.7), asked behind `serve`: a report waits for the host, which
+    /// has enabled remote wakeup and has suspended the bus. It is `true` once in each suspend.
+    ///
+    /// The driver signals K for 1 to 15 ms, and not before the bus was idle for 5 ms.
+    pub fn wakes(&mut self) -> bool {
+        self.device.wakes()
+    }
+
     /// The controller has the address once the host has the status packet that brings it.
     fn tell<C: Controller>(&self, controller: &mut C) {
         match self.device.address_due() {

@@ -12,16 +12,20 @@ pub trait Works: Endpoints {
 /// Why a whole transfer failed.
 #[derive(Clone, Copy, Debug, PartialEq, Eq)]
 pub enum TransferError {
-    /// The device refused the request or its data.
+    /// The device stalled the request, its data or its status stage.
     Refused,
-    /// The device was not done after the steps that it was given.
+    /// The device put the data off by NAK, and took nothing. The same transfer may be made again later.
+    Busy,
+    /// The device took the data, and was not done after the steps that it was given: it goes on with them.
     Unfinished,
 }
 
-/// Makes a control write: its data, and its status stage, for which the device works at most so many steps.
+/// Makes a control write: its SETUP packet, its data in one packet if there are any, and its status stage, for which the
+/// device works at most so many steps (USB 2.0 section 8.5.3).
 ///
 /// `Ok` says that the device took the data and then confirmed them by the empty packet: so they are stored, where that is
-/// what the device confirms. The stack may then acknowledge the status stage, and on an error it stalls it.
+/// what the device confirms. The stack may then acknowledge the status stage, and on an error it stalls it. Each error says
+/// what the device was asked: behind `Unfinished` it has the data, and behind `Busy` it has not.
 pub fn write<E: Works>(
     device: &mut E,
     setup: [u8; 8],
@@ -29,21 +33,31 @@ pub fn write<E: Works>(
     steps: u16,
 ) -> Result<(), TransferError> {
     device.setup(setup);
-    match device.out(bytes) {
-        EpAnswer::Ack => confirm(device, steps),
-        EpAnswer::Nak | EpAnswer::Packet(_) | EpAnswer::Stall => Err(TransferError::Refused),
+    match give(device, bytes) {
+        Status::Done => confirm(device, steps),
+        Status::Waits => Err(TransferError::Busy),
+        Status::Refuses => Err(TransferError::Refused),
     }
 }
 
-/// What an IN token of a status stage brings.
+/// What an answer says of its stage.
 #[derive(Clone, Copy, Debug, PartialEq, Eq)]
 pub enum Status {
-    /// The empty packet.
+    /// The stage is over: ACK of the data, or the empty packet of the status stage.
     Done,
     /// NAK.
     Waits,
     /// Anything else.
     Refuses,
+}
+
+/// Reads an answer to the data.
+pub fn data_status_of(answer: EpAnswer) -> Status {
+    match answer {
+        EpAnswer::Ack => Status::Done,
+        EpAnswer::Nak => Status::Waits,
+        EpAnswer::Packet(_) | EpAnswer::Stall => Status::Refuses,
+    }
 }
 
 /// Reads an answer in a status stage.
@@ -58,6 +72,15 @@ pub fn status_of(answer: EpAnswer) -> Status {
         }
         EpAnswer::Nak => Status::Waits,
         EpAnswer::Ack | EpAnswer::Stall => Status::Refuses,
+    }
+}
+
+/// Hands over the data of a write, if there are any.
+fn give<E: Endpoints>(device: &mut E, bytes: &[u8]) -> Status {
+    if bytes.is_empty() {
+        Status::Done
+    } else {
+        data_status_of(device.out(bytes))
     }
 }
 

@@ -68,7 +68,7 @@ pub struct Bus {
     partial: Vec<u8>,
     /// Whether the host has set the boot protocol.
     is_boot: bool,
-    size: usize,
+    pub size: usize,
     buffers: usize,
 }
 

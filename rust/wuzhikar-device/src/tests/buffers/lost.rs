@@ -9,6 +9,7 @@ const GET_STATUS: [u8; 8] = [0x80, 0, 0, 0, 0, 0, 2, 0];
 const SET_BOOT: [u8; 8] = [0x21, 0x0b, 0, 0, 0, 0, 0, 0];
 const CLEAR_HALT: [u8; 8] = [2, 1, 0, 0, 0x81, 0, 0, 0];
 const SET_INTERFACE: [u8; 8] = [1, 0x0b, 0, 0, 0, 0, 0, 0];
+const SET_IDLE: [u8; 8] = [0x21, 0x0a, 0, 0, 0, 0, 0, 0];
 
 /// A bus on which nothing happens by itself, and on which no acknowledgement is lost.
 fn quiet(buffers: usize) -> RefCell<Bus> {
@@ -80,6 +81,25 @@ fn a_lost_ack_holds_reports_back_for_50_scans() {
 }
 
 #[test]
+fn a_request_that_is_given_up_leaves_either_toggle() {
+    for request in [SET_CONFIGURATION, CLEAR_HALT, SET_INTERFACE] {
+        let bus = quiet(1);
+        bus.borrow_mut().size = 32;
+        let mut usb = device(&PRODUCTS[2], SimFlash::blank(2).unwrap(), &bus);
+        acts(&mut usb, &bus, [Act::Setup(SET_CONFIGURATION), Act::In]);
+        (0..5).for_each(|_| usb.scan_rows([1, 0, 0, 0, 0, 0]));
+        serve(&mut usb, &bus);
+        acts(&mut usb, &bus, [Act::Poll]);
+        // The host does not take the status packet, and wants DATA1 as before. It ends another transfer.
+        acts(&mut usb, &bus, [Act::Setup(request), Act::Setup(SET_IDLE), Act::In]);
+        (0..5).for_each(|_| usb.scan_rows([0; 6]));
+        serve(&mut usb, &bus);
+        acts(&mut usb, &bus, [Act::Poll, Act::Poll, Act::Poll]);
+        assert_eq!(bus.borrow().known[&(1, 23)][1..], [0; 22], "{request:02x?}: a key sticks");
+    }
+}
+
+#[test]
 fn a_report_that_waits_is_dropped_with_its_protocol() {
     for buffers in [1, 2] {
         let bus = quiet(buffers);
@@ -110,6 +130,41 @@ fn an_address_is_taken_behind_its_status_stage_alone() {
     // One that is given up.
     acts(&mut usb, &bus, [Act::Setup([0, 5, 7, 0, 0, 0, 0, 0]), Act::Setup(GET_STATUS), Act::In, Act::Out(vec![])]);
     assert_eq!(bus.borrow().address, 9);
+}
+
+#[test]
+fn a_key_wakes_a_host_that_asked_for_it() {
+    static WAKES: Product = Product::of(Identity { remote_wakeup: true, ..Identity::TEST });
+    for (enabled, ends) in [(true, false), (false, false), (true, true)] {
+        let bus = quiet(1);
+        let mut usb = device(&WAKES, SimFlash::blank(2).unwrap(), &bus);
+        acts(&mut usb, &bus, [Act::Setup(SET_CONFIGURATION), Act::In]);
+        if enabled {
+            acts(&mut usb, &bus, [Act::Setup([0, 3, 1, 0, 0, 0, 0, 0]), Act::In]);
+        }
+        assert_eq!(usb.may_wake(), enabled);
+        usb.suspended();
+        serve(&mut usb, &bus);
+        assert!(!usb.wakes());
+        if ends {
+            usb.resumed();
+        }
+        (0..5).for_each(|_| usb.scan_rows([1, 0, 0, 0, 0, 0]));
+        serve(&mut usb, &bus);
+        assert_eq!([usb.wakes(), usb.wakes()], [enabled && !ends, false]);
+        // The host goes on, and has the report.
+        usb.resumed();
+        acts(&mut usb, &bus, [Act::Poll, Act::Poll]);
+        assert_eq!(bus.borrow().known[&(1, 23)][2], 1);
+        // Once more, with the key's release; a reset ends it.
+        usb.suspended();
+        (0..5).for_each(|_| usb.scan_rows([0; 6]));
+        serve(&mut usb, &bus);
+        if ends {
+            acts(&mut usb, &bus, [Act::Reset, Act::Setup(SET_CONFIGURATION), Act::In]);
+        }
+        assert_eq!([usb.wakes(), usb.wakes()], [enabled && !ends, false]);
+    }
 }
 
 #[test]

@@ -78,6 +78,35 @@ fn a_halt_stalls_each_poll_until_it_ends() {
 }
 
 #[test]
+fn a_host_enables_remote_wakeup_where_the_product_has_it() {
+    static WAKES: Product = Product::of(Identity { remote_wakeup: true, ..IDENTITY });
+    const SET_WAKEUP: [u8; 8] = [0, 3, 1, 0, 0, 0, 0, 0];
+    const CLEAR_WAKEUP: [u8; 8] = [0, 1, 1, 0, 0, 0, 0, 0];
+    let mut device = Device::of(&WAKES);
+    let status = |device: &mut Device| device.read(GET_STATUS).unwrap()[0][..] == [2, 0];
+    device.set(SET_ADDRESS_5).unwrap();
+    for end in [Some(CLEAR_WAKEUP), None] {
+        assert!(!status(&mut device));
+        // A request that is given up before its status stage changes nothing.
+        device.setup(SET_WAKEUP);
+        assert!(!status(&mut device));
+        assert_eq!(device.set(SET_WAKEUP), Some(Some(Change::Wakeup(true))));
+        assert!(status(&mut device) && device.layer.may_wake());
+        // No configuration changes it, and no feature beside it.
+        device.set(SET_CONFIGURATION_1).unwrap();
+        for wrong in [[0, 3, 1, 0, 1, 0, 0, 0], [0, 1, 1, 0, 0, 0, 1, 0], [0, 1, 2, 0, 0, 0, 0, 0], [1, 1, 1, 0, 0, 0, 0, 0]] {
+            assert_eq!(device.set(wrong), None);
+        }
+        assert!(status(&mut device));
+        match end {
+            Some(clear) => assert_eq!(device.set(clear), Some(Some(Change::Wakeup(false)))),
+            None => device.bus_reset(),
+        }
+    }
+    assert!(!status(&mut device) && !device.layer.may_wake());
+}
+
+#[test]
 fn a_bus_reset_ends_everything() {
     for mut device in [Device::addressed(), Device::configured(), Device::halted()] {
         assert_eq!(device.set(SET_BOOT), Some(None));

@@ -97,7 +97,7 @@ fn is_unsigned(numbers: i64, value: i64) -> bool {
     value >= 0 && value < numbers
 }
 
-/// Writes a value of `size` bits from the bit `from` on.
+/// Writes a value of `size` bits from the bit `from` on; those past the end of the bytes are left out.
 pub fn put_value(bytes: &mut [u8], from: u64, size: u8, minimum: i64, value: i64) {
     put_number(bytes, from, size, number_of(minimum, size, value));
 }

@@ -10,6 +10,32 @@ use crate::parts::flash_model::{FlashFault, NorFlash, PAGE_SLOTS, SLOT_BYTES};
 /// Slot `s` of a page stands in its units `2 * s` and `2 * s + 1`. Only words of a log are
 /// programmed, which have bit 31 clear, and only into a slot that is Free: any other program is a
 /// fault, and touches nothing. A program costs two unit programs, and four unit reads.
+///
+/// ```rust
+/// # use wuzhikar_log::{EccFlash, FlashFault, PAGE_UNITS, UNIT_BYTES};
+/// use wuzhikar_log::{FlashLog, PairedFlash};
+///
+/// # struct Ram([[[u8; UNIT_BYTES]; PAGE_UNITS]; 2]);
+/// # impl EccFlash for Ram {
+/// #     fn pages(&self) -> usize { 2 }
+/// #     fn read_unit(&self, page: usize, unit: usize) -> Option<[u8; UNIT_BYTES]> { Some(self.0[page][unit]) }
+/// #     fn program_unit(&mut self, page: usize, unit: usize, bytes: [u8; UNIT_BYTES]) -> Result<(), FlashFault> {
+/// #         self.0[page][unit] = bytes;
+/// #         Ok(())
+/// #     }
+/// #     fn erase_units(&mut self, page: usize) -> Result<(), FlashFault> {
+/// #         self.0[page] = [[0xff; UNIT_BYTES]; PAGE_UNITS];
+/// #         Ok(())
+/// #     }
+/// # }
+/// # let units = Ram([[[0xff; UNIT_BYTES]; PAGE_UNITS]; 2]);
+/// // `units` is the chip's flash, an `EccFlash`.
+/// let mut log = FlashLog::mount(PairedFlash::mount(units))?;
+/// log.rewrite([])?;
+/// log.push(7)?;
+/// assert_eq!(log.words().collect::<Vec<_>>(), [7]);
+/// # Ok::<(), Box<dyn std::error::Error>>(())
+/// ```
 #[derive(Debug)]
 pub struct PairedFlash<F: EccFlash> {
     flash: F,

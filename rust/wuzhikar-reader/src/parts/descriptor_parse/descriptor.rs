@@ -10,6 +10,19 @@ use core::fmt;
 use core::fmt::Debug;
 
 /// The fields of a report descriptor, their usages, and the lengths of its reports.
+///
+/// ```rust
+/// use wuzhikar_reader::{Kind, parse};
+///
+/// // Three buttons, a bit each, and five bits of padding.
+/// let text = [0x05, 0x09, 0x19, 1, 0x29, 3, 0x25, 1, 0x75, 1, 0x95, 3, 0x81, 0x02, 0x75, 5, 0x95, 1, 0x81, 0x03];
+/// let descriptor = parse(&text)?;
+/// assert!(!descriptor.uses_ids());
+/// assert_eq!(descriptor.report_len(Kind::Input, 0), Some(1));
+/// assert_eq!(descriptor.usages(0).collect::<Vec<_>>(), [0x0009_0001, 0x0009_0002, 0x0009_0003]);
+/// assert_eq!(descriptor.usage(0, 2), Some(0x0009_0003));
+/// # Ok::<(), wuzhikar_reader::ParseError>(())
+/// ```
 #[derive(Clone, PartialEq, Eq)]
 pub struct Descriptor {
     reports: Reports,

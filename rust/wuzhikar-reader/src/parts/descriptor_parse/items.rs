@@ -24,6 +24,17 @@ impl Item<'_> {
 }
 
 /// The items of a text, one after the other, ended by the first that is not whole.
+///
+/// ```rust
+/// use wuzhikar_reader::{GlobalTag, Items, Kind, MainTag, Tag};
+///
+/// let mut tags = Vec::new();
+/// for item in Items::new(&[0x75, 0x08, 0x81, 0x02]) {
+///     tags.push(item?.tag());
+/// }
+/// assert_eq!(tags, [Tag::Global(GlobalTag::ReportSize), Tag::Main(MainTag::Data(Kind::Input))]);
+/// # Ok::<(), wuzhikar_reader::ParseError>(())
+/// ```
 #[derive(Debug)]
 pub struct Items<'a> {
     rest: &'a [u8],

@@ -67,9 +67,9 @@ fn read_fields(
 
 /// How many places the fields of an input report have together.
 fn places(descriptor: &Descriptor, id: u8) -> usize {
-    let mut places = 0usize;
+    let mut places = 0;
     for declared in descriptor.report(Kind::Input, id) {
-        places = places.saturating_add(declared.field.count as usize);
+        places += declared.field.count as usize;
     }
     places
 }

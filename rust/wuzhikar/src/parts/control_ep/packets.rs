@@ -18,8 +18,16 @@ pub(crate) fn packet_at(bytes: &[u8], asked: u16, index: u16) -> Option<ArrayVec
     }
 }
 
-/// The first 8 of the bytes, or all of fewer.
+/// The first 8 of the bytes, which are copied as one, or all of fewer.
 fn first_packet(bytes: &[u8]) -> ArrayVec<u8, 8> {
+    match bytes.first_chunk::<8>() {
+        Some(full) => ArrayVec::from(*full),
+        None => short_packet(bytes),
+    }
+}
+
+/// All of fewer than 8 bytes.
+fn short_packet(bytes: &[u8]) -> ArrayVec<u8, 8> {
     let mut packet = ArrayVec::new();
     let _full = packet.try_extend_from_slice(&bytes[..bytes.len().min(8)]);
     packet

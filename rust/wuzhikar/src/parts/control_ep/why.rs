@@ -4,6 +4,23 @@
 use crate::parts::layers::KeymapError;
 
 /// Why a packet is answered by a STALL.
+///
+/// ```rust
+/// # #[cfg(feature = "sim")]
+/// # fn main() -> Result<(), wuzhikar::PageCount> {
+/// use wuzhikar::{EpAnswer, Keyboard, SimFlash, Why};
+///
+/// let flash = SimFlash::blank(2).unwrap();
+/// let mut keyboard = Keyboard::on(&flash)?;
+/// // A vendor request that no keyboard has.
+/// keyboard.setup([0xc0, 1, 0, 0, 0, 0, 8, 0]);
+/// let EpAnswer::Stall(why) = keyboard.in_packet() else { panic!("a stall") };
+/// assert_eq!((why, why.number()), (Why::UnknownRequest, 1));
+/// # Ok(())
+/// # }
+/// # #[cfg(not(feature = "sim"))]
+/// # fn main() {}
+/// ```
 #[derive(Clone, Copy, Debug, PartialEq, Eq)]
 pub enum Why {
     /// bmRequestType and bRequest name no request that is served.

@@ -1,6 +1,7 @@
 // Exported from crates/keymap_store/src/store.rt by bin/export-rust. Edit that file instead.
 //! The keymap in RAM and in flash.
 
+use crate::parts::keymap_store::command_word::CommandWord;
 use wuzhikar_log::parts::flash_model::NorFlash;
 use crate::parts::layers::{Command, Defaults, KeymapOf, Standard};
 use wuzhikar_log::parts::page_turnover::{Log, Step};
@@ -47,15 +48,15 @@ pub enum Job {
     /// Nothing.
     Resting,
     /// The append of a command's record.
-    Appending(Command),
+    Appending(CommandWord),
     /// A turn to a page with the entries that differ from the default, which makes room for the
     /// command; those below a place were offered.
-    Turning { command: Command, from: u16 },
+    Turning { command: CommandWord, from: u16 },
 }
 
 impl Job {
     /// Zeros, where memory waits for a keyboard to start there.
-    pub(crate) const UNSTARTED: Self = Job::Turning { command: Command::UNSTARTED, from: 0 };
+    pub(crate) const UNSTARTED: Self = Job::Resting;
 }
 
 /// A keymap in RAM, kept equal to that of a flash's image, with these defaults.
@@ -130,16 +131,14 @@ impl<D: Defaults> StoreOf<D> {
         if !self.keymap.changes(*command) {
             return Ok(Taken::Settled);
         }
+        let command = CommandWord::of(*command);
         if self.log.room() {
             self.log.begin_append(command.word());
-            self.job = Job::Appending(*command);
+            self.job = Job::Appending(command);
         } else {
             match self.log.begin_turn() {
                 Ok(()) => {
-                    self.job = Job::Turning {
-                        command: *command,
-                        from: 0,
-                    };
+                    self.job = Job::Turning { command, from: 0 };
                 }
                 Err(_) => return Err(SubmitRefusal::Worn),
             }
@@ -156,7 +155,8 @@ impl<D: Defaults> StoreOf<D> {
     /// only there. Each call that answers Working leaves one operation less to do, and Settled is the
     /// answer to the last one: a command is settled or fails by the 387th call.
     pub(crate) fn work<F: NorFlash>(&mut self, flash: &mut F) -> Work {
-        match self.job {
+        let job = self.job;
+        match job {
             Job::Resting => Work::Idle,
             Job::Appending(command) => self.append(flash, command),
             Job::Turning { command, from } => self.turn(flash, command, from),
@@ -164,10 +164,10 @@ impl<D: Defaults> StoreOf<D> {
     }
 
     /// Appends the record of a command.
-    fn append<F: NorFlash>(&mut self, flash: &mut F, command: Command) -> Work {
+    fn append<F: NorFlash>(&mut self, flash: &mut F, command: CommandWord) -> Work {
         match self.log.step(flash) {
             Step::Committed => {
-                self.keymap.apply(command);
+                self.keymap.apply(command.command());
                 self.job = Job::Resting;
                 Work::Settled
             }
@@ -180,9 +180,7 @@ impl<D: Defaults> StoreOf<D> {
     }
 
     /// Goes on with a turn; its commit makes room for the command.
-    fn turn<F: NorFlash>(&mut self, flash: &mut F, command: Command, from: u16) -> Work {
-        // By reference, since more than one way takes it.
-        let command = &command;
+    fn turn<F: NorFlash>(&mut self, flash: &mut F, command: CommandWord, from: u16) -> Work {
         let from = offer_next(&mut self.log, &self.keymap, from);
         match self.log.step(flash) {
             Step::Moved => {
@@ -191,7 +189,7 @@ impl<D: Defaults> StoreOf<D> {
             }
             Step::Committed => {
                 self.log.begin_append(command.word());
-                self.job = Job::Appending(*command);
+                self.job = Job::Appending(command);
                 Work::Working
             }
             Step::Failed => {

@@ -18,11 +18,6 @@ pub enum Command {
     ResetAll,
 }
 
-impl Command {
-    /// Zeros, where memory waits for a keyboard to start there.
-    pub(crate) const UNSTARTED: Self = Command::SetKey { layer: LayerNo::UNSTARTED, key: KeyNo::UNSTARTED, code: Code::UNSTARTED };
-}
-
 /// The usages of the consumer page that format 1 has codes for, in the order of their codes.
 const CONSUMER_LIST: [u16; 16] = [
     0xB0, 0xB1, 0xB2, 0xB3, 0xB4, 0xB5, 0xB6, 0xB7, 0xB8, 0xCD, 0xE2, 0xE9, 0xEA, 0x192, 0x223,
@@ -32,6 +27,7 @@ const CONSUMER_LIST: [u16; 16] = [
 impl Command {
     /// The command of operation 1, 2 or 3; what the operation does not use is ignored. In this
     /// order `BadOperation` for another operation, `BadLayer`, `BadKey` and `BadCode`.
+    #[inline(always)]
     pub fn read(op: u8, layer: u8, key: u8, code: u16) -> Result<Command, KeymapError> {
         match op {
             1 => Ok(Command::SetKey {
@@ -48,6 +44,7 @@ impl Command {
     /// The command that a word stands for: bits 28 to 31 the operation, 24 to 27 the layer, 16 to
     /// 23 the key, 0 to 15 the code, and 0 in what the operation does not use. None where the word
     /// is that of no command.
+    #[inline(always)]
     pub fn from_word(word: u32) -> Option<Command> {
         let [low, high, key, top] = word.to_le_bytes();
         let (op, layer) = (top >> 4, top & 0x0F);
@@ -70,6 +67,7 @@ impl Command {
     }
 
     /// The word of the command.
+    #[inline(always)]
     pub fn word(self) -> u32 {
         match self {
             Command::SetKey { layer, key, code } => word_with(
@@ -100,6 +98,5 @@ fn unused_is_zero(op: u8, layer: u8, key: u8, code: u16) -> bool {
 
 /// The word of these fields.
 fn word_with(op: u8, layer: u8, key: u8, code: u16) -> u32 {
-    let [low, high] = code.to_le_bytes();
-    u32::from_le_bytes([low, high, key, 16 * op + layer])
+    0x1000_0000 * op as u32 + 0x100_0000 * layer as u32 + 0x1_0000 * key as u32 + code as u32
 }

@@ -6,6 +6,16 @@ use crate::parts::layers::defaults::PhantomData;
 use crate::parts::layers::{Code, Command, Defaults, KeyNo, LayerNo, Standard};
 
 /// The code of each key on each layer, with these defaults.
+///
+/// ```rust
+/// use wuzhikar::{KeyNo, Keymap, LayerNo};
+///
+/// let keymap = Keymap::standard();
+/// // Key 0 of layer 0 is usage 04h, the letter A.
+/// assert_eq!(keymap.get(LayerNo::read(0)?, KeyNo::read(0)?).bits(), 0x0004);
+/// assert!(KeyNo::read(96).is_err());
+/// # Ok::<(), wuzhikar::KeymapError>(())
+/// ```
 #[derive(Clone, Debug)]
 pub struct KeymapOf<D: Defaults> {
     codes: [Code; ENTRIES],
@@ -42,6 +52,7 @@ impl<D: Defaults> KeymapOf<D> {
     }
 
     /// Takes a command: the entries that it writes get their codes, the others stay.
+    #[inline(always)]
     pub fn apply(&mut self, command: Command) {
         match command {
             Command::SetKey { layer, key, code } => self.codes[place(layer, key)] = code,

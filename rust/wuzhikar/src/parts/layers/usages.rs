@@ -12,6 +12,25 @@ const KEY_WORDS: usize = 8;
 
 /// A set of usages of the keyboard page 07h (HUT section 10), and one of usages 001h to 3FFh of the
 /// consumer page 0Ch (HUT section 15).
+///
+/// ```rust
+/// # #[cfg(feature = "sim")]
+/// # fn main() -> Result<(), wuzhikar::PageCount> {
+/// use wuzhikar::{Keyboard, Scan, SimFlash};
+///
+/// let flash = SimFlash::blank(2).unwrap();
+/// let mut keyboard = Keyboard::on(&flash)?;
+/// for _ in 0..5 {
+///     keyboard.scan(Scan { rows: [0b10, 0, 0, 0, 0, 0] });
+/// }
+/// let usages = keyboard.usages();
+/// assert!(usages.has_key(0x05));
+/// assert_eq!(usages.next_key(0), Some(0x05));
+/// # Ok(())
+/// # }
+/// # #[cfg(not(feature = "sim"))]
+/// # fn main() {}
+/// ```
 #[derive(Clone, Copy, Debug, PartialEq, Eq)]
 pub struct Usages {
     keys: [u32; KEY_WORDS],

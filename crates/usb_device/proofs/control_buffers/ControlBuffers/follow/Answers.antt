@@ -1,4 +1,4 @@
-use Rattle.std.proofs.Common.{sym, ap, subst, ◌∙◌, ◌≡◌}
+use Rattle.std.proofs.Common.{refl, sym, ap, subst, ◌∙◌, ◌≡◌}
 use Rattle.usb_device.specs.Bus.{looked}
 use Rattle.usb_device.specs.Transfers.{TransferState, Reads, ReadDue, Sent, Closing}
 use Rattle.usb_device.specs.ties.Link.{Link, transfer_view}
@@ -10,18 +10,18 @@ unfolding owes_nothing
 returns-in-Reads g c = λ b calls s h r n o k rests.
     let t : c.args.self.now ≡ Reads c.in-Reads._left = sym c.self.view_is ∙ ap transfer_view c.in-Reads.is in
     let T : TransferState → Type 0 = λ x. Link x b calls in
-    c.close.ensures (looked b) calls s (looked_free (Reads c.in-Reads._left) Closing b calls tt (subst T t h) r n)
+    c.close.ensures (looked b) calls s refl (looked_free (Reads c.in-Reads._left) Closing b calls tt (subst T t h) r n)
 
 pub returns-in-ReadDue : goal.returns-in-ReadDue
 unfolding owes_nothing
 returns-in-ReadDue g c = λ b calls s h r n o k rests.
     let t : c.args.self.now ≡ ReadDue c.in-ReadDue._left = sym c.self.view_is ∙ ap transfer_view c.in-ReadDue.is in
     let T : TransferState → Type 0 = λ x. Link x b calls in
-    c.close-in-ReadDue.ensures (looked b) calls s (looked_free (ReadDue c.in-ReadDue._left) Closing b calls tt (subst T t h) r n)
+    c.close-in-ReadDue.ensures (looked b) calls s refl (looked_free (ReadDue c.in-ReadDue._left) Closing b calls tt (subst T t h) r n)
 
 pub returns-in-Sent : goal.returns-in-Sent
 unfolding owes_nothing
 returns-in-Sent g c = λ b calls s h r n o k rests.
     let t : c.args.self.now ≡ Sent = sym c.self.view_is ∙ ap transfer_view c.in-Sent.is in
     let T : TransferState → Type 0 = λ x. Link x b calls in
-    c.close-in-Sent.ensures (looked b) calls s (looked_free (Sent) Closing b calls tt (subst T t h) r n)
+    c.close-in-Sent.ensures (looked b) calls s refl (looked_free (Sent) Closing b calls tt (subst T t h) r n)

@@ -1,4 +1,4 @@
-use Rattle.std.proofs.Common.{Bool, subst, List, ◌∷◌, Some, None, true, false, refl, sym, ap, ◌∙◌, ◌≡◌}
+use Rattle.std.proofs.Common.{Bool, subst, List, [], ◌∷◌, Some, None, true, false, refl, sym, ap, ◌∙◌, ◌≡◌}
 use Rattle.usb_device.specs.Calls.{EpCall, SetUp, BusReset}
 use Rattle.usb_device.specs.Bus.{Met, looked}
 use Rattle.usb_device.specs.Bus1.{KeptUnless}
@@ -18,7 +18,7 @@ returns-in-Some g c = λ b calls s h e r.
     let S : List EpCall → Type 0 = λ x. g.E.Endpoints.stands x c.hand_on.new.device in (
       SetUp setup ∷ before,
       stood S b.met.reset setup calls (λ y. c.hand_on.ensures.behind_a_reset calls (q ∙ y) s) (λ n. c.hand_on.ensures.alone calls (q ∙ n) s),
-      begins c.args.self.now (transfer_view t) b calls before setup h n (kept_behind b.met.reset c.args.self.now b calls h) f.write,
+      begins c.args.self.now (transfer_view t) b calls before setup h n (kept_behind b.met.reset c.args.self.now b calls h) f.write f.no_data,
       begun_ready (transfer_view t) (looked b) (SetUp setup ∷ before) f.begun,
       same_behind b.met.reset setup calls,
     )
@@ -28,7 +28,7 @@ returns-then-met g c = λ b calls s h e r.
     let n : b.met.setup ≡ None = sym (ap (λ (m : Met). m.setup) e) ∙ c.in-None.is in
     let q : b.met.reset ≡ true = sym (ap (λ (m : Met). m.reset) e) ∙ c.if-met.true in
     let K : Bool → Type 0 = λ x. KeptUnless x calls (BusReset ∷ calls) in
-    (BusReset ∷ calls, c.bus_reset.ensures calls s, resets c.args.self.now b calls h q n, refl, subst K (sym q) refl)
+    (BusReset ∷ calls, c.bus_reset.ensures calls s, resets c.args.self.now b calls h q n, refl, subst K (sym q) (BusReset ∷ [], refl, refl))
 
 pub returns-else-met : goal.returns-else-met
 returns-else-met g c = λ b calls s h e r.

@@ -1,15 +1,10 @@
 use Rattle.std.proofs.Common.{sym, subst}
 use Rattle.usb_device.specs.contracts.report_buffers.ReportBuffers.{the_view}
 use Rattle.usb_device.specs.ties.Link1.{ReportState, Link1}
-use Rattle.usb_device.proofs.Reporting.{left_same, sure_link}
+use Rattle.usb_device.proofs.Reporting.{left_same}
 use Rattle.usb_device.proofs.report_buffers.ReportBuffers.release.Goals as goal
 
-pub returns-then-not-self-clause-linked : goal.returns-then-not-self-clause-linked
-returns-then-not-self-clause-linked c = λ b calls k h.
-    let P : ReportState → Type 0 = λ x. Link1 x b calls in
-    sure_link (the_view c.self.inside) 0 b calls (let x = c.if-not-self.true in search) k (subst P (sym c.self.view_is) h)
-
-pub returns-else-not-self-clause-linked : goal.returns-else-not-self-clause-linked
-returns-else-not-self-clause-linked c = λ b calls k h.
+pub returns-clause-linked : goal.returns-clause-linked
+returns-clause-linked c = λ b calls h.
     let P : ReportState → Type 0 = λ x. Link1 x b calls in
     left_same (the_view c.self.inside) 0 b calls (subst P (sym c.self.view_is) h)

@@ -35,4 +35,5 @@ returns g c = λ calls lent past h.
       (linked, rests, r.1, polled_once a.1.1 r.0 r.3 ∙ a.1.3),
       subst L (sym c.serve_reports.ensures.waits) (subst E (sym c.serve_reports.ensures.same) r.2),
       addressed (is_done c.settle.new.self.control) c.serve_reports.new.self.layer.due old bus calls a.0 (g.C.Controller.address_of c.args.controller.now) (g.C.Controller.address_of c.serve.new.controller) (g.C.Controller.address_of c.tell.new.controller) c.tell.ensures.told a.5,
+      a.4,
     )

@@ -9,9 +9,9 @@ use Rattle.usb_keyboard.proofs.device.UsbKeyboardOfEndpoints.in_packet.Goals as 
 pub returns : goal.returns
 returns g c =
     let told : (start : List ℕ) (past : List Keyboards.Call) → RunsSince g.D.Defaults.defaults start past c.args.self.now.0 (g.F.NorFlash.image c.args.self.now.1)
-    → (answer : Answer) × RunsSince g.D.Defaults.defaults start (Keyboards.In answer ∷ past) c.in_packet.new.self (g.F.NorFlash.image c.self.inside.flash) × (c.plain.result ≡ plain answer) = λ start past r.
+    → (answer : Answer) × RunsSince g.D.Defaults.defaults start (Keyboards.In answer ∷ past) (g.K.HoldsKeyboard.held c.in_packet-answer.new.self) (g.F.NorFlash.image c.self.inside.flash) × (c.plain.result ≡ plain answer) = λ start past r.
     let s = subst (λ v. RunsSince g.D.Defaults.defaults start past v.0 (g.F.NorFlash.image v.1)) (sym c.self.view_is) r in
-    (c.in_packet.result, record { stands = c.in_packet.ensures.stands start past s.stands; image_is = s.image_is }, c.plain.ensures) in
+    (c.in_packet-answer.result, record { stands = c.in_packet-answer.ensures.stands start past s.stands; image_is = s.image_is }, c.plain.ensures) in
     record {
       told = told;
       stands = λ calls s.

@@ -9,9 +9,9 @@ use Rattle.usb_keyboard.proofs.device.UsbKeyboardOfEndpoints.out.Goals as goal
 pub returns : goal.returns
 returns g c =
     let told : (start : List ℕ) (past : List Keyboards.Call) → RunsSince g.D.Defaults.defaults start past c.args.self.now.0 (g.F.NorFlash.image c.args.self.now.1)
-    → (answer : Answer) × RunsSince g.D.Defaults.defaults start (Keyboards.Out c.args.packet.now answer ∷ past) c.out.new.self (g.F.NorFlash.image c.self.inside.flash) × (c.plain.result ≡ plain answer) = λ start past r.
+    → (answer : Answer) × RunsSince g.D.Defaults.defaults start (Keyboards.Out c.args.packet.now answer ∷ past) (g.K.HoldsKeyboard.held c.out-answer.new.self) (g.F.NorFlash.image c.self.inside.flash) × (c.plain.result ≡ plain answer) = λ start past r.
     let s = subst (λ v. RunsSince g.D.Defaults.defaults start past v.0 (g.F.NorFlash.image v.1)) (sym c.self.view_is) r in
-    (c.out.result, record { stands = c.out.ensures.stands start past s.stands; image_is = s.image_is }, c.plain.ensures) in
+    (c.out-answer.result, record { stands = c.out-answer.ensures.stands start past s.stands; image_is = s.image_is }, c.plain.ensures) in
     record {
       told = told;
       stands = λ calls s.

@@ -12,10 +12,10 @@ use Rattle.usb_keyboard.proofs.device.UsbKeyboardOfEndpoints.poll.Goals.{in-Some
 pub returns : goal.returns
 returns g c =
     let told : (start : List ℕ) (past : List Call) → RunsSince g.D.Defaults.defaults start past c.args.self.now.0 (g.F.NorFlash.image c.args.self.now.1)
-    → RunsSince g.D.Defaults.defaults start (Polled (option_map (λ r. r.items) c.match-poll.result) ∷ past) c.poll.new.self (g.F.NorFlash.image c.self.inside.flash) = λ start past r.
+    → RunsSince g.D.Defaults.defaults start (Polled (option_map (λ r. r.items) c.match-poll.result) ∷ past) (g.K.HoldsKeyboard.held c.poll.new.self) (g.F.NorFlash.image c.self.inside.flash) = λ start past r.
     let s = subst (λ v. RunsSince g.D.Defaults.defaults start past v.0 (g.F.NorFlash.image v.1)) (sym c.self.view_is) r in
     let answered = c.poll.ensures.answer start past s.stands in
-    let P : Option (List ℕ) → Type 0 = λ o. StandsFor g.D.Defaults.defaults start (Polled o ∷ past) c.poll.new.self in
+    let P : Option (List ℕ) → Type 0 = λ o. StandsFor g.D.Defaults.defaults start (Polled o ∷ past) (g.K.HoldsKeyboard.held c.poll.new.self) in
     let same : option_map (λ r. r.items) c.poll.result ≡ option_map (λ r. r.items) c.match-poll.result = elim c.match-poll.branch [
       | in-Some w ↦ (
           let is = ap (λ o. option_map (λ r. r.items) o) w.in-Some.is in

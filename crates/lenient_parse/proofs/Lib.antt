@@ -1,0 +1,3 @@
+pub mod SizeLemmas
+pub mod GoesLemmas
+pub mod TextLemmas

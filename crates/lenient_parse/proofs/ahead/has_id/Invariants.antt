@@ -1,0 +1,12 @@
+use Rattle.std.proofs.Common.{◌≡◌, ◌-◌, length}
+use Rattle.std.specs.Prelude.{map, drop}
+use Rattle.descriptor_parse.specs.ItemViews.{item_view}
+use Rattle.lenient_parse.specs.Late.{has_id}
+use Rattle.lenient_parse.proofs.ahead.has_id.Given as goal
+
+-- those that are passed say nothing
+abbrev pub invariant-loop-item : goal.invariant-loop-item
+invariant-loop-item l = has_id (map item_view (drop l.at l.fn.items)) ≡ has_id (map item_view l.fn.items)
+
+abbrev pub decreases-loop-item : goal.decreases-loop-item
+decreases-loop-item l = length l.fn.items - l.at

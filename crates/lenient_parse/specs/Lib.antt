@@ -1,0 +1,6 @@
+pub mod Late
+pub mod Sets
+pub mod Padding
+pub mod Lenient
+pub mod Answers
+pub mod ties

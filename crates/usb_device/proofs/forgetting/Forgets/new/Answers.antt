@@ -1,0 +1,7 @@
+use Rattle.std.proofs.Common.{refl}
+use Rattle.usb_device.specs.ties.Forgetting.{forgets_of}
+use Rattle.usb_device.proofs.forgetting.Forgets.new.Goals as goal
+
+pub returns : goal.returns
+unfolding forgets_of
+returns c = refl

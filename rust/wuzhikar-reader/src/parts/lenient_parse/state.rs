@@ -1,0 +1,148 @@
+// Exported from crates/lenient_parse/src/state.rt by bin/export-rust. Edit that file instead.
+//! What is kept between two items.
+
+use crate::parts::lenient_parse::ahead::{
+    closes, has_id, is_constant, is_data, is_delimiter, is_local, is_main, is_report_id, is_zero,
+    next_is_data,
+};
+use crate::parts::lenient_parse::seen::Seen;
+use crate::parts::lenient_parse::sizes::{Sizes, take};
+use crate::parts::descriptor_parse::stack::Stack;
+use crate::parts::descriptor_parse::{Item, ParseFault};
+use crate::rattle::alloc::{AllocError, Global};
+
+/// What stands in place of an item.
+pub(crate) enum Instead {
+    /// The item itself.
+    Item,
+    Nothing,
+    /// Padding of as many bits.
+    Padding,
+}
+
+/// The most bits of a data item that padding stands for.
+const MAX_BITS: u64 = 0x10_0000;
+
+const MAX_SIZE: u32 = 32;
+
+/// The most bits of a Constant item's place.
+const MAX_CONSTANT_SIZE: u32 = 1024;
+
+const MAX_COUNT: u32 = 1024;
+
+pub(crate) struct State {
+    /// Whether the first Report ID is still to come.
+    pub(crate) late: bool,
+    /// Whether the first of the Main items and the Report IDs to come is a data item.
+    pub(crate) leaving: bool,
+    /// What the set has that is open.
+    pub(crate) set: Option<Seen>,
+    pub(crate) sizes: Stack<Sizes>,
+}
+
+impl State {
+    /// That before the first item.
+    pub(crate) fn new(alloc: Global, items: &[Item<'_>]) -> State {
+        State {
+            late: has_id(items),
+            leaving: next_is_data(items),
+            set: None,
+            sizes: Stack::new(alloc, Sizes::NONE),
+        }
+    }
+
+    /// What stands in place of an item.
+    pub(crate) fn instead(&self, item: &Item<'_>, more: &[Item<'_>]) -> Instead {
+        if self.is_late(item) || self.is_left(item, more) {
+            return Instead::Nothing;
+        }
+        if self.is_padded(item) {
+            Instead::Padding
+        } else {
+            Instead::Item
+        }
+    }
+
+    /// The fault that is passed over at an item.
+    pub(crate) fn passed(&self, item: &Item<'_>, more: &[Item<'_>]) -> Option<ParseFault> {
+        if self.late && is_data(item) {
+            return Some(ParseFault::MixedIds);
+        }
+        if self.begins_set(item, more) {
+            return Some(ParseFault::Delimiter);
+        }
+        if !self.is_padded(item) {
+            return None;
+        }
+        if self.is_large(item) {
+            Some(ParseFault::SizeTooLarge)
+        } else {
+            Some(ParseFault::CountTooLarge)
+        }
+    }
+
+    /// Takes an item.
+    pub(crate) fn take(&mut self, item: &Item<'_>, more: &[Item<'_>]) -> Result<(), AllocError> {
+        take(&mut self.sizes, item)?;
+        self.set = self.set_after(item, more);
+        self.late = self.late && !is_report_id(item);
+        self.leaving = self.leaves_after(item, more);
+        Ok(())
+    }
+
+    fn leaves_after(&self, item: &Item<'_>, more: &[Item<'_>]) -> bool {
+        if is_main(item) || is_report_id(item) {
+            next_is_data(more)
+        } else {
+            self.leaving
+        }
+    }
+
+    fn is_late(&self, item: &Item<'_>) -> bool {
+        self.late && (is_data(item) || is_local(item)) && self.leaving
+    }
+
+    fn set_after(&self, item: &Item<'_>, more: &[Item<'_>]) -> Option<Seen> {
+        match self.set {
+            None if opens(item, more) => Some(Seen::NOTHING),
+            None => None,
+            Some(_) if is_delimiter(item) => None,
+            Some(seen) => Some(seen.after(item)),
+        }
+    }
+
+    fn is_left(&self, item: &Item<'_>, more: &[Item<'_>]) -> bool {
+        match self.set {
+            None => opens(item, more),
+            Some(seen) => is_delimiter(item) || seen.is_other(item),
+        }
+    }
+
+    fn begins_set(&self, item: &Item<'_>, more: &[Item<'_>]) -> bool {
+        match self.set {
+            None => opens(item, more),
+            Some(_) => false,
+        }
+    }
+
+    fn is_large(&self, item: &Item<'_>) -> bool {
+        let limit = if is_constant(item.bytes) {
+            MAX_CONSTANT_SIZE
+        } else {
+            MAX_SIZE
+        };
+        self.sizes.now.size > limit
+    }
+
+    fn is_padded(&self, item: &Item<'_>) -> bool {
+        let Sizes { size, count } = self.sizes.now;
+        is_data(item)
+            && (self.is_large(item) || count > MAX_COUNT)
+            && size as u64 * count as u64 <= MAX_BITS
+    }
+}
+
+/// Whether a set begins at an item.
+fn opens(item: &Item<'_>, more: &[Item<'_>]) -> bool {
+    is_delimiter(item) && !is_zero(item.bytes) && closes(more)
+}
