@@ -124,7 +124,7 @@ const SET_BOOT: [u8; 8] = [0x21, 0x0b, 0, 0, 0, 0, 0, 0];
 #[test]
 fn a_report_that_waits_is_given_up_with_its_protocol(rt: HostRuntime) {
     let script = [
-        Rests, Rests, Rests, Rests, Rests, Rests, Rests, Rests, Rests, Takes, Rests, Takes, Rests,
+        Rests, Rests, Rests, Rests, Rests, Rests, Rests, Rests, Takes, Rests, Takes, Rests,
     ];
     let mut device = device_on(&script);
     configure(&rt, &mut device);
@@ -149,7 +149,7 @@ fn a_report_that_waits_is_given_up_with_its_protocol(rt: HostRuntime) {
 #[test]
 fn a_report_of_which_the_host_has_a_packet_goes_on(rt: HostRuntime) {
     let script = [
-        Rests, Rests, Rests, Rests, Takes, Rests, Rests, Rests, Takes, Rests,
+        Rests, Rests, Rests, Rests, Takes, Rests, Rests, Takes, Rests,
     ];
     let mut device = device_on(&script);
     configure(&rt, &mut device);
