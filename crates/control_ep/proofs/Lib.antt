@@ -4,3 +4,4 @@ pub mod Moves
 pub mod Reports
 pub mod Joined
 mod Next
+mod Left

@@ -1,66 +1,112 @@
 //! The bytes that a read sends.
 
-ghost use Rattle.std.specs.Prelude.{◌≡◌, ◌≤◌, length};
+ghost use Rattle.std.specs.Prelude.{◌≡◌, ◌+◌, ◌≤◌, length, None, IsSome};
+ghost use Rattle.std.specs.Option.{option_map};
+ghost use Rattle.control_ep.specs.Packets.{packet_at};
 
+use crate::packets::packet_at;
 use arrayvec::ArrayVec;
 use std::marker::Model;
 
-/// The most bytes that are copied: those of the longest report.
-const COPIED: usize = 23;
+/// The room of a copy: the 23 bytes of the longest report, and one more, so that it is whole words.
+const ROOM: usize = 24;
 
 /// Where the bytes are.
-#[derive(Debug, Drop)]
+#[derive(Clone, Copy, Debug)]
 pub(crate) enum Source {
-    /// A report, as it was at its SETUP packet.
-    Copied(ArrayVec<u8, COPIED>),
-    /// A descriptor, which is a constant.
-    Lent(&'static [u8]),
+    /// A report, as it was at its SETUP packet: so many bytes of the copy.
+    Copied(u8),
+    /// A descriptor, which is a constant; and what is left of it, once a read has begun.
+    Lent(&'static [u8], &'static [u8]),
 }
 
-/// The bytes that a read sends.
+/// A read: its bytes, how many were asked for, and how many packets were sent.
 #[derive(Debug, Drop)]
 pub(crate) struct ReadData {
     source: Source,
+    copy: [u8; ROOM],
+    asked: u16,
+    sent: u16,
 }
 
 impl Model for ReadData {
-    ghost use Rattle.std.specs.Prelude.{ℕ, List};
-    ghost use Rattle.control_ep.specs.ties.ReadData.{source_bytes};
+    ghost use Rattle.control_ep.specs.ties.ReadData.{Reading, source_bytes, IsLeft};
 
-    ghost Value = { List ℕ };
+    ghost Value = { Reading };
 
-    ghost view = { λ d. source_bytes d.source };
+    ghost view = { λ d. record { bytes = source_bytes d.source d.copy; asked = d.asked; sent = d.sent } };
+
+    ghost invariant = { λ d. IsLeft d.source d.asked d.sent };
 }
 
 impl ReadData {
-    /// These bytes, lent.
-    pub(crate) fn lent(bytes: &'static [u8]) -> ReadData
-        ensures { result ≡ bytes.now }
-    {
+    /// No bytes.
+    pub(crate) fn new() -> ReadData {
         ReadData {
-            source: Source::Lent(bytes),
+            source: Source::Copied(0),
+            copy: [0; ROOM],
+            asked: 0,
+            sent: 0,
         }
     }
 
-    /// A copy of these bytes, at most 23.
-    pub(crate) fn copied(bytes: &[u8]) -> ReadData
-        requires { length bytes.now ≤ 23 }
-        ensures { result ≡ bytes.now }
+    /// Takes these bytes, lent, for a read that begins.
+    pub(crate) fn lend(&mut self, bytes: &'static [u8])
+        ensures { self.new.bytes ≡ bytes.now }
     {
-        let mut copy = ArrayVec::new();
-        let _full = copy.try_extend_from_slice(bytes);
-        ReadData {
-            source: Source::Copied(copy),
+        self.source = Source::Lent(bytes, &[]);
+    }
+
+    /// Takes a copy of these bytes, at most 23, for a read that begins.
+    pub(crate) fn copy(&mut self, bytes: &[u8])
+        requires { length bytes.now ≤ 23 }
+        ensures { self.new.bytes ≡ bytes.now }
+    {
+        self.copy[..bytes.len()].copy_from_slice(bytes);
+        self.source = Source::Copied(bytes.len() as u8);
+    }
+
+    /// Begins a read that asked for so many bytes.
+    #[tactic(auto, using(crate::proofs::Left::nothing_sent))]
+    pub(crate) fn begin(&mut self, asked: u16)
+        ensures { self.new ≡ record { bytes = self.old.bytes; asked = asked; sent = 0 } }
+    {
+        if let Source::Lent(bytes, _) = self.source {
+            self.source = Source::Lent(bytes, &bytes[..bytes.len().min(usize::from(asked))]);
         }
+        self.asked = asked;
+        self.sent = 0;
+    }
+
+    /// The next packet, and none where all were sent. A whole packet of a descriptor is cut off what is
+    /// left of it.
+    #[tactic(auto, using(crate::proofs::Left::whole_packet, crate::proofs::Left::left_then, crate::proofs::Left::is_asked))]
+    pub(crate) fn next_packet(&mut self) -> Option<ArrayVec<u8, 8>>
+        ensures packet { option_map (λ packet. packet.items) result ≡ packet_at self.old.bytes self.old.asked self.old.sent }
+        ensures counted { IsSome result → self.new ≡ record { bytes = self.old.bytes; asked = self.old.asked; sent = self.old.sent + 1 } }
+        ensures ended { result ≡ None → self.new ≡ self.old }
+    {
+        if let Source::Lent(bytes, left) = self.source {
+            if let Some((full, after)) = left.split_first_chunk::<8>() {
+                self.source = Source::Lent(bytes, after);
+                self.sent += 1;
+                return Some(ArrayVec::from(*full));
+            }
+        }
+        let packet = packet_at(self.as_slice(), self.asked, self.sent);
+        if packet.is_some() {
+            self.sent += 1;
+        }
+        packet
     }
 
     /// The bytes.
-    pub(crate) fn as_slice(&self) -> &[u8]
-        ensures { result.now ≡ self.now }
+    fn as_slice(&self) -> &[u8]
+        ensures { result.now ≡ self.now.bytes }
     {
-        match &self.source {
-            Source::Lent(bytes) => bytes,
-            Source::Copied(bytes) => bytes.as_slice(),
+        match self.source {
+            Source::Lent(bytes, _) => bytes,
+            Source::Copied(length) => &self.copy[..usize::from(length).min(ROOM)],
         }
     }
 }

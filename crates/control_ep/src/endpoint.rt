@@ -1,8 +1,6 @@
 //! The control endpoint and the stages of its transfer.
 
-ghost use Rattle.std.specs.Prelude.{◌≡◌, ◌+◌, List, [], ◌∷◌, None, IsSome, IsTrue};
-ghost use Rattle.std.specs.Option.{option_map};
-ghost use Rattle.control_ep.specs.Packets.{packet_at};
+ghost use Rattle.std.specs.Prelude.{◌≡◌, List, [], ◌∷◌, IsTrue};
 ghost use Rattle.control_ep.specs.declared.answer.DeviceView.{DeviceView};
 ghost use Rattle.control_ep.specs.declared.answer.EpAnswer.{EpAnswer};
 ghost use Rattle.control_ep.specs.declared.answer.Effect.{Effect};
@@ -14,43 +12,19 @@ ghost use Rattle.control_ep.specs.ties.Views.{stage_view, transfer_view};
 ghost use Rattle.control_ep.specs.Calls.{EpCall, Setup, Out, Judged, In, Settle, Fail, Reset};
 
 use crate::data::ReadData;
-use crate::packets::packet_at;
 use crate::report::received_report;
 use crate::request::{HostReport, Request, Transfer};
 use crate::{DeviceReports, DeviceView, Effect, EpAnswer, OutStep, Verdict, Why};
 use arrayvec::ArrayVec;
 use std::marker::Model;
 
-/// A read: its bytes, how many were asked for, and how many packets were sent.
-#[derive(Debug, Drop)]
-pub(crate) struct Sending {
-    bytes: ReadData,
-    asked: u16,
-    sent: u16,
-}
-
-impl Sending {
-    /// The next packet, and none where all were sent.
-    fn next_packet(&mut self) -> Option<ArrayVec<u8, 8>>
-        ensures packet { option_map (λ packet. packet.items) result ≡ packet_at self.old.bytes self.old.asked self.old.sent }
-        ensures counted { IsSome result → self.new ≡ record { bytes = self.old.bytes; asked = self.old.asked; sent = self.old.sent + 1 } }
-        ensures ended { result ≡ None → self.new ≡ self.old }
-    {
-        let packet = packet_at(self.bytes.as_slice(), self.asked, self.sent);
-        if packet.is_some() {
-            self.sent += 1;
-        }
-        packet
-    }
-}
-
 /// Where the transfer stands.
-#[derive(Debug, Drop)]
+#[derive(Clone, Copy, Debug)]
 pub(crate) enum Stage {
     /// No transfer is under way.
     Rest,
     /// A read.
-    Sending(Sending),
+    Sending,
     /// A report is expected.
     Taking(HostReport),
     /// A feature command works.
@@ -61,10 +35,12 @@ pub(crate) enum Stage {
     Stalled(Why),
 }
 
-/// The control endpoint: the stage of the transfer on endpoint 0.
+/// The control endpoint: the stage of the transfer on endpoint 0. What a read sends stands beside the
+/// stage, so that no call moves it.
 #[derive(Debug, Drop)]
 pub struct ControlEp {
     stage: Stage,
+    read: ReadData,
 }
 
 impl Model for ControlEp {
@@ -73,20 +49,19 @@ impl Model for ControlEp {
 
     ghost Value = { Stage };
 
-    ghost view = { λ e. stage_view e.stage };
+    ghost view = { λ e. stage_view e.stage e.read };
 }
 
 /// The stage that a transfer begins in.
-fn first_stage(transfer: Transfer, length: u16) -> Stage
-    ensures { stage_view result ≡ stage_in (transfer_view transfer) length (progress_of []) }
+fn first_stage(transfer: Transfer, length: u16, read: &mut ReadData) -> Stage
+    ensures { stage_view result read.new ≡ stage_in (transfer_view read.old.bytes transfer) length (progress_of []) }
 {
     match transfer {
-        Transfer::Reads(_) if length == 0 => Stage::Status(Effect::Nothing),
-        Transfer::Reads(bytes) => Stage::Sending(Sending {
-            bytes,
-            asked: length,
-            sent: 0,
-        }),
+        Transfer::Reads if length == 0 => Stage::Status(Effect::Nothing),
+        Transfer::Reads => {
+            read.begin(length);
+            Stage::Sending
+        }
         Transfer::Takes(report) => Stage::Taking(report),
         Transfer::Sets(effect) => Stage::Status(effect),
     }
@@ -106,7 +81,10 @@ impl ControlEp {
         ensures stands { StandsFor [] result }
         ensures rests { result ≡ Rest }
     {
-        ControlEp { stage: Stage::Rest }
+        ControlEp {
+            stage: Stage::Rest,
+            read: ReadData::new(),
+        }
     }
 
     /// Takes a SETUP packet of 8 bytes (USB 2.0 sections 8.5.3 and 9.3), which is always acknowledged and
@@ -199,7 +177,9 @@ impl ControlEp {
             → StandsFor (Settle ∷ past) self.new }
         ensures left { self.new ≡ after_end self.old (Status Effect.Nothing) }
     {
-        self.end_command(Stage::Status(Effect::Nothing));
+        if let Stage::Waiting = self.stage {
+            self.stage = Stage::Status(Effect::Nothing);
+        }
     }
 
     /// Tells that the command at work has failed: its transfer is stalled with `FlashFault`, if it still
@@ -210,7 +190,9 @@ impl ControlEp {
             → StandsFor (Fail ∷ past) self.new }
         ensures left { self.new ≡ after_end self.old (Stalled Why.FlashFault) }
     {
-        self.end_command(Stage::Stalled(Why::FlashFault));
+        if let Stage::Waiting = self.stage {
+            self.stage = Stage::Stalled(Why::FlashFault);
+        }
     }
 
     /// Takes a bus reset (USB 2.0 section 7.1.7.5): no transfer is under way, as in an endpoint at its
@@ -221,7 +203,7 @@ impl ControlEp {
             → StandsFor (Reset ∷ past) self.new }
         ensures left { self.new ≡ Rest }
     {
-        *self = ControlEp::new();
+        self.stage = Stage::Rest;
     }
 
     /// Begins the transfer that a SETUP packet asks for, or stalls it.
@@ -230,8 +212,8 @@ impl ControlEp {
         ensures { (view : DeviceView) → D.shows device.now view → self.new ≡ begun setup view }
     {
         let request = Request::read(setup);
-        self.stage = match request.transfer(device) {
-            Ok(transfer) => first_stage(transfer, request.length),
+        self.stage = match request.transfer(device, &mut self.read) {
+            Ok(transfer) => first_stage(transfer, request.length, &mut self.read),
             Err(why) => Stage::Stalled(why),
         };
     }
@@ -242,18 +224,17 @@ impl ControlEp {
         ensures effect { result.1 ≡ in_effect self.old }
         ensures left { self.new ≡ after_in self.old result.0 }
     {
-        match &mut self.stage {
-            Stage::Sending(sending) => match sending.next_packet() {
+        match self.stage {
+            Stage::Sending => match self.read.next_packet() {
                 Some(packet) => (EpAnswer::Packet(packet), Effect::Nothing),
                 None => (self.stall(Why::WrongStage), Effect::Nothing),
             },
             Stage::Status(effect) => {
-                let effect = *effect;
                 self.stage = Stage::Rest;
                 (EpAnswer::Packet(ArrayVec::new()), effect)
             }
             Stage::Waiting => (EpAnswer::Nak, Effect::Nothing),
-            Stage::Stalled(why) => (EpAnswer::Stall(*why), Effect::Nothing),
+            Stage::Stalled(why) => (EpAnswer::Stall(why), Effect::Nothing),
             Stage::Rest | Stage::Taking(_) => (self.stall(Why::WrongStage), Effect::Nothing),
         }
     }
@@ -263,12 +244,12 @@ impl ControlEp {
         ensures step { result ≡ out_step self.old packet.now }
         ensures left { self.new ≡ after_out self.old result }
     {
-        match &self.stage {
-            Stage::Sending(_) if packet.is_empty() => {
+        match self.stage {
+            Stage::Sending if packet.is_empty() => {
                 self.stage = Stage::Rest;
                 OutStep::Answered(EpAnswer::Ack)
             }
-            Stage::Taking(report) => match received_report(*report, packet) {
+            Stage::Taking(report) => match received_report(report, packet) {
                 Ok(OutStep::Leds(leds)) => {
                     self.stage = Stage::Status(Effect::Nothing);
                     OutStep::Leds(leds)
@@ -276,9 +257,10 @@ impl ControlEp {
                 Ok(step) => step,
                 Err(why) => OutStep::Answered(self.stall(why)),
             },
-            Stage::Stalled(why) => OutStep::Answered(EpAnswer::Stall(*why)),
-            Stage::Rest | Stage::Sending(_) | Stage::Status(_) | Stage::Waiting =>
-                OutStep::Answered(self.stall(Why::WrongStage)),
+            Stage::Stalled(why) => OutStep::Answered(EpAnswer::Stall(why)),
+            Stage::Rest | Stage::Sending | Stage::Status(_) | Stage::Waiting => OutStep::Answered(
+                self.stall(Why::WrongStage),
+            ),
         }
     }
 
@@ -301,8 +283,14 @@ impl ControlEp {
         ensures left { self.new ≡ after_verdict self.old verdict }
     {
         match verdict {
-            Verdict::Done => self.acknowledge(Stage::Status(Effect::Nothing)),
-            Verdict::Working => self.acknowledge(Stage::Waiting),
+            Verdict::Done => {
+                self.stage = Stage::Status(Effect::Nothing);
+                EpAnswer::Ack
+            }
+            Verdict::Working => {
+                self.stage = Stage::Waiting;
+                EpAnswer::Ack
+            }
             Verdict::Busy => EpAnswer::Nak,
             Verdict::Refused(why) => self.stall(why),
         }
@@ -315,23 +303,5 @@ impl ControlEp {
     {
         self.stage = Stage::Stalled(why);
         EpAnswer::Stall(why)
-    }
-
-    /// Acknowledges a report, after which the transfer goes on so.
-    fn acknowledge(&mut self, next: Stage) -> EpAnswer
-        ensures answer { result ≡ EpAnswer.Ack }
-        ensures stage { self.new ≡ stage_view next }
-    {
-        self.stage = next;
-        EpAnswer::Ack
-    }
-
-    /// The command that works has ended: a transfer that waits for it goes on so.
-    fn end_command(&mut self, next: Stage)
-        ensures { self.new ≡ after_end self.old (stage_view next) }
-    {
-        if let Stage::Waiting = self.stage {
-            self.stage = next;
-        }
     }
 }

@@ -16,10 +16,11 @@ const LED_BITS: u8 = 0x1F;
 pub(crate) fn received_report(report: HostReport, packet: &[u8]) -> Result<OutStep, Why>
     ensures { result ≡ received_report (report_view report) packet.now }
 {
-    if packet.len() < report.length() {
+    let length = report.length();
+    if packet.len() < length {
         return Err(Why::ShortData);
     }
-    if packet.len() > report.length() {
+    if packet.len() > length {
         return Err(Why::LongData);
     }
     match (report, packet) {

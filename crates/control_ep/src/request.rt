@@ -1,10 +1,9 @@
 //! What a SETUP packet asks for.
 
-ghost use Rattle.std.specs.Prelude.{◌≡◌, ◌≤◌, ◌/◌, ◌%◌, length};
+ghost use Rattle.std.specs.Prelude.{◌≡◌, ℕ, List, ◌/◌, ◌%◌};
 ghost use Rattle.control_ep.specs.declared.answer.DeviceView.{DeviceView};
 ghost use Rattle.control_ep.specs.declared.why.Why.{Why};
 ghost use Rattle.control_ep.specs.Requests.{request_of, requests, asked_at, device_descriptors, interface_descriptors, reports_read, idle_values, protocol_byte, reports_taken, length_of, takes_length, idle_effects, protocol_effects, named, transfer_of};
-ghost use Rattle.control_ep.specs.Transfers.{Reads};
 ghost use Rattle.control_ep.specs.ties.Views.{fields_view, report_view, transfer_view, begun_view, asked_view};
 
 use crate::data::ReadData;
@@ -39,10 +38,10 @@ pub(crate) enum HostReport {
 }
 
 /// What a request that is served begins.
-#[derive(Drop)]
+#[derive(Clone, Copy)]
 pub(crate) enum Transfer {
-    /// A read of these bytes.
-    Reads(ReadData),
+    /// A read, whose bytes stand beside it.
+    Reads,
     /// A report from the host.
     Takes(HostReport),
     /// No data, and this effect.
@@ -73,15 +72,19 @@ impl Request {
         }
     }
 
-    /// The transfer that begins, or why the request is refused. In this order: `UnknownRequest` by
+    /// The transfer that begins, and the bytes of a read, or why the request is refused. In this order: `UnknownRequest` by
     /// bmRequestType and bRequest, `WrongInterface` by wIndex, but for requests to the device, the
     /// reason of a wValue that names nothing, and `WrongLength` by wLength.
     #[tactic(auto, unfolding(crate::specs::Requests::transfer_of))]
-    pub(crate) fn transfer<D: DeviceReports>(self, device: &D) -> Result<Transfer, Why>
+    pub(crate) fn transfer<D: DeviceReports>(
+        self,
+        device: &D,
+        read: &mut ReadData,
+    ) -> Result<Transfer, Why>
         ensures { (view : DeviceView) → D.shows device.now view
-            → begun_view result ≡ transfer_of (fields_view self) view }
+            → begun_view read.new.bytes result ≡ transfer_of (fields_view self) view }
     {
-        let Some(asked) = self.asked(device) else {
+        let Some(asked) = self.asked(device, read) else {
             return Err(Why::UnknownRequest);
         };
         if self.kind != 0x80 && self.index != 0 {
@@ -95,16 +98,23 @@ impl Request {
     }
 
     /// What wValue asks for; none where bmRequestType and bRequest are not served.
-    fn asked<D: DeviceReports>(self, device: &D) -> Option<Result<Transfer, Why>>
+    fn asked<D: DeviceReports>(
+        self,
+        device: &D,
+        read: &mut ReadData,
+    ) -> Option<Result<Transfer, Why>>
         ensures { (view : DeviceView) → D.shows device.now view
-            → asked_view result ≡ asked_at (requests view self.value) self.kind self.code }
+            → asked_view read.new.bytes result ≡ asked_at (requests view self.value) self.kind self.code }
     {
         match (self.kind, self.code) {
-            (0x80, 0x06) => Some(device_descriptor(self.value)),
-            (0x81, 0x06) => Some(interface_descriptor(self.value)),
-            (0xA1, 0x01) => Some(get_report(self.value, device)),
-            (0xA1, 0x02) => Some(get_idle(self.value, device)),
-            (0xA1, 0x03) => Some(Ok(copied(&[protocol_byte(device.protocol())]))),
+            (0x80, 0x06) => Some(device_descriptor(self.value, read)),
+            (0x81, 0x06) => Some(interface_descriptor(self.value, read)),
+            (0xA1, 0x01) => Some(get_report(self.value, device, read)),
+            (0xA1, 0x02) => Some(get_idle(self.value, device, read)),
+            (0xA1, 0x03) => {
+                read.copy(&[protocol_byte(device.protocol())]);
+                Some(Ok(Transfer::Reads))
+            }
             (0x21, 0x09) => Some(set_report(self.value, device.protocol())),
             (0x21, 0x0A) => Some(set_idle(self.value)),
             (0x21, 0x0B) => Some(set_protocol(self.value)),
@@ -116,11 +126,11 @@ impl Request {
 impl Transfer {
     /// Whether its request takes this wLength: a read takes each, a report from the host its own
     /// length, and a request without data 0.
-    fn takes_length(&self, length: u16) -> bool
-        ensures { result ≡ takes_length (transfer_view self.now) length }
+    fn takes_length(self, length: u16) -> bool
+        ensures { (bytes : List ℕ) → result ≡ takes_length (transfer_view bytes self) length }
     {
         match self {
-            Transfer::Reads(_) => true,
+            Transfer::Reads => true,
             Transfer::Takes(report) => usize::from(length) == report.length(),
             Transfer::Sets(_) => length == 0,
         }
@@ -140,69 +150,62 @@ impl HostReport {
     }
 }
 
-/// A read of a descriptor.
-fn lent(bytes: &'static [u8]) -> Transfer
-    ensures { transfer_view result ≡ Reads bytes.now }
-{
-    Transfer::Reads(ReadData::lent(bytes))
-}
-
-/// A read of a report or a value, at most 23 bytes, as it is now.
-fn copied(bytes: &[u8]) -> Transfer
-    requires { length bytes.now ≤ 23 }
-    ensures { transfer_view result ≡ Reads bytes.now }
-{
-    Transfer::Reads(ReadData::copied(bytes))
-}
-
 /// GET_DESCRIPTOR of the device (USB 2.0 section 9.4.3).
-fn device_descriptor(value: u16) -> Result<Transfer, Why>
-    ensures { begun_view result ≡ named Why.UnknownDescriptor device_descriptors value }
+fn device_descriptor(value: u16, read: &mut ReadData) -> Result<Transfer, Why>
+    ensures { begun_view read.new.bytes result ≡ named Why.UnknownDescriptor device_descriptors value }
 {
     match value {
-        0x0100 => Ok(lent(&DEVICE)),
-        0x0200 => Ok(lent(&CONFIGURATION)),
-        _ => Err(Why::UnknownDescriptor),
+        0x0100 => read.lend(&DEVICE),
+        0x0200 => read.lend(&CONFIGURATION),
+        _ => return Err(Why::UnknownDescriptor),
     }
+    Ok(Transfer::Reads)
 }
 
 /// GET_DESCRIPTOR of the interface (HID 1.11 section 7.1.1).
-fn interface_descriptor(value: u16) -> Result<Transfer, Why>
-    ensures { begun_view result ≡ named Why.UnknownDescriptor interface_descriptors value }
+fn interface_descriptor(value: u16, read: &mut ReadData) -> Result<Transfer, Why>
+    ensures { begun_view read.new.bytes result ≡ named Why.UnknownDescriptor interface_descriptors value }
 {
     match value {
-        0x2100 => Ok(lent(&HID)),
-        0x2200 => Ok(lent(&SERVED_REPORT)),
-        _ => Err(Why::UnknownDescriptor),
+        0x2100 => read.lend(&HID),
+        0x2200 => read.lend(&SERVED_REPORT),
+        _ => return Err(Why::UnknownDescriptor),
     }
+    Ok(Transfer::Reads)
 }
 
 /// GET_REPORT (HID 1.11 section 7.2.1).
-fn get_report<D: DeviceReports>(value: u16, device: &D) -> Result<Transfer, Why>
+fn get_report<D: DeviceReports>(
+    value: u16,
+    device: &D,
+    read: &mut ReadData,
+) -> Result<Transfer, Why>
     ensures { (view : DeviceView) → D.shows device.now view
-        → begun_view result ≡ named Why.UnknownReport (reports_read view view.protocol) value }
+        → begun_view read.new.bytes result ≡ named Why.UnknownReport (reports_read view view.protocol) value }
 {
     match (device.protocol(), value) {
-        (Protocol::Report, 0x0101) => Ok(copied(&device.bitmap())),
-        (Protocol::Report, 0x0102) => Ok(copied(&device.consumer())),
-        (Protocol::Report, 0x0201) => Ok(copied(&[0x01, device.leds()])),
-        (Protocol::Boot, 0x0100) => Ok(copied(&device.boot())),
-        (Protocol::Boot, 0x0200) => Ok(copied(&[device.leds()])),
-        (_, 0x0303) => Ok(copied(&device.feature())),
-        _ => Err(Why::UnknownReport),
+        (Protocol::Report, 0x0101) => read.copy(&device.bitmap()),
+        (Protocol::Report, 0x0102) => read.copy(&device.consumer()),
+        (Protocol::Report, 0x0201) => read.copy(&[0x01, device.leds()]),
+        (Protocol::Boot, 0x0100) => read.copy(&device.boot()),
+        (Protocol::Boot, 0x0200) => read.copy(&[device.leds()]),
+        (_, 0x0303) => read.copy(&device.feature()),
+        _ => return Err(Why::UnknownReport),
     }
+    Ok(Transfer::Reads)
 }
 
 /// GET_IDLE (HID 1.11 section 7.2.3).
-fn get_idle<D: DeviceReports>(value: u16, device: &D) -> Result<Transfer, Why>
+fn get_idle<D: DeviceReports>(value: u16, device: &D, read: &mut ReadData) -> Result<Transfer, Why>
     ensures { (view : DeviceView) → D.shows device.now view
-        → begun_view result ≡ named Why.UnknownReport (idle_values view) value }
+        → begun_view read.new.bytes result ≡ named Why.UnknownReport (idle_values view) value }
 {
     match value {
-        0x0000 | 0x0001 => Ok(copied(&[device.idle_one()])),
-        0x0002 => Ok(copied(&[device.idle_two()])),
-        _ => Err(Why::UnknownReport),
+        0x0000 | 0x0001 => read.copy(&[device.idle_one()]),
+        0x0002 => read.copy(&[device.idle_two()]),
+        _ => return Err(Why::UnknownReport),
     }
+    Ok(Transfer::Reads)
 }
 
 /// The byte of a protocol in GET_PROTOCOL (HID 1.11 section 7.2.5).
@@ -217,7 +220,7 @@ fn protocol_byte(protocol: Protocol) -> u8
 
 /// SET_REPORT (HID 1.11 section 7.2.2).
 fn set_report(value: u16, protocol: Protocol) -> Result<Transfer, Why>
-    ensures { begun_view result ≡ named Why.UnknownReport (reports_taken protocol) value }
+    ensures { (bytes : List ℕ) → begun_view bytes result ≡ named Why.UnknownReport (reports_taken protocol) value }
 {
     let report = match (protocol, value) {
         (Protocol::Report, 0x0201) => HostReport::LedsWithId,
@@ -230,7 +233,7 @@ fn set_report(value: u16, protocol: Protocol) -> Result<Transfer, Why>
 
 /// SET_IDLE (HID 1.11 section 7.2.4).
 fn set_idle(value: u16) -> Result<Transfer, Why>
-    ensures { begun_view result ≡ named Why.UnknownReport (idle_effects (value / 256)) (value % 256) }
+    ensures { (bytes : List ℕ) → begun_view bytes result ≡ named Why.UnknownReport (idle_effects (value / 256)) (value % 256) }
 {
     let [id, duration] = value.to_le_bytes();
     let id = match id {
@@ -244,7 +247,7 @@ fn set_idle(value: u16) -> Result<Transfer, Why>
 
 /// SET_PROTOCOL (HID 1.11 section 7.2.6).
 fn set_protocol(value: u16) -> Result<Transfer, Why>
-    ensures { begun_view result ≡ named Why.BadProtocol protocol_effects value }
+    ensures { (bytes : List ℕ) → begun_view bytes result ≡ named Why.BadProtocol protocol_effects value }
 {
     let protocol = match value {
         0x0000 => Protocol::Boot,

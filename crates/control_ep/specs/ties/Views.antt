@@ -1,10 +1,12 @@
 -- Only ties code to its definitions: what the endpoint's own types stand for.
+use Rattle.shapes.specs.Shapes.{Bytes}
 use Rattle.std.specs.Prelude.{Option, Some, None, Result, Ok, Err}
 use Rattle.control_ep.specs.declared.why.Why.{Why}
 use Rattle.control_ep.specs.declared.endpoint.Stage as Kept
 use Rattle.control_ep.specs.declared.request.HostReport as KeptReport
 use Rattle.control_ep.specs.declared.request.Transfer as KeptTransfer
 use Rattle.control_ep.specs.declared.request.Request.{Request}
+use Rattle.control_ep.specs.ties.ReadData.{Reading}
 use Rattle.control_ep.specs.Transfers.{SetupFields, HostReport, LedsWithId, LedsAlone, FeatureData, Transfer, Reads, Takes, Sets, Stage, Rest, Sending, Taking, Waiting, Status, Stalled}
 
 abbrev pub fields_view : Request → SetupFields
@@ -15,23 +17,25 @@ report_view KeptReport.TheVariants.LedsWithId = LedsWithId
 report_view KeptReport.TheVariants.LedsAlone = LedsAlone
 report_view KeptReport.TheVariants.Feature = FeatureData
 
-abbrev pub transfer_view : KeptTransfer.Transfer → Transfer
-transfer_view (KeptTransfer.TheVariants.Reads data_) = Reads data_
-transfer_view (KeptTransfer.TheVariants.Takes report) = Takes (report_view report)
-transfer_view (KeptTransfer.TheVariants.Sets effect) = Sets effect
+-- a transfer, and the bytes that it sends if it is a read
+abbrev pub transfer_view : Bytes → KeptTransfer.Transfer → Transfer
+transfer_view bytes KeptTransfer.TheVariants.Reads = Reads bytes
+transfer_view bytes (KeptTransfer.TheVariants.Takes report) = Takes (report_view report)
+transfer_view bytes (KeptTransfer.TheVariants.Sets effect) = Sets effect
 
-abbrev pub begun_view : Result KeptTransfer.Transfer Why → Result Transfer Why
-begun_view (Ok transfer) = Ok (transfer_view transfer)
-begun_view (Err why) = Err why
+abbrev pub begun_view : Bytes → Result KeptTransfer.Transfer Why → Result Transfer Why
+begun_view bytes (Ok transfer) = Ok (transfer_view bytes transfer)
+begun_view bytes (Err why) = Err why
 
-abbrev pub asked_view : Option (Result KeptTransfer.Transfer Why) → Option (Result Transfer Why)
-asked_view (Some begun) = Some (begun_view begun)
-asked_view None = None
+abbrev pub asked_view : Bytes → Option (Result KeptTransfer.Transfer Why) → Option (Result Transfer Why)
+asked_view bytes (Some begun) = Some (begun_view bytes begun)
+asked_view bytes None = None
 
-abbrev pub stage_view : Kept.Stage → Stage
-stage_view Kept.TheVariants.Rest = Rest
-stage_view (Kept.TheVariants.Sending read) = Sending read.bytes read.asked read.sent
-stage_view (Kept.TheVariants.Taking report) = Taking (report_view report)
-stage_view Kept.TheVariants.Waiting = Waiting
-stage_view (Kept.TheVariants.Status effect) = Status effect
-stage_view (Kept.TheVariants.Stalled why) = Stalled why
+-- a stage, and the read that it speaks of if it is one
+abbrev pub stage_view : Kept.Stage → Reading → Stage
+stage_view Kept.TheVariants.Rest read = Rest
+stage_view Kept.TheVariants.Sending read = Sending read.bytes read.asked read.sent
+stage_view (Kept.TheVariants.Taking report) read = Taking (report_view report)
+stage_view Kept.TheVariants.Waiting read = Waiting
+stage_view (Kept.TheVariants.Status effect) read = Status effect
+stage_view (Kept.TheVariants.Stalled why) read = Stalled why

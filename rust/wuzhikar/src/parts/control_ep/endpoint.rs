@@ -2,43 +2,18 @@
 //! The control endpoint and the stages of its transfer.
 
 use crate::parts::control_ep::data::ReadData;
-use crate::parts::control_ep::packets::packet_at;
 use crate::parts::control_ep::report::received_report;
 use crate::parts::control_ep::request::{HostReport, Request, Transfer};
 use crate::parts::control_ep::{DeviceReports, DeviceView, Effect, EpAnswer, OutStep, Verdict, Why};
 use arrayvec::ArrayVec;
 
-/// A read: its bytes, how many were asked for, and how many packets were sent.
-#[derive(Debug)]
-pub(crate) struct Sending {
-    bytes: ReadData,
-    asked: u16,
-    sent: u16,
-}
-
-impl Sending {
-    /// Zeros, where memory waits for a keyboard to start there.
-    pub(crate) const UNSTARTED: Self = Sending { bytes: ReadData::UNSTARTED, asked: 0, sent: 0 };
-}
-
-impl Sending {
-    /// The next packet, and none where all were sent.
-    fn next_packet(&mut self) -> Option<ArrayVec<u8, 8>> {
-        let packet = packet_at(self.bytes.as_slice(), self.asked, self.sent);
-        if packet.is_some() {
-            self.sent += 1;
-        }
-        packet
-    }
-}
-
 /// Where the transfer stands.
-#[derive(Debug)]
+#[derive(Clone, Copy, Debug)]
 pub(crate) enum Stage {
     /// No transfer is under way.
     Rest,
     /// A read.
-    Sending(Sending),
+    Sending,
     /// A report is expected.
     Taking(HostReport),
     /// A feature command works.
@@ -51,29 +26,30 @@ pub(crate) enum Stage {
 
 impl Stage {
     /// Zeros, where memory waits for a keyboard to start there.
-    pub(crate) const UNSTARTED: Self = Stage::Sending(Sending::UNSTARTED);
+    pub(crate) const UNSTARTED: Self = Stage::Status(Effect::Idle(crate::parts::reports::IdleId::All, 0));
 }
 
-/// The control endpoint: the stage of the transfer on endpoint 0.
+/// The control endpoint: the stage of the transfer on endpoint 0. What a read sends stands beside the
+/// stage, so that no call moves it.
 #[derive(Debug)]
 pub struct ControlEp {
     stage: Stage,
+    read: ReadData,
 }
 
 impl ControlEp {
     /// Zeros, where memory waits for a keyboard to start there.
-    pub(crate) const UNSTARTED: Self = ControlEp { stage: Stage::UNSTARTED };
+    pub(crate) const UNSTARTED: Self = ControlEp { stage: Stage::UNSTARTED, read: ReadData::UNSTARTED };
 }
 
 /// The stage that a transfer begins in.
-fn first_stage(transfer: Transfer, length: u16) -> Stage {
+fn first_stage(transfer: Transfer, length: u16, read: &mut ReadData) -> Stage {
     match transfer {
-        Transfer::Reads(_) if length == 0 => Stage::Status(Effect::Nothing),
-        Transfer::Reads(bytes) => Stage::Sending(Sending {
-            bytes,
-            asked: length,
-            sent: 0,
-        }),
+        Transfer::Reads if length == 0 => Stage::Status(Effect::Nothing),
+        Transfer::Reads => {
+            read.begin(length);
+            Stage::Sending
+        }
         Transfer::Takes(report) => Stage::Taking(report),
         Transfer::Sets(effect) => Stage::Status(effect),
     }
@@ -83,7 +59,10 @@ impl ControlEp {
     /// Makes an endpoint at its start: no transfer is under way, and an IN or OUT packet is answered by
     /// `Stall(WrongStage)` until a SETUP packet comes.
     pub fn new() -> ControlEp {
-        ControlEp { stage: Stage::Rest }
+        ControlEp {
+            stage: Stage::Rest,
+            read: ReadData::new(),
+        }
     }
 
     /// Takes a SETUP packet of 8 bytes (USB 2.0 sections 8.5.3 and 9.3), which is always acknowledged and
@@ -135,56 +114,59 @@ impl ControlEp {
     /// Tells that the command at work is stored: the status packet of its transfer is due, if the transfer
     /// still waits for it. Any other transfer stays as it is.
     pub fn settle(&mut self) {
-        self.end_command(Stage::Status(Effect::Nothing));
+        if let Stage::Waiting = self.stage {
+            self.stage = Stage::Status(Effect::Nothing);
+        }
     }
 
     /// Tells that the command at work has failed: its transfer is stalled with `FlashFault`, if it still
     /// waits for it. Any other transfer stays as it is.
     pub fn fail(&mut self) {
-        self.end_command(Stage::Stalled(Why::FlashFault));
+        if let Stage::Waiting = self.stage {
+            self.stage = Stage::Stalled(Why::FlashFault);
+        }
     }
 
     /// Takes a bus reset (USB 2.0 section 7.1.7.5): no transfer is under way, as in an endpoint at its
     /// start.
     pub fn reset(&mut self) {
-        *self = ControlEp::new();
+        self.stage = Stage::Rest;
     }
 
     /// Begins the transfer that a SETUP packet asks for, or stalls it.
     fn begin<D: DeviceReports>(&mut self, setup: [u8; 8], device: &D) {
         let request = Request::read(setup);
-        self.stage = match request.transfer(device) {
-            Ok(transfer) => first_stage(transfer, request.length),
+        self.stage = match request.transfer(device, &mut self.read) {
+            Ok(transfer) => first_stage(transfer, request.length, &mut self.read),
             Err(why) => Stage::Stalled(why),
         };
     }
 
     /// The answer to an IN packet in this stage, and its effect.
     fn answer_in(&mut self) -> (EpAnswer, Effect) {
-        match &mut self.stage {
-            Stage::Sending(sending) => match sending.next_packet() {
+        match self.stage {
+            Stage::Sending => match self.read.next_packet() {
                 Some(packet) => (EpAnswer::Packet(packet), Effect::Nothing),
                 None => (self.stall(Why::WrongStage), Effect::Nothing),
             },
             Stage::Status(effect) => {
-                let effect = *effect;
                 self.stage = Stage::Rest;
                 (EpAnswer::Packet(ArrayVec::new()), effect)
             }
             Stage::Waiting => (EpAnswer::Nak, Effect::Nothing),
-            Stage::Stalled(why) => (EpAnswer::Stall(*why), Effect::Nothing),
+            Stage::Stalled(why) => (EpAnswer::Stall(why), Effect::Nothing),
             Stage::Rest | Stage::Taking(_) => (self.stall(Why::WrongStage), Effect::Nothing),
         }
     }
 
     /// What an OUT packet comes to in this stage.
     fn answer_out(&mut self, packet: &[u8]) -> OutStep {
-        match &self.stage {
-            Stage::Sending(_) if packet.is_empty() => {
+        match self.stage {
+            Stage::Sending if packet.is_empty() => {
                 self.stage = Stage::Rest;
                 OutStep::Answered(EpAnswer::Ack)
             }
-            Stage::Taking(report) => match received_report(*report, packet) {
+            Stage::Taking(report) => match received_report(report, packet) {
                 Ok(OutStep::Leds(leds)) => {
                     self.stage = Stage::Status(Effect::Nothing);
                     OutStep::Leds(leds)
@@ -192,9 +174,10 @@ impl ControlEp {
                 Ok(step) => step,
                 Err(why) => OutStep::Answered(self.stall(why)),
             },
-            Stage::Stalled(why) => OutStep::Answered(EpAnswer::Stall(*why)),
-            Stage::Rest | Stage::Sending(_) | Stage::Status(_) | Stage::Waiting =>
-                OutStep::Answered(self.stall(Why::WrongStage)),
+            Stage::Stalled(why) => OutStep::Answered(EpAnswer::Stall(why)),
+            Stage::Rest | Stage::Sending | Stage::Status(_) | Stage::Waiting => OutStep::Answered(
+                self.stall(Why::WrongStage),
+            ),
         }
     }
 
@@ -210,8 +193,14 @@ impl ControlEp {
     /// The answer of a verdict on a feature report that is due.
     fn judge_report(&mut self, verdict: Verdict) -> EpAnswer {
         match verdict {
-            Verdict::Done => self.acknowledge(Stage::Status(Effect::Nothing)),
-            Verdict::Working => self.acknowledge(Stage::Waiting),
+            Verdict::Done => {
+                self.stage = Stage::Status(Effect::Nothing);
+                EpAnswer::Ack
+            }
+            Verdict::Working => {
+                self.stage = Stage::Waiting;
+                EpAnswer::Ack
+            }
             Verdict::Busy => EpAnswer::Nak,
             Verdict::Refused(why) => self.stall(why),
         }
@@ -221,18 +210,5 @@ impl ControlEp {
     fn stall(&mut self, why: Why) -> EpAnswer {
         self.stage = Stage::Stalled(why);
         EpAnswer::Stall(why)
-    }
-
-    /// Acknowledges a report, after which the transfer goes on so.
-    fn acknowledge(&mut self, next: Stage) -> EpAnswer {
-        self.stage = next;
-        EpAnswer::Ack
-    }
-
-    /// The command that works has ended: a transfer that waits for it goes on so.
-    fn end_command(&mut self, next: Stage) {
-        if let Stage::Waiting = self.stage {
-            self.stage = next;
-        }
     }
 }

@@ -10,10 +10,11 @@ const LED_BITS: u8 = 0x1F;
 /// What the packet of a report comes to. In this order `ShortData` and `LongData` for another length, and
 /// `UnknownReport` for another Report ID.
 pub(crate) fn received_report(report: HostReport, packet: &[u8]) -> Result<OutStep, Why> {
-    if packet.len() < report.length() {
+    let length = report.length();
+    if packet.len() < length {
         return Err(Why::ShortData);
     }
-    if packet.len() > report.length() {
+    if packet.len() > length {
         return Err(Why::LongData);
     }
     match (report, packet) {

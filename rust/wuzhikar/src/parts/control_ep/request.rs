@@ -33,9 +33,10 @@ pub(crate) enum HostReport {
 }
 
 /// What a request that is served begins.
+#[derive(Clone, Copy)]
 pub(crate) enum Transfer {
-    /// A read of these bytes.
-    Reads(ReadData),
+    /// A read, whose bytes stand beside it.
+    Reads,
     /// A report from the host.
     Takes(HostReport),
     /// No data, and this effect.
@@ -64,11 +65,15 @@ impl Request {
         }
     }
 
-    /// The transfer that begins, or why the request is refused. In this order: `UnknownRequest` by
+    /// The transfer that begins, and the bytes of a read, or why the request is refused. In this order: `UnknownRequest` by
     /// bmRequestType and bRequest, `WrongInterface` by wIndex, but for requests to the device, the
     /// reason of a wValue that names nothing, and `WrongLength` by wLength.
-    pub(crate) fn transfer<D: DeviceReports>(self, device: &D) -> Result<Transfer, Why> {
-        let Some(asked) = self.asked(device) else {
+    pub(crate) fn transfer<D: DeviceReports>(
+        self,
+        device: &D,
+        read: &mut ReadData,
+    ) -> Result<Transfer, Why> {
+        let Some(asked) = self.asked(device, read) else {
             return Err(Why::UnknownRequest);
         };
         if self.kind != 0x80 && self.index != 0 {
@@ -82,13 +87,20 @@ impl Request {
     }
 
     /// What wValue asks for; none where bmRequestType and bRequest are not served.
-    fn asked<D: DeviceReports>(self, device: &D) -> Option<Result<Transfer, Why>> {
+    fn asked<D: DeviceReports>(
+        self,
+        device: &D,
+        read: &mut ReadData,
+    ) -> Option<Result<Transfer, Why>> {
         match (self.kind, self.code) {
-            (0x80, 0x06) => Some(device_descriptor(self.value)),
-            (0x81, 0x06) => Some(interface_descriptor(self.value)),
-            (0xA1, 0x01) => Some(get_report(self.value, device)),
-            (0xA1, 0x02) => Some(get_idle(self.value, device)),
-            (0xA1, 0x03) => Some(Ok(copied(&[protocol_byte(device.protocol())]))),
+            (0x80, 0x06) => Some(device_descriptor(self.value, read)),
+            (0x81, 0x06) => Some(interface_descriptor(self.value, read)),
+            (0xA1, 0x01) => Some(get_report(self.value, device, read)),
+            (0xA1, 0x02) => Some(get_idle(self.value, device, read)),
+            (0xA1, 0x03) => {
+                read.copy(&[protocol_byte(device.protocol())]);
+                Some(Ok(Transfer::Reads))
+            }
             (0x21, 0x09) => Some(set_report(self.value, device.protocol())),
             (0x21, 0x0A) => Some(set_idle(self.value)),
             (0x21, 0x0B) => Some(set_protocol(self.value)),
@@ -100,9 +112,9 @@ impl Request {
 impl Transfer {
     /// Whether its request takes this wLength: a read takes each, a report from the host its own
     /// length, and a request without data 0.
-    fn takes_length(&self, length: u16) -> bool {
+    fn takes_length(self, length: u16) -> bool {
         match self {
-            Transfer::Reads(_) => true,
+            Transfer::Reads => true,
             Transfer::Takes(report) => usize::from(length) == report.length(),
             Transfer::Sets(_) => length == 0,
         }
@@ -120,54 +132,52 @@ impl HostReport {
     }
 }
 
-/// A read of a descriptor.
-fn lent(bytes: &'static [u8]) -> Transfer {
-    Transfer::Reads(ReadData::lent(bytes))
-}
-
-/// A read of a report or a value, at most 23 bytes, as it is now.
-fn copied(bytes: &[u8]) -> Transfer {
-    Transfer::Reads(ReadData::copied(bytes))
-}
-
 /// GET_DESCRIPTOR of the device (USB 2.0 section 9.4.3).
-fn device_descriptor(value: u16) -> Result<Transfer, Why> {
+fn device_descriptor(value: u16, read: &mut ReadData) -> Result<Transfer, Why> {
     match value {
-        0x0100 => Ok(lent(&DEVICE)),
-        0x0200 => Ok(lent(&CONFIGURATION)),
-        _ => Err(Why::UnknownDescriptor),
+        0x0100 => read.lend(&DEVICE),
+        0x0200 => read.lend(&CONFIGURATION),
+        _ => return Err(Why::UnknownDescriptor),
     }
+    Ok(Transfer::Reads)
 }
 
 /// GET_DESCRIPTOR of the interface (HID 1.11 section 7.1.1).
-fn interface_descriptor(value: u16) -> Result<Transfer, Why> {
+fn interface_descriptor(value: u16, read: &mut ReadData) -> Result<Transfer, Why> {
     match value {
-        0x2100 => Ok(lent(&HID)),
-        0x2200 => Ok(lent(&SERVED_REPORT)),
-        _ => Err(Why::UnknownDescriptor),
+        0x2100 => read.lend(&HID),
+        0x2200 => read.lend(&SERVED_REPORT),
+        _ => return Err(Why::UnknownDescriptor),
     }
+    Ok(Transfer::Reads)
 }
 
 /// GET_REPORT (HID 1.11 section 7.2.1).
-fn get_report<D: DeviceReports>(value: u16, device: &D) -> Result<Transfer, Why> {
+fn get_report<D: DeviceReports>(
+    value: u16,
+    device: &D,
+    read: &mut ReadData,
+) -> Result<Transfer, Why> {
     match (device.protocol(), value) {
-        (Protocol::Report, 0x0101) => Ok(copied(&device.bitmap())),
-        (Protocol::Report, 0x0102) => Ok(copied(&device.consumer())),
-        (Protocol::Report, 0x0201) => Ok(copied(&[0x01, device.leds()])),
-        (Protocol::Boot, 0x0100) => Ok(copied(&device.boot())),
-        (Protocol::Boot, 0x0200) => Ok(copied(&[device.leds()])),
-        (_, 0x0303) => Ok(copied(&device.feature())),
-        _ => Err(Why::UnknownReport),
+        (Protocol::Report, 0x0101) => read.copy(&device.bitmap()),
+        (Protocol::Report, 0x0102) => read.copy(&device.consumer()),
+        (Protocol::Report, 0x0201) => read.copy(&[0x01, device.leds()]),
+        (Protocol::Boot, 0x0100) => read.copy(&device.boot()),
+        (Protocol::Boot, 0x0200) => read.copy(&[device.leds()]),
+        (_, 0x0303) => read.copy(&device.feature()),
+        _ => return Err(Why::UnknownReport),
     }
+    Ok(Transfer::Reads)
 }
 
 /// GET_IDLE (HID 1.11 section 7.2.3).
-fn get_idle<D: DeviceReports>(value: u16, device: &D) -> Result<Transfer, Why> {
+fn get_idle<D: DeviceReports>(value: u16, device: &D, read: &mut ReadData) -> Result<Transfer, Why> {
     match value {
-        0x0000 | 0x0001 => Ok(copied(&[device.idle_one()])),
-        0x0002 => Ok(copied(&[device.idle_two()])),
-        _ => Err(Why::UnknownReport),
+        0x0000 | 0x0001 => read.copy(&[device.idle_one()]),
+        0x0002 => read.copy(&[device.idle_two()]),
+        _ => return Err(Why::UnknownReport),
     }
+    Ok(Transfer::Reads)
 }
 
 /// The byte of a protocol in GET_PROTOCOL (HID 1.11 section 7.2.5).
