@@ -86,6 +86,7 @@ impl ReadData {
         ensures counted { IsSome result → self.new ≡ record { bytes = self.old.bytes; asked = self.old.asked; sent = self.old.sent + 1 } }
         ensures ended { result ≡ None → self.new ≡ self.old }
     {
+        let _asked = self.asked;
         if let Source::Lent(bytes, left) = self.source {
             if let Some((full, after)) = left.split_first_chunk::<8>() {
                 self.source = Source::Lent(bytes, after);

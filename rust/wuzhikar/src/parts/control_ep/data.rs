@@ -69,6 +69,7 @@ impl ReadData {
     /// The next packet, and none where all were sent. A whole packet of a descriptor is cut off what is
     /// left of it.
     pub(crate) fn next_packet(&mut self) -> Option<ArrayVec<u8, 8>> {
+        let _asked = self.asked;
         if let Source::Lent(bytes, left) = self.source {
             if let Some((full, after)) = left.split_first_chunk::<8>() {
                 self.source = Source::Lent(bytes, after);
