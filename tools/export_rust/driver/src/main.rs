@@ -4,9 +4,7 @@
 //! rust/tests/src/other.rs, and `driver codes` prints them. Scripts are taken to be lawful: a fault ends the program.
 
 use std::io::{Read, Write};
-use wuzhikar::{
-    Defaults, EpAnswer, KeyNo, KeyboardOf, LayerNo, Layout, Mask, NorFlash, Scan, SimFlash, Standard, Work,
-};
+use wuzhikar::{Defaults, EpAnswer, KeyNo, KeyboardOf, LayerNo, Layout, Mask, NorFlash, Scan, SimFlash, Standard, Work};
 use wuzhikar_tests::other::Other;
 
 /// SET_REPORT of the feature report.
