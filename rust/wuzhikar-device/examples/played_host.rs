@@ -310,21 +310,27 @@ impl<'r, P: Wire, B: Buffers + Copy> Run<'r, P, B> {
         assert_eq!(self.wire.borrow().line.known[&(1, 23)][..3], [1, 0, 2]);
     }
 
-    /// A key wakes the host once, where it has enabled that.
+    /// A key wakes the host once in a suspend, where it has enabled that.
     pub fn sleeps_and_wakes(&mut self) {
-        for (request, wakes) in [(3, true), (1, false)] {
+        for (number, (request, resumes, wakes)) in [(3, false, true), (3, true, false), (1, false, false)].into_iter().enumerate() {
             self.transfer([0, request, 1, 0, 0, 0, 0, 0], &[]);
             self.wire.borrow_mut().registers.suspend();
             self.serve();
             assert!(!self.wire.borrow_mut().registers.wakes());
-            self.presses(!wakes);
+            if resumes {
+                self.wire.borrow_mut().registers.resume();
+                self.serve();
+            }
+            self.presses(number == 1);
             self.serve();
             assert_eq!(self.wire.borrow_mut().registers.wakes(), wakes);
             self.serve();
             assert!(!self.wire.borrow_mut().registers.wakes());
-            self.wire.borrow_mut().registers.resume();
+            if !resumes {
+                self.wire.borrow_mut().registers.resume();
+            }
             (0..3).for_each(|_| self.act(Act::Poll));
-            assert_eq!(self.wire.borrow().line.known[&(1, 23)][2], if wakes { 0 } else { 2 });
+            assert_eq!(self.wire.borrow().line.known[&(1, 23)][2], 2 * u8::from(number == 1));
         }
     }
 

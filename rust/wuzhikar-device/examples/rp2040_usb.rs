@@ -173,19 +173,17 @@ impl<R: Registers> Rp2040Usb<'_, R> {
 
     /// Puts a packet into a buffer, or what it answers else.
     fn put(&self, buffer: usize, word: u32, packet: &[u8]) {
-        let (registers, bit) = (&self.0.registers, 1 << buffer);
+        let registers = &self.0.registers;
         take_back(registers, &[buffer]);
         for (number, bytes) in packet.chunks(4).enumerate() {
             let word = bytes.iter().rev().fold(0, |word, byte| word << 8 | u32::from(*byte));
             registers.write(PACKETS[buffer] + 4 * number, word);
         }
-        // A packet that was taken, and is not told yet, turns the toggle too.
-        let is_1 = self.0.toggles[buffer].get() != (registers.read(BUFFER_STATUS) & bit != 0);
-        let word = word | if is_1 { DATA1 } else { 0 };
+        let word = word | if self.0.toggles[buffer].get() { DATA1 } else { 0 };
         registers.write(CONTROL + 4 * buffer, word & !AVAILABLE);
         if word & STALL != 0 && buffer != IN_1 {
             let armed = registers.read(STALL_ARM);
-            registers.write(STALL_ARM, armed | bit);
+            registers.write(STALL_ARM, armed | 1 << buffer);
         }
         // The controller has another clock: all else has to stand before this bit does.
         registers.pause();
