@@ -312,7 +312,9 @@ impl<'r, P: Wire, B: Buffers + Copy> Run<'r, P, B> {
 
     /// A key wakes the host once in a suspend, where it has enabled that.
     pub fn sleeps_and_wakes(&mut self) {
-        for (number, (request, resumes, wakes)) in [(3, false, true), (3, true, false), (1, false, false)].into_iter().enumerate() {
+        for (number, (request, resumes, wakes)) in
+            [(3, false, true), (3, true, false), (1, false, false)].into_iter().enumerate()
+        {
             self.transfer([0, request, 1, 0, 0, 0, 0, 0], &[]);
             self.wire.borrow_mut().registers.suspend();
             self.serve();

@@ -75,8 +75,8 @@ const WAKE: u32 = 1 << 12;
 const ON: u32 = 1 << 31 | 1 << 29 | 3 << 26 | 0x180;
 
 /// What the handler of USBCTRL_IRQ calls: takes back what a SETUP packet or a reset ends, before the token behind it can be on
-/// the bus (3 microseconds). `waiting` enables again what it has told. An erase stops code that lies in the flash, so this lies in
-/// RAM.
+/// the bus (3 microseconds). `waiting` enables again what it has told. While a page is erased nothing runs that lies in the flash:
+/// a firmware puts this into RAM.
 pub fn interrupt(registers: &impl Registers) {
     let asked = registers.read(ASKED);
     let mut enabled = registers.read(INTERRUPTS);

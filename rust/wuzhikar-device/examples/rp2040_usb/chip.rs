@@ -1,6 +1,8 @@
+// SPDX-License-Identifier: MIT OR Apache-2.0
+
 //! The chip itself.
 
-use crate::Registers;
+use crate::{Registers, Rp2040, interrupt};
 use core::arch::asm;
 use core::ptr::{read_volatile, write_volatile};
 
@@ -10,9 +12,36 @@ const USB: usize = 0x5010_0000;
 /// TIMERAWL: microseconds, counted once the watchdog gives its tick.
 const MICROSECONDS: *const u32 = 0x4005_4028 as *const u32;
 
+/// RESET, where a one is written to be cleared, RESET_DONE and the controller's bit of both.
+const UNRESET: *mut u32 = 0x4000_f000 as *mut u32;
+const RESET_DONE: *const u32 = 0x4000_c008 as *const u32;
+const USBCTRL: u32 = 1 << 24;
+
+/// NVIC_ISER, and the controller's interrupt, 5.
+const ENABLE: *mut u32 = 0xe000_e100 as *mut u32;
+
 /// The registers of the chip.
 #[derive(Clone, Copy, Debug)]
 pub struct Chip;
+
+/// Takes the controller, whose clock of 48 MHz is on, out of its reset, and enables its interrupt.
+pub fn start() -> Rp2040<Chip> {
+    // SAFETY: registers that this controller alone has.
+    unsafe {
+        write_volatile(UNRESET, USBCTRL);
+        while read_volatile(RESET_DONE) & USBCTRL == 0 {}
+    }
+    let rp2040 = Rp2040::start(Chip);
+    // SAFETY: as above.
+    unsafe { write_volatile(ENABLE, 1 << 5) };
+    rp2040
+}
+
+/// The handler, by the name that the crate `rp2040-pac` gives it.
+#[unsafe(no_mangle)]
+pub extern "C" fn USBCTRL_IRQ() {
+    interrupt(&Chip);
+}
 
 impl Registers for Chip {
     fn read(&self, place: usize) -> u32 {

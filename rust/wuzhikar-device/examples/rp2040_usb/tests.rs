@@ -342,7 +342,6 @@ fn what_the_host_saw_the_end_of_is_stored_and_no_key_sticks() {
         let rp2040 = Rp2040::start(&wire);
         wire.borrow_mut().line.quiet = false;
         history(&mut run(&wire, &rp2040), &mut Numbers(seed));
-        let counts = wire.borrow().line.counts;
-        counts
+        wire.borrow().line.counts
     });
 }

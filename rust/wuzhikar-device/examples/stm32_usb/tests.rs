@@ -221,7 +221,6 @@ fn a_packet_of_endpoint_1_is_taken_or_dropped() {
     }
 }
 
-
 /// The device behind a reset, as it is at the power's coming.
 fn run(registers: &RefCell<OnWire<Played>>) -> Run<'_, Played, Stm32Usb<'_, OnWire<Played>>> {
     registers.borrow_mut().registers.reset();
@@ -244,7 +243,6 @@ fn what_the_host_saw_the_end_of_is_stored_and_no_key_sticks() {
     histories(2000, |seed| {
         let registers = RefCell::new(OnWire::new(Played::default(), seed));
         history(&mut run(&registers), &mut Numbers(seed));
-        let counts = registers.borrow().line.counts;
-        counts
+        registers.borrow().line.counts
     });
 }
