@@ -1,7 +1,7 @@
 //! The driver over registers that are played: the chip counts no toggles and leaves its buffers at a SETUP packet and at a reset,
 //! and at any access something may come on the bus, behind which the interrupt runs.
 
-#[path = "../played_host.rs"]
+#[path = "../tests/played_host.rs"]
 mod played_host;
 
 use super::*;
@@ -198,6 +198,15 @@ fn quiet() -> Wired {
     RefCell::new(OnWire::quiet(Played::default()))
 }
 
+fn setup_comes(played: &mut Played) -> bool {
+    played.setup(GET_STATUS)
+}
+
+fn reset_comes(played: &mut Played) -> bool {
+    played.reset();
+    true
+}
+
 /// Puts these answers into the buffers of endpoint 0, behind a SETUP packet.
 fn armed(usb: &mut Rp2040Usb<&Wired>, input: &Input, output: Output) {
     usb.0.registers.borrow_mut().registers.setup([0; 8]);
@@ -229,7 +238,7 @@ fn a_setup_packet_at_any_access_leaves_nothing_in_the_buffers() {
             let rp2040 = Rp2040::start(&wire);
             let mut usb = Rp2040Usb(&rp2040);
             armed(&mut usb, &inputs()[number / 3], OUTPUTS[number % 3]);
-            wire.borrow_mut().comes = Some((at, |played| played.setup(GET_STATUS)));
+            wire.borrow_mut().comes = Some((at, setup_comes));
             match before {
                 0..3 => usb.input_0(copied(&inputs()[before])),
                 _ => usb.output_0(OUTPUTS[before - 3]),
@@ -257,7 +266,7 @@ fn what_comes_at_any_access_is_told_once() {
         assert_eq!(wire.borrow_mut().registers.input(0), Answer::Packet(true, vec![1, 2]));
         wire.borrow_mut().registers.acknowledged(0);
         assert_eq!(wire.borrow_mut().registers.out(true, &[7]), Answer::Ack);
-        wire.borrow_mut().comes = Some((at, |played| played.setup(GET_STATUS)));
+        wire.borrow_mut().comes = Some((at, setup_comes));
         let mut met = vec![usb.waiting(), usb.waiting()];
         if wire.borrow().comes.is_none() {
             met.push(usb.waiting());
@@ -266,6 +275,21 @@ fn what_comes_at_any_access_is_told_once() {
         assert_eq!(met[0].out.as_deref(), Some(&[7][..]));
         let setups = met.iter().filter(|met| met.setup == Some(GET_STATUS)).count();
         assert_eq!(setups, met.len() - 2, "{at}");
+    }
+}
+
+#[test]
+fn a_setup_packet_before_a_reset_is_gone() {
+    for is_behind in [false, true] {
+        let wire = quiet();
+        let rp2040 = Rp2040::start(&wire);
+        let order: [fn(&mut Played) -> bool; 2] = [setup_comes, reset_comes];
+        for number in 0..2 {
+            order[usize::from((number == 1) != is_behind)](&mut wire.borrow_mut().registers);
+            interrupts_run(&wire);
+        }
+        let met = Rp2040Usb(&rp2040).waiting();
+        assert_eq!((met.reset, met.setup.is_some()), (true, is_behind));
     }
 }
 

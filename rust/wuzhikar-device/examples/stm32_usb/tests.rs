@@ -1,7 +1,7 @@
 //! The driver over registers that are played: a write turns bits of STAT and DTOG round, and at any access something may
 //! come on the bus.
 
-#[path = "../played_host.rs"]
+#[path = "../tests/played_host.rs"]
 mod played_host;
 
 use super::*;

@@ -1,7 +1,11 @@
 //! A host on the wire of a controller whose registers are played: it keeps data toggles, loses every fourth acknowledgement, gives
 //! transfers up, resets and suspends the bus, and knows what it was told.
+//!
+//! The tests of another driver take this file by `#[path]`, with the feature `sim` of `wuzhikar`. Their played registers are a `Wire`,
+//! and the driver's own trait of registers is that of `OnWire`, which calls `access` at each read and write.
+#![allow(dead_code)]
 
-#[path = "../src/tests/buffers/host.rs"]
+#[path = "../../src/tests/buffers/host.rs"]
 pub mod host;
 
 use host::{Act, Host, Numbers, SET_CONFIGURATION, begins_endpoint_1, data, is_lawful_command, sets_protocol};
