@@ -1,7 +1,7 @@
 // SPDX-License-Identifier: MIT OR Apache-2.0
 
 //! A `Controller` for the USB controller of RP2040, to be copied: a buffer that both directions of endpoint 0 share, and one for
-//! endpoint 1. Written by the manual of RP2040 (section 4.1), for revision B2: before it an abort is not done (erratum E2). Not
+//! endpoint 1. Written by the manual of RP2040 (section 4.1), for revision B2: before it EP_ABORT does not work (erratum E2). Not
 //! tried on a chip. The tests below play its registers.
 //!
 //! A SETUP packet or a reset leaves the buffers as they are. So the interrupt, [`interrupt`], takes them back at once, and
@@ -31,7 +31,7 @@ const CONTROL: usize = 0x80;
 const IN_0: usize = 0;
 const OUT_0: usize = 1;
 const IN_1: usize = 2;
-/// Where the packets of each buffer lie.
+/// Where the packets of each buffer lie. Beside a packet of a read a lawful host sends none but an empty one.
 const PACKETS: [usize; 3] = [0x100, 0x100, 0x180];
 
 // The registers.
