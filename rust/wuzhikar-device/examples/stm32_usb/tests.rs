@@ -236,6 +236,9 @@ fn a_host_enumerates_the_keyboard_sets_a_key_and_hears_it() {
     assert_eq!(registers.borrow().registers.address, ENABLED | 9);
     run.sets_a_key_and_hears_it();
     run.sleeps_and_wakes();
+    run.serve();
+    // Neither FSUSP nor RESUME is left.
+    assert_eq!(registers.borrow().registers.control, 0);
 }
 
 #[test]
