@@ -6,7 +6,7 @@ ghost use Rattle.usb_device.specs.ties.Link1.{size_of};
 
 use crate::{Endpoint1, Report};
 
-/// The buffers of endpoint 1.
+/// The buffers of endpoint 1, which count its data toggle. A reset of the bus empties them.
 ///
 /// One buffer in memory, whose packets no host takes:
 ///

@@ -3,7 +3,7 @@
 
 use crate::parts::usb_device::{Endpoint1, Report};
 
-/// The buffers of endpoint 1.
+/// The buffers of endpoint 1, which count its data toggle. A reset of the bus empties them.
 ///
 /// One buffer in memory, whose packets no host takes:
 ///

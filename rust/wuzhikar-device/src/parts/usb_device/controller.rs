@@ -32,6 +32,10 @@ pub enum Output {
 
 /// A controller. Anything that its bus permits may happen before each call takes effect.
 ///
+/// It acknowledges each SETUP packet, which empties both buffers of endpoint 0: IN and OUT are answered by NAK from then on. It
+/// counts the data toggles: a packet is sent until the host acknowledges it, and one that the host sends again is acknowledged
+/// and not told (section 8.6.4). A reset of the bus empties the buffers, and drops what was not told.
+///
 /// A controller in memory, on whose bus one SETUP packet has come:
 ///
 /// ```rust
