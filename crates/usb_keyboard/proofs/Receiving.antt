@@ -54,9 +54,13 @@ ack_is Answers.Nak e = cc
 ack_is (Answers.Packet p) e = cc
 ack_is (Answers.Stall why) e = cc
 
+abbrev bytes_in : Answer → List ℕ
+bytes_in (Answers.Packet packet) = packet.items
+bytes_in _ = []
+
 packet_told : (o : Option (List ℕ)) (packet : List ℕ) → Answers.Packet (record { items = packet }) ≡ packet_or_stall o → o ≡ Some packet
 packet_told None packet e = cc
-packet_told (Some other) packet e = cc
+packet_told (Some other) packet e = let f : packet ≡ other = ap bytes_in e in ap Some (sym f)
 
 nak_never : (o : Option (List ℕ)) → Answers.Nak ≡ packet_or_stall o → ⊥
 nak_never None e = cc
