@@ -1,5 +1,5 @@
 -- A write ends as its checks say.
-use Rattle.std.proofs.Common.{◌≡◌, ◌≢◌, ◌==◌, ℕ, zero, suc, ◌≤◌, length, Bool, true, false, drop, is_some, nat_lt, slice_index, if◌then◌else◌, List, [], ◌∷◌, ◌++◌, Result, Ok, Err, refl, sym, ap, subst, ◌∙◌, arith}
+use Rattle.std.proofs.Common.{◌≡◌, ◌≢◌, ◌==◌, ℕ, ◌≤◌, length, Bool, true, false, drop, is_some, nat_lt, slice_index, if◌then◌else◌, List, [], ◌∷◌, ◌++◌, Result, Ok, Err, refl, sym, ap, subst, ◌∙◌}
 use Rattle.std.specs.Prelude.{MatchResult}
 use Rattle.arrayvec.specs.ArrayVec.{ArrayVec}
 use Rattle.layers.specs.Codes.{layers, keys, DefaultCodes}
@@ -12,14 +12,12 @@ use Rattle.control_ep.specs.declared.answer.Effect.TheVariants.{Nothing}
 use Rattle.control_ep.specs.declared.answer.EpAnswer.{EpAnswer as Answer}
 use Rattle.control_ep.specs.declared.answer.EpAnswer.TheVariants as Answers
 use Rattle.control_ep.specs.declared.answer.OutStep.{OutStep}
-use Rattle.control_ep.specs.declared.answer.OutStep.TheVariants.{Answered, Leds, Offer}
-use Rattle.control_ep.specs.declared.answer.Verdict.TheVariants as Verdicts
-use Rattle.control_ep.specs.Answers.{in_answer, out_step, packet_or_stall, received_report, report_step, content}
-use Rattle.control_ep.specs.Calls.{EpCall, Setup, Judged, Out as EpOut}
-use Rattle.control_ep.specs.Packets.{packet_at}
+use Rattle.control_ep.specs.declared.answer.OutStep.TheVariants.{Leds, Offer}
+use Rattle.control_ep.specs.Answers.{in_answer, out_step, received_report, report_step}
+use Rattle.control_ep.specs.Calls.{EpCall, Setup, Out as EpOut}
 use Rattle.control_ep.specs.Requests.{request_of, transfer_of}
-use Rattle.control_ep.specs.Stage.{outcome_of, calls_since, last_setup, first_stall, progress_of, stage_with, after_command, stage}
-use Rattle.control_ep.specs.Transfers.{HostReport, LedsWithId, LedsAlone, FeatureData, Transfer, Reads, Takes, Sets, Stage, Sending, Taking, Waiting, Status}
+use Rattle.control_ep.specs.Stage.{outcome_of, calls_since, last_setup, first_stall, progress_of, stage_with, stage}
+use Rattle.control_ep.specs.Transfers.{HostReport, LedsWithId, LedsAlone, FeatureData, Transfer, Reads, Takes, Sets, Stage, Sending, Taking, Status}
 use Rattle.control_ep.proofs.Clean.{received_is}
 use Rattle.control_ep.proofs.Stages.{stage-is, IsTaking, taking_is}
 use Rattle.keymap_store.specs.declared.store.Work.{Work}
@@ -42,7 +40,7 @@ use Rattle.usb_device.specs.Whole.{data_status_of, status_of}
 use Rattle.usb_keyboard.specs.Checks.{without_data, ReportAnswer, RequestAnswer, WriteAnswer, IsChecked, FailsBy}
 use Rattle.usb_keyboard.specs.Plain.{plain}
 use Rattle.usb_keyboard.specs.Whole.{put_off, data_calls}
-use Rattle.usb_keyboard.specs.ties.Whole.{HasData, Gives, IsStatusStage, NotConfirmed}
+use Rattle.usb_keyboard.specs.ties.Whole.{Gives, IsStatusStage, NotConfirmed}
 use Rattle.usb_keyboard.proofs.Ending.{accepted_setup, setup_not_waiting, first_waited, state_told, judged_state, Behind, stage_behind, behind_all, failed_fate, ended}
 use Rattle.usb_keyboard.proofs.Reading.{reads_sized, first_packet}
 
@@ -164,15 +162,15 @@ module _ (defaults : DefaultCodes) where
       taking_is FeatureData (first_stall (calls_since calls)) (last_setup calls) (progress_of (calls_since calls)) (sym due ∙ stage-is calls) in
       let P : List EpCall → Type 0 = λ l. Behind l (state_told changing works) in
       brings changing
-          (subst P (sym (ep_calls-out defaults start before packet Answers.Ack (Offer (drop 1 packet)) offer))
-          (record {
-            size = t.length;
-            begins = t.begins;
-            taken = refl;
-            command = judged_state changing setup packet (drop 1 packet) (view_after defaults start past) (ep_calls defaults start past);
-            unstalled = refl;
-            unconfirmed = refl;
-          }))
+      (subst P (sym (ep_calls-out defaults start before packet Answers.Ack (Offer (drop 1 packet)) offer))
+      (record {
+        size = t.length;
+        begins = t.begins;
+        taken = refl;
+        command = judged_state changing setup packet (drop 1 packet) (view_after defaults start past) (ep_calls defaults start past);
+        unstalled = refl;
+        unconfirmed = refl;
+      }))
 
   after_report : (start : List ℕ) (past : List Call) (setup packet : List ℕ) (image : List ℕ) (busy : Bool) (report : HostReport) (got : Result OutStep Why) → transfer_of (request_of setup) (view_after defaults start past) ≡ Ok (Takes report)
       → stage_after defaults start (SetUp setup ∷ past) ≡ Taking report → received_report report packet ≡ got → OutAnswer defaults (report_step got) image busy Answers.Ack → After start (Out packet Answers.Ack ∷ SetUp setup ∷ past)
@@ -321,7 +319,7 @@ module _ (defaults : DefaultCodes) where
       let P : Answer → Type 0 = λ a. status_of (plain a) ≡ Done in
       checked start past setup [] Answers.Ack
       (in_done (image_after start past) (is_some (working defaults start past)) r (request_of setup).length (λ bytes e. (reads_sized defaults start past setup bytes e).0)
-          (subst P (in_first start past setup (Answers.Packet (record { items = [] })) steps h) refl))
+      (subst P (in_first start past setup (Answers.Packet (record { items = [] })) steps h) refl))
 
   taken_done : (start : List ℕ) (past : List Call) (setup data_ : List ℕ) (steps : List (Work × List ℕ)) → EachCall (IsAnswered defaults) start (confirmation ∷ put_off steps ++ (data_calls data_ ++ SetUp setup ∷ past))
       → IsChecked defaults start past setup data_ Answers.Ack

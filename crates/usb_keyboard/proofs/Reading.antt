@@ -16,7 +16,7 @@ use Rattle.control_ep.specs.declared.answer.DeviceView.{DeviceView}
 use Rattle.control_ep.specs.Answers.{packet_or_stall}
 use Rattle.control_ep.specs.Packets.{packet_at}
 use Rattle.control_ep.specs.Requests.{named, reports_read, reports_taken, idle_values, idle_effects, protocol_effects, device_descriptors, interface_descriptors, requests, asked_at, takes_length, with_length, checked, request_of, transfer_of}
-use Rattle.control_ep.specs.Transfers.{SetupFields, Transfer, Reads, Takes, Sets}
+use Rattle.control_ep.specs.Transfers.{SetupFields, Transfer, Reads}
 use Rattle.keyboard.specs.Calls.{Call}
 use Rattle.keyboard.specs.Endpoint.{view_after}
 use Rattle.keyboard.specs.Keys.{key_calls}

@@ -22,14 +22,13 @@ use Rattle.keyboard.specs.Calls.{Call, SetUp, Out, In, image_after, EachCall}
 use Rattle.keyboard.specs.Commands.{working}
 use Rattle.keyboard.specs.Endpoint.{ep_calls, stage_after, view_after}
 use Rattle.keyboard.specs.Lawful.{IsAnswered, OutAnswer}
-use Rattle.usb_device.specs.declared.answer.EpAnswer.{EpAnswer}
 use Rattle.usb_device.specs.declared.answer.EpAnswer.TheVariants as Plains
 use Rattle.usb_device.specs.declared.whole_transfers.TransferError.{TransferError}
 use Rattle.usb_device.specs.declared.whole_transfers.TransferError.TheVariants.{Refused, Busy, Unfinished}
 use Rattle.usb_device.specs.WholeReads.{joined, is_last, GoOn, AreWhole, IsNoPacket}
 use Rattle.usb_keyboard.specs.Checks.{read_answer}
 use Rattle.usb_keyboard.specs.Plain.{plain}
-use Rattle.usb_keyboard.specs.Whole.{in_calls, IsRead, IsUnread, not_asked, stalled}
+use Rattle.usb_keyboard.specs.Whole.{in_calls, IsRead, IsUnread, stalled}
 use Rattle.usb_keyboard.specs.ties.Whole.{Receives, NotReceived}
 use Rattle.usb_keyboard.proofs.Checking.{first_stage, stage_begun}
 use Rattle.usb_keyboard.proofs.Reading.{reads_sized, takes_its_length}

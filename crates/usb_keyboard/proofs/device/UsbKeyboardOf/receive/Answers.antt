@@ -1,4 +1,4 @@
-use Rattle.std.proofs.Common.{◌≡◌, ◌≤◌, ◌+◌, ◌*◌, ◌∷◌, ◌++◌, ◌∙◌, ℕ, List, length, true, refl, sym, ap, subst, arith}
+use Rattle.std.proofs.Common.{◌≡◌, ◌≤◌, ◌∷◌, ◌++◌, ◌∙◌, ℕ, List, length, true, refl, sym, ap, subst, arith}
 use Rattle.control_ep.specs.declared.answer.EpAnswer.{EpAnswer as Answer}
 use Rattle.control_ep.specs.declared.answer.EpAnswer.TheVariants as Answers
 use Rattle.keyboard.specs.Calls.{In}
