@@ -18,10 +18,18 @@ static bool is_code(uint32_t code)
     return code <= TRANSPARENT || is_key(code) || is_modifier(code) || is_consumer(code) || is_momentary(code);
 }
 
+#ifdef KB_CODES /* a file with a maker's default codes, by place */
+static const uint16_t CODES[PLACES] = {
+#include KB_CODES
+};
+
+static uint32_t default_at(uint32_t place) { return CODES[place]; }
+#else
 static uint32_t default_at(uint32_t place)
 {
     return place < 88 ? place + 4 : place < KEYS ? place + (MODIFIER - 88) : TRANSPARENT;
 }
+#endif
 
 static void reset_places(uint32_t from, uint32_t end)
 {

@@ -1,6 +1,8 @@
 """Compares the peer's answers with those of `kbsim`: of the keyboard over generated scripts of all lines of the language, and on
 images of flash; of the parser over generated report descriptors.
 
+With other default codes the keyboard is compared with the exported crate, by tools/export_rust/driver, over a third of the scripts.
+
 The peer is built with AddressSanitizer and UBSan. Then copies of it with one wrong line each have to be told apart. The variable
 KBSIM names the program to compare with, or else it is that of bin/kbsim.
 """
@@ -19,6 +21,7 @@ sys.path[:0] = [f"{ROOT}/tools/export_rust", f"{ROOT}/tools"]
 
 from changes import replace_once
 from compare import answers, counted, difference
+from room import Failed, Room
 from texts import text
 
 BENCH = f"{ROOT}/bench"
@@ -45,6 +48,12 @@ PLANTED = [
     ("endpoint.h", "kb.leds = p[n - 1] & 0x1f;", "kb.leds = p[n - 1];"),
     ("keyboard.c", "kb.idle[0] = 125;", "kb.idle[0] = 124;"),
     ("descriptors.h", "0x75, 0x10, 0x95, 0x04", "0x75, 0x10, 0x95, 0x05"),
+]
+
+# The same of a keyboard with other default codes.
+PLANTED_IN_CODES = [
+    ("keymap.h", "{ return CODES[place]; }", "{ return place < KEYS ? CODES[place] : TRANSPARENT; }"),
+    ("keymap.h", "kb.keymap[from] = default_at(from);", "kb.keymap[from] = from < KEYS ? default_at(from) : TRANSPARENT;"),
 ]
 
 # The same of the parser.
@@ -74,11 +83,12 @@ class Player(NamedTuple):
     source: str
     parts: list[str]
     planted: list[tuple[str, str, str]]
+    defined: tuple[str, ...] = ()
 
     def built(self, peer, program, *options):
         """Builds it over a copy of the peer."""
         parts = [f"{peer}/{part}" for part in self.parts]
-        words = ["gcc", "-std=c11", *options, f"-I{peer}", f"{BENCH}/{self.source}", *parts, "-o", program]
+        words = ["gcc", "-std=c11", *options, *self.defined, f"-I{peer}", f"{BENCH}/{self.source}", *parts, "-o", program]
         ran = subprocess.run(words, capture_output=True, text=True)
         if ran.returncode:
             raise Wrong(f"{' '.join(words)}:\n{ran.stderr}")
@@ -102,13 +112,13 @@ def reference():
 class Scripts:
     """Scripts, and what is answered to them."""
 
-    def __init__(self, kbsim):
-        self.kbsim, self.kept = kbsim, {}
+    def __init__(self, words):
+        self.words, self.kept = words, {}
 
     def expected(self, number):
-        """What kbsim answers, asked for once."""
+        """What the program of these words answers, asked for once."""
         if number not in self.kept:
-            self.kept[number] = answers([self.kbsim, "run"], number, True)
+            self.kept[number] = answers(self.words, number, True)
         return self.kept[number]
 
     def difference(self, program, number):
@@ -165,17 +175,35 @@ def changed(folder, name, old, new):
     return folder
 
 
-def compare_one(folder, player, cases, count):
+def compare_one(folder, player, cases, count, name="kbsim"):
     """Compares a program over the peer, and looks that each copy with a wrong line is told apart."""
     why = first_difference(cases, player.built(PEER, f"{folder}/right", *STRICT), count)
     if why:
-        raise Wrong(f"the peer differs: {why}")
-    say(f"the peer and kbsim: {cases.summary(count)}")
+        raise Wrong(f"the peer differs from {name}: {why}")
+    say(f"the peer and {name}: {cases.summary(count)}")
     for name, old, new in player.planted:
         program = player.built(changed(f"{folder}/peer", name, old, new), f"{folder}/wrong")
         if not first_difference(cases, program, count):
             raise Wrong(f"{count} {player.name} don't tell a peer apart whose {name} says {new or 'nothing'} in place of {old}")
     say(f"{len(player.planted)} copies with a wrong line are told apart")
+
+
+def compare_other(folder, count):
+    """Compares the keyboard with other default codes with the exported crate's."""
+    lacks = [name for name in ("rustc", "cargo") if not shutil.which(name)]
+    if lacks:
+        say(f"skipped: other default codes, since there is no {' and no '.join(lacks)} (Debian: rustc-web cargo-web)")
+        return
+    room = Room(f"{folder}/room")
+    try:
+        room.cargo("build", "--release", cwd=room.over("driver", "wuzhikar"))
+        codes = room.run([room.program("driver"), "codes"])
+    except Failed as why:
+        raise Wrong(str(why)) from why
+    with open(f"{folder}/codes", "wb") as file:
+        file.write(codes)
+    player = KEYBOARD._replace(planted=PLANTED_IN_CODES, defined=(f'-DKB_CODES="{folder}/codes"',))
+    compare_one(folder, player, Scripts([room.program("driver"), "other"]), count, "the exported crate, both with other default codes")
 
 
 def compare(scripts, texts):
@@ -187,7 +215,8 @@ def compare(scripts, texts):
         kbsim = reference()
         with tempfile.TemporaryDirectory() as folder:
             compare_one(folder, PARSER, Texts(kbsim), texts)
-            compare_one(folder, KEYBOARD, Scripts(kbsim), scripts)
+            compare_one(folder, KEYBOARD, Scripts([kbsim, "run"]), scripts)
+            compare_other(folder, scripts // 3)
     except Wrong as why:
         say(f"FAILED: {why}")
         return 1

@@ -26,6 +26,14 @@ FIRMWARE = "examples/chip_nrf51/src"
 LOG = "rust/wuzhikar-log/src/parts/records"
 ERASE = "for at in (from..to)"
 
+# A firmware with the default codes of tests in place of the standard ones. The program of the host knows them by `layout`.
+LAYOUT = [
+    Edit(f"{FIRMWARE}/main.rs", "use wuzhikar::UnstartedKeyboard;", "use wuzhikar::UnstartedKeyboardOf;"),
+    Edit(f"{FIRMWARE}/main.rs", "static mut MEMORY: UnstartedKeyboard = UnstartedKeyboard::NEW;",
+         '#[path = "../../../rust/tests/src/other.rs"]\nmod other;\n'
+         "static mut MEMORY: UnstartedKeyboardOf<other::Other> = UnstartedKeyboardOf::NEW;"),
+]
+
 FAULTS = [
     Fault("the host is told before a command is stored",
           [Edit(f"{FIRMWARE}/token.rs", "EpAnswer::Nak => Frame::of(b'N')", "EpAnswer::Nak => Frame::data(&[])")],
@@ -62,6 +70,10 @@ FAULTS = [
           [Edit(f"{FIRMWARE}/main.rs", '"bhs 2f"', '"b 2f"'),
            Edit("rust/wuzhikar/src/parts/keyboard/keyboard.rs", "self.keys.restart();", "")],
           ["random", "100", "1"], "WRONG|a frame"),
+    Fault("a reset gives the standard codes, where a maker chose others",
+          [*LAYOUT, Edit("rust/wuzhikar/src/layout.rs", "codes[start..end].copy_from_slice(&L::TABLE[start..end]);",
+                         "crate::parts::layers::Standard::reset(codes, start, end);")],
+          ["layout", "300", "1"], "LOST|WRONG"),
 ]
 
 # A slot is a word beside its complement, so it makes no difference which half is programmed first.
@@ -71,12 +83,13 @@ HARMLESS = Fault("the second word of a slot is programmed first",
                  ["random", "100", "1"], "")
 
 
-def plant(root, fault):
-    """Plants a fault in a copy of the repository's folders; what gives the files back."""
+def plant(root, edits):
+    """Plants edits in a copy of the repository's folders; what gives the files back."""
     kept = {}
-    for path, old, new in fault.edits:
+    for path, old, new in edits:
         with open(f"{root}/{path}", encoding="utf-8") as file:
-            text = kept[path] = file.read()
+            text = file.read()
+        kept.setdefault(path, text)
         if text.count(old) != 1:
             raise LookupError(f"{path} has {old!r} {text.count(old)} times, not once")
         with open(f"{root}/{path}", "w", encoding="utf-8") as file:

@@ -14,6 +14,7 @@ ROOT = os.path.dirname(os.path.dirname(HERE))
 sys.path[:0] = [f"{ROOT}/tools", f"{ROOT}/tools/export_rust"]
 
 from debian_crates import environment, lacking  # noqa: E402
+from faults import LAYOUT, plant  # noqa: E402
 from room import Failed  # noqa: E402
 
 TARGET = "thumbv6m-none-eabi"
@@ -21,6 +22,8 @@ PROGRAMS = {"rustc": "rustc-web", "cargo": "cargo-web", "cc": "gcc", "ld.lld": "
 LOOPS = {"asked at the token": "", "with buffers": "buffers"}
 # Each is cut and measured. The features of a firmware by its name.
 FIRMWARES = LOOPS | {"error correction": "ecc"}
+# The firmware asked at the token with other default codes (faults.py), which random sessions cut.
+OTHER = {"other default codes": "layout"}
 
 
 class NoTime(Exception):
@@ -80,9 +83,12 @@ class Bench:
         room.cargo("build", "--release", cwd=room.copy("tools/board", HERE))
         for features in FIRMWARES.values():
             self.build(features, self.firmware(features))
+        mend = plant(room.folder, LAYOUT)
+        self.build("", self.firmware("layout"))
+        mend()
 
     def firmware(self, features):
-        """The path of the firmware with these features."""
+        """The path of the firmware with these features, or of the one with other default codes."""
         return self.room.path(f"chip_{features}.elf")
 
     def build(self, features, path):

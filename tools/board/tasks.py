@@ -4,7 +4,7 @@ from typing import Callable, NamedTuple
 
 from faults import FAULTS, HARMLESS, is_found, plant
 from hosts import MISSING, Hosts, Over
-from rig import FIRMWARES, LOOPS, ROOT, NoTime, say
+from rig import FIRMWARES, LOOPS, OTHER, ROOT, NoTime, say
 from room import Failed
 
 CALLS = f"{ROOT}/bench/chip.tsv"
@@ -51,7 +51,7 @@ def planted(bench, fault):
     """Plants a fault, and runs its test: whether it passed, and what it told."""
     path = bench.room.path(f"fault_{[*FAULTS, HARMLESS].index(fault)}.elf")
     with bench.building:
-        mend = plant(bench.room.folder, fault)
+        mend = plant(bench.room.folder, fault.edits)
         try:
             bench.build(fault.features, path)
         finally:
@@ -121,6 +121,7 @@ def of_cuts(bench, seed):
              for name, features in FIRMWARES.items()]
     tasks += [Task(f"{name}: {words[0]}", 25, told(name, features, words))
               for words in [["starved"]] for name, features in list(FIRMWARES.items())[:1]]
+    tasks += [Task(f"{name}: random cuts", 25, told(name, features, ["layout", "300", str(seed)])) for name, features in OTHER.items()]
     rows = [(name, features, cuts(features, seed)) for name, features in FIRMWARES.items()]
     tasks += [Task(f"{name}: {' '.join(words[at])}", 25, told(name, features, words[at]))
               for at in range(4) for name, features, words in rows]

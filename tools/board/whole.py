@@ -7,7 +7,7 @@ import signal
 import time
 from typing import NamedTuple
 
-from rig import FIRMWARES, NoTime, say
+from rig import FIRMWARES, OTHER, NoTime, say
 from room import Failed
 
 MOST = 150_000  # so many instructions of a session are cut; of a longer one by a stride
@@ -25,16 +25,20 @@ class Piece(NamedTuple):
     cuts: int
 
 
+def random(name, features, kind, cuts, seed):
+    """The pieces of so many random cuts."""
+    return [Piece(name, features, [kind, PIECE, seed + at], PIECE) for at in range(-(-cuts // PIECE))]
+
+
 def pieces(name, features, lengths, cuts, seed):
     """The pieces of a firmware, whose sessions have so many instructions and operations."""
     ticks, operations = lengths
     stride, step = -(-ticks // MOST), PIECE // 5
     words = [(["operations", at, min(at + step, operations + 1)], 5 * step) for at in range(1, operations + 1, step)]
     words += [(["words", 50, seed + 50 * at], (18 if features == "ecc" else 6) * 50) for at in range(20)]
-    words += [(["random", PIECE, seed + at], PIECE) for at in range(-(-cuts // PIECE))]
     # It ends a little later where the bytes come otherwise.
     words += [(["instructions", stride, at, at + PIECE * stride], PIECE) for at in range(1, ticks + 4 * stride, PIECE * stride)]
-    return [Piece(name, features, *one) for one in words]
+    return [Piece(name, features, *one) for one in words] + random(name, features, "random", cuts, seed)
 
 
 class Whole:
@@ -43,11 +47,12 @@ class Whole:
     def __init__(self, bench, given):
         self.bench, self.path = bench, bench.room.path("long.tsv")
         bench.detached = True  # a signal ends this program alone, so that the pieces under way come to their counts
-        self.sums = {name: bench.sum(features) for name, features in FIRMWARES.items()}
+        self.sums = {name: bench.sum(features) for name, features in (FIRMWARES | OTHER).items()}
         lengths = {name: [int(word) for word in bench.told(name, features, "lengths").split()] for name, features in FIRMWARES.items()}
         rows = [pieces(name, features, lengths[name], given.long, given.seed) for name, features in FIRMWARES.items()]
+        rows += [random(name, features, "layout", given.long, given.seed) for name, features in OTHER.items()]
         # Of each kind first, so that a run that is ended has met all of them.
-        kinds = ["operations", "words", "random", "instructions"]
+        kinds = ["operations", "words", "random", "layout", "instructions"]
         self.pieces = sorted((piece for row in rows for piece in row), key=lambda piece: kinds.index(piece.words[0]))
         self.done = self.kept()
         self.begun = time.monotonic()
@@ -127,13 +132,13 @@ class Whole:
     def summary(self):
         """Says what all pieces came to, and what is left. Whether each session was met on both sides of its record."""
         met = True
-        for name in FIRMWARES:
-            for kind in ("instructions", "operations", "words", "random"):
+        for name in self.sums:
+            for kind in ("layout",) if name in OTHER else ("instructions", "operations", "words", "random"):
                 of_kind = [piece for piece in self.pieces if piece.name == name and piece.words[0] == kind]
                 counts = [self.done[self.key(piece)] for piece in of_kind if self.key(piece) in self.done]
                 cuts = sum(one[0] for one in counts)
                 more = ""
-                if kind != "random":
+                if kind not in ("random", "layout"):
                     told, done = (sum(one[at] for one in counts) for at in (1, 2))
                     more = f", behind the confirmation {told}, command found done {done}"
                     met &= len(counts) < len(of_kind) or 0 < done < cuts

@@ -89,7 +89,7 @@ def driver(room, given):
     folder = room.over("driver", "wuzhikar")
     for name, words, more, target in target_steps.machines(room):
         room.cargo("build", *words, cwd=folder, **more)
-        words = [sys.executable, "-B", f"{HERE}/compare.py", proved, room.program("driver", target), str(given.scripts)]
+        words = [sys.executable, "-B", f"{HERE}/compare.py", proved, room.program("driver", target), str(given.scripts), "--whole"]
         say(f"the keyboard on {name}, and {named}: {room.run(words).decode().strip()}")
 
 

@@ -23,6 +23,10 @@ PROGRAMS = {
     "settings_stm32g0": ("settings", ("thumbv6m-none-eabi",), 6_300),
 }
 
+# Drivers of USB controllers, and a target of their chips.
+DRIVERS = ("rp2040_usb", "stm32_usb")
+OF_DRIVERS = "thumbv6m-none-eabi"
+
 
 def has_library(room, name, target):
     """Whether the rustc on the PATH has a library for a target."""
@@ -59,8 +63,15 @@ def build_bare(room, name, target, more):
     say(f"examples/{folder}{inner} builds for {target}, {text} bytes of text")
 
 
+def build_drivers(room, more):
+    """Builds the drivers of USB controllers."""
+    names = [word for name in DRIVERS for word in ("--example", name)]
+    room.cargo("build", "--release", "--target", OF_DRIVERS, "-p", "wuzhikar-device", *names, **more)
+    say(f"the drivers {' and '.join(DRIVERS)} build for {OF_DRIVERS}")
+
+
 def bare(room, _):
-    """Builds the programs for chips."""
+    """Builds the programs and the drivers for chips."""
     if not shutil.which("ld.lld") or not shutil.which("size"):
         raise Skipped("there is no ld.lld or no size (Debian: lld, binutils)")
     lacking = []
@@ -71,6 +82,8 @@ def bare(room, _):
                 lacking.append(target)
             else:
                 build_bare(room, name, target, more)
+    if more := variables(room, OF_DRIVERS):
+        build_drivers(room, more)
     if lacking:
         raise Skipped(f"{', '.join(sorted(set(lacking)))}, which this rustc has no core for ({SOURCES})")
 

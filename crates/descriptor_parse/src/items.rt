@@ -2,7 +2,7 @@
 
 ghost use Rattle.std.specs.Prelude.{◌≡◌, ◌+◌, ◌^◌, ◌<◌, ◌≤◌, ℕ, List, length, drop, slice_index, MatchOption, IfSome, IfNone};
 ghost use Rattle.std.specs.Iterator.{YieldsFirstBy, item_count};
-ghost use Rattle.descriptor_parse.specs.Items.{data_size, head_size, item_size, front_item, items_at};
+ghost use Rattle.descriptor_parse.specs.Items.{data_size, item_size, front_item, items_at};
 ghost use Rattle.descriptor_parse.specs.Tags.{tag_of};
 ghost use Rattle.descriptor_parse.specs.ItemViews.{item_view, result_view};
 
@@ -12,6 +12,9 @@ use std::marker::Model;
 
 /// The prefix of a long item.
 pub(crate) const LONG: u8 = 0xFE;
+
+/// How many bytes of a long item come before its data.
+const LONG_HEAD: usize = 3;
 
 /// An item of a report descriptor: the offset of its prefix in the text, the prefix, and the data.
 #[derive(Clone, Copy, Debug, PartialEq, Eq)]
@@ -113,8 +116,19 @@ pub(crate) fn cut(offset: usize, text: &[u8]) -> Option<(Item<'_>, &[u8])>
     let Some((prefix, more)) = text.split_first() else {
         return None;
     };
+    // Not by another function, so that the item of the other way stays in registers.
     if *prefix == LONG {
-        return cut_long(offset, text);
+        let size = size_of_front(text);
+        if text.len() < size {
+            return None;
+        }
+        let (whole, rest) = text.split_at(size);
+        let item = Item {
+            offset,
+            prefix: LONG,
+            bytes: &whole[LONG_HEAD..],
+        };
+        return Some((item, rest));
     }
     let size = data_len(*prefix);
     if more.len() < size {
@@ -124,30 +138,6 @@ pub(crate) fn cut(offset: usize, text: &[u8]) -> Option<(Item<'_>, &[u8])>
     let item = Item {
         offset,
         prefix: *prefix,
-        bytes,
-    };
-    Some((item, rest))
-}
-
-/// The same of a text that may begin with a long item.
-#[inline(never)]
-fn cut_long(offset: usize, text: &[u8]) -> Option<(Item<'_>, &[u8])>
-    ensures size { MatchOption result (length text.now < item_size text.now) (λ _. item_size text.now ≤ length text.now) }
-    ensures few { IfNone result (length text.now ≤ 258) }
-    ensures most { IfSome result (λ _. item_size text.now ≤ 258) }
-    ensures item { IfSome result (λ r. item_view r.0 ≡ front_item offset text.now) }
-    ensures rest { IfSome result (λ r. r.1.now ≡ drop (item_size text.now) text.now) }
-{
-    let size = size_of_front(text);
-    if text.len() < size {
-        return None;
-    }
-    let prefix = text[0];
-    let (whole, rest) = text.split_at(size);
-    let bytes = &whole[head(prefix)..];
-    let item = Item {
-        offset,
-        prefix,
         bytes,
     };
     Some((item, rest))
@@ -164,13 +154,6 @@ pub(crate) fn size_of_front(text: &[u8]) -> usize
         [prefix, ..] => 1 + data_len(*prefix),
         [] => 1,
     }
-}
-
-/// How many bytes of an item come before its data.
-fn head(prefix: u8) -> usize
-    ensures { result ≡ head_size prefix }
-{
-    if prefix == LONG { 3 } else { 1 }
 }
 
 /// How many bytes of data follow the prefix of a short item.

@@ -91,10 +91,20 @@ impl Locals {
         ensures same { self.new.half ≡ self.old.half }
     {
         if self.usages.capacity() == 0 {
-            self.usages.reserve(FIRST_RANGES)?;
+            self.make_room()?;
         }
         self.usages.push(UsageRange { first, last })?;
         Ok(())
+    }
+
+    /// Takes memory for some ranges.
+    // Not inlined, so that the other items cost less.
+    #[inline(never)]
+    fn make_room(&mut self) -> Result<(), AllocError>
+        ensures usages { self.new.usages.items ≡ self.old.usages.items }
+        ensures half { self.new.half ≡ self.old.half }
+    {
+        self.usages.reserve(FIRST_RANGES)
     }
 
     /// Keeps a Minimum or Maximum, or makes it a range with its pair.

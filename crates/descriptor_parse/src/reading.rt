@@ -153,7 +153,7 @@ fn keep(part: &mut ArrayVec<u8, MAX_ITEM>, bytes: &[u8])
 }
 
 /// Reads the whole items at the front of a text: the offset that they go up to, and what is left.
-fn read_items<'a>(
+pub(crate) fn read_items<'a>(
     state: &mut State,
     offset: usize,
     piece: &'a [u8],

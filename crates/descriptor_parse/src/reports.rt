@@ -122,7 +122,9 @@ impl Reports {
         if !declares(flags, globals) {
             return Ok(());
         }
-        self.make_room()?;
+        if self.fields.is_empty() {
+            self.make_room()?;
+        }
         locals.append_to(&mut self.ranges, &mut self.counts, globals.page)?;
         self.links.push(Link {
             end: self.ranges.len(),
@@ -150,8 +152,9 @@ impl Reports {
         }
     }
 
-    /// Takes memory for some fields before the first.
-    #[inline(always)]
+    /// Takes memory for some fields.
+    // Not inlined, so that the other items cost less.
+    #[inline(never)]
     fn make_room(&mut self) -> Result<(), AllocError>
         ensures fields { self.new.fields.items ≡ self.old.fields.items }
         ensures links { self.new.links.items ≡ self.old.links.items }
@@ -161,12 +164,10 @@ impl Reports {
         ensures has_ids { self.new.has_ids ≡ self.old.has_ids }
         ensures has_bare { self.new.has_bare ≡ self.old.has_bare }
     {
-        if self.fields.is_empty() {
-            self.fields.reserve(FIRST_FIELDS)?;
-            self.links.reserve(FIRST_FIELDS)?;
-            self.ranges.reserve(FIRST_RANGES)?;
-            self.counts.reserve(FIRST_RANGES)?;
-        }
+        self.fields.reserve(FIRST_FIELDS)?;
+        self.links.reserve(FIRST_FIELDS)?;
+        self.ranges.reserve(FIRST_RANGES)?;
+        self.counts.reserve(FIRST_RANGES)?;
         Ok(())
     }
 }

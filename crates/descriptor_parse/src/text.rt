@@ -7,7 +7,8 @@ ghost use Rattle.descriptor_parse.specs.declared.fault.ParseFault.{ParseFault};
 
 use crate::descriptor::Descriptor;
 use crate::fault::ParseError;
-use crate::parser::Parser;
+use crate::reading::{end, read_items};
+use crate::state::State;
 use std::alloc::Global;
 
 /// Parses a report descriptor of at most 4,096 bytes (HID 1.11, section 6.2.2).
@@ -21,7 +22,8 @@ pub fn parse(alloc: Global, text: &[u8]) -> Result<Descriptor, ParseError>
     ensures first { IfErr result (λ e. e.fault ≢ ParseFault.Memory → IsFirstFault text.now e) }
     ensures memory { IfErr result (λ e. e.fault ≡ ParseFault.Memory → MayWantMemory text.now e.offset) }
 {
-    let mut parser = Parser::new(alloc);
-    parser.feed(text)?;
-    parser.finish()
+    // Without a `Parser`, which keeps bytes of an item that is not whole.
+    let mut state = State::new(alloc);
+    let (offset, left) = read_items(&mut state, 0, text)?;
+    end(state, left, offset)
 }

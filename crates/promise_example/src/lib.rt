@@ -1,9 +1,12 @@
-//! Two histories that break the promise, computed from the definitions: each with the fields that it breaks.
+//! Two histories that break the promise, computed from the definitions: each with the fields that it breaks. And ([`pad`])
+//! default codes other than the standard ones, with which a keyboard keeps the promise.
 //!
-//! Nothing is kept, and nothing runs: the contracts are the examples. No crate stands on it. The first meets the premise of
-//! `KeepsAcknowledged` and of `ConfirmsSettled`. Since every field follows from `answered`, each breaks that one too; of the
-//! others those that are named hold still.
+//! The contracts are the examples, and no crate stands on them. The first history meets the premise of `KeepsAcknowledged`
+//! and of `ConfirmsSettled`. Since every field follows from `answered`, each breaks that one too; of the others those that are
+//! named hold still.
 #![tactic(auto)]
+
+pub mod pad;
 
 ghost use Rattle.promise_example.specs.Histories.{blank, told_but_not_stored, settled_and_lost};
 ghost use Rattle.layers.specs.Standard.{standard};

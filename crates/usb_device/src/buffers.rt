@@ -6,7 +6,50 @@ ghost use Rattle.usb_device.specs.ties.Link1.{size_of};
 
 use crate::{Endpoint1, Report};
 
-/// The buffers of endpoint 1.
+/// The buffers of endpoint 1, which count its data toggle. A reset of the bus empties them.
+///
+/// One buffer in memory, whose packets no host takes:
+///
+/// ```rust
+/// use wuzhikar_device::{Buffers, Endpoint1, Report};
+///
+/// struct OneBuffer {
+///     packet: Option<Report>,
+/// }
+///
+/// impl Buffers for OneBuffer {
+///     fn has_two(&self) -> bool {
+///         false
+///     }
+///
+///     fn taken_1(&mut self) -> usize {
+///         0
+///     }
+///
+///     fn begin_anew(&mut self, _state: Endpoint1) {
+///         self.packet = None;
+///     }
+///
+///     fn give_up(&mut self) {
+///         self.packet = None;
+///     }
+///
+///     fn host_began(&mut self) {}
+///
+///     fn forget(&mut self) {
+///         self.packet = None;
+///     }
+///
+///     fn input_1(&mut self, packet: Report) {
+///         self.packet = Some(packet);
+///     }
+/// }
+///
+/// let mut buffer = OneBuffer { packet: None };
+/// buffer.input_1([1, 2].into_iter().collect());
+/// buffer.give_up();
+/// assert_eq!(buffer.packet, None);
+/// ```
 pub trait Buffers {
     /// They, and what the host got from them.
     ghost bus: { Self → Bus1 };

@@ -28,6 +28,21 @@ pub trait ScansMatrix: Endpoints {
 /// While the lock is set a command is stalled before the device behind sees it, and so is the rest of its transfer. Reading
 /// goes on, and so does a command that was acknowledged before. With a pace a command is put off by NAK until so many scans
 /// have come since the one before, or since the start.
+///
+/// ```rust
+/// # fn main() -> Result<(), Box<dyn std::error::Error>> {
+/// use wuzhikar::SimFlash;
+/// use wuzhikar_device::{Guarded, Keys, TransferError, write};
+///
+/// let set_key = |keys: &mut Guarded<_>| write(keys, [0x21, 0x09, 3, 3, 0, 0, 6, 0], &[3, 1, 0, 0, 0x05, 0x00], 388);
+/// let mut keys = Guarded::new(Keys::start(SimFlash::blank(2).unwrap())?, 0);
+/// keys.set_locked(true);
+/// assert_eq!(set_key(&mut keys), Err(TransferError::Refused));
+/// keys.set_locked(false);
+/// assert_eq!(set_key(&mut keys), Ok(()));
+/// # Ok(())
+/// # }
+/// ```
 #[derive(Drop)]
 pub struct Guarded<E> {
     pub(crate) guard: Guard,

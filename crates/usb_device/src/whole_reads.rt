@@ -22,6 +22,20 @@ pub type ReadBytes = ArrayVec<u8, 104>;
 /// `Ok` has what the device gave, at most wLength bytes where it gives no more than it is asked for. `Refused` says that it
 /// stalled a packet, or that wLength is 0: a request without data is a `write`. `Busy` says that it put a packet off by NAK,
 /// and `Unfinished` that the read has more than 104 bytes.
+///
+/// ```rust
+/// # fn main() -> Result<(), Box<dyn std::error::Error>> {
+/// use wuzhikar::SimFlash;
+/// use wuzhikar_device::{Keys, TransferError, read};
+///
+/// let mut keys = Keys::start(SimFlash::blank(2).unwrap())?;
+/// // GET_DESCRIPTOR of the report descriptor.
+/// assert_eq!(read(&mut keys, [0x81, 0x06, 0, 0x22, 0, 0, 255, 0])?.len(), 99);
+/// // Strings are not the keyboard's.
+/// assert_eq!(read(&mut keys, [0x80, 0x06, 0, 3, 0, 0, 255, 0]), Err(TransferError::Refused));
+/// # Ok(())
+/// # }
+/// ```
 pub fn read<E: Endpoints>(device: &mut E, setup: [u8; 8]) -> Result<ReadBytes, TransferError>
     ensures { (past : List EpCall) → E.stands past device.old → (since : List EpCall) × E.stands (since ++ past) device.new
         × MatchResult result (λ bytes. IsRead setup bytes.items since) (λ e. FailsToRead e setup since) }

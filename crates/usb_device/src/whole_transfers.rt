@@ -6,6 +6,7 @@ ghost use Rattle.usb_device.specs.Whole.{FailedBy, IsWritten, data_status_of, st
 ghost use Rattle.usb_device.specs.ties.Whole.{Gives, IsConfirmed, NotConfirmed};
 
 use crate::{Endpoints, EpAnswer};
+use thiserror::Error;
 
 /// A device that has work of its own to do between two packets, as one that writes a flash.
 pub trait Works: Endpoints {
@@ -19,13 +20,16 @@ pub trait Works: Endpoints {
 }
 
 /// Why a whole transfer failed.
-#[derive(Clone, Copy, Debug, PartialEq, Eq)]
+#[derive(Clone, Copy, Debug, PartialEq, Eq, Error)]
 pub enum TransferError {
     /// The device stalled the request, its data or its status stage.
+    #[error("the device refused the transfer")]
     Refused,
     /// The device put the data off by NAK, and took nothing. The same transfer may be made again later.
+    #[error("the device is busy and took nothing")]
     Busy,
     /// The device took the data, and was not done after the steps that it was given: it goes on with them.
+    #[error("the transfer did not end")]
     Unfinished,
 }
 
@@ -35,6 +39,21 @@ pub enum TransferError {
 /// `Ok` says that the device took the data and then confirmed them by the empty packet: so they are stored, where that is
 /// what the device confirms. The stack may then acknowledge the status stage, and on an error it stalls it. Each error says
 /// what the device was asked: behind `Unfinished` it has the data, and behind `Busy` it has not.
+///
+/// ```rust
+/// # fn main() -> Result<(), Box<dyn std::error::Error>> {
+/// use wuzhikar::SimFlash;
+/// use wuzhikar_device::{Keys, write};
+///
+/// let mut keys = Keys::start(SimFlash::blank(2).unwrap())?;
+/// // SET_REPORT of the feature report: operation 1 writes code 0005h, the letter b, on layer 0, key 0.
+/// write(&mut keys, [0x21, 0x09, 3, 3, 0, 0, 6, 0], &[3, 1, 0, 0, 0x05, 0x00], 388)?;
+/// // It is in the flash.
+/// let keys = Keys::start(keys.into_flash())?;
+/// assert!(!keys.keyboard().is_first_start());
+/// # Ok(())
+/// # }
+/// ```
 pub fn write<E: Works>(
     device: &mut E,
     setup: [u8; 8],

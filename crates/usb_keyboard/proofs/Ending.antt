@@ -66,7 +66,7 @@ accepts_none past packet (Answers.Packet p) n = refl
 accepts_none past packet (Answers.Stall why) n = refl
 
 module _ (defaults : DefaultCodes) where
-  accepted_setup : (start : List ℕ) (past : List Call) (setup : List ℕ) → accepted defaults start (SetUp setup ∷ past) ≡ accepted defaults start past
+  pub accepted_setup : (start : List ℕ) (past : List Call) (setup : List ℕ) → accepted defaults start (SetUp setup ∷ past) ≡ accepted defaults start past
   unfolding accepts
   accepted_setup start past setup = accepted-same defaults start (SetUp setup) past (record { keeps = λ f. refl }) refl
 
@@ -141,7 +141,7 @@ module _ (defaults : DefaultCodes) where
       let o = ok_of entries (command_in offered) (by_judged setup data_ offered view more (changes_by defaults entries (command_in offered)) e) in
       (offered, o.0, refl, o.1)
 
-  setup_not_waiting : (start : List ℕ) (past : List Call) (setup : List ℕ) → stage_after defaults start (SetUp setup ∷ past) ≡ Waiting → ⊥
+  pub setup_not_waiting : (start : List ℕ) (past : List Call) (setup : List ℕ) → stage_after defaults start (SetUp setup ∷ past) ≡ Waiting → ⊥
   unfolding ep_calls
   setup_not_waiting start past setup e =
       let calls : List EpCall = ep_calls defaults start (SetUp setup ∷ past) in
@@ -162,7 +162,7 @@ module _ (defaults : DefaultCodes) where
       → stage_after defaults start (put_off before ++ base) ≡ Waiting
   waited start step before base h = nak_waiting (stage_after defaults start (put_off before ++ base)) h.1.0
 
-  first_waited : (start : List ℕ) (step : Work × List ℕ) (before : List (Work × List ℕ)) (base : List Call) → EachCall (IsAnswered defaults) start (put_off (step ∷ before) ++ base)
+  pub first_waited : (start : List ℕ) (step : Work × List ℕ) (before : List (Work × List ℕ)) (base : List Call) → EachCall (IsAnswered defaults) start (put_off (step ∷ before) ++ base)
       → stage_after defaults start base ≡ Waiting
   first_waited start step [] base h = waited start step [] base h
   first_waited start step (other ∷ before) base h = first_waited start other before base h.1.1
@@ -200,25 +200,25 @@ none_by (Some command) n = absurd (n refl)
 -- ---- the stage behind the packet of a command
 
 -- what the endpoint knows of a command, by what became of it
-abbrev state_told : Bool → Fate → CommandState
+abbrev pub state_told : Bool → Fate → CommandState
 state_told false f = NoCommand
 state_told true works = Works
 state_told true settled = Settled
 state_told true failed = Failed
 
 -- the feature report was taken, no packet was stalled, and the empty packet was not given
-record Behind (calls : List EpCall) (state : CommandState) : Type 0 where
-  size : ℕ
-  begins : last_setup calls ≡ Begins (Takes FeatureData) size
-  taken : list_any acknowledges (calls_since calls) ≡ true
-  command : command_state (calls_since calls) ≡ state
-  unstalled : first_stall (calls_since calls) ≡ None
-  unconfirmed : list_any is_empty_in (calls_since calls) ≡ false
+pub record Behind (calls : List EpCall) (state : CommandState) : Type 0 where
+  pub size : ℕ
+  pub begins : last_setup calls ≡ Begins (Takes FeatureData) size
+  pub taken : list_any acknowledges (calls_since calls) ≡ true
+  pub command : command_state (calls_since calls) ≡ state
+  pub unstalled : first_stall (calls_since calls) ≡ None
+  pub unconfirmed : list_any is_empty_in (calls_since calls) ≡ false
 
-stage_behind : (calls : List EpCall) (state : CommandState) → Behind calls state → stage calls ≡ after_command state false
+pub stage_behind : (calls : List EpCall) (state : CommandState) → Behind calls state → stage calls ≡ after_command state false
 stage_behind calls state b = stage-is calls ∙ rw (b.begins, b.taken, b.command, b.unstalled, b.unconfirmed) refl
 
-judged_state : (changing : Bool) (setup data_ offered : List ℕ) (view : DeviceView) (more : List EpCall)
+pub judged_state : (changing : Bool) (setup data_ offered : List ℕ) (view : DeviceView) (more : List EpCall)
     → command_state (calls_since (Judged (verdict_told changing Answers.Ack) Answers.Ack ∷ EpOut data_ (Offer offered) ∷ Setup setup view ∷ more)) ≡ state_told changing works
 judged_state true setup data_ offered view more = refl
 judged_state false setup data_ offered view more = refl
@@ -310,7 +310,7 @@ module _ (defaults : DefaultCodes) where
     unconfirmed = b.unconfirmed;
   }
 
-  behind_all : (start : List ℕ) (steps : List (Work × List ℕ)) (base : List Call) (changing : Bool) → Behind (ep_calls defaults start base) (state_told changing works)
+  pub behind_all : (start : List ℕ) (steps : List (Work × List ℕ)) (base : List Call) (changing : Bool) → Behind (ep_calls defaults start base) (state_told changing works)
       → Behind (ep_calls defaults start (put_off steps ++ base)) (state_told changing (fate_after defaults (put_off steps)))
   behind_all start [] base changing b = b
   behind_all start (step ∷ before) base changing b =
@@ -386,7 +386,7 @@ module _ (defaults : DefaultCodes) where
 
   -- ---- the ends
 
-  failed_fate : (changing : Bool) (f : Fate) (answer : Answer) → answer ≡ in_answer (after_command (state_told changing f) false) → status_of (plain answer) ≡ Refuses → (if changing then f else settled) ≡ failed
+  pub failed_fate : (changing : Bool) (f : Fate) (answer : Answer) → answer ≡ in_answer (after_command (state_told changing f) false) → status_of (plain answer) ≡ Refuses → (if changing then f else settled) ≡ failed
   failed_fate false f answer e s = absurd (let t = subst (λ (a : Answer). status_of (plain a) ≡ Refuses) e s in cc)
   failed_fate true works answer e s = absurd (let t = subst (λ (a : Answer). status_of (plain a) ≡ Refuses) e s in cc)
   failed_fate true settled answer e s = absurd (let t = subst (λ (a : Answer). status_of (plain a) ≡ Refuses) e s in cc)

@@ -6,5 +6,8 @@ pub mod Since
 pub mod Counting
 pub mod Seen
 pub mod Ending
+pub mod Reading
+pub mod Checking
+pub mod Receiving
 pub mod Writing
 pub mod Forgotten

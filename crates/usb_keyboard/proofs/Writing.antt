@@ -1,5 +1,5 @@
 -- A whole control write, call by call.
-use Rattle.std.proofs.Common.{◌≡◌, ◌==◌, ℕ, ◌+◌, length, true, false, drop, List, [], ◌∷◌, ◌++◌, Some, Result, Ok, Err, refl, sym, ap, subst, ◌∙◌, append_assoc, arith}
+use Rattle.std.proofs.Common.{◌≡◌, ◌≢◌, ◌==◌, ℕ, ◌+◌, length, true, false, drop, List, [], ◌∷◌, ◌++◌, Some, Result, Ok, Err, refl, sym, ap, subst, ◌∙◌, append_assoc, arith}
 use Rattle.std.proofs.lemmas.List.{nil_from_length}
 use Rattle.std.specs.Result.{result_ok}
 use Rattle.std.specs.Prelude.{MatchResult}
@@ -15,12 +15,14 @@ use Rattle.usb_device.specs.declared.whole_transfers.Status.{Status}
 use Rattle.usb_device.specs.declared.whole_transfers.Status.TheVariants.{Done, Waits, Refuses}
 use Rattle.usb_device.specs.Whole.{data_status_of, status_by, status_of}
 use Rattle.keymap_store.specs.declared.store.Work.{Work}
+use Rattle.keymap_store.specs.declared.store.Work.TheVariants as Works
 use Rattle.keyboard.specs.Acknowledged.{confirmation, NoneAcceptedWrites, IsConfirmed}
 use Rattle.keyboard.specs.Bounded.{IsInTime}
 use Rattle.keyboard.specs.Calls.{Call, SetUp, Out, In, Worked}
 use Rattle.keyboard.specs.Commands.{accepts}
 use Rattle.keyboard.specs.Feature.{command_in}
 use Rattle.keyboard.specs.Lawful.{IsLawful}
+use Rattle.keyboard.specs.Single.{NoneFails}
 use Rattle.usb_keyboard.specs.Plain.{plain}
 use Rattle.usb_keyboard.specs.Whole.{put_off, data_calls, IsWritten, Fails, in_data, HasNoEffect, Stores}
 use Rattle.usb_keyboard.specs.ties.Whole.{Gives, IsStatusStage, WasInTime, NotConfirmed}
@@ -32,9 +34,9 @@ use Rattle.usb_keyboard.proofs.Keeping.{has_confirmed}
 
 gives_by : (byte : ℕ) (bytes : List ℕ) (answer : Answer) → Gives (data_status_of (plain answer)) (byte ∷ bytes) (Out (byte ∷ bytes) answer ∷ [])
 gives_by byte bytes Answers.Ack = refl
-gives_by byte bytes Answers.Nak = refl
-gives_by byte bytes (Answers.Packet packet) = (Answers.Packet packet, refl, refl)
-gives_by byte bytes (Answers.Stall why) = (Answers.Stall why, refl, refl)
+gives_by byte bytes Answers.Nak = (tt, refl)
+gives_by byte bytes (Answers.Packet packet) = (tt, Answers.Packet packet, refl, refl)
+gives_by byte bytes (Answers.Stall why) = (tt, Answers.Stall why, refl, refl)
 
 pub gives : (data_ : List ℕ) (answer : Answer) (status : Status) → (length data_ == 0) ≡ false → status ≡ data_status_of (plain answer) → Gives status data_ (Out data_ answer ∷ [])
 gives [] answer status e s = cc
@@ -68,12 +70,13 @@ done_by steps (Answers.Packet packet) e = (steps, ap (λ xs. In (Answers.Packet 
 done_by steps (Answers.Stall why) e = cc
 
 module _ (defaults : DefaultCodes) where
-  pub waited_more : (start : List ℕ) (past : List Call) (steps : List (Work × List ℕ)) (answer : Answer) (work : Work) (keyboard : KeyboardValue) (image : List ℕ) (count : ℕ) → status_of (plain answer) ≡ Waits
+  pub waited_more : (start : List ℕ) (past : List Call) (steps : List (Work × List ℕ)) (answer : Answer) (work : Work) (keyboard : KeyboardValue) (image : List ℕ) (count : ℕ) (healthy : Type 0) → status_of (plain answer) ≡ Waits
       → RunsSince defaults start (Worked work image ∷ In answer ∷ put_off steps ++ past) keyboard image → IsInTime defaults start (put_off steps ++ past) → length steps ≡ count
-      → (more : List (Work × List ℕ)) × RunsSince defaults start (put_off more ++ past) keyboard image × (length more ≡ count + 1) × WasInTime defaults start past more
-  waited_more start past steps answer work keyboard image count e r t n =
+      → (healthy → NoneFails (put_off steps)) → (healthy → work ≢ Works.Failed)
+      → (more : List (Work × List ℕ)) × RunsSince defaults start (put_off more ++ past) keyboard image × (length more ≡ count + 1) × WasInTime defaults start past more × (healthy → NoneFails (put_off more))
+  waited_more start past steps answer work keyboard image count healthy e r t n f w =
       let P : Answer → Type 0 = λ a. RunsSince defaults start (Worked work image ∷ In a ∷ put_off steps ++ past) keyboard image in
-      ((work, image) ∷ steps, subst P (nak_is answer e) r, omega (arith, n), t)
+      ((work, image) ∷ steps, subst P (nak_is answer e) r, omega (arith, n), t, λ x. (w x, f x))
 
 -- ---- the whole
 
@@ -140,7 +143,7 @@ module _ (defaults : DefaultCodes) where
       → RunsSince defaults start (taken ++ SetUp setup ∷ past) keyboard image → (since : List Call) × RunsSince defaults start (since ++ past) keyboard image × (Fails Busy setup data_ since × HasNoEffect defaults start past since)
   put_off_data start past setup data_ taken keyboard image t r =
       let P : List Call → Type 0 = λ xs. RunsSince defaults start (xs ++ SetUp setup ∷ past) keyboard image in
-      (Out data_ Answers.Nak ∷ SetUp setup ∷ [], subst P t r, (refl, none_taken defaults start past setup data_ Answers.Nak not_nak))
+      (Out data_ Answers.Nak ∷ SetUp setup ∷ [], subst P t.1 r, (refl, none_taken defaults start past setup data_ Answers.Nak not_nak))
     where
       not_nak : Answers.Nak ≡ Answers.Ack → ⊥
       not_nak e = cc
@@ -149,4 +152,4 @@ module _ (defaults : DefaultCodes) where
       → RunsSince defaults start (taken ++ SetUp setup ∷ past) keyboard image → (since : List Call) × RunsSince defaults start (since ++ past) keyboard image × (Fails Refused setup data_ since × HasNoEffect defaults start past since)
   refused_data start past setup data_ taken keyboard image t r =
       let P : List Call → Type 0 = λ xs. RunsSince defaults start (xs ++ SetUp setup ∷ past) keyboard image in
-      (Out data_ t.0 ∷ SetUp setup ∷ [], subst P t.2 r, (in_data t.0 t.1 refl, none_taken defaults start past setup data_ t.0 (not_taken t.0 t.1)))
+      (Out data_ t.1 ∷ SetUp setup ∷ [], subst P t.3 r, (in_data t.1 t.2 refl, none_taken defaults start past setup data_ t.1 (not_taken t.1 t.2)))

@@ -1,3 +1,4 @@
+pub mod Checks
 pub mod Plain
 pub mod Stored
 pub mod Whole

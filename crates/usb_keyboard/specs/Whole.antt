@@ -1,11 +1,13 @@
--- Believed: a whole control write of a keyboard, by its calls, newest first.
+-- Believed: whole control transfers of a keyboard, by their calls, newest first.
 use Rattle.shapes.specs.Shapes.{Bytes}
 use Rattle.std.specs.Prelude.{◌≡◌, ◌<◌, ℕ, Some, List, [], ◌∷◌, ◌++◌}
 use Rattle.layers.specs.Codes.{layers, keys, DefaultCodes}
 use Rattle.layers.specs.Entries.{written}
 use Rattle.layers.specs.declared.command.Command.{Command}
 use Rattle.control_ep.specs.declared.answer.EpAnswer.{EpAnswer as Answer}
-use Rattle.control_ep.specs.declared.answer.EpAnswer.TheVariants.{Ack, Nak}
+use Rattle.control_ep.specs.declared.answer.EpAnswer.TheVariants.{Ack, Nak, Packet, Stall}
+use Rattle.control_ep.specs.declared.why.Why.{Why}
+use Rattle.control_ep.specs.Requests.{request_of}
 use Rattle.keymap_store.specs.declared.store.Work.{Work}
 use Rattle.keyboard.specs.Acknowledged.{confirmation}
 use Rattle.keyboard.specs.Calls.{Call, SetUp, Out, In, Worked}
@@ -15,6 +17,7 @@ use Rattle.usb_device.specs.declared.whole_transfers.Status.TheVariants.{Refuses
 use Rattle.usb_device.specs.declared.whole_transfers.TransferError.{TransferError}
 use Rattle.usb_device.specs.declared.whole_transfers.TransferError.TheVariants.{Refused, Busy, Unfinished}
 use Rattle.usb_device.specs.Whole.{data_status_of, status_of}
+use Rattle.usb_device.specs.WholeReads.{AreWhole}
 use Rattle.usb_keyboard.specs.Plain.{plain}
 use Rattle.usb_keyboard.specs.Stored.{Brings, Has}
 
@@ -47,6 +50,22 @@ abbrev pub Fails : TransferError → Bytes → Bytes → List Call → Type 0
 Fails Refused setup data_ since = IsRefused setup data_ since
 Fails Busy setup data_ since = since ≡ Out data_ Nak ∷ SetUp setup ∷ []
 Fails Unfinished setup data_ since = ⊥
+
+-- IN packets that were answered by these packets, newest first
+abbrev pub in_calls : List Bytes → List Call
+in_calls [] = []
+in_calls (packet ∷ before) = In (Packet (record { items = packet })) ∷ in_calls before
+
+-- a whole control read: its SETUP packet, the packets of these bytes, and the empty packet of the status stage, acknowledged
+pub record IsRead (setup bytes : Bytes) (since : List Call) : Type 0 where
+  pub packets : List Bytes
+  pub whole : AreWhole (request_of setup).length bytes packets
+  pub since_is : since ≡ Out [] Ack ∷ in_calls packets ++ (SetUp setup ∷ [])
+
+-- a read that was refused: no call was made, or the first IN packet was stalled
+pub data IsUnread (setup : Bytes) (since : List Call) : Type 0 where
+  not_asked : since ≡ [] → IsUnread setup since
+  stalled : (why : Why) → since ≡ In (Stall why) ∷ SetUp setup ∷ [] → IsUnread setup since
 
 module _ (defaults : DefaultCodes) where
   -- nothing came of it: no command was accepted, or the one that was failed

@@ -1,6 +1,6 @@
 //! The keyboard with its flash, as a device behind the USB device layer.
 
-ghost use Rattle.std.specs.Prelude.{◌≡◌, ◌≤◌, ◌∷◌, [], ℕ, List, length};
+ghost use Rattle.std.specs.Prelude.{◌≡◌, ◌≢◌, ◌≤◌, ◌∷◌, [], ℕ, List, length};
 ghost use Rattle.std.specs.Option.{option_map};
 ghost use Rattle.control_ep.specs.declared.answer.EpAnswer.{EpAnswer as Answer};
 ghost use Rattle.keymap_store.specs.declared.store.Work.{Work};
@@ -124,6 +124,8 @@ impl<D: Defaults, K: HoldsKeyboard<D> + Drop, F: NorFlash + Drop> UsbKeyboardOf<
     pub fn step(&mut self) -> Work
         ensures told { (start : List ℕ) (past : List Call) → RunsSince D.defaults start past self.old.0 (F.image self.old.1)
             → RunsSince D.defaults start (Worked result (F.image self.new.1) ∷ past) self.new.0 (F.image self.new.1) }
+        // a flash that answers no fault lets no step fail
+        ensures faultless { F.is_faultless self.old.1 → F.is_faultless self.new.1 × (result ≢ Work.Failed) }
     {
         let work = self.keyboard.work(&mut self.flash);
         self.may_work = work == Work::Working;
@@ -173,6 +175,7 @@ impl<D: Defaults, K: HoldsKeyboard<D> + Drop, F: NorFlash + Drop> Endpoints
         ensures told { (start : List ℕ) (past : List Call) → RunsSince D.defaults start past self.old.0 (F.image self.old.1)
             → RunsSince D.defaults start (SetUp packet ∷ past) self.new.0 (F.image self.new.1) }
         ensures stands { (calls : List EpCall) → StandsForUsb D.defaults calls self.old.0 (F.image self.old.1) → StandsForUsb D.defaults (Eps.SetUp packet ∷ calls) self.new.0 (F.image self.new.1) }
+        ensures flash { self.new.1 ≡ self.old.1 }
     {
         self.keyboard.setup(packet);
         self.why = None;
@@ -182,6 +185,7 @@ impl<D: Defaults, K: HoldsKeyboard<D> + Drop, F: NorFlash + Drop> Endpoints
         ensures told { (start : List ℕ) (past : List Call) → RunsSince D.defaults start past self.old.0 (F.image self.old.1)
             → (answer : Answer) × RunsSince D.defaults start (Out packet.now answer ∷ past) self.new.0 (F.image self.new.1) × (result ≡ plain answer) }
         ensures stands { (calls : List EpCall) → StandsForUsb D.defaults calls self.old.0 (F.image self.old.1) → StandsForUsb D.defaults (Eps.Out packet.now result ∷ calls) self.new.0 (F.image self.new.1) }
+        ensures flash { self.new.1 ≡ self.old.1 }
     {
         let answer = self.keyboard.out(packet);
         self.may_work = self.may_work || is_taken(&answer);
@@ -193,6 +197,7 @@ impl<D: Defaults, K: HoldsKeyboard<D> + Drop, F: NorFlash + Drop> Endpoints
         ensures told { (start : List ℕ) (past : List Call) → RunsSince D.defaults start past self.old.0 (F.image self.old.1)
             → (answer : Answer) × RunsSince D.defaults start (In answer ∷ past) self.new.0 (F.image self.new.1) × (result ≡ plain answer) }
         ensures stands { (calls : List EpCall) → StandsForUsb D.defaults calls self.old.0 (F.image self.old.1) → StandsForUsb D.defaults (Eps.In result ∷ calls) self.new.0 (F.image self.new.1) }
+        ensures flash { self.new.1 ≡ self.old.1 }
     {
         let answer = self.keyboard.in_packet();
         self.why = reason(&answer);

@@ -1,9 +1,10 @@
 //! A keyboard that a device has, or that it is lent.
 
-ghost use Rattle.std.specs.Prelude.{◌≡◌, ◌∷◌, [], ℕ, List};
+ghost use Rattle.std.specs.Prelude.{◌≡◌, ◌≢◌, ◌∷◌, [], ℕ, List};
 ghost use Rattle.std.specs.Option.{option_map};
 ghost use Rattle.keyboard.specs.Calls.{Call, Scanned, SetUp, Out, In, Polled, Worked, BusReset, image_after};
 ghost use Rattle.keyboard.specs.ties.Stands.{StandsFor};
+ghost use Rattle.keymap_store.specs.declared.store.Work.{Work};
 ghost use Rattle.keyboard.specs.ties.Value.{KeyboardValue, RunsOn};
 ghost use Rattle.key_reports.specs.Past.{answer_after};
 ghost use Rattle.keyboard.specs.Effects.{protocol_after};
@@ -60,7 +61,8 @@ pub trait HoldsKeyboard<D: Defaults> {
         requires { RunsOn D.defaults (F.image flash.old) (held self.old) }
         ensures stands { (start : List ℕ) (past : List Call) → StandsFor D.defaults start past (held self.old) → image_after start past ≡ F.image flash.old
             → StandsFor D.defaults start (Worked result (F.image flash.new) ∷ past) (held self.new) }
-        ensures runs_on { RunsOn D.defaults (F.image flash.new) (held self.new) };
+        ensures runs_on { RunsOn D.defaults (F.image flash.new) (held self.new) }
+        ensures faultless { F.is_faultless flash.old → F.is_faultless flash.new × (result ≢ Work.Failed) };
 
     /// A bus reset.
     fn bus_reset(&mut self)

@@ -7,7 +7,7 @@
 
 use arrayvec::ArrayVec;
 use core::cell::{RefCell, RefMut};
-use wuzhikar_device::{Buffers, Controller, Endpoint1, Input, Output, Report, Waiting};
+use wuzhikar_device::{Buffers, Controller, Endpoint1, Endpoints, Input, Output, Report, UsbDevice, Waiting};
 
 /// The registers, with the lower 16 bits of those that have 32.
 #[derive(Clone, Copy, Debug, PartialEq, Eq)]
@@ -16,6 +16,8 @@ pub enum Register {
     Endpoint0,
     /// EP1R or CHEP1R.
     Endpoint1,
+    /// CNTR.
+    Control,
     /// ISTR.
     Status,
     /// DADDR.
@@ -34,6 +36,8 @@ pub trait Registers {
     fn lay_out(&mut self);
     /// Turns the interrupts of the processor off or on.
     fn interrupts(&mut self, on: bool);
+    /// Waits for so many milliseconds.
+    fn wait(&mut self, milliseconds: u32);
 }
 
 // Bits of EPnR. A one that is written turns a bit of STAT or DTOG round, and a zero clears CTR.
@@ -56,8 +60,12 @@ const STALL: u16 = 0x1010;
 const NAK: u16 = 0x2020;
 const VALID: u16 = 0x3030;
 
-/// RESET of ISTR, and EF of DADDR.
+/// RESET, SUSP and WKUP of ISTR, each cleared by a zero; RESUME and FSUSP of CNTR; EF of DADDR.
 const RESET: u16 = 1 << 10;
+const SUSPENDED: u16 = 1 << 11;
+const RESUMED: u16 = 1 << 12;
+const WAKE: u16 = 1 << 4;
+const SUSPEND: u16 = 1 << 3;
 const ENABLED: u16 = 1 << 7;
 
 /// The controller: endpoint 0 for `UsbDevice::serve`, and a copy of it, endpoint 1, that the device owns.
@@ -78,8 +86,38 @@ impl<'r, R: Registers> Stm32Usb<'r, R> {
         Stm32Usb(registers)
     }
 
+    /// What the loop does for the bus in each of its rounds: suspend and resume, packets, and a remote wakeup.
+    pub fn serve<E: Endpoints>(mut self, device: &mut UsbDevice<'_, E, Self>) {
+        let status = self.registers().read(Register::Status);
+        if status & SUSPENDED != 0 {
+            // In this order, as the manual has it: until FSUSP stands the bit comes again.
+            self.control(SUSPEND, true);
+            self.registers().write(Register::Status, !SUSPENDED);
+            device.suspended();
+        }
+        if status & RESUMED != 0 {
+            self.control(SUSPEND, false);
+            self.registers().write(Register::Status, !RESUMED);
+            device.resumed();
+        }
+        device.serve(&mut self);
+        if device.wakes() {
+            // The bus was idle for 3 ms, and has to be for 5. K is signalled for 1 to 15 ms.
+            self.registers().wait(2);
+            self.control(WAKE, true);
+            self.registers().wait(3);
+            self.control(WAKE, false);
+        }
+    }
+
     fn registers(&self) -> RefMut<'r, R> {
         self.0.borrow_mut()
+    }
+
+    /// Sets a bit of CNTR, or clears it.
+    fn control(&self, bit: u16, on: bool) {
+        let old = self.registers().read(Register::Control);
+        self.registers().write(Register::Control, if on { old | bit } else { old & !bit });
     }
 
     /// Makes these bits of STAT and DTOG what they are in `to`, and leaves all others as they are.

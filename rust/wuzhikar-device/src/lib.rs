@@ -7,7 +7,8 @@
 //! - [`DeviceLayer`] serves the standard requests of USB 2.0 chapter 9, with descriptors that a maker lends.
 //! - [`Keys`] is the keyboard on its flash, as the [`Endpoints`] behind the layer; [`Product`] makes descriptors of an
 //!   [`Identity`].
-//! - [`UsbKeyboardOf::write`] makes a whole control write, for a stack that keeps endpoint 0 to itself.
+//! - [`UsbKeyboardOf::write`] and [`UsbKeyboardOf::read`] make whole control transfers, for a stack that keeps endpoint 0 to
+//!   itself; [`write()`] and [`read`] make them over any [`Endpoints`].
 //! - [`Device`] is the same device at the token, for controllers that ask there, and for tests. [`Device::control`] makes a
 //!   whole control transfer from the host's side.
 //!

@@ -46,7 +46,9 @@ pub const KEYS: usize = 96;
 /// # }
 /// ```
 ///
-/// ```compile_fail
+/// The compiler refuses this one, and takes it with 0004h:
+///
+/// ```compile_fail,E0080
 /// # use wuzhikar::{KEYS, KeymapOf, LAYERS, Layout};
 /// struct Pad;
 ///
@@ -55,6 +57,17 @@ pub const KEYS: usize = 96;
 /// }
 ///
 /// let keymap = KeymapOf::<Pad>::standard();
+/// ```
+///
+/// ```
+/// # use wuzhikar::{KEYS, KeymapOf, LAYERS, Layout};
+/// # struct Pad;
+/// #
+/// # impl Layout for Pad {
+/// const CODES: &'static [[u16; KEYS]; LAYERS] = &[[0x0004; KEYS]; LAYERS];
+/// # }
+/// #
+/// # let keymap = KeymapOf::<Pad>::standard();
 /// ```
 pub trait Layout {
     /// The code of each key on each layer.

@@ -35,6 +35,10 @@
 #![forbid(unsafe_code)]
 #![warn(missing_debug_implementations)]
 
+// A file of tests that other crates take too names it so.
+#[cfg(test)]
+extern crate self as wuzhikar;
+
 #[doc(hidden)]
 pub mod calls;
 mod face;

@@ -39,7 +39,7 @@ impl Session {
         chip.power(Order::NEVER)?;
         host::start(chip)?;
         let found = host::keymap(chip)?;
-        let done = found == model::apply(self.keymap, self.command);
+        let done = found == model::apply(self.keymap, self.command, &model::default_keymap());
         if !done && (told || found != self.keymap) {
             let why = model::difference(&found, &self.keymap, Some(self.command));
             return Err(Lost::Dead(format!("LOST, told {told}, cut at {order:?}: {why}")));
@@ -123,7 +123,7 @@ impl Counts {
 }
 
 fn session(records: usize, turns: bool) -> Session {
-    let (flash, keymap) = model::filled(records, turns, turns, &mut Numbers::new(9));
+    let (flash, keymap) = model::filled(records, turns, turns, &mut Numbers::new(9), &model::default_keymap());
     Session { flash, keymap, command: Command { operation: 1, layer: 1, key: 95, code: 5 } }
 }
 

@@ -8,6 +8,7 @@
 //!   `FROM TO` in place of the stride: in each of these
 //! - `words TEARS SEED`: so many tears of each word of a record that leave few bits undone, in three ways
 //! - `random CUTS SEED`: so many sessions with one cut each
+//! - `layout CUTS SEED`: the same of a firmware whose default codes are those of rust/tests/src/other.rs
 //! - `lengths`: the instructions of the one session, and the operations of the other
 //! - `measure`: the most instructions that calls take, a row each, and the deepest stack
 //! - `host WORDS ..`: the chip in place of the keyboard of examples/real_host, with the words of its program
@@ -21,13 +22,17 @@ mod machine;
 mod measure;
 mod model;
 mod on_bus;
+#[path = "../../../rust/tests/src/other.rs"]
+mod other;
 mod random;
 mod session;
 mod silence;
 
 use chip::{Chip, Lost};
+use other::Other;
 use std::path::{Path, PathBuf};
 use std::process::ExitCode;
+use wuzhikar::Layout;
 
 /// Where a chip comes from.
 pub struct Shop {
@@ -64,7 +69,8 @@ fn main() -> Result<ExitCode, Box<dyn std::error::Error>> {
         ("operations", [stride]) => every::operations(&shop, *stride),
         ("operations", [from, to]) => every::operations_of(&shop, *from, *to),
         ("words", [tears, seed]) => every::words(&shop, *tears, *seed),
-        ("random", [cuts, seed]) => random::run(&shop, *cuts, *seed),
+        ("random", [cuts, seed]) => random::run(&shop, *cuts, *seed, &model::default_keymap()),
+        ("layout", [cuts, seed]) => random::run(&shop, *cuts, *seed, Other::CODES),
         _ => return Err("these are not the words of what it does: src/main.rs has them".into()),
     };
     result.map(|()| ExitCode::SUCCESS).map_err(|lost| match lost {

@@ -60,7 +60,7 @@ fn command(chip: &mut Chip) -> Answer<()> {
 
 pub fn run(shop: &Shop) -> Answer<()> {
     let (mut bench, mut numbers) = (Bench { chip: shop.chip()?, stack: 0 }, Numbers::new(5));
-    let mut filled = |records, every, used| model::filled(records, every, used, &mut numbers).0;
+    let mut filled = |records, every, used| model::filled(records, every, used, &mut numbers, &model::default_keymap()).0;
     let blank = vec![0xff; crate::chip::LOG];
     let [three, entries] = [filled(3, false, false), filled(384, true, false)];
     let [full, used] = [filled(511, true, false), filled(511, true, true)];

@@ -35,12 +35,11 @@ pub fn default_keymap() -> Keymap {
     std::array::from_fn(|layer| std::array::from_fn(|key| default_code(layer, key)))
 }
 
-pub fn apply(mut keymap: Keymap, command: Command) -> Keymap {
-    let defaults = default_keymap();
+pub fn apply(mut keymap: Keymap, command: Command, defaults: &Keymap) -> Keymap {
     match command.operation {
         1 => keymap[usize::from(command.layer)][usize::from(command.key)] = command.code,
         2 => keymap[usize::from(command.layer)] = defaults[usize::from(command.layer)],
-        _ => keymap = defaults,
+        _ => keymap = *defaults,
     }
     keymap
 }
@@ -55,10 +54,11 @@ pub fn difference(found: &Keymap, wanted: &Keymap, pending: Option<Command>) -> 
     format!("{} entries differ, {}; under way {pending:x?}", wrong.len(), wrong[..wrong.len().min(3)].join(", "))
 }
 
-/// The bytes of a flash whose first page has so many records, made from numbers, and what they mean. `every`: the first 384 set each
-/// entry, so that a compaction copies all. `used`: the other page was used before, and has to be erased.
-pub fn filled(records: usize, every: bool, used: bool, numbers: &mut Numbers) -> (Vec<u8>, Keymap) {
-    let mut keymap = default_keymap();
+/// The bytes of a flash whose first page has so many records, made from numbers, and what they mean to a keyboard with these
+/// defaults. `every`: the first 384 set each entry, so that a compaction copies all. `used`: the other page was used before, and has
+/// to be erased.
+pub fn filled(records: usize, every: bool, used: bool, numbers: &mut Numbers, defaults: &Keymap) -> (Vec<u8>, Keymap) {
+    let mut keymap = *defaults;
     let mut words = vec![0x2000_0009u32];
     for at in 0..records {
         let mut command = numbers.set();
@@ -67,7 +67,7 @@ pub fn filled(records: usize, every: bool, used: bool, numbers: &mut Numbers) ->
                 ((at / KEYS) as u8, (at % KEYS) as u8, 0xa5 - numbers.below(8) as u16 - 1);
         }
         words.push(1 << 28 | u32::from(command.layer) << 24 | u32::from(command.key) << 16 | u32::from(command.code));
-        keymap = apply(keymap, command);
+        keymap = apply(keymap, command, defaults);
     }
     let mut bytes = Vec::new();
     for word in words {

@@ -30,7 +30,8 @@ struct Counts {
 }
 
 /// The host and what it was told.
-struct Session {
+struct Session<'d> {
+    defaults: &'d Keymap,
     keymap: Keymap,
     /// The command whose end the host was not told.
     pending: Option<Command>,
@@ -39,9 +40,9 @@ struct Session {
     started: bool,
 }
 
-impl Session {
-    fn on(keymap: Keymap, unknown: bool) -> Session {
-        Session { keymap, pending: None, unknown, started: false }
+impl Session<'_> {
+    fn on(defaults: &Keymap, keymap: Keymap, unknown: bool) -> Session<'_> {
+        Session { defaults, keymap, pending: None, unknown, started: false }
     }
 
     /// A start, and requests until the power goes, which is `Cut`.
@@ -75,7 +76,7 @@ impl Session {
     fn compare(&mut self, chip: &mut Chip, counts: &mut Counts) -> Answer<()> {
         let found = host::keymap(chip)?;
         let (unknown, pending) = (std::mem::take(&mut self.unknown), self.pending.take());
-        let new = pending.is_some_and(|command| found == model::apply(self.keymap, command));
+        let new = pending.is_some_and(|command| found == model::apply(self.keymap, command, self.defaults));
         if !unknown && found != self.keymap && !new {
             return Err(Lost::Dead(format!("LOST: {}", model::difference(&found, &self.keymap, pending))));
         }
@@ -109,7 +110,7 @@ impl Session {
         self.pending = None;
         if stored {
             counts.confirmed += 1;
-            self.keymap = model::apply(self.keymap, command);
+            self.keymap = model::apply(self.keymap, command, self.defaults);
         } else {
             counts.refused += 1;
         }
@@ -119,10 +120,10 @@ impl Session {
 
 /// A flash that is put into the chip: a page that is nearly full, so that a compaction is near, or blank pages; one of eight of them
 /// is damaged, whose keymap the chip then tells.
-fn another(chip: &mut Chip, numbers: &mut Numbers, counts: &mut Counts) -> Session {
+fn another<'d>(chip: &mut Chip, numbers: &mut Numbers, counts: &mut Counts, defaults: &'d Keymap) -> Session<'d> {
     let records = if numbers.below(8) == 0 { 0 } else { 511 - numbers.below(4) as usize };
     let (every, used) = (numbers.below(2) == 0, numbers.below(4) > 0);
-    let (mut bytes, keymap) = model::filled(records, every, used, numbers);
+    let (mut bytes, keymap) = model::filled(records, every, used, numbers, defaults);
     if records == 0 {
         bytes.fill(0xff);
     }
@@ -134,7 +135,7 @@ fn another(chip: &mut Chip, numbers: &mut Numbers, counts: &mut Counts) -> Sessi
     }
     counts.damaged += u64::from(damaged);
     chip.put(&bytes);
-    Session::on(keymap, damaged)
+    Session::on(defaults, keymap, damaged)
 }
 
 /// Where the power goes next: at any tick, or inside any operation, the more often the earlier. Where a compaction is near, inside it.
@@ -152,14 +153,15 @@ fn order(numbers: &mut Numbers, near: bool) -> Order {
     Order { tick, operation, seed: numbers.draw(), undone, ..Order::NEVER }
 }
 
-pub fn run(shop: &Shop, cuts: u64, seed: u64) -> Answer<()> {
+/// The sessions, on a firmware with these default codes.
+pub fn run(shop: &Shop, cuts: u64, seed: u64, defaults: &Keymap) -> Answer<()> {
     let (mut chip, mut numbers, mut counts) = (shop.chip()?, Numbers::new(seed), Counts::default());
-    let mut session = Session::on(model::default_keymap(), false);
+    let mut session = Session::on(defaults, *defaults, false);
     let began = Instant::now();
     while counts.cuts < cuts {
         let near = numbers.below(8) == 0;
         if near {
-            session = another(&mut chip, &mut numbers, &mut counts);
+            session = another(&mut chip, &mut numbers, &mut counts, defaults);
         }
         chip.power(order(&mut numbers, near))?;
         match session.run(&mut chip, &mut numbers, &mut counts) {

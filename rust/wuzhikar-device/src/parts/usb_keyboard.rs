@@ -2,8 +2,8 @@
 //! The keyboard on the bus: a command whose status stage the host saw is stored.
 //!
 //! `UsbKeyboard` is a keyboard with the flash that keeps its keymap, as the device behind the USB device layer
-//! (`usb_device::UsbDevice`), or behind a lock and a pace before it (`Guarded`). `UsbKeyboard::write` makes a whole
-//! control write, for a stack that keeps endpoint 0 to itself, and knows no lock. Each of its calls says how the session goes
+//! (`usb_device::UsbDevice`), or behind a lock and a pace before it (`Guarded`). `UsbKeyboard::write` and `read`
+//! make whole control transfers, for a stack that keeps endpoint 0 to itself, and know no lock. Each of its calls says how the session goes
 //! on, from the image that the keyboard started on. `UsbKeyboardOf` has a maker's own defaults, and a keyboard that is its own or
 //! is lent (`HoldsKeyboard`), and all of this holds for them, and where `Forgetting` stands before it.
 //!

@@ -280,7 +280,7 @@ fn what_works_is_told() {
 }
 
 #[test]
-fn a_stack_that_keeps_endpoint_0_writes_a_key() {
+fn a_stack_that_keeps_endpoint_0_writes_and_reads_a_key() {
     let mut keyboard = UsbKeyboard::start(SimFlash::blank(2).unwrap()).unwrap();
     let code = |keyboard: &UsbKeyboard<SimFlash>| {
         let keymap = keyboard.keyboard().keymap();
@@ -294,6 +294,10 @@ fn a_stack_that_keeps_endpoint_0_writes_a_key() {
         assert_eq!(keyboard.write(setup, bytes), Err(TransferError::Refused));
     }
     assert_eq!(code(&keyboard), 5);
+    // What it reads, and a read of what is written.
+    assert_eq!(keyboard.read(GET_FEATURE).unwrap()[..], [3, 0, 0, 0, 5, 0]);
+    assert_eq!(keyboard.read([0x81, 0x06, 0, 0x22, 0, 0, 0xff, 0]).unwrap().len(), 99);
+    assert_eq!(keyboard.read(SET_FEATURE), Err(TransferError::Refused));
 }
 
 #[test]

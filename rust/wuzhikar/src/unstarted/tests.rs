@@ -1,10 +1,14 @@
 //! A keyboard that starts in memory beside one that starts by value, over flashes of each kind, in memory that was used
-//! before or not: every answer, and what is in the flash at the end.
+//! before or not, with the standard default codes and with others: every answer, and what is in the flash at the end.
 
-use super::UnstartedKeyboard;
+#[path = "../../../tests/src/other.rs"]
+mod other;
+
+use super::{UnstartedKeyboard, UnstartedKeyboardOf};
 use crate::FlashKeyboard;
-use crate::parts::keyboard::{EpAnswer, Keyboard, Scan, Work};
-use crate::parts::layers::{KeyNo, LayerNo};
+use crate::parts::keyboard::{EpAnswer, Keyboard, KeyboardOf, Scan, Work};
+use crate::parts::layers::{Defaults, KeyNo, LayerNo, Standard};
+use other::Other;
 use wuzhikar_log::{FlashFault, NorFlash, PAGE_SLOTS, PageCount};
 
 /// A flash of pages in memory.
@@ -114,7 +118,7 @@ fn flashes(draw: &mut Draw) -> Vec<Cells> {
 }
 
 /// All that a keyboard shows.
-fn shown(keyboard: &Keyboard) -> Vec<u32> {
+fn shown<D: Defaults>(keyboard: &KeyboardOf<D>) -> Vec<u32> {
     let mut all = vec![u32::from(keyboard.leds()), keyboard.protocol() as u32];
     for layer in 0..4 {
         for key in 0..96 {
@@ -146,7 +150,7 @@ const SETUPS: [[u8; 8]; 8] = [
 ];
 
 /// A call, by numbers that were drawn for it.
-fn call(keyboard: &mut Keyboard, cells: &mut Cells, [kind, one, two]: [u32; 3]) -> Answer {
+fn call<D: Defaults>(keyboard: &mut KeyboardOf<D>, cells: &mut Cells, [kind, one, two]: [u32; 3]) -> Answer {
     match kind % 8 {
         0 | 1 => {
             let rows = [one as u16 & two as u16 & 0x1111, 0, 0, 0, 0, (one >> 16) as u16 & 0x8000];
@@ -169,7 +173,7 @@ fn call(keyboard: &mut Keyboard, cells: &mut Cells, [kind, one, two]: [u32; 3]) 
 }
 
 /// Makes the same calls of both, each on its own copy of the flash.
-fn play(draw: &mut Draw, (one, other): (&mut Keyboard, &mut Keyboard), cells: &Cells) {
+fn play<D: Defaults>(draw: &mut Draw, (one, other): (&mut KeyboardOf<D>, &mut KeyboardOf<D>), cells: &Cells) {
     let (mut cells, mut copy) = (cells.clone(), cells.clone());
     assert_eq!(shown(one), shown(other));
     for _ in 0..200 {
@@ -180,25 +184,30 @@ fn play(draw: &mut Draw, (one, other): (&mut Keyboard, &mut Keyboard), cells: &C
 }
 
 /// Plays a keyboard that starts in this memory beside one that starts by value.
-fn play_both(draw: &mut Draw, memory: &mut UnstartedKeyboard, cells: &Cells) {
-    let (Ok(one), Ok(mut other)) = (memory.start(cells), Keyboard::on(cells)) else { panic!("2 to 8 pages") };
+fn play_both<D: Defaults>(draw: &mut Draw, memory: &mut UnstartedKeyboardOf<D>, cells: &Cells) {
+    let (Ok(one), Ok(mut other)) = (memory.start(cells), KeyboardOf::on(cells)) else { panic!("2 to 8 pages") };
     play(draw, (one, &mut other), cells);
 }
 
-#[test]
-fn memory_starts_as_a_value_does() {
+fn starts_as_a_value_does<D: Defaults>() {
     let mut draw = Draw(0x1234_5678);
     for _ in 0..20 {
         let flashes = flashes(&mut draw);
         for cells in &flashes {
-            let mut fresh = UnstartedKeyboard::NEW;
+            let mut fresh = UnstartedKeyboardOf::<D>::NEW;
             play_both(&mut draw, &mut fresh, cells);
         }
-        let mut used = UnstartedKeyboard::NEW;
+        let mut used = UnstartedKeyboardOf::<D>::NEW;
         for cells in flashes.iter().chain(flashes.iter().rev()) {
             play_both(&mut draw, &mut used, cells);
         }
     }
+}
+
+#[test]
+fn memory_starts_as_a_value_does() {
+    starts_as_a_value_does::<Standard>();
+    starts_as_a_value_does::<Other>();
 }
 
 #[test]

@@ -1,36 +1,62 @@
 //! Plays a script of `kbsim` on the exported keyboard and the exported flash in memory, and prints what `kbsim` prints.
 //!
-//! `driver --pages N < SCRIPT`. Scripts are taken to be lawful: a fault ends the program.
+//! `driver [other] [--pages N | --image FILE] [--save FILE] < SCRIPT`. With `other` the default codes are those of
+//! rust/tests/src/other.rs, and `driver codes` prints them. Scripts are taken to be lawful: a fault ends the program.
 
 use std::io::{Read, Write};
-use wuzhikar::{EpAnswer, KeyNo, Keyboard, LayerNo, Mask, NorFlash, Scan, SimFlash, Work};
+use wuzhikar::{Defaults, EpAnswer, KeyNo, KeyboardOf, LayerNo, Layout, Mask, NorFlash, Scan, SimFlash, Standard, Work};
+use wuzhikar_tests::other::Other;
 
 /// SET_REPORT of the feature report.
 const SET_FEATURE: [u8; 8] = [0x21, 0x09, 0x03, 0x03, 0x00, 0x00, 0x06, 0x00];
 
-struct Device {
-    keyboard: Keyboard,
+/// GET_DESCRIPTOR of the report descriptor.
+const GET_DESCRIPTOR: [u8; 8] = [0x81, 0x06, 0x00, 0x22, 0x00, 0x00, 0xff, 0x00];
+
+struct Device<D: Defaults> {
+    keyboard: KeyboardOf<D>,
     flash: SimFlash,
 }
 
 fn main() {
-    let pages = std::env::args().nth(2).map_or(2, |pages| pages.parse().expect("a page count"));
-    let flash = SimFlash::blank(pages).expect("2 to 8 pages");
-    let keyboard = Keyboard::on(&flash).expect("2 to 8 pages");
-    let mut device = Device { keyboard, flash };
+    let words: Vec<String> = std::env::args().skip(1).collect();
+    match words.first().map(String::as_str) {
+        Some("codes") => Other::CODES.as_flattened().iter().for_each(|code| println!("{code:#06x},")),
+        Some("other") => play::<Other>(&words[1..]),
+        _ => play::<Standard>(&words),
+    }
+}
+
+/// Plays a script on a keyboard with these defaults, by the words of the options.
+fn play<D: Defaults>(words: &[String]) {
+    let (mut flash, mut saved) = (SimFlash::blank(2), None);
+    for pair in words.chunks_exact(2) {
+        match pair[0].as_str() {
+            "--pages" => flash = SimFlash::blank(number(&pair[1])),
+            "--image" => flash = SimFlash::from_image(std::fs::read(&pair[1]).expect("an image")),
+            "--save" => saved = Some(&pair[1]),
+            word => panic!("{word}"),
+        }
+    }
+    let flash = flash.expect("2 to 8 pages");
+    let keyboard = KeyboardOf::on(&flash).expect("2 to 8 pages");
+    let mut device = Device::<D> { keyboard, flash };
     let mut script = String::new();
     std::io::stdin().read_to_string(&mut script).expect("a script");
     let mut told = String::new();
-    for (number, line) in script.lines().enumerate() {
+    for (number, line) in script.lines().enumerate().filter(|(_, line)| !line.starts_with('#')) {
         let words: Vec<&str> = line.split_whitespace().collect();
         if let [word, rest @ ..] = words.as_slice() {
             told += &format!("{} {}\n", number + 1, device.told(word, rest));
         }
     }
     std::io::stdout().write_all(told.as_bytes()).expect("an output");
+    if let Some(saved) = saved {
+        std::fs::write(saved, device.flash.image()).expect("an image");
+    }
 }
 
-impl Device {
+impl<D: Defaults> Device<D> {
     /// What is printed of a line.
     fn told(&mut self, word: &str, rest: &[&str]) -> String {
         match word {
@@ -48,6 +74,12 @@ impl Device {
                 self.restart()
             }
             "entry" => self.entry(number(rest[0]) as u8, number(rest[1]) as u8),
+            "reset" => {
+                self.keyboard.bus_reset();
+                "ok".to_string()
+            }
+            "leds" => in_hex(&[self.keyboard.leds()]),
+            "fetch" => self.fetch(),
             "slot" => in_hex(&self.flash.read_slot(number(rest[0]), number(rest[1]))),
             "set" => self.set(number(rest[0]) as u8, number(rest[1]) as u8, &hex(rest[2])),
             _ => panic!("{word}"),
@@ -94,6 +126,27 @@ impl Device {
     fn entry(&self, layer: u8, key: u8) -> String {
         let (layer, key) = (LayerNo::read(layer).expect("a layer"), KeyNo::read(key).expect("a key"));
         format!("{:04x}", self.keyboard.keymap().get(layer, key).bits())
+    }
+
+    /// A whole transfer of the report descriptor.
+    fn fetch(&mut self) -> String {
+        self.keyboard.setup(GET_DESCRIPTOR);
+        let mut total = 0;
+        loop {
+            match self.keyboard.in_packet() {
+                EpAnswer::Packet(packet) => {
+                    total += packet.len();
+                    if packet.len() < 8 {
+                        break;
+                    }
+                }
+                answer => return shown(&answer),
+            }
+        }
+        match self.keyboard.out(&[]) {
+            EpAnswer::Ack => format!("fetched {total}"),
+            answer => shown(&answer),
+        }
     }
 
     /// A whole feature transfer that sets an entry.

@@ -31,6 +31,45 @@ pub enum Output {
 }
 
 /// A controller. Anything that its bus permits may happen before each call takes effect.
+///
+/// It acknowledges each SETUP packet, which empties both buffers of endpoint 0: IN and OUT are answered by NAK from then on. It
+/// counts the data toggles: a packet is sent until the host acknowledges it, and one that the host sends again is acknowledged
+/// and not told (section 8.6.4). A reset of the bus empties the buffers, and drops what was not told.
+///
+/// A controller in memory, on whose bus one SETUP packet has come:
+///
+/// ```rust
+/// use wuzhikar_device::{Controller, Input, Output, Waiting};
+///
+/// struct InMemory {
+///     setup: Option<[u8; 8]>,
+///     input: Input,
+///     address: u8,
+/// }
+///
+/// impl Controller for InMemory {
+///     fn waiting(&mut self) -> Waiting {
+///         Waiting { reset: false, setup: self.setup.take(), out: None, taken: false }
+///     }
+///
+///     fn input_0(&mut self, answer: Input) {
+///         // An answer behind a SETUP packet that was not told is not for its transfer.
+///         if self.setup.is_none() {
+///             self.input = answer;
+///         }
+///     }
+///
+///     fn output_0(&mut self, _answer: Output) {}
+///
+///     fn set_address(&mut self, address: u8) {
+///         self.address = address;
+///     }
+/// }
+///
+/// let mut usb = InMemory { setup: Some([0x80, 0x06, 0, 1, 0, 0, 18, 0]), input: Input::Nak, address: 0 };
+/// usb.input_0(Input::Stall);
+/// assert!(usb.waiting().setup.is_some() && matches!(usb.input, Input::Nak));
+/// ```
 pub trait Controller {
     /// All that was met since the last call, which is then forgotten.
     fn waiting(&mut self) -> Waiting;

@@ -11,6 +11,82 @@ use crate::parts::usb_device::{
 ///
 /// A loop calls `serve` when an interrupt of the controller has come, and behind each scan; it may be called at any time.
 /// `scan_rows` is a scan of the matrix, and `work` a step of the flash work; `scan` alone tells that a millisecond has gone by.
+///
+/// A host asks for the device descriptor, by the controller and the buffer of the examples of `Controller` and `Buffers`:
+///
+/// ```rust
+/// # use wuzhikar_device::{Buffers, Controller, Endpoint1, Input, Output, Report, Waiting};
+/// # struct InMemory {
+/// #     setup: Option<[u8; 8]>,
+/// #     input: Input,
+/// #     address: u8,
+/// # }
+/// #
+/// # impl Controller for InMemory {
+/// #     fn waiting(&mut self) -> Waiting {
+/// #         Waiting { reset: false, setup: self.setup.take(), out: None, taken: false }
+/// #     }
+/// #
+/// #     fn input_0(&mut self, answer: Input) {
+/// #         // An answer behind a SETUP packet that was not told is not for its transfer.
+/// #         if self.setup.is_none() {
+/// #             self.input = answer;
+/// #         }
+/// #     }
+/// #
+/// #     fn output_0(&mut self, _answer: Output) {}
+/// #
+/// #     fn set_address(&mut self, address: u8) {
+/// #         self.address = address;
+/// #     }
+/// # }
+/// # struct OneBuffer {
+/// #     packet: Option<Report>,
+/// # }
+/// #
+/// # impl Buffers for OneBuffer {
+/// #     fn has_two(&self) -> bool {
+/// #         false
+/// #     }
+/// #
+/// #     fn taken_1(&mut self) -> usize {
+/// #         0
+/// #     }
+/// #
+/// #     fn begin_anew(&mut self, _state: Endpoint1) {
+/// #         self.packet = None;
+/// #     }
+/// #
+/// #     fn give_up(&mut self) {
+/// #         self.packet = None;
+/// #     }
+/// #
+/// #     fn host_began(&mut self) {}
+/// #
+/// #     fn forget(&mut self) {
+/// #         self.packet = None;
+/// #     }
+/// #
+/// #     fn input_1(&mut self, packet: Report) {
+/// #         self.packet = Some(packet);
+/// #     }
+/// # }
+/// # fn main() -> Result<(), Box<dyn std::error::Error>> {
+/// use wuzhikar::SimFlash;
+/// use wuzhikar_device::{DeviceLayer, Input, Keys, Product, UsbDevice};
+///
+/// let keys = Keys::start(SimFlash::blank(2).unwrap())?;
+/// let layer = DeviceLayer::new(Product::TEST.descriptors());
+/// let mut device = UsbDevice::new(layer, keys, OneBuffer { packet: None }, Product::TEST.identity().packet_size);
+/// let mut usb = InMemory { setup: Some([0x80, 0x06, 0, 1, 0, 0, 18, 0]), input: Input::Nak, address: 0 };
+/// // A round of the loop.
+/// device.serve(&mut usb);
+/// device.scan_rows([0; 6]);
+/// device.work();
+/// assert!(matches!(usb.input, Input::Packet(packet) if packet[..2] == [18, 1]));
+/// # Ok(())
+/// # }
+/// ```
 pub struct UsbDevice<'a, E, B> {
     pub(crate) control: ControlBuffers,
     pub(crate) device: Device<'a, E, B>,

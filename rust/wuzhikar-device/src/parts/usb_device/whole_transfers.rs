@@ -20,12 +20,39 @@ pub enum TransferError {
     Unfinished,
 }
 
+impl core::fmt::Display for TransferError {
+    fn fmt(&self, f: &mut core::fmt::Formatter<'_>) -> core::fmt::Result {
+        match self {
+            Self::Refused => write!(f, "the device refused the transfer"),
+            Self::Busy => write!(f, "the device is busy and took nothing"),
+            Self::Unfinished => write!(f, "the transfer did not end"),
+        }
+    }
+}
+
+impl core::error::Error for TransferError {}
+
 /// Makes a control write: its SETUP packet, its data in one packet if there are any, and its status stage, for which the
 /// device works at most so many steps (USB 2.0 section 8.5.3).
 ///
 /// `Ok` says that the device took the data and then confirmed them by the empty packet: so they are stored, where that is
 /// what the device confirms. The stack may then acknowledge the status stage, and on an error it stalls it. Each error says
 /// what the device was asked: behind `Unfinished` it has the data, and behind `Busy` it has not.
+///
+/// ```rust
+/// # fn main() -> Result<(), Box<dyn std::error::Error>> {
+/// use wuzhikar::SimFlash;
+/// use wuzhikar_device::{Keys, write};
+///
+/// let mut keys = Keys::start(SimFlash::blank(2).unwrap())?;
+/// // SET_REPORT of the feature report: operation 1 writes code 0005h, the letter b, on layer 0, key 0.
+/// write(&mut keys, [0x21, 0x09, 3, 3, 0, 0, 6, 0], &[3, 1, 0, 0, 0x05, 0x00], 388)?;
+/// // It is in the flash.
+/// let keys = Keys::start(keys.into_flash())?;
+/// assert!(!keys.keyboard().is_first_start());
+/// # Ok(())
+/// # }
+/// ```
 pub fn write<E: Works>(
     device: &mut E,
     setup: [u8; 8],

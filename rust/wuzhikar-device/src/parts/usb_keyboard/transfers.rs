@@ -2,20 +2,28 @@
 //! Whole control transfers, for a stack that keeps endpoint 0 to itself.
 
 use crate::parts::usb_keyboard::{HoldsKeyboard, UsbKeyboardOf};
+use arrayvec::ArrayVec;
 use wuzhikar::parts::keyboard::NorFlash;
 use wuzhikar::parts::layers::Defaults;
-use crate::parts::usb_device::{Endpoints, Status, TransferError, Works, data_status_of, status_of};
+use crate::parts::usb_device::{
+    Endpoints, EpAnswer, ReadBytes, Status, TransferError, data_status_of, status_of,
+};
 
 /// How often a status stage is asked for: a command takes at most 387 steps of the flash work.
 const MOST_ASKED: u16 = 388;
 
+/// The most packets of a read, of 8 bytes each: the longest, the report descriptor, has 99 bytes.
+const MOST_PACKETS: usize = 13;
+
 impl<D: Defaults, K: HoldsKeyboard<D>, F: NorFlash> UsbKeyboardOf<D, K, F> {
     /// Makes a control write: its SETUP packet, its data, and the status stage, for which the flash work goes on.
     ///
-    /// `Ok` says that the data were acknowledged and then confirmed: so what a feature command writes is in the flash. The
-    /// stack may then acknowledge the status stage, and on an error it stalls it. On an error no command was accepted, or the
-    /// one that was failed: `Busy` says that another one works, and that the same write may be made later; `Refused` that the
-    /// keyboard stalled the request, its data, or for a fault of the flash its status stage. `Unfinished` never comes.
+    /// The checks of the request and of its data decide, in their order (HID 1.11 section 7.2). `Ok` says that they are passed
+    /// and that the data were confirmed: so what a feature command writes is in the flash. The stack may then acknowledge the
+    /// status stage, and on an error it stalls it. `Busy` says that another command works: nothing was taken, and the same
+    /// write may be made later. `Refused` says that a check is not passed, and nothing was taken; or that the command failed
+    /// for a fault of the flash. On a flash that answers no fault each write that passes the checks ends by `Ok`. `Unfinished`
+    /// never comes.
     ///
     /// It knows no lock and no pace. `Guarded` stands before a keyboard on the bus, and not before this call: a
     /// stack asks its maker's lock before it calls.
@@ -42,10 +50,61 @@ impl<D: Defaults, K: HoldsKeyboard<D>, F: NorFlash> UsbKeyboardOf<D, K, F> {
         for _asked in 0..MOST_ASKED {
             match status_of(self.in_packet()) {
                 Status::Done => return Ok(()),
-                Status::Waits => self.work(),
+                Status::Waits => {
+                    let _work = self.step();
+                }
                 Status::Refuses => return Err(TransferError::Refused),
             }
         }
         Err(TransferError::Unfinished)
     }
+
+    /// Makes a control read: its SETUP packet, the packets that the keyboard gives, put together, and the empty packet of the
+    /// status stage.
+    ///
+    /// `Ok` has the bytes that the request reads, no more than wLength, as the keyboard had them at the call: a descriptor, a
+    /// report, the idle value or the protocol. `Refused` says that the keyboard stalls the request, that it does not read, or
+    /// that wLength is 0: a request without data is a `write`. No other error comes.
+    pub fn read(&mut self, setup: [u8; 8]) -> Result<ReadBytes, TransferError> {
+        let asked = length_of(setup);
+        if asked == 0 {
+            return Err(TransferError::Refused);
+        }
+        self.setup(setup);
+        match self.receive(asked as usize) {
+            Ok(bytes) => self.close(bytes),
+            Err(error) => Err(error),
+        }
+    }
+
+    /// Asks for packets until one ends the read.
+    fn receive(&mut self, asked: usize) -> Result<ReadBytes, TransferError> {
+        let mut bytes = ArrayVec::new();
+        for _packet in 0..MOST_PACKETS {
+            match self.in_packet() {
+                EpAnswer::Packet(packet) => {
+                    let _full = bytes.try_extend_from_slice(&packet);
+                    if packet.len() < 8 || bytes.len() >= asked {
+                        return Ok(bytes);
+                    }
+                }
+                EpAnswer::Nak => return Err(TransferError::Busy),
+                EpAnswer::Ack | EpAnswer::Stall => return Err(TransferError::Refused),
+            }
+        }
+        Err(TransferError::Unfinished)
+    }
+
+    /// Hands over the empty packet of the status stage.
+    fn close(&mut self, bytes: ReadBytes) -> Result<ReadBytes, TransferError> {
+        match self.out(&[]) {
+            EpAnswer::Ack => Ok(bytes),
+            EpAnswer::Nak | EpAnswer::Packet(_) | EpAnswer::Stall => Err(TransferError::Refused),
+        }
+    }
+}
+
+/// wLength.
+fn length_of(setup: [u8; 8]) -> u16 {
+    u16::from_le_bytes([setup[6], setup[7]])
 }

@@ -1,6 +1,6 @@
 //! A controller in memory with data toggles (USB 2.0 section 8.6), on whose bus something happens at each of its calls.
 
-use super::host::{Act, Host, Numbers, begins_endpoint_1, is_lawful_command, sets_protocol};
+use super::host::{Act, Host, Numbers, begins_endpoint_1, data, is_lawful_command, sets_protocol};
 use crate::{Buffers, Controller, Endpoint1, Input, Output, Report, Waiting};
 use std::cell::{RefCell, RefMut};
 use std::collections::{HashMap, VecDeque};
@@ -159,7 +159,7 @@ impl Bus {
                 (self.input, self.output, self.again) = (Buffer::Nak, Output::Nak, [false; 2]);
                 (self.met.1, self.given) = (Some(packet), None);
                 self.setups += 1;
-                self.host.began(packet, &mut self.numbers);
+                self.host.began(packet, data(packet, &mut self.numbers));
             }
             Act::In => self.in_token(),
             Act::Out(packet) => self.out_packet(packet),

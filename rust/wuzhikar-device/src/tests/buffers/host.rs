@@ -1,7 +1,5 @@
 //! A host on the bus: which token or packet comes next, by what it was answered.
 
-use crate::control::{length, reads};
-
 pub const SET_CONFIGURATION: [u8; 8] = [0x00, 0x09, 1, 0, 0, 0, 0, 0];
 
 /// Numbers that look random.
@@ -91,6 +89,11 @@ pub fn sets_protocol(setup: [u8; 8]) -> bool {
     setup[..2] == [0x21, 0x0b]
 }
 
+/// wLength.
+fn length(setup: [u8; 8]) -> usize {
+    u16::from_le_bytes([setup[6], setup[7]]).into()
+}
+
 /// The requests behind which both sides begin endpoint 1 anew with DATA0.
 pub fn begins_endpoint_1(setup: [u8; 8]) -> bool {
     matches!(setup, [0, 9, ..] | [1, 0x0b, ..] | [2, 1, ..])
@@ -136,6 +139,14 @@ impl Host {
             Stage::Status if unlawful => numbers.of(&[Wrong::Out, Wrong::Empty]).act(),
             // A host may end a read at any time.
             Stage::Reads(_) if numbers.one_of(20) => Act::Out(Vec::new()),
+            _ => self.due(),
+        }
+    }
+
+    /// What the transfer under way is due.
+    pub fn due(&self) -> Act {
+        match &self.stage {
+            Stage::Free => Act::Poll,
             Stage::Reads(_) | Stage::Status => Act::In,
             Stage::Ends => Act::Out(Vec::new()),
             Stage::Writes(data) => Act::Out(data.clone()),
@@ -148,13 +159,14 @@ impl Host {
         if self.lawful && self.size == 8 && sets_protocol(setup) { SET_CONFIGURATION } else { setup }
     }
 
-    pub fn began(&mut self, setup: [u8; 8], numbers: &mut Numbers) {
+    /// A transfer begins; a write sends these data.
+    pub fn began(&mut self, setup: [u8; 8], data: Vec<u8>) {
         self.setup = setup;
         self.stage = match length(setup) {
             0 => Stage::Status,
-            length if reads(setup) => Stage::Reads(length),
-            length => {
-                self.data = data(setup, length, numbers);
+            length if setup[0] & 0x80 != 0 => Stage::Reads(length),
+            _ => {
+                self.data = data;
                 Stage::Writes(self.data.clone())
             }
         };
@@ -226,13 +238,13 @@ fn request(numbers: &mut Numbers) -> [u8; 8] {
 }
 
 /// The data of a write: of few entries, so that commands meet the same one, and now and then a wrong one.
-fn data(setup: [u8; 8], length: usize, numbers: &mut Numbers) -> Vec<u8> {
+pub fn data(setup: [u8; 8], numbers: &mut Numbers) -> Vec<u8> {
     match (setup[2], setup[3]) {
         (3, 3) => {
             let operation = numbers.of(&[0, 1, 1, 1, 1, 1, 2, 3, 7]);
             let code = numbers.of(&[[4, 0], [5, 0], [6, 0], [0xe9, 0x40], [0xe1, 0], [1, 0], [0, 0x30]]);
             vec![3, operation, numbers.of(&[0, 0, 0, 1, 4]), numbers.below(3) as u8, code[0], code[1]]
         }
-        _ => vec![1; length.min(8)],
+        _ => vec![1; length(setup).min(8)],
     }
 }

@@ -7,6 +7,9 @@ use crate::parts::descriptor_parse::tag::Tag;
 /// The prefix of a long item.
 pub(crate) const LONG: u8 = 0xFE;
 
+/// How many bytes of a long item come before its data.
+const LONG_HEAD: usize = 3;
+
 /// An item of a report descriptor: the offset of its prefix in the text, the prefix, and the data.
 #[derive(Clone, Copy, Debug, PartialEq, Eq)]
 pub struct Item<'a> {
@@ -82,8 +85,19 @@ pub(crate) fn cut(offset: usize, text: &[u8]) -> Option<(Item<'_>, &[u8])> {
     let Some((prefix, more)) = text.split_first() else {
         return None;
     };
+    // Not by another function, so that the item of the other way stays in registers.
     if *prefix == LONG {
-        return cut_long(offset, text);
+        let size = size_of_front(text);
+        if text.len() < size {
+            return None;
+        }
+        let (whole, rest) = text.split_at(size);
+        let item = Item {
+            offset,
+            prefix: LONG,
+            bytes: &whole[LONG_HEAD..],
+        };
+        return Some((item, rest));
     }
     let size = data_len(*prefix);
     if more.len() < size {
@@ -98,24 +112,6 @@ pub(crate) fn cut(offset: usize, text: &[u8]) -> Option<(Item<'_>, &[u8])> {
     Some((item, rest))
 }
 
-/// The same of a text that may begin with a long item.
-#[inline(never)]
-fn cut_long(offset: usize, text: &[u8]) -> Option<(Item<'_>, &[u8])> {
-    let size = size_of_front(text);
-    if text.len() < size {
-        return None;
-    }
-    let prefix = text[0];
-    let (whole, rest) = text.split_at(size);
-    let bytes = &whole[head(prefix)..];
-    let item = Item {
-        offset,
-        prefix,
-        bytes,
-    };
-    Some((item, rest))
-}
-
 /// How many bytes the item at the front of a text takes.
 pub(crate) fn size_of_front(text: &[u8]) -> usize {
     match text {
@@ -124,11 +120,6 @@ pub(crate) fn size_of_front(text: &[u8]) -> usize {
         [prefix, ..] => 1 + data_len(*prefix),
         [] => 1,
     }
-}
-
-/// How many bytes of an item come before its data.
-fn head(prefix: u8) -> usize {
-    if prefix == LONG { 3 } else { 1 }
 }
 
 /// How many bytes of data follow the prefix of a short item.

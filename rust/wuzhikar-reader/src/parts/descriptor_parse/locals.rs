@@ -70,10 +70,17 @@ impl Locals {
     #[inline(always)]
     fn add(&mut self, first: Usage, last: Usage) -> Result<(), AllocError> {
         if self.usages.capacity() == 0 {
-            self.usages.reserve_in(FIRST_RANGES)?;
+            self.make_room()?;
         }
         self.usages.push_in(UsageRange { first, last })?;
         Ok(())
+    }
+
+    /// Takes memory for some ranges.
+    // Not inlined, so that the other items cost less.
+    #[inline(never)]
+    fn make_room(&mut self) -> Result<(), AllocError> {
+        self.usages.reserve_in(FIRST_RANGES)
     }
 
     /// Keeps a Minimum or Maximum, or makes it a range with its pair.

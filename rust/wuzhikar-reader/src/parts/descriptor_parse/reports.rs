@@ -107,7 +107,9 @@ impl Reports {
         if !declares(flags, globals) {
             return Ok(());
         }
-        self.make_room()?;
+        if self.fields.is_empty() {
+            self.make_room()?;
+        }
         locals.append_to(&mut self.ranges, &mut self.counts, globals.page)?;
         self.links.push_in(Link {
             end: self.ranges.len(),
@@ -127,15 +129,14 @@ impl Reports {
         }
     }
 
-    /// Takes memory for some fields before the first.
-    #[inline(always)]
+    /// Takes memory for some fields.
+    // Not inlined, so that the other items cost less.
+    #[inline(never)]
     fn make_room(&mut self) -> Result<(), AllocError> {
-        if self.fields.is_empty() {
-            self.fields.reserve_in(FIRST_FIELDS)?;
-            self.links.reserve_in(FIRST_FIELDS)?;
-            self.ranges.reserve_in(FIRST_RANGES)?;
-            self.counts.reserve_in(FIRST_RANGES)?;
-        }
+        self.fields.reserve_in(FIRST_FIELDS)?;
+        self.links.reserve_in(FIRST_FIELDS)?;
+        self.ranges.reserve_in(FIRST_RANGES)?;
+        self.counts.reserve_in(FIRST_RANGES)?;
         Ok(())
     }
 }

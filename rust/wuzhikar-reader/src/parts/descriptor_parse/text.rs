@@ -3,7 +3,8 @@
 
 use crate::parts::descriptor_parse::descriptor::Descriptor;
 use crate::parts::descriptor_parse::fault::ParseError;
-use crate::parts::descriptor_parse::parser::Parser;
+use crate::parts::descriptor_parse::reading::{end, read_items};
+use crate::parts::descriptor_parse::state::State;
 use crate::rattle::alloc::Global;
 
 /// Parses a report descriptor of at most 4,096 bytes (HID 1.11, section 6.2.2).
@@ -12,7 +13,8 @@ use crate::rattle::alloc::Global;
 /// comes where a growth was refused, with the offset of the item that wanted it. A text that is longer is read up
 /// to the item at 4,096, which can still have a fault of its own.
 pub fn parse(alloc: Global, text: &[u8]) -> Result<Descriptor, ParseError> {
-    let mut parser = Parser::new(alloc);
-    parser.feed(text)?;
-    parser.finish()
+    // Without a `Parser`, which keeps bytes of an item that is not whole.
+    let mut state = State::new(alloc);
+    let (offset, left) = read_items(&mut state, 0, text)?;
+    end(state, left, offset)
 }

@@ -1,4 +1,4 @@
-use Rattle.std.proofs.Common.{◌++◌, ◌∷◌, [], sym, ap, ◌∙◌, refl}
+use Rattle.std.proofs.Common.{◌++◌, ◌∷◌, [], sym, ap, ◌∙◌, refl, subst}
 use Rattle.usb_device.specs.Whole.{status_of}
 use Rattle.keyboard.specs.Calls.{In}
 use Rattle.keyboard.proofs.Timing.{is_in_time}
@@ -7,24 +7,33 @@ use Rattle.usb_keyboard.proofs.Writing.{waited_more, done_by}
 use Rattle.usb_keyboard.proofs.device.UsbKeyboardOf.confirm.Goals as goal
 
 pub loop-asked-init : goal.loop-asked-init
-loop-asked-init g c = λ start past r. ([], r, refl, tt)
+loop-asked-init g c = (λ start past r. ([], r, refl, tt, λ x. tt), λ x. x)
 
 pub returns-in-Done : goal.returns-in-Done
-returns-in-Done g c = λ start past r.
-    let i = c.loop-asked.invariant start past r in
-    let a = c.in_packet.ensures.told start (put_off i.0 ++ past) i.1 in
-    (In a.0 ∷ put_off i.0, a.1, done_by i.0 a.0 (ap status_of (sym a.2) ∙ sym c.status_of.ensures ∙ c.in-Done.is))
+returns-in-Done g c = record {
+  calls = λ start past r.
+      let i = c.loop-asked.invariant.0 start past r in
+      let a = c.in_packet.ensures.told start (put_off i.0 ++ past) i.1 in
+      (In a.0 ∷ put_off i.0, a.1, done_by i.0 a.0 (ap status_of (sym a.2) ∙ sym c.status_of.ensures ∙ c.in-Done.is), i.4);
+  faultless = λ x. subst g.F.NorFlash.is_faultless (sym c.in_packet.ensures.flash) (c.loop-asked.invariant.1 x);
+}
 
 pub returns-in-Refuses : goal.returns-in-Refuses
-returns-in-Refuses g c = λ start past r.
-    let i = c.loop-asked.invariant start past r in
-    let a = c.in_packet.ensures.told start (put_off i.0 ++ past) i.1 in
-    (In a.0 ∷ put_off i.0, a.1, (a.0, i.0, ap status_of (sym a.2) ∙ sym c.status_of.ensures ∙ c.in-Refuses.is, refl))
+returns-in-Refuses g c = record {
+  calls = λ start past r.
+      let i = c.loop-asked.invariant.0 start past r in
+      let a = c.in_packet.ensures.told start (put_off i.0 ++ past) i.1 in
+      (In a.0 ∷ put_off i.0, a.1, (a.0, i.0, ap status_of (sym a.2) ∙ sym c.status_of.ensures ∙ c.in-Refuses.is, refl), i.4);
+  faultless = λ x. subst g.F.NorFlash.is_faultless (sym c.in_packet.ensures.flash) (c.loop-asked.invariant.1 x);
+}
 
 pub loop-asked-preserved : goal.loop-asked-preserved
-loop-asked-preserved g c = λ start past r.
-    let i = c.loop-asked.invariant start past r in
-    let a = c.in_packet.ensures.told start (put_off i.0 ++ past) i.1 in
-    let w = c.work.ensures.made start (In a.0 ∷ put_off i.0 ++ past) a.1 in
-    waited_more g.D.Defaults.defaults start past i.0 a.0 w.0 _ _ c.loop-asked._asked (ap status_of (sym a.2) ∙ sym c.status_of.ensures ∙ c.in-Waits.is) w.1
-    (is_in_time g.D.Defaults.defaults start (put_off i.0 ++ past) _ i.1.stands) i.2
+loop-asked-preserved g c = (
+  λ start past r.
+      let i = c.loop-asked.invariant.0 start past r in
+      let a = c.in_packet.ensures.told start (put_off i.0 ++ past) i.1 in
+      waited_more g.D.Defaults.defaults start past i.0 a.0 c.step-work.result _ _ c.loop-asked._asked _ (ap status_of (sym a.2) ∙ sym c.status_of.ensures ∙ c.in-Waits.is)
+      (c.step-work.ensures.told start (In a.0 ∷ put_off i.0 ++ past) a.1) (is_in_time g.D.Defaults.defaults start (put_off i.0 ++ past) _ i.1.stands) i.2 i.4
+      (λ x. (c.step-work.ensures.faultless (subst g.F.NorFlash.is_faultless (sym c.in_packet.ensures.flash) (c.loop-asked.invariant.1 x))).1),
+  λ x. (c.step-work.ensures.faultless (subst g.F.NorFlash.is_faultless (sym c.in_packet.ensures.flash) (c.loop-asked.invariant.1 x))).0,
+)

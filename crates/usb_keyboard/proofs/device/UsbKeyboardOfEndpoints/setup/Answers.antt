@@ -10,4 +10,8 @@ returns g c =
     → RunsSince g.D.Defaults.defaults start (Keyboards.SetUp c.args.packet ∷ past) (g.K.HoldsKeyboard.held c.setup.new.self) (g.F.NorFlash.image c.self.inside.flash) = λ start past r.
     let s = subst (λ v. RunsSince g.D.Defaults.defaults start past v.0 (g.F.NorFlash.image v.1)) (sym c.self.view_is) r in
     record { stands = c.setup.ensures.stands start past s.stands; image_is = s.image_is } in
-    record { told = told; stands = λ calls s. (s.0, Keyboards.SetUp c.args.packet ∷ s.1, told s.0 s.1 s.2, ap (λ l. Eps.SetUp c.args.packet ∷ l) s.3) }
+    record {
+      told = told;
+      stands = λ calls s. (s.0, Keyboards.SetUp c.args.packet ∷ s.1, told s.0 s.1 s.2, ap (λ l. Eps.SetUp c.args.packet ∷ l) s.3);
+      flash = ap (λ v. v.1) c.self.view_is;
+    }

@@ -1,0 +1,64 @@
+//! Default codes of a maker, none of them the standard one of its entry: the promise of a keyboard with them.
+
+ghost use Rattle.std.specs.Prelude.{◌≡◌, ◌≢◌, ◌<◌, ℕ, is_ok};
+ghost use Rattle.layers.specs.Codes.{layers, keys, default_code};
+ghost use Rattle.layers.specs.Standard.{standard};
+ghost use Rattle.world.specs.Promise.{Promise};
+ghost use Rattle.world.specs.Stands.{Runs, room_for};
+ghost use Rattle.promise_example.specs.Histories.{blank};
+ghost use Rattle.promise_example.specs.Pad.{pad, shown_at_first};
+
+use layers::{Code, Defaults};
+use std::alloc::AllocError;
+use world::{Answer, Event, WorldOf};
+
+/// Key 0 of layer 0 activates layer 1 while it is held, and every other key does nothing.
+#[derive(Clone, Copy, Debug, PartialEq, Eq)]
+pub struct Pad {}
+
+impl Defaults for Pad {
+    ghost defaults = { pad };
+
+    fn code_at(place: usize) -> Code {
+        if place == 0 { layer_1() } else { Code::NONE }
+    }
+
+    fn reset(codes: &mut [Code], start: usize, end: usize) {
+        for place in start..end {
+            codes[place] = Pad::code_at(place);
+        }
+    }
+}
+
+/// The code that activates layer 1.
+fn layer_1() -> Code
+    ensures { result ≡ 0x5001 }
+{
+    match Code::read(0x5001) {
+        Ok(code) => code,
+        Err(_) => Code::NONE,
+    }
+}
+
+/// No entry has its standard code.
+pub fn none_is_standard()
+    ensures { (layer key : ℕ) → layer < layers → key < keys → default_code pad layer key ≢ default_code standard layer key }
+{}
+
+/// A look at an entry shows its code: the promise of this keyboard holds of that history, and the one of a standard
+/// keyboard does not.
+pub fn a_look_shows_a_code_of_the_maker()
+    ensures holds { Promise pad blank shown_at_first }
+    ensures broken { Promise standard blank shown_at_first → ⊥ }
+{}
+
+/// Takes events on such a keyboard, as `WorldOf::run` does: the promise holds of the history that they make longer.
+pub fn run(
+    world: &mut WorldOf<Pad>,
+    events: &[Event],
+    answers: &mut Vec<Answer>,
+) -> Result<(), AllocError>
+    ensures { Runs pad (Promise pad) world.old world.new events.now (room_for answers.old) answers.old.items answers.new.items (is_ok result) }
+{
+    world.run(events, answers)
+}
