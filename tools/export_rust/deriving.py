@@ -39,10 +39,18 @@ def members(translator, inside):
         if ghost is not None:
             at = ghost + 1
             continue
-        end = min(find(inside, ",", at) + 1, len(inside))
+        end = min(past_type(inside, at) + 1, len(inside))
         part = inside[at:end]
         yield lead, part[translator.past_visibility(part):]
         at = end
+
+
+def past_type(tokens, at):
+    """The comma that ends a field, or the end: one between the parameters of a type is part of it."""
+    end = find(tokens, ",", at)
+    while end < len(tokens) and sum((token.text == "<") - (token.text == ">") for token in tokens[at:end]) > 0:
+        end = find(tokens, ",", end + 1)
+    return end
 
 
 def shape(translator, path, tokens, opening, shown):

@@ -87,7 +87,7 @@ KEYBOARD = Rules(
                ("layers", "Held"): None, ("layers", "Usages"): None, ("debounce", "Scan"): None, ("debounce", "Matrix"): None,
                ("reports", "Protocol"): "Protocol::Boot", ("reports", "Input"): "Input::Boot", ("reports", "Sent"): None,
                ("reports", "Queue"): None, ("reports", "InputReport"): None, ("reports", "Idle"): None, ("reports", "Poller"): None, ("key_reports", "KeyReports"): None,
-               ("control_ep", "Source"): "Source::Copied(0)", ("control_ep", "ReadData"): None,
+               ("control_ep", "Source"): "Source::Copied", ("control_ep", "ReadData"): None,
                ("control_ep", "Stage"): "Stage::Status(Effect::Idle(crate::parts::reports::IdleId::All, 0))",
                ("control_ep", "ControlEp"): None, ("keymap_store", "Job"): "Job::Resting",
                ("keymap_store", "StoreOf"): None, ("keyboard", "KeyboardOf"): None},

@@ -142,6 +142,7 @@ class Forms(unittest.TestCase):
                 ("struct R<const N: usize> { a: [u16; N], }\n", "impl<const N: usize> R<N> { R { a: [0; N] } }"),
                 ("struct R<D: Defaults> { s: S<D>, d: PhantomData<D> }\n", "impl<D: Defaults> R<D> { R { s: S::UNSTARTED, d: PhantomData } }"),
                 ("struct S { log: Log }\n", "impl S { S { log: <Log as wuzhikar_log::calls::Unstarted>::UNSTARTED } }"),
+                ("struct S { a: ArrayVec<u8, N>, b: u8 }\n", "impl S { S { a: ArrayVec::new_const(), b: 0 } }"),
                 ("pub enum E { A(u8), B }\n", "impl E { E::A(0) }"),
                 ("struct U { a: u8 }\n", "")]:
             made = Translator("keymap_store", "", "f.rt", {"page_turnover"}, of).translate(source)

@@ -5,7 +5,8 @@ from deriving import members
 from lexing import after, find, group_end, text_at, trimmed
 
 # Zeros, by the first word of a type. Every other type of the source is one that has the constant, too.
-ZEROS = {**{number: "0" for number in ("u8", "u16", "u32", "u64", "usize")}, "bool": "false", "Option": "None", "PhantomData": "PhantomData"}
+ZEROS = {**{number: "0" for number in ("u8", "u16", "u32", "u64", "usize")}, "bool": "false", "Option": "None", "PhantomData": "PhantomData",
+         "ArrayVec": "ArrayVec::new_const()"}
 
 CONSTANT = "UNSTARTED"
 

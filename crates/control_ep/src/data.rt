@@ -3,28 +3,57 @@
 ghost use Rattle.std.specs.Prelude.{◌≡◌, ◌+◌, ◌≤◌, length, None, IsSome};
 ghost use Rattle.std.specs.Option.{option_map};
 ghost use Rattle.control_ep.specs.Packets.{packet_at};
+ghost use Rattle.control_ep.specs.ties.ReadData.{descriptor_bytes};
 
 use crate::packets::packet_at;
 use arrayvec::ArrayVec;
+use descriptor_build::{CONFIGURATION, DEVICE, HID, SERVED_REPORT};
 use std::marker::Model;
 
-/// The room of a copy: the 23 bytes of the longest report, and one more, so that it is whole words.
-const ROOM: usize = 24;
+/// The descriptors, which are constants.
+#[derive(Clone, Copy, Debug)]
+pub(crate) enum Descriptor {
+    /// That of the device.
+    Device,
+    /// That of the configuration, and what it holds.
+    Configuration,
+    /// The HID descriptor.
+    Hid,
+    /// The report descriptor.
+    Report,
+}
+
+impl Descriptor {
+    /// Its bytes.
+    fn bytes(self) -> &'static [u8]
+        ensures { result.now ≡ descriptor_bytes self }
+    {
+        match self {
+            Descriptor::Device => &DEVICE,
+            Descriptor::Configuration => &CONFIGURATION,
+            Descriptor::Hid => &HID,
+            Descriptor::Report => &SERVED_REPORT,
+        }
+    }
+}
+
+/// The room of a copy: the bytes of the longest report.
+const ROOM: usize = 23;
 
 /// Where the bytes are.
 #[derive(Clone, Copy, Debug)]
 pub(crate) enum Source {
-    /// A report, as it was at its SETUP packet: so many bytes of the copy.
-    Copied(u8),
-    /// A descriptor, which is a constant; and what is left of it, once a read has begun.
-    Lent(&'static [u8], &'static [u8]),
+    /// A report, as it was at its SETUP packet: the bytes of the copy.
+    Copied,
+    /// A descriptor; and what is left of it, once a read has begun.
+    Lent(Descriptor, &'static [u8]),
 }
 
 /// A read: its bytes, how many were asked for, and how many packets were sent.
 #[derive(Debug, Drop)]
 pub(crate) struct ReadData {
     source: Source,
-    copy: [u8; ROOM],
+    copy: ArrayVec<u8, ROOM>,
     asked: u16,
     sent: u16,
 }
@@ -34,7 +63,7 @@ impl Model for ReadData {
 
     ghost Value = { Reading };
 
-    ghost view = { λ d. record { bytes = source_bytes d.source d.copy; asked = d.asked; sent = d.sent } };
+    ghost view = { λ d. record { bytes = source_bytes d.source d.copy.items; asked = d.asked; sent = d.sent } };
 
     ghost invariant = { λ d. IsLeft d.source d.asked d.sent };
 }
@@ -43,18 +72,18 @@ impl ReadData {
     /// No bytes.
     pub(crate) fn new() -> ReadData {
         ReadData {
-            source: Source::Copied(0),
-            copy: [0; ROOM],
+            source: Source::Copied,
+            copy: ArrayVec::new(),
             asked: 0,
             sent: 0,
         }
     }
 
-    /// Takes these bytes, lent, for a read that begins.
-    pub(crate) fn lend(&mut self, bytes: &'static [u8])
-        ensures { self.new.bytes ≡ bytes.now }
+    /// Takes a descriptor, for a read that begins.
+    pub(crate) fn lend(&mut self, descriptor: Descriptor)
+        ensures { self.new.bytes ≡ descriptor_bytes descriptor }
     {
-        self.source = Source::Lent(bytes, &[]);
+        self.source = Source::Lent(descriptor, &[]);
     }
 
     /// Takes a copy of these bytes, at most 23, for a read that begins.
@@ -62,8 +91,9 @@ impl ReadData {
         requires { length bytes.now ≤ 23 }
         ensures { self.new.bytes ≡ bytes.now }
     {
-        self.copy[..bytes.len()].copy_from_slice(bytes);
-        self.source = Source::Copied(bytes.len() as u8);
+        self.source = Source::Copied;
+        self.copy.clear();
+        let _full = self.copy.try_extend_from_slice(bytes);
     }
 
     /// Begins a read that asked for so many bytes.
@@ -71,8 +101,9 @@ impl ReadData {
     pub(crate) fn begin(&mut self, asked: u16)
         ensures { self.new ≡ record { bytes = self.old.bytes; asked = asked; sent = 0 } }
     {
-        if let Source::Lent(bytes, _) = self.source {
-            self.source = Source::Lent(bytes, &bytes[..bytes.len().min(usize::from(asked))]);
+        if let Source::Lent(descriptor, _) = self.source {
+            let bytes = descriptor.bytes();
+            self.source = Source::Lent(descriptor, &bytes[..bytes.len().min(usize::from(asked))]);
         }
         self.asked = asked;
         self.sent = 0;
@@ -87,9 +118,9 @@ impl ReadData {
         ensures ended { result ≡ None → self.new ≡ self.old }
     {
         let _asked = self.asked;
-        if let Source::Lent(bytes, left) = self.source {
+        if let Source::Lent(descriptor, left) = self.source {
             if let Some((full, after)) = left.split_first_chunk::<8>() {
-                self.source = Source::Lent(bytes, after);
+                self.source = Source::Lent(descriptor, after);
                 self.sent += 1;
                 return Some(ArrayVec::from(*full));
             }
@@ -106,8 +137,8 @@ impl ReadData {
         ensures { result.now ≡ self.now.bytes }
     {
         match self.source {
-            Source::Lent(bytes, _) => bytes,
-            Source::Copied(length) => &self.copy[..usize::from(length).min(ROOM)],
+            Source::Lent(descriptor, _) => descriptor.bytes(),
+            Source::Copied => self.copy.as_slice(),
         }
     }
 }

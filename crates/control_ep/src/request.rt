@@ -6,9 +6,8 @@ ghost use Rattle.control_ep.specs.declared.why.Why.{Why};
 ghost use Rattle.control_ep.specs.Requests.{request_of, requests, asked_at, device_descriptors, interface_descriptors, reports_read, idle_values, protocol_byte, reports_taken, length_of, takes_length, idle_effects, protocol_effects, named, transfer_of};
 ghost use Rattle.control_ep.specs.ties.Views.{fields_view, report_view, transfer_view, begun_view, asked_view};
 
-use crate::data::ReadData;
+use crate::data::{Descriptor, ReadData};
 use crate::{DeviceReports, Effect, Why};
-use descriptor_build::{CONFIGURATION, DEVICE, HID, SERVED_REPORT};
 use reports::{IdleId, Protocol};
 
 /// The fields of a SETUP packet (USB 2.0 table 9-2).
@@ -155,8 +154,8 @@ fn device_descriptor(value: u16, read: &mut ReadData) -> Result<Transfer, Why>
     ensures { begun_view read.new.bytes result ≡ named Why.UnknownDescriptor device_descriptors value }
 {
     match value {
-        0x0100 => read.lend(&DEVICE),
-        0x0200 => read.lend(&CONFIGURATION),
+        0x0100 => read.lend(Descriptor::Device),
+        0x0200 => read.lend(Descriptor::Configuration),
         _ => return Err(Why::UnknownDescriptor),
     }
     Ok(Transfer::Reads)
@@ -167,8 +166,8 @@ fn interface_descriptor(value: u16, read: &mut ReadData) -> Result<Transfer, Why
     ensures { begun_view read.new.bytes result ≡ named Why.UnknownDescriptor interface_descriptors value }
 {
     match value {
-        0x2100 => read.lend(&HID),
-        0x2200 => read.lend(&SERVED_REPORT),
+        0x2100 => read.lend(Descriptor::Hid),
+        0x2200 => read.lend(Descriptor::Report),
         _ => return Err(Why::UnknownDescriptor),
     }
     Ok(Transfer::Reads)

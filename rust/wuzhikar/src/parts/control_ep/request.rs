@@ -1,9 +1,8 @@
 // Exported from crates/control_ep/src/request.rt by bin/export-rust. Edit that file instead.
 //! What a SETUP packet asks for.
 
-use crate::parts::control_ep::data::ReadData;
+use crate::parts::control_ep::data::{Descriptor, ReadData};
 use crate::parts::control_ep::{DeviceReports, Effect, Why};
-use crate::parts::descriptor_build::{CONFIGURATION, DEVICE, HID, SERVED_REPORT};
 use crate::parts::reports::{IdleId, Protocol};
 
 /// The fields of a SETUP packet (USB 2.0 table 9-2).
@@ -135,8 +134,8 @@ impl HostReport {
 /// GET_DESCRIPTOR of the device (USB 2.0 section 9.4.3).
 fn device_descriptor(value: u16, read: &mut ReadData) -> Result<Transfer, Why> {
     match value {
-        0x0100 => read.lend(&DEVICE),
-        0x0200 => read.lend(&CONFIGURATION),
+        0x0100 => read.lend(Descriptor::Device),
+        0x0200 => read.lend(Descriptor::Configuration),
         _ => return Err(Why::UnknownDescriptor),
     }
     Ok(Transfer::Reads)
@@ -145,8 +144,8 @@ fn device_descriptor(value: u16, read: &mut ReadData) -> Result<Transfer, Why> {
 /// GET_DESCRIPTOR of the interface (HID 1.11 section 7.1.1).
 fn interface_descriptor(value: u16, read: &mut ReadData) -> Result<Transfer, Why> {
     match value {
-        0x2100 => read.lend(&HID),
-        0x2200 => read.lend(&SERVED_REPORT),
+        0x2100 => read.lend(Descriptor::Hid),
+        0x2200 => read.lend(Descriptor::Report),
         _ => return Err(Why::UnknownDescriptor),
     }
     Ok(Transfer::Reads)
