@@ -7,7 +7,7 @@ mod flash;
 
 use core::ptr::addr_of_mut;
 use flash::Flash;
-use wuzhikar::{EpAnswer, KeyNo, Keyboard, LayerNo, Scan, UnstartedKeyboard, Work};
+use wuzhikar::{EpAnswer, InAnswer, KeyNo, Keyboard, LayerNo, Scan, UnstartedKeyboard, Work};
 
 #[unsafe(no_mangle)]
 static mut KEYBOARD: UnstartedKeyboard = UnstartedKeyboard::NEW;
@@ -79,11 +79,11 @@ unsafe extern "C" fn kb_out(packet: *const u8, n: u32) -> i32 {
 /// `packet` has room for 8 bytes.
 #[unsafe(no_mangle)]
 unsafe extern "C" fn kb_in(packet: *mut u8) -> i32 {
-    let answer = keyboard().in_packet();
-    if let EpAnswer::Packet(bytes) = &answer {
-        unsafe { give::<8>(bytes, packet) };
+    match keyboard().in_packet_into(unsafe { &mut *packet.cast() }) {
+        InAnswer::Nak => -1,
+        InAnswer::Stall(why) => -100 - i32::from(why.number()),
+        InAnswer::Packet(length) => i32::from(length),
     }
-    number(&answer)
 }
 
 /// # Safety

@@ -5,6 +5,7 @@ pub mod Packets
 pub mod Calls
 pub mod Stage
 pub mod Answers
+pub mod Written
 pub mod Moves
 pub mod Stands
 pub mod ties

@@ -1,5 +1,8 @@
 //! What comes in and goes out beside the packets themselves.
 
+ghost use Rattle.std.specs.Prelude.{◌≡◌};
+ghost use Rattle.control_ep.specs.Written.{told};
+
 use crate::Why;
 use arrayvec::ArrayVec;
 use reports::{IdleId, Protocol};
@@ -16,6 +19,35 @@ pub enum EpAnswer {
     Packet(ArrayVec<u8, 8>),
     /// The transfer is refused, and each further packet of it for the same reason.
     Stall(Why),
+}
+
+/// The answer to an IN packet, whose bytes were written into a buffer.
+#[derive(Clone, Copy, Debug, PartialEq, Eq)]
+#[must_use]
+pub enum InAnswer {
+    /// Not now: nothing has changed, and the host tries again.
+    Nak,
+    /// A data packet: so many bytes of the buffer, from its start.
+    Packet(u8),
+    /// The transfer is refused, and each further packet of it for the same reason.
+    Stall(Why),
+}
+
+impl InAnswer {
+    /// Returns the answer together with its packet, whose bytes stand in this buffer.
+    pub fn with(self, buffer: [u8; 8]) -> EpAnswer
+        ensures { result ≡ told self buffer }
+    {
+        match self {
+            InAnswer::Nak => EpAnswer::Nak,
+            InAnswer::Packet(length) => {
+                let mut packet = ArrayVec::from(buffer);
+                packet.truncate(usize::from(length));
+                EpAnswer::Packet(packet)
+            }
+            InAnswer::Stall(why) => EpAnswer::Stall(why),
+        }
+    }
 }
 
 /// What an OUT packet comes to.

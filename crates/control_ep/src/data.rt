@@ -1,11 +1,11 @@
 //! The bytes that a read sends.
 
-ghost use Rattle.std.specs.Prelude.{◌≡◌, ◌+◌, ◌≤◌, length, None, IsSome};
+ghost use Rattle.std.specs.Prelude.{◌≡◌, ◌+◌, ◌≤◌, length, take, None, IsSome, IfSome};
 ghost use Rattle.std.specs.Option.{option_map};
 ghost use Rattle.control_ep.specs.Packets.{packet_at};
 ghost use Rattle.control_ep.specs.ties.ReadData.{descriptor_bytes};
 
-use crate::packets::packet_at;
+use crate::packets::write_packet;
 use arrayvec::ArrayVec;
 use descriptor_build::{CONFIGURATION, DEVICE, HID, SERVED_REPORT};
 use std::marker::Model;
@@ -109,11 +109,12 @@ impl ReadData {
         self.sent = 0;
     }
 
-    /// The next packet, and none where all were sent. A whole packet of a descriptor is cut off what is
-    /// left of it.
+    /// Writes the next packet, and returns how many bytes it has; none where all were sent. A whole packet
+    /// of a descriptor is cut off what is left of it.
     #[tactic(auto, using(crate::proofs::Left::whole_packet, crate::proofs::Left::left_then, crate::proofs::Left::is_asked))]
-    pub(crate) fn next_packet(&mut self) -> Option<ArrayVec<u8, 8>>
-        ensures packet { option_map (λ packet. packet.items) result ≡ packet_at self.old.bytes self.old.asked self.old.sent }
+    pub(crate) fn next_packet(&mut self, packet: &mut [u8; 8]) -> Option<u8>
+        ensures packet { option_map (λ n. take n packet.new) result ≡ packet_at self.old.bytes self.old.asked self.old.sent }
+        ensures room { IfSome result (λ n. n ≤ 8) }
         ensures counted { IsSome result → self.new ≡ record { bytes = self.old.bytes; asked = self.old.asked; sent = self.old.sent + 1 } }
         ensures ended { result ≡ None → self.new ≡ self.old }
     {
@@ -122,14 +123,15 @@ impl ReadData {
             if let Some((full, after)) = left.split_first_chunk::<8>() {
                 self.source = Source::Lent(descriptor, after);
                 self.sent += 1;
-                return Some(ArrayVec::from(*full));
+                *packet = *full;
+                return Some(8);
             }
         }
-        let packet = packet_at(self.as_slice(), self.asked, self.sent);
-        if packet.is_some() {
+        let length = write_packet(self.as_slice(), self.asked, self.sent, packet);
+        if length.is_some() {
             self.sent += 1;
         }
-        packet
+        length
     }
 
     /// The bytes.

@@ -4,6 +4,7 @@ ghost use Rattle.std.specs.Prelude.{◌≡◌, List, [], ◌∷◌, IsTrue};
 ghost use Rattle.control_ep.specs.declared.answer.DeviceView.{DeviceView};
 ghost use Rattle.control_ep.specs.declared.answer.EpAnswer.{EpAnswer};
 ghost use Rattle.control_ep.specs.declared.answer.Effect.{Effect};
+ghost use Rattle.control_ep.specs.declared.answer.InAnswer.{InAnswer};
 ghost use Rattle.control_ep.specs.declared.answer.OutStep.{OutStep};
 ghost use Rattle.control_ep.specs.declared.why.Why.{Why};
 ghost use Rattle.control_ep.specs.Stage.{stage_in, progress_of};
@@ -14,8 +15,7 @@ ghost use Rattle.control_ep.specs.Calls.{EpCall, Setup, Out, Judged, In, Settle,
 use crate::data::ReadData;
 use crate::report::received_report;
 use crate::request::{HostReport, Request, Transfer};
-use crate::{DeviceReports, DeviceView, Effect, EpAnswer, OutStep, Verdict, Why};
-use arrayvec::ArrayVec;
+use crate::{DeviceReports, DeviceView, Effect, EpAnswer, InAnswer, OutStep, Verdict, Why};
 use std::marker::Model;
 
 /// Where the transfer stands.
@@ -71,6 +71,7 @@ impl ControlEp {
     ghost use Rattle.control_ep.specs.Stage.{stage};
     ghost use Rattle.control_ep.specs.Moves.{begun, after_in, after_out, after_verdict, after_end};
     ghost use Rattle.control_ep.specs.Answers.{in_answer, in_effect, out_step, verdict_answer, IfNak, IfStall, IfAnswered, IfOffer};
+    ghost use Rattle.control_ep.specs.Written.{told, HasRoom};
     ghost use Rattle.control_ep.specs.Stands.{is_offered};
     ghost use Rattle.control_ep.specs.ties.Stands.{StandsFor};
 
@@ -120,7 +121,6 @@ impl ControlEp {
     ///
     /// The answer is given at the token, and its effect with it: where a controller is handed packets
     /// before they are asked for, the call is made when the packet is taken.
-    #[tactic(auto, using(crate::proofs::Next::next_in))]
     pub fn in_packet(&mut self) -> (EpAnswer, Effect)
         ensures answer { (past : List EpCall) → StandsFor past self.old
             → result.0 ≡ in_answer (stage past) }
@@ -132,7 +132,28 @@ impl ControlEp {
         ensures nak { IfNak result.0 ((self.new ≡ self.old) × (result.1 ≡ Effect.Nothing)) }
         ensures stall { IfStall result.0 (λ why. (self.new ≡ Stalled why) × (result.1 ≡ Effect.Nothing)) }
     {
-        self.answer_in()
+        let mut packet = [0; 8];
+        let (answer, effect) = self.in_packet_into(&mut packet);
+        (answer.with(packet), effect)
+    }
+
+    /// Takes an IN packet as `in_packet` does, and writes its bytes into `packet`, from the start. The
+    /// answer says how many; what stands after them, and in a `packet` that no data packet answers, means
+    /// nothing.
+    #[tactic(auto, using(crate::proofs::Next::next_in))]
+    pub fn in_packet_into(&mut self, packet: &mut [u8; 8]) -> (InAnswer, Effect)
+        ensures answer { (past : List EpCall) → StandsFor past self.old
+            → told result.0 packet.new ≡ in_answer (stage past) }
+        ensures effect { (past : List EpCall) → StandsFor past self.old
+            → result.1 ≡ in_effect (stage past) }
+        ensures room { HasRoom result.0 }
+        ensures stands { (past : List EpCall) → StandsFor past self.old
+            → StandsFor (In (told result.0 packet.new) result.1 ∷ past) self.new }
+        ensures left { self.new ≡ after_in self.old (told result.0 packet.new) }
+        ensures nak { IfNak (told result.0 packet.new) ((self.new ≡ self.old) × (result.1 ≡ Effect.Nothing)) }
+        ensures stall { IfStall (told result.0 packet.new) (λ why. (self.new ≡ Stalled why) × (result.1 ≡ Effect.Nothing)) }
+    {
+        self.answer_in(packet)
     }
 
     /// Takes an OUT packet (USB 2.0 section 8.5.3): an output report is taken, a feature report is offered
@@ -219,24 +240,34 @@ impl ControlEp {
     }
 
     /// The answer to an IN packet in this stage, and its effect.
-    fn answer_in(&mut self) -> (EpAnswer, Effect)
-        ensures answer { result.0 ≡ in_answer self.old }
+    fn answer_in(&mut self, packet: &mut [u8; 8]) -> (InAnswer, Effect)
+        ensures answer { told result.0 packet.new ≡ in_answer self.old }
         ensures effect { result.1 ≡ in_effect self.old }
-        ensures left { self.new ≡ after_in self.old result.0 }
+        ensures room { HasRoom result.0 }
+        ensures left { self.new ≡ after_in self.old (told result.0 packet.new) }
     {
         match self.stage {
-            Stage::Sending => match self.read.next_packet() {
-                Some(packet) => (EpAnswer::Packet(packet), Effect::Nothing),
-                None => (self.stall(Why::WrongStage), Effect::Nothing),
+            Stage::Sending => match self.read.next_packet(packet) {
+                Some(length) => (InAnswer::Packet(length), Effect::Nothing),
+                None => self.refuse_in(),
             },
             Stage::Status(effect) => {
                 self.stage = Stage::Rest;
-                (EpAnswer::Packet(ArrayVec::new()), effect)
+                (InAnswer::Packet(0), effect)
             }
-            Stage::Waiting => (EpAnswer::Nak, Effect::Nothing),
-            Stage::Stalled(why) => (EpAnswer::Stall(why), Effect::Nothing),
-            Stage::Rest | Stage::Taking(_) => (self.stall(Why::WrongStage), Effect::Nothing),
+            Stage::Waiting => (InAnswer::Nak, Effect::Nothing),
+            Stage::Stalled(why) => (InAnswer::Stall(why), Effect::Nothing),
+            Stage::Rest | Stage::Taking(_) => self.refuse_in(),
         }
+    }
+
+    /// Stalls the transfer where no IN packet is due.
+    fn refuse_in(&mut self) -> (InAnswer, Effect)
+        ensures answer { result ≡ (InAnswer.Stall Why.WrongStage, Effect.Nothing) }
+        ensures stalled { self.new ≡ Stalled Why.WrongStage }
+    {
+        self.stage = Stage::Stalled(Why::WrongStage);
+        (InAnswer::Stall(Why::WrongStage), Effect::Nothing)
     }
 
     /// What an OUT packet comes to in this stage.

@@ -1,46 +1,49 @@
 //! The packets that data are cut into.
 
-ghost use Rattle.std.specs.Prelude.{◌≡◌, ℕ, ◌*◌, ◌<◌, ◌≤◌, List, length, take, OnSome};
+ghost use Rattle.std.specs.Prelude.{◌≡◌, ℕ, ◌*◌, ◌<◌, ◌≤◌, List, length, take, OnSome, IfSome};
 ghost use Rattle.std.specs.Option.{option_map};
 ghost use Rattle.control_ep.specs.Packets.{packet_at};
 
-use arrayvec::ArrayVec;
-
-/// Packet `index` of a transfer that reads these bytes and asked for `asked`; none where the packets
-/// end before it.
+/// Writes packet `index` of a transfer that reads these bytes and asked for `asked`, and returns how many
+/// bytes it has; none where the packets end before it.
 #[tactic(auto, unfolding(crate::specs::Packets::packet_at))]
-pub(crate) fn packet_at(bytes: &[u8], asked: u16, index: u16) -> Option<ArrayVec<u8, 8>>
-    ensures packet { option_map (λ packet. packet.items) result ≡ packet_at bytes.now asked index }
+pub(crate) fn write_packet(bytes: &[u8], asked: u16, index: u16, packet: &mut [u8; 8]) -> Option<u8>
+    ensures packet { option_map (λ n. take n packet.new) result ≡ packet_at bytes.now asked index }
+    ensures room { IfSome result (λ n. n ≤ 8) }
     ensures in_data { OnSome result (8 * index ≤ asked) }
 {
     let asked = usize::from(asked);
     let sent = &bytes[..bytes.len().min(asked)];
     let start = 8 * usize::from(index);
     if start < sent.len() {
-        Some(first_packet(&sent[start..]))
+        Some(write_first(&sent[start..], packet))
     } else if start == sent.len() && sent.len() < asked {
-        Some(ArrayVec::new())
+        Some(0)
     } else {
         None
     }
 }
 
-/// The first 8 of the bytes, which are copied as one, or all of fewer.
-fn first_packet(bytes: &[u8]) -> ArrayVec<u8, 8>
-    ensures { result.items ≡ take 8 bytes.now }
+/// Writes the first 8 of the bytes, which are copied as one, or all of fewer, and returns how many.
+fn write_first(bytes: &[u8], packet: &mut [u8; 8]) -> u8
+    ensures packet { take result packet.new ≡ take 8 bytes.now }
+    ensures room { result ≤ 8 }
 {
     match bytes.first_chunk::<8>() {
-        Some(full) => ArrayVec::from(*full),
-        None => short_packet(bytes),
+        Some(full) => {
+            *packet = *full;
+            8
+        }
+        None => write_short(bytes, packet),
     }
 }
 
-/// All of fewer than 8 bytes.
-fn short_packet(bytes: &[u8]) -> ArrayVec<u8, 8>
+/// Writes all of fewer than 8 bytes, and returns how many.
+fn write_short(bytes: &[u8], packet: &mut [u8; 8]) -> u8
     requires { length bytes.now < 8 }
-    ensures { result.items ≡ take 8 bytes.now }
+    ensures packet { take result packet.new ≡ take 8 bytes.now }
+    ensures room { result ≤ 8 }
 {
-    let mut packet = ArrayVec::new();
-    let _full = packet.try_extend_from_slice(&bytes[..bytes.len().min(8)]);
-    packet
+    packet[..bytes.len()].copy_from_slice(bytes);
+    bytes.len() as u8
 }

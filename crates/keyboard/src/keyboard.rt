@@ -6,6 +6,7 @@ ghost use Rattle.layers.specs.Entries.{changed};
 ghost use Rattle.layers.specs.Keymaps.{HasEntries};
 ghost use Rattle.layers.specs.Usages.{has_key, has_consumer};
 ghost use Rattle.control_ep.specs.Answers.{in_answer, judged_answer, IfNak, IfStall};
+ghost use Rattle.control_ep.specs.Written.{told, HasRoom};
 ghost use Rattle.control_ep.specs.Transfers.{Stalled};
 ghost use Rattle.control_ep.specs.declared.answer.EpAnswer.{EpAnswer};
 ghost use Rattle.key_reports.specs.Past.{keys_after, consumer_after, answer_after};
@@ -26,7 +27,7 @@ ghost use Rattle.keyboard.specs.Lawful.{IsAnswered, MakesSuch};
 use crate::feature::{command_in, verdict_of};
 use crate::room::Room;
 use crate::shown::Shown;
-use control_ep::{ControlEp, Effect, EpAnswer, OutStep, Verdict, Why};
+use control_ep::{ControlEp, Effect, EpAnswer, InAnswer, OutStep, Verdict, Why};
 use flash_model::NorFlash;
 use key_reports::{KeyReports, Protocol, Report, Scan};
 use keymap_store::{StoreOf, Work};
@@ -205,7 +206,30 @@ impl<D: Defaults> KeyboardOf<D> {
         // it still runs on its flash
         ensures runs_on { (image : List ℕ) → RunsOn D.defaults image self.old → RunsOn D.defaults image self.new }
     {
-        let (answer, effect) = self.ep.in_packet();
+        let mut packet = [0; 8];
+        let answer = self.in_packet_into(&mut packet);
+        answer.with(packet)
+    }
+
+    /// Takes an IN packet as `in_packet` does, and writes its bytes into `packet`, from the start. The
+    /// answer says how many; what stands after them, and in a `packet` that no data packet answers, means
+    /// nothing.
+    pub fn in_packet_into(&mut self, packet: &mut [u8; 8]) -> InAnswer
+        // it stands for this call after those before it
+        ensures stands { (start : List ℕ) (past : List Call) → StandsFor D.defaults start past self.old
+            → StandsFor D.defaults start (In (told result packet.new) ∷ past) self.new }
+        // the answer is that of the transfer's stage
+        ensures answer { (start : List ℕ) (past : List Call) → StandsFor D.defaults start past self.old
+            → told result packet.new ≡ in_answer (stage_after D.defaults start past) }
+        // the packet is within the buffer
+        ensures room { HasRoom result }
+        // a NAK changes nothing, and a STALL the transfer alone
+        ensures nak { IfNak (told result packet.new) (self.new ≡ self.old) }
+        ensures stall { IfStall (told result packet.new) (λ why. self.new ≡ record self.old { ep = Stalled why }) }
+        // it still runs on its flash
+        ensures runs_on { (image : List ℕ) → RunsOn D.defaults image self.old → RunsOn D.defaults image self.new }
+    {
+        let (answer, effect) = self.ep.in_packet_into(packet);
         match effect {
             Effect::Nothing => {}
             Effect::Idle(id, duration) => self.keys.set_idle(id, duration),

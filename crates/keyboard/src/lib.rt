@@ -21,7 +21,7 @@ pub mod laws;
 mod room;
 mod shown;
 
-pub use control_ep::{EpAnswer, Why};
+pub use control_ep::{EpAnswer, InAnswer, Why};
 pub use flash_model::NorFlash;
 pub use key_reports::{Protocol, Report, Scan};
 pub use keyboard::{Keyboard, KeyboardOf};

@@ -2,7 +2,7 @@
 //! flash. Written by hand: tested, not proved.
 
 use crate::layout::Layout;
-use crate::parts::control_ep::EpAnswer;
+use crate::parts::control_ep::{EpAnswer, InAnswer};
 use crate::parts::debounce::{Debouncer, Scan};
 use crate::parts::keyboard::{Keyboard, KeyboardOf, Report, Work};
 use crate::parts::layers::{Defaults, KeyNo, Standard};
@@ -123,6 +123,11 @@ impl<F: NorFlash, D: Defaults> FlashKeyboard<F, D> {
     /// Answers an IN token of endpoint 0 with a packet of 0 to 8 bytes, NAK or STALL ([`Keyboard::in_packet`]).
     pub fn in_packet(&mut self) -> EpAnswer {
         self.keyboard.in_packet()
+    }
+
+    /// Answers an IN token of endpoint 0 as `in_packet` does, and writes the packet into `packet` ([`Keyboard::in_packet_into`]).
+    pub fn in_packet_into(&mut self, packet: &mut [u8; 8]) -> InAnswer {
+        self.keyboard.in_packet_into(packet)
     }
 
     /// Answers an IN token of endpoint 1 with a report of 8, 9 or 23 bytes; `None` is NAK ([`Keyboard::poll`]).

@@ -54,7 +54,7 @@ mod wear;
 
 pub use crate::face::FlashKeyboard;
 pub use crate::layout::{KEYS, LAYERS, Layout, Switches};
-pub use crate::parts::keyboard::{EpAnswer, Keyboard, KeyboardOf, Protocol, Report, Scan, Why, Work};
+pub use crate::parts::keyboard::{EpAnswer, InAnswer, Keyboard, KeyboardOf, Protocol, Report, Scan, Why, Work};
 pub use crate::parts::layers::{Code, Defaults, KeyNo, Keymap, KeymapError, KeymapOf, LayerNo, Standard, Usages};
 pub use crate::unstarted::{UnstartedKeyboard, UnstartedKeyboardOf};
 pub use wuzhikar_log;
@@ -101,5 +101,5 @@ pub mod debounce {
 /// assert!(matches!(endpoint.in_packet(), (EpAnswer::Packet(_), Effect::Nothing)));
 /// ```
 pub mod control_ep {
-    pub use crate::parts::control_ep::{ControlEp, DeviceReports, DeviceView, Effect, EpAnswer, OutStep, Verdict, Why};
+    pub use crate::parts::control_ep::{ControlEp, DeviceReports, DeviceView, Effect, EpAnswer, InAnswer, OutStep, Verdict, Why};
 }

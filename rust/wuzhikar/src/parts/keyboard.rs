@@ -20,7 +20,7 @@ mod keyboard;
 mod room;
 mod shown;
 
-pub use crate::parts::control_ep::{EpAnswer, Why};
+pub use crate::parts::control_ep::{EpAnswer, InAnswer, Why};
 pub use wuzhikar_log::parts::flash_model::NorFlash;
 pub use crate::parts::key_reports::{Protocol, Report, Scan};
 pub use keyboard::{Keyboard, KeyboardOf};

@@ -1,7 +1,7 @@
 // Exported from crates/control_ep/src/data.rt by bin/export-rust. Edit that file instead.
 //! The bytes that a read sends.
 
-use crate::parts::control_ep::packets::packet_at;
+use crate::parts::control_ep::packets::write_packet;
 use arrayvec::ArrayVec;
 use crate::parts::descriptor_build::{CONFIGURATION, DEVICE, HID, SERVED_REPORT};
 
@@ -94,22 +94,23 @@ impl ReadData {
         self.sent = 0;
     }
 
-    /// The next packet, and none where all were sent. A whole packet of a descriptor is cut off what is
-    /// left of it.
-    pub(crate) fn next_packet(&mut self) -> Option<ArrayVec<u8, 8>> {
+    /// Writes the next packet, and returns how many bytes it has; none where all were sent. A whole packet
+    /// of a descriptor is cut off what is left of it.
+    pub(crate) fn next_packet(&mut self, packet: &mut [u8; 8]) -> Option<u8> {
         let _asked = self.asked;
         if let Source::Lent(descriptor, left) = self.source {
             if let Some((full, after)) = left.split_first_chunk::<8>() {
                 self.source = Source::Lent(descriptor, after);
                 self.sent += 1;
-                return Some(ArrayVec::from(*full));
+                *packet = *full;
+                return Some(8);
             }
         }
-        let packet = packet_at(self.as_slice(), self.asked, self.sent);
-        if packet.is_some() {
+        let length = write_packet(self.as_slice(), self.asked, self.sent, packet);
+        if length.is_some() {
             self.sent += 1;
         }
-        packet
+        length
     }
 
     /// The bytes.

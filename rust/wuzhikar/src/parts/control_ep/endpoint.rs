@@ -4,8 +4,7 @@
 use crate::parts::control_ep::data::ReadData;
 use crate::parts::control_ep::report::received_report;
 use crate::parts::control_ep::request::{HostReport, Request, Transfer};
-use crate::parts::control_ep::{DeviceReports, DeviceView, Effect, EpAnswer, OutStep, Verdict, Why};
-use arrayvec::ArrayVec;
+use crate::parts::control_ep::{DeviceReports, DeviceView, Effect, EpAnswer, InAnswer, OutStep, Verdict, Why};
 
 /// Where the transfer stands.
 #[derive(Clone, Copy, Debug)]
@@ -90,7 +89,16 @@ impl ControlEp {
     /// The answer is given at the token, and its effect with it: where a controller is handed packets
     /// before they are asked for, the call is made when the packet is taken.
     pub fn in_packet(&mut self) -> (EpAnswer, Effect) {
-        self.answer_in()
+        let mut packet = [0; 8];
+        let (answer, effect) = self.in_packet_into(&mut packet);
+        (answer.with(packet), effect)
+    }
+
+    /// Takes an IN packet as `in_packet` does, and writes its bytes into `packet`, from the start. The
+    /// answer says how many; what stands after them, and in a `packet` that no data packet answers, means
+    /// nothing.
+    pub fn in_packet_into(&mut self, packet: &mut [u8; 8]) -> (InAnswer, Effect) {
+        self.answer_in(packet)
     }
 
     /// Takes an OUT packet (USB 2.0 section 8.5.3): an output report is taken, a feature report is offered
@@ -143,20 +151,26 @@ impl ControlEp {
     }
 
     /// The answer to an IN packet in this stage, and its effect.
-    fn answer_in(&mut self) -> (EpAnswer, Effect) {
+    fn answer_in(&mut self, packet: &mut [u8; 8]) -> (InAnswer, Effect) {
         match self.stage {
-            Stage::Sending => match self.read.next_packet() {
-                Some(packet) => (EpAnswer::Packet(packet), Effect::Nothing),
-                None => (self.stall(Why::WrongStage), Effect::Nothing),
+            Stage::Sending => match self.read.next_packet(packet) {
+                Some(length) => (InAnswer::Packet(length), Effect::Nothing),
+                None => self.refuse_in(),
             },
             Stage::Status(effect) => {
                 self.stage = Stage::Rest;
-                (EpAnswer::Packet(ArrayVec::new()), effect)
+                (InAnswer::Packet(0), effect)
             }
-            Stage::Waiting => (EpAnswer::Nak, Effect::Nothing),
-            Stage::Stalled(why) => (EpAnswer::Stall(why), Effect::Nothing),
-            Stage::Rest | Stage::Taking(_) => (self.stall(Why::WrongStage), Effect::Nothing),
+            Stage::Waiting => (InAnswer::Nak, Effect::Nothing),
+            Stage::Stalled(why) => (InAnswer::Stall(why), Effect::Nothing),
+            Stage::Rest | Stage::Taking(_) => self.refuse_in(),
         }
+    }
+
+    /// Stalls the transfer where no IN packet is due.
+    fn refuse_in(&mut self) -> (InAnswer, Effect) {
+        self.stage = Stage::Stalled(Why::WrongStage);
+        (InAnswer::Stall(Why::WrongStage), Effect::Nothing)
     }
 
     /// What an OUT packet comes to in this stage.

@@ -4,7 +4,7 @@
 use crate::parts::keyboard::feature::{command_in, verdict_of};
 use crate::parts::keyboard::room::Room;
 use crate::parts::keyboard::shown::Shown;
-use crate::parts::control_ep::{ControlEp, Effect, EpAnswer, OutStep, Verdict, Why};
+use crate::parts::control_ep::{ControlEp, Effect, EpAnswer, InAnswer, OutStep, Verdict, Why};
 use wuzhikar_log::parts::flash_model::NorFlash;
 use crate::parts::key_reports::{KeyReports, Protocol, Report, Scan};
 use crate::parts::keymap_store::{StoreOf, Work};
@@ -123,7 +123,16 @@ impl<D: Defaults> KeyboardOf<D> {
     /// and SET_PROTOCOL act with the empty packet; SET_PROTOCOL, whatever it chooses, also forgets
     /// what was sent and drops what waits.
     pub fn in_packet(&mut self) -> EpAnswer {
-        let (answer, effect) = self.ep.in_packet();
+        let mut packet = [0; 8];
+        let answer = self.in_packet_into(&mut packet);
+        answer.with(packet)
+    }
+
+    /// Takes an IN packet as `in_packet` does, and writes its bytes into `packet`, from the start. The
+    /// answer says how many; what stands after them, and in a `packet` that no data packet answers, means
+    /// nothing.
+    pub fn in_packet_into(&mut self, packet: &mut [u8; 8]) -> InAnswer {
+        let (answer, effect) = self.ep.in_packet_into(packet);
         match effect {
             Effect::Nothing => {}
             Effect::Idle(id, duration) => self.keys.set_idle(id, duration),
