@@ -131,8 +131,8 @@ def digest(content):
 
 
 def has_code(text):
-    """Whether a file has anything but comments."""
-    return any(line.strip() and not line.strip().startswith("//") for line in text.split("\n"))
+    """Whether a file has anything but comments and imports."""
+    return any(line.strip() and not line.strip().startswith(("//", "use ")) for line in text.split("\n"))
 
 
 def read_crates(root):

@@ -340,9 +340,10 @@ class Translator:
         return tokens[:before(tokens, first) + 1] + gap + tokens[rest:]
 
     def is_law(self, tokens):
-        """Whether a function is `fn name() {}`."""
+        """Whether a function is `fn name() {}`, or `fn name<E: Trait>() {}`."""
         words = [token.text for token in tokens[self.past_visibility(tokens):] if token.kind not in TRIVIA]
-        return words[0] == "fn" and words[2:] == ["(", ")", "{", "}"]
+        of_types = words[2] == "<" and words[-5] == ">" and "(" not in words[2:-4]
+        return words[0] == "fn" and words[-4:] == ["(", ")", "{", "}"] and (of_types or len(words) == 6)
 
     def inline(self, lead, tokens, key):
         """Says of a function that the rules name that it is inlined."""

@@ -1,11 +1,12 @@
 -- What a guard keeps, call by call.
-use Rattle.std.proofs.Common.{◌≡◌, ℕ, ◌+◌, ◌-◌, ◌==◌, ◌&&◌, ◌||◌, nat_lt, not, Bool, true, false, List, [], ◌∷◌, Option, Some, refl, sym, ap, ◌∙◌, arith}
+use Rattle.std.proofs.Common.{◌≡◌, ℕ, ◌+◌, ◌-◌, ◌==◌, ◌&&◌, ◌||◌, nat_lt, not, Bool, true, false, List, [], ◌∷◌, ◌++◌, Option, Some, refl, sym, ap, subst, ◌∙◌, append_assoc, arith}
 use Rattle.usb_device.specs.declared.answer.EpAnswer.{EpAnswer}
 use Rattle.usb_device.specs.declared.answer.EpAnswer.TheVariants.{Ack, Nak, Packet, Stall}
 use Rattle.usb_device.specs.declared.guard.Guard.{Guard}
+use Rattle.usb_device.specs.declared.guarded.Guarded.{Guarded}
 use Rattle.usb_device.specs.Calls.{EpCall, SetUp, Out, In, Polled, BusReset}
-use Rattle.usb_device.specs.Guarding.{GuardCall, Met, Locked, Scanned, calls_met, is_feature, writes, is_command, is_locked, is_refused, scans_since, zero_if, Passage, Refuses, Waits, Passes, passage_by, passage, passed}
-use Rattle.usb_device.specs.ties.Guarded.{guard_of, is_taken, left_by, Guards}
+use Rattle.usb_device.specs.Guarding.{GuardCall, Met, Locked, Scanned, calls_met, is_feature, writes, is_command, is_locked, is_refused, scans_since, zero_if, Passage, Refuses, Waits, Passes, passage_by, passage, passed, DeviceCall, Serves, SetsLock, Else, Brings, AllBring}
+use Rattle.usb_device.specs.ties.Guarded.{guard_of, is_taken, left_by, Guards, Went}
 
 abbrev pub Stands : Type 0 → Type 1
 Stands E = List EpCall → E → Type 0
@@ -180,3 +181,36 @@ on_out stands pace past packet answer guard next behind new p n s g =
           ∙ ap (λ (x : Bool). record (guard_of pace past) { refused = x; left = pace - scans_since (Met (Out packet answer) ∷ past) }) (sym (neither (is_refused past) (is_locked past && is_command (calls_met past) packet) (passes_by b w q)));
       session = rw q (s g.session);
     }
+
+-- ---- from one moment to another
+
+abbrev pub Told : {E : Type 0} → Stands E → EpCall → Guarded E → Guarded E → Type 0
+Told stands call old new = (pace : ℕ) (past : List GuardCall) → Guards stands pace past old.guard old.behind → Guards stands pace (Met call ∷ past) new.guard new.behind
+
+-- a call of the bus, told for any past, goes on from any moment
+pub goes_on : {E : Type 0} (stands : Stands E) (call : EpCall) (old new : Guarded E) → Told stands call old new
+    → (from : Guarded E) → Went stands (Brings Serves) from old → Went stands (Brings Serves) from new
+goes_on stands call old new t from k = λ pace past s. let a = k pace past s in (Met call ∷ a.0, a.1, t pace (a.0 ++ past) a.2)
+
+pub served : {E : Type 0} (stands : Stands E) (old now : Guarded E) → ((from : Guarded E) → Went stands (Brings Serves) from old → Went stands (Brings Serves) from now)
+    → Went stands (Brings Serves) old now
+served stands old now k = k old (λ pace past g. ([], tt, g))
+
+pub begins : {E : Type 0} (stands : Stands E) (g : Guarded E) → Went stands (AllBring []) g g
+begins stands g = λ pace past s. ([], refl, s)
+
+pub rested : {E : Type 0} (stands : Stands E) (old now : Guarded E) → now ≡ old → Went stands (Brings Else) old now
+rested stands old now e = λ pace past s. ([], refl, subst (λ (x : Guarded _). Guards stands pace past x.guard x.behind) (sym e) s)
+
+pub told_lock : {E : Type 0} (stands : Stands E) (on : Bool) (old now : Guarded E)
+    → ((pace : ℕ) (past : List GuardCall) → Guards stands pace past old.guard old.behind → Guards stands pace (Locked on ∷ past) now.guard now.behind)
+    → Went stands (Brings (SetsLock on)) old now
+told_lock stands on old now t = λ pace past s. (Locked on ∷ [], refl, t pace past s)
+
+pub went_on : {E : Type 0} (stands : Stands E) (call : DeviceCall) (calls : List DeviceCall) (from old now : Guarded E)
+    → Went stands (AllBring calls) from old → Went stands (Brings call) old now → Went stands (AllBring (call ∷ calls)) from now
+went_on stands call calls from old now h k = λ pace past s.
+    let a = h pace past s in
+    let b = k pace (a.0 ++ past) a.2 in
+    let G : List GuardCall → Type 0 = λ x. Guards stands pace x now.guard now.behind in
+    (b.0 ++ a.0, (b.0, a.0, b.1, a.1, refl), subst G (sym (append_assoc b.0 a.0 past)) b.2)

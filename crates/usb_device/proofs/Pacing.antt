@@ -5,7 +5,7 @@ use Rattle.usb_device.specs.declared.answer.EpAnswer.TheVariants.{Ack, Nak, Pack
 use Rattle.usb_device.specs.Calls.{EpCall, SetUp, Out, In, Polled, BusReset}
 use Rattle.usb_device.specs.Bus.{Seen}
 use Rattle.usb_device.specs.Confirmed.{asked_of, taken_of, confirmation, TakesOnly, ConfirmedBefore}
-use Rattle.usb_device.specs.Guarding.{GuardCall, Met, Locked, Scanned, calls_met, scans, is_feature, writes, is_command, one_if, commands_shown, commands_taken, is_locked, is_refused, zero_if, scans_since, Passage, Refuses, Waits, Passes, passage_by, passage, OutAnswer, StallIf, IsGuarded, AllGuarded, call_by, call_unless, passed, StaysLocked, IsStatusStage}
+use Rattle.usb_device.specs.Guarding.{GuardCall, Met, Locked, Scanned, calls_met, scans, is_feature, writes, is_command, one_if, commands_shown, commands_taken, is_locked, is_refused, zero_if, scans_since, Passage, Refuses, Waits, Passes, passage_by, passage, OutAnswer, StallIf, IsGuarded, AllGuarded, call_by, call_unless, passed, StaysLocked, IsStatusStage, DeviceCall, Serves, SetsLock, ScansRows, Else, OnlyMet, Brings, AllBring, locks, KeepsLock, rows_scanned}
 use Rattle.usb_device.proofs.Linked.{takes_as}
 
 -- ---- what goes on to the device behind is of the same transfer
@@ -353,3 +353,64 @@ no_more first now since total (one e h) = rw e (omega arith)
 
 pub between : (pace : ℕ) (since before : List GuardCall) → AllGuarded pace (since ++ before) → scans since < pace → commands_taken (passed pace (since ++ before)) ≤ commands_taken (passed pace before) + 1
 between pace since before all l = no_more _ _ _ _ (at_most_one pace since before all l)
+
+-- ---- on the whole device
+
+met_lock : (new old : List GuardCall) → OnlyMet new → is_locked (new ++ old) ≡ is_locked old
+met_lock [] old m = refl
+met_lock (Met call ∷ new) old m = met_lock new old m
+met_lock (Locked on ∷ new) old m = absurd m
+met_lock (Scanned ∷ new) old m = absurd m
+
+met_stays : (new old : List GuardCall) → OnlyMet new → StaysLocked old → StaysLocked (new ++ old)
+met_stays [] old m s = s
+met_stays (Met call ∷ new) old m s = met_stays new old m s
+met_stays (Locked on ∷ new) old m s = absurd m
+met_stays (Scanned ∷ new) old m s = absurd m
+
+met_scans : (new old : List GuardCall) → OnlyMet new → scans (new ++ old) ≡ scans old
+met_scans [] old m = refl
+met_scans (Met call ∷ new) old m = met_scans new old m
+met_scans (Locked on ∷ new) old m = absurd m
+met_scans (Scanned ∷ new) old m = absurd m
+
+-- what a call brought that brings this alone
+behind : (new old since these : List GuardCall) → since ≡ new ++ old → new ≡ these → since ≡ these ++ old
+behind new old since these e n = e ∙ ap (λ (x : List GuardCall). x ++ old) n
+
+pub lock_is : (calls : List DeviceCall) (past : List GuardCall) → AllBring calls past → is_locked past ≡ locks calls
+lock_is [] past b = ap (λ (x : List GuardCall). is_locked x) b
+lock_is (Serves ∷ calls) past b = ap (λ (x : List GuardCall). is_locked x) b.4 ∙ met_lock b.0 b.1 b.2 ∙ lock_is calls b.1 b.3
+lock_is (SetsLock on ∷ calls) past b = ap (λ (x : List GuardCall). is_locked x) (behind b.0 b.1 past (Locked on ∷ []) b.4 b.2)
+lock_is (ScansRows ∷ calls) past b = ap (λ (x : List GuardCall). is_locked x) (behind b.0 b.1 past (Scanned ∷ []) b.4 b.2) ∙ lock_is calls b.1 b.3
+lock_is (Else ∷ calls) past b = ap (λ (x : List GuardCall). is_locked x) (behind b.0 b.1 past [] b.4 b.2) ∙ lock_is calls b.1 b.3
+
+pub stays_locked : (calls : List DeviceCall) (since : List GuardCall) → AllBring calls since → KeepsLock calls → StaysLocked since
+stays_locked [] since b k = let S : List GuardCall → Type 0 = λ x. StaysLocked x in subst S (sym b) tt
+stays_locked (Serves ∷ calls) since b k =
+    let S : List GuardCall → Type 0 = λ x. StaysLocked x in
+    subst S (sym b.4) (met_stays b.0 b.1 b.2 (stays_locked calls b.1 b.3 k))
+stays_locked (SetsLock on ∷ calls) since b k =
+    let S : List GuardCall → Type 0 = λ x. StaysLocked x in
+    subst S (sym (behind b.0 b.1 since (Locked on ∷ []) b.4 b.2)) (k.0, stays_locked calls b.1 b.3 k.1)
+stays_locked (ScansRows ∷ calls) since b k =
+    let S : List GuardCall → Type 0 = λ x. StaysLocked x in
+    subst S (sym (behind b.0 b.1 since (Scanned ∷ []) b.4 b.2)) (stays_locked calls b.1 b.3 k)
+stays_locked (Else ∷ calls) since b k =
+    let S : List GuardCall → Type 0 = λ x. StaysLocked x in
+    subst S (sym (behind b.0 b.1 since [] b.4 b.2)) (stays_locked calls b.1 b.3 k)
+
+pub scans_are : (calls : List DeviceCall) (since : List GuardCall) → AllBring calls since → scans since ≡ rows_scanned calls
+scans_are [] since b = ap (λ (x : List GuardCall). scans x) b
+scans_are (Serves ∷ calls) since b = ap (λ (x : List GuardCall). scans x) b.4 ∙ met_scans b.0 b.1 b.2 ∙ scans_are calls b.1 b.3
+scans_are (SetsLock on ∷ calls) since b = ap (λ (x : List GuardCall). scans x) (behind b.0 b.1 since (Locked on ∷ []) b.4 b.2) ∙ scans_are calls b.1 b.3
+scans_are (ScansRows ∷ calls) since b =
+    ap (λ (x : List GuardCall). scans x) (behind b.0 b.1 since (Scanned ∷ []) b.4 b.2) ∙ ap (λ (x : ℕ). x + 1) (scans_are calls b.1 b.3)
+scans_are (Else ∷ calls) since b = ap (λ (x : List GuardCall). scans x) (behind b.0 b.1 since [] b.4 b.2) ∙ scans_are calls b.1 b.3
+
+pub between_scans : (pace : ℕ) (calls : List DeviceCall) (since before : List GuardCall) → AllBring calls since → AllGuarded pace (since ++ before) → rows_scanned calls < pace
+    → commands_taken (passed pace (since ++ before)) ≤ commands_taken (passed pace before) + 1
+between_scans pace calls since before b all l = between pace since before all (rw (scans_are calls since b) l)
+
+pub start_scans : (pace : ℕ) (calls : List DeviceCall) (past : List GuardCall) → AllBring calls past → AllGuarded pace past → commands_taken (passed pace past) * pace ≤ rows_scanned calls
+start_scans pace calls past b all = let h = since_start pace past all in rw (scans_are calls past b) at h

@@ -1,5 +1,5 @@
 -- Believed: a maker's lock and pace of feature commands, by the calls of a device that stands before another, newest first.
-use Rattle.std.specs.Prelude.{◌≡◌, ℕ, ◌+◌, ◌==◌, ◌&&◌, ◌||◌, nat_lt, Bool, true, false, List, [], ◌∷◌, slice_index, Option, Some, None}
+use Rattle.std.specs.Prelude.{◌≡◌, ℕ, ◌+◌, ◌==◌, ◌&&◌, ◌||◌, nat_lt, Bool, true, false, List, [], ◌∷◌, ◌++◌, slice_index, Option, Some, None}
 use Rattle.usb_device.specs.declared.answer.EpAnswer.{EpAnswer}
 use Rattle.usb_device.specs.declared.answer.EpAnswer.TheVariants.{Ack, Nak, Stall}
 use Rattle.usb_device.specs.Calls.{EpCall, SetUp, Out, In, Polled, BusReset}
@@ -150,3 +150,50 @@ IsStatusStage (Met (SetUp bytes) ∷ before) = ⊥
 IsStatusStage (Met (Out packet answer) ∷ before) = ⊥
 IsStatusStage (Met BusReset ∷ before) = ⊥
 IsStatusStage (_ ∷ before) = IsStatusStage before
+
+-- a call of a whole device, by what it is to the guard
+pub data DeviceCall : Type 0 where
+  -- `serve`
+  Serves : DeviceCall
+  -- `set_locked`
+  SetsLock : Bool → DeviceCall
+  -- `scan_rows`
+  ScansRows : DeviceCall
+  -- `scan`, `work`, `suspended`, `resumed`, `wakes`
+  Else : DeviceCall
+
+-- these calls all came over the bus
+abbrev pub OnlyMet : List GuardCall → Type 0
+OnlyMet [] = Unit {0}
+OnlyMet (Met call ∷ before) = OnlyMet before
+OnlyMet (Locked on ∷ before) = ⊥
+OnlyMet (Scanned ∷ before) = ⊥
+
+-- what a call of the whole device brings the guard
+abbrev pub Brings : DeviceCall → List GuardCall → Type 0
+Brings Serves since = OnlyMet since
+Brings (SetsLock on) since = since ≡ Locked on ∷ []
+Brings ScansRows since = since ≡ Scanned ∷ []
+Brings Else since = since ≡ []
+
+-- what several bring it, newest first
+abbrev pub AllBring : List DeviceCall → List GuardCall → Type 0
+AllBring [] since = since ≡ []
+AllBring (call ∷ before) since = (new old : List GuardCall) × Brings call new × AllBring before old × (since ≡ new ++ old)
+
+-- the lock is set, by the calls of the whole device: at the start it is not
+abbrev pub locks : List DeviceCall → Bool
+locks [] = false
+locks (SetsLock on ∷ before) = on
+locks (_ ∷ before) = locks before
+
+-- none of these calls takes it away
+abbrev pub KeepsLock : List DeviceCall → Type 0
+KeepsLock [] = Unit {0}
+KeepsLock (SetsLock on ∷ before) = (on ≡ true) × KeepsLock before
+KeepsLock (_ ∷ before) = KeepsLock before
+
+abbrev pub rows_scanned : List DeviceCall → ℕ
+rows_scanned [] = 0
+rows_scanned (ScansRows ∷ before) = rows_scanned before + 1
+rows_scanned (_ ∷ before) = rows_scanned before

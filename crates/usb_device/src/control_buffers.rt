@@ -88,6 +88,7 @@ fn first_transfer(setup: [u8; 8]) -> Transfer
 fn hand_on<E: Endpoints>(reset: bool, setup: [u8; 8], device: &mut E)
     ensures behind_a_reset { (calls : List EpCall) → reset ≡ true → E.stands calls device.old → E.stands (SetUp setup ∷ BusReset ∷ calls) device.new }
     ensures alone { (calls : List EpCall) → reset ≡ false → E.stands calls device.old → E.stands (SetUp setup ∷ calls) device.new }
+    ensures kept { (from : E) → E.keeps from device.old → E.keeps from device.new }
 {
     if reset {
         device.bus_reset();
@@ -139,11 +140,12 @@ impl ControlBuffers {
     /// nothing is withheld: behind the call the buffers hold what is due. OUT stays open behind a packet that was taken, so
     /// that the controller acknowledges a repetition (section 8.6.4); a second packet is not due, and stalls the transfer.
     pub fn serve<E: Endpoints, C: Controller>(&mut self, device: &mut E, controller: &mut C)
-        ensures { (calls : List EpCall) → E.stands calls device.old → Link self.old (C.bus controller.old) calls
+        ensures linked { (calls : List EpCall) → E.stands calls device.old → Link self.old (C.bus controller.old) calls
             → NothingWithheld0 self.old (C.bus controller.old) calls
             → (later : List EpCall) × E.stands later device.new × Link self.new (C.bus controller.new) later
             × NothingWithheld0 self.new (C.bus controller.new) later × KeptOrReset calls later
             × StaysOrReset (C.bus controller.new).met.reset calls later (C.address_of controller.old) (C.address_of controller.new) }
+        ensures kept { (from : E) → E.keeps from device.old → E.keeps from device.new }
     {
         let met = controller.waiting();
         self.take(met, device);
@@ -174,10 +176,11 @@ impl ControlBuffers {
 
     /// Takes what was met.
     fn take<E: Endpoints>(&mut self, met: Waiting, device: &mut E)
-        ensures { (b : Bus) (calls : List EpCall) → E.stands calls device.old → Link self.old b calls → met_view met ≡ b.met
+        ensures linked { (b : Bus) (calls : List EpCall) → E.stands calls device.old → Link self.old b calls → met_view met ≡ b.met
             → NothingWithheld0 self.old b calls
             → (later : List EpCall) × E.stands later device.new × Link self.new (looked b) later × Ready self.new (looked b) later
             × KeptUnless b.met.reset calls later }
+        ensures kept { (from : E) → E.keeps from device.old → E.keeps from device.new }
     {
         match met.setup {
             Some(setup) => {
@@ -198,11 +201,12 @@ impl ControlBuffers {
     /// Takes what was met in the transfer under way.
     #[tactic(auto, using(crate::proofs::Addressing::adds_none))]
     fn follow<E: Endpoints>(&mut self, taken: bool, out: Option<ArrayVec<u8, 8>>, device: &mut E)
-        ensures { (b : Bus) (calls : List EpCall) → E.stands calls device.old → Link self.old b calls
+        ensures linked { (b : Bus) (calls : List EpCall) → E.stands calls device.old → Link self.old b calls
             → b.met.reset ≡ false → b.met.setup ≡ None → b.met.out ≡ option_map (λ p. p.items) out → b.met.taken ≡ taken
             → Rests self.old b calls
             → (later : List EpCall) × E.stands later device.new × Link self.new (looked b) later × Ready self.new (looked b) later
             × Adds [] calls later }
+        ensures kept { (from : E) → E.keeps from device.old → E.keeps from device.new }
     {
         match out {
             Some(packet) => match &self.transfer {
@@ -226,9 +230,10 @@ impl ControlBuffers {
 
     /// The OUT packet of a read, which ends it.
     fn close<E: Endpoints>(&mut self, packet: ArrayVec<u8, 8>, device: &mut E)
-        ensures { (b : Bus) (calls : List EpCall) → E.stands calls device.old → is_pending b.met ≡ false → Link Closing b calls
+        ensures linked { (b : Bus) (calls : List EpCall) → E.stands calls device.old → is_pending b.met ≡ false → Link Closing b calls
             → (later : List EpCall) × E.stands later device.new × Link self.new b later × Ready self.new b later
             × Adds [] calls later }
+        ensures kept { (from : E) → E.keeps from device.old → E.keeps from device.new }
     {
         let answer = device.out(packet.as_slice());
         self.transfer = ended(answer);
@@ -255,6 +260,7 @@ impl ControlBuffers {
             → Ready self.old (C.bus controller.old) calls
             → (later : List EpCall) × E.stands later device.new × Link self.new (C.bus controller.new) later
             × NothingWithheld0 self.new (C.bus controller.new) later × Adds [] calls later }
+        ensures kept { (from : E) → E.keeps from device.old → E.keeps from device.new }
         ensures stays { Stays (C.bus controller.old) (C.bus controller.new) (C.address_of controller.old) (C.address_of controller.new) }
     {
         match &self.transfer {
@@ -288,6 +294,7 @@ impl ControlBuffers {
         ensures linked { (calls : List EpCall) → E.stands calls device.old → Link Due (C.bus controller.old) calls
             → (later : List EpCall) × E.stands later device.new × Link self.new (C.bus controller.new) later
             × NothingWithheld0 self.new (C.bus controller.new) later × Adds [] calls later }
+        ensures kept { (from : E) → E.keeps from device.old → E.keeps from device.new }
         ensures stays { Stays (C.bus controller.old) (C.bus controller.new) (C.address_of controller.old) (C.address_of controller.new) }
     {
         open(controller);
@@ -301,6 +308,7 @@ impl ControlBuffers {
             → (is_pending (C.bus controller.old).met ≡ false → IsOpen (C.bus controller.old))
             → (later : List EpCall) × E.stands later device.new × Link self.new (C.bus controller.new) later
             × NothingWithheld0 self.new (C.bus controller.new) later × Adds [] calls later }
+        ensures kept { (from : E) → E.keeps from device.old → E.keeps from device.new }
         ensures stays { Stays (C.bus controller.old) (C.bus controller.new) (C.address_of controller.old) (C.address_of controller.new) }
     {
         match device.in_packet() {
@@ -331,6 +339,7 @@ impl ControlBuffers {
         ensures linked { (calls : List EpCall) → E.stands calls device.old → Link (ReadDue left) (C.bus controller.old) calls
             → (later : List EpCall) × E.stands later device.new × Link self.new (C.bus controller.new) later
             × NothingWithheld0 self.new (C.bus controller.new) later × Adds [] calls later }
+        ensures kept { (from : E) → E.keeps from device.old → E.keeps from device.new }
         ensures stays { Stays (C.bus controller.old) (C.bus controller.new) (C.address_of controller.old) (C.address_of controller.new) }
     {
         match device.in_packet() {

@@ -84,6 +84,7 @@ impl<'a, E: Endpoints, B: Buffers> Device<'a, E, B> {
         ensures stands { (lent : Lent) → StandsFor lent [] layer.entry → E.stands [] behind → B.bus buffers ≡ blank false
             → Layered E.stands lent [] result.layer result.behind result.reports (B.bus result.buffers) }
         ensures waits { Waited [] result.reports.left }
+        ensures holds { result.behind ≡ behind }
     {
         Device {
             layer,
@@ -115,6 +116,7 @@ impl<'a, E: Endpoints, B: Buffers> Device<'a, E, B> {
         ensures waits { (moments : List Moment) → Waited (Released ∷ moments) self.new.reports.left }
         ensures others { (lent : Lent) (past : List Event) → StandsFor lent past self.old.layer → has_renewed lent past ≡ false
             → (self.new.buffers ≡ self.old.buffers) × (self.new.reports ≡ record self.old.reports { left = 0 }) }
+        ensures behind { self.new.behind ≡ self.old.behind }
     {
         self.reports.release();
         if self.layer.has_renewed() {
@@ -125,18 +127,20 @@ impl<'a, E: Endpoints, B: Buffers> Device<'a, E, B> {
 
     /// The bus is suspended.
     pub fn suspend(&mut self)
-        ensures { (lent : Lent) (past : List Event)
+        ensures stands { (lent : Lent) (past : List Event)
             → Layered E.stands lent past self.old.layer self.old.behind self.old.reports (B.bus self.old.buffers)
             → Layered E.stands lent (SuspendCame ∷ past) self.new.layer self.new.behind self.new.reports (B.bus self.new.buffers) }
+        ensures behind { self.new.behind ≡ self.old.behind }
     {
         self.layer.suspend();
     }
 
     /// The bus goes on.
     pub fn resume(&mut self)
-        ensures { (lent : Lent) (past : List Event)
+        ensures stands { (lent : Lent) (past : List Event)
             → Layered E.stands lent past self.old.layer self.old.behind self.old.reports (B.bus self.old.buffers)
             → Layered E.stands lent (ResumeCame ∷ past) self.new.layer self.new.behind self.new.reports (B.bus self.new.buffers) }
+        ensures behind { self.new.behind ≡ self.old.behind }
     {
         self.layer.resume();
     }
@@ -148,6 +152,7 @@ impl<'a, E: Endpoints, B: Buffers> Device<'a, E, B> {
             → Layered E.stands lent (WakeAsked (report_waits self.old.layer self.old.reports) result ∷ past) self.new.layer self.new.behind self.new.reports (B.bus self.new.buffers) }
         ensures answer { (lent : Lent) (past : List Event) → StandsFor lent past self.old.layer
             → result ≡ wakes_by lent past (report_waits self.old.layer self.old.reports) }
+        ensures behind { self.new.behind ≡ self.old.behind }
     {
         let has_report = self.report_waits();
         self.layer.wakes(has_report)
@@ -174,6 +179,7 @@ impl<'a, E: Endpoints, B: Buffers> Device<'a, E, B> {
             → (later ≡ past) × OnlyTold (B.bus self.old.buffers) (B.bus self.new.buffers)) }
         ensures waits { self.new.reports.left ≡ self.old.reports.left }
         ensures same { self.new.layer.endpoint ≡ self.old.layer.endpoint }
+        ensures kept { (from : E) → E.keeps from self.old.behind → E.keeps from self.new.behind }
     {
         let count = self.buffers.taken_1();
         self.reports.taken(count);
@@ -202,12 +208,13 @@ impl<'a, E: Endpoints, B: Buffers> Device<'a, E, B> {
 
     /// Hands an OUT packet of endpoint 0 to the layer.
     fn take(&mut self, packet: &[u8]) -> EpAnswer
-        ensures { (calls : List EpCall) → ((lent : Lent) × (past : List Event)
+        ensures stands { (calls : List EpCall) → ((lent : Lent) × (past : List Event)
             × Layered E.stands lent past self.old.layer self.old.behind self.old.reports (B.bus self.old.buffers)
             × (no_polls (calls_of past) ≡ no_polls calls))
             → (lent : Lent) × (past : List Event)
             × Layered E.stands lent past self.new.layer self.new.behind self.new.reports (B.bus self.new.buffers)
             × (no_polls (calls_of past) ≡ no_polls (Out packet.now result ∷ calls)) }
+        ensures kept { (from : E) → E.keeps from self.old.behind → E.keeps from self.new.behind }
     {
         self.layer.out_packet(packet, &mut self.behind)
     }
@@ -220,6 +227,7 @@ impl<'a, E: Endpoints, B: Buffers> Device<'a, E, B> {
             × (self.new.reports.course ≡ Rests → (before : List EpCall) × (calls_of later ≡ Polled None ∷ before)) × PolledOnce past later }
         ensures waits { self.new.reports.left ≡ self.old.reports.left }
         ensures same { self.new.layer.endpoint ≡ self.old.layer.endpoint }
+        ensures kept { (from : E) → E.keeps from self.old.behind → E.keeps from self.new.behind }
     {
         if self.reports.is_free() {
             match report_of(self.layer.poll(&mut self.behind)) {
@@ -233,6 +241,8 @@ impl<'a, E: Endpoints, B: Buffers> Device<'a, E, B> {
 impl<'a, E: Endpoints, B: Buffers> Endpoints for Device<'a, E, B> {
     ghost stands = { λ calls d. (lent : Lent) × (past : List Event) × Layered E.stands lent past d.layer d.behind d.reports (B.bus d.buffers)
         × (no_polls (calls_of past) ≡ no_polls calls) };
+
+    ghost keeps = { λ from d. E.keeps from.behind d.behind };
 
     fn setup(&mut self, packet: [u8; 8]) {
         self.layer.setup(packet, &mut self.behind);

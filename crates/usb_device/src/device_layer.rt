@@ -184,6 +184,7 @@ impl<'a> DeviceLayer<'a> {
         ensures stands { (lent : Lent) (past : List Event) → StandsFor lent past self.old → StandsFor lent (SetupCame packet ∷ past) self.new }
         ensures session { (lent : Lent) (past : List Event) → StandsFor lent past self.old → E.stands (session lent past) behind.old
             → E.stands (session lent (SetupCame packet ∷ past)) behind.new }
+        ensures kept { (from : E) → E.keeps from behind.old → E.keeps from behind.new }
     {
         behind.setup(packet);
         self.begin(packet);
@@ -215,6 +216,7 @@ impl<'a> DeviceLayer<'a> {
         ensures stands { (lent : Lent) (past : List Event) → StandsFor lent past self.old → StandsFor lent (OutCame packet.now result ∷ past) self.new }
         ensures session { (lent : Lent) (past : List Event) → StandsFor lent past self.old → E.stands (session lent past) behind.old
             → E.stands (session lent (OutCame packet.now result ∷ past)) behind.new }
+        ensures kept { (from : E) → E.keeps from behind.old → E.keeps from behind.new }
     {
         self.answer_out(packet, behind)
     }
@@ -223,6 +225,7 @@ impl<'a> DeviceLayer<'a> {
         ensures answer { OutAnswer self.old.stage packet.now result }
         ensures left { self.new ≡ state_then self.old (OutCame packet.now result) }
         ensures calls { (past : List EpCall) → E.stands past behind.old → E.stands (calls_then self.old (OutCame packet.now result) past) behind.new }
+        ensures kept { (from : E) → E.keeps from behind.old → E.keeps from behind.new }
     {
         match &self.stage {
             Stage::Theirs => behind.out(packet),
@@ -243,6 +246,7 @@ impl<'a> DeviceLayer<'a> {
         ensures change { result.1 ≡ change_of self.old.stage }
         ensures session { (lent : Lent) (past : List Event) → StandsFor lent past self.old → E.stands (session lent past) behind.old
             → E.stands (session lent (InAsked result.0 ∷ past)) behind.new }
+        ensures kept { (from : E) → E.keeps from behind.old → E.keeps from behind.new }
     {
         self.answer_in(behind)
     }
@@ -252,6 +256,7 @@ impl<'a> DeviceLayer<'a> {
         ensures change { result.1 ≡ change_of self.old.stage }
         ensures left { self.new ≡ state_then self.old (InAsked result.0) }
         ensures calls { (past : List EpCall) → E.stands past behind.old → E.stands (calls_then self.old (InAsked result.0) past) behind.new }
+        ensures kept { (from : E) → E.keeps from behind.old → E.keeps from behind.new }
     {
         match &mut self.stage {
             Stage::Theirs => (behind.in_packet(), None),
@@ -302,6 +307,7 @@ impl<'a> DeviceLayer<'a> {
         ensures same { self.new ≡ self.old }
         ensures session { (lent : Lent) (past : List Event) → StandsFor lent past self.old → E.stands (session lent past) behind.old
             → E.stands (session lent (PollAsked result ∷ past)) behind.new }
+        ensures kept { (from : E) → E.keeps from behind.old → E.keeps from behind.new }
     {
         self.answer_poll(behind)
     }
@@ -310,6 +316,7 @@ impl<'a> DeviceLayer<'a> {
         ensures answer { PollAnswers self.old.endpoint result }
         ensures left { self.new ≡ self.old }
         ensures calls { (past : List EpCall) → E.stands past behind.old → E.stands (calls_then self.old (PollAsked result) past) behind.new }
+        ensures kept { (from : E) → E.keeps from behind.old → E.keeps from behind.new }
     {
         match self.endpoint {
             Endpoint1::Off => PollAnswer::Nothing,
@@ -326,6 +333,7 @@ impl<'a> DeviceLayer<'a> {
         ensures stands { (lent : Lent) (past : List Event) → StandsFor lent past self.old → StandsFor lent (ResetCame ∷ past) self.new }
         ensures session { (lent : Lent) (past : List Event) → StandsFor lent past self.old → E.stands (session lent past) behind.old
             → E.stands (session lent (ResetCame ∷ past)) behind.new }
+        ensures kept { (from : E) → E.keeps from behind.old → E.keeps from behind.new }
     {
         self.answer_reset(behind);
     }
@@ -334,6 +342,7 @@ impl<'a> DeviceLayer<'a> {
     fn answer_reset<E: Endpoints>(&mut self, behind: &mut E)
         ensures left { self.new ≡ state_then self.old ResetCame }
         ensures calls { (past : List EpCall) → E.stands past behind.old → E.stands (calls_then self.old ResetCame past) behind.new }
+        ensures kept { (from : E) → E.keeps from behind.old → E.keeps from behind.new }
     {
         behind.bus_reset();
         self.endpoint = Endpoint1::Off;

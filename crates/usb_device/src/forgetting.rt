@@ -136,6 +136,8 @@ impl<E: Endpoints> Forgetting<E> {
 impl<E: Endpoints> Endpoints for Forgetting<E> {
     ghost stands = { λ calls f. StandsBehind E.stands calls f.forgets f.behind };
 
+    ghost keeps = { λ from f. E.keeps from.behind f.behind };
+
     fn setup(&mut self, packet: [u8; 8]) {
         self.forgets.setup(packet);
         self.behind.setup(packet);

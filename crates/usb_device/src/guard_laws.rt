@@ -1,11 +1,15 @@
 //! What a lock and a pace hold, whatever the host asks.
 
-ghost use Rattle.std.specs.Prelude.{◌≡◌, ◌≤◌, ◌<◌, ◌+◌, ◌*◌, ◌∷◌, ◌++◌, ℕ, true, false, List};
+ghost use Rattle.std.specs.Prelude.{◌≡◌, ◌≤◌, ◌<◌, ◌+◌, ◌*◌, ◌∷◌, ◌++◌, [], ℕ, Bool, true, false, List};
 ghost use Rattle.usb_device.specs.declared.answer.EpAnswer.{EpAnswer};
 ghost use Rattle.usb_device.specs.Bus.{Seen};
 ghost use Rattle.usb_device.specs.Calls.{Out};
 ghost use Rattle.usb_device.specs.Confirmed.{ConfirmedBefore, asked_of};
-ghost use Rattle.usb_device.specs.Guarding.{GuardCall, Met, Passes, calls_met, scans, is_feature, is_command, is_locked, is_refused, passage, passed, AllGuarded, StaysLocked, IsStatusStage, commands_shown, commands_taken};
+ghost use Rattle.usb_device.specs.Guarding.{GuardCall, Met, Locked, Passes, DeviceCall, Serves, SetsLock, Else, Brings, AllBring, locks, KeepsLock, rows_scanned, calls_met, scans, is_feature, is_command, is_locked, is_refused, passage, passed, AllGuarded, StaysLocked, IsStatusStage, commands_shown, commands_taken};
+ghost use Rattle.usb_device.specs.declared.guarded.Guarded.{Guarded};
+ghost use Rattle.usb_device.specs.ties.Guarded.{Guards, Went};
+
+use crate::{Endpoints, Guarded};
 
 /// While the lock is set a feature command is stalled, and the device behind sees none: so it accepts none.
 pub fn none_while_locked()
@@ -37,4 +41,38 @@ pub fn one_command_in_a_pace()
     ensures between { (pace : ℕ) (since before : List GuardCall) → AllGuarded pace (since ++ before) → scans since < pace
         → commands_taken (passed pace (since ++ before)) ≤ commands_taken (passed pace before) + 1 }
     ensures since_start { (pace : ℕ) (past : List GuardCall) → AllGuarded pace past → commands_taken (passed pace past) * pace ≤ scans past }
+{}
+
+/// What a call of a whole device, `UsbDevice` over `Guarded`, is to the guard: `serve` brings it calls of the bus alone,
+/// `set_locked` the lock alone, and a call that leaves the guard and the device behind as they were brings nothing.
+/// `scan_rows` and `work` say it by their clause `made`.
+pub fn a_call_of_the_whole_device<E: Endpoints>()
+    ensures serves { (old now : Guarded E) → ((from : Guarded E) → ⟦<Guarded<E> as Endpoints>⟧.keeps from old → ⟦<Guarded<E> as Endpoints>⟧.keeps from now)
+        → Went E.stands (Brings Serves) old now }
+    ensures locks { (on : Bool) (old now : Guarded E)
+        → ((pace : ℕ) (past : List GuardCall) → Guards E.stands pace past old.guard old.behind → Guards E.stands pace (Locked on ∷ past) now.guard now.behind)
+        → Went E.stands (Brings (SetsLock on)) old now }
+    ensures rests { (old now : Guarded E) → now ≡ old → Went E.stands (Brings Else) old now }
+{}
+
+/// What a history of such calls is to the guard is what each of them brings, one after the other.
+pub fn a_history_of_the_whole_device<E: Endpoints>()
+    ensures begins { (g : Guarded E) → Went E.stands (AllBring []) g g }
+    ensures goes_on { (call : DeviceCall) (calls : List DeviceCall) (from old now : Guarded E)
+        → Went E.stands (AllBring calls) from old → Went E.stands (Brings call) old now → Went E.stands (AllBring (call ∷ calls)) from now }
+{}
+
+/// What lock and pace hold on the whole device, by its calls. While the lock is set the device behind accepts no feature command,
+/// and sees none. In fewer calls of `scan_rows` than the pace it accepts at most one, and since the start at most one for each pace.
+/// One that was accepted before the lock goes on (`what_began_goes_on`).
+pub fn lock_and_pace_on_the_whole_device()
+    ensures locked { (calls : List DeviceCall) (past : List GuardCall) → AllBring calls past → is_locked past ≡ locks calls }
+    ensures shown { (pace : ℕ) (calls : List DeviceCall) (since before : List GuardCall) → AllBring calls since → is_locked before ≡ true → KeepsLock calls
+        → commands_shown (passed pace (since ++ before)) ≡ commands_shown (passed pace before) }
+    ensures taken { (pace : ℕ) (calls : List DeviceCall) (since before : List GuardCall) → AllBring calls since → is_locked before ≡ true → KeepsLock calls
+        → commands_taken (passed pace (since ++ before)) ≡ commands_taken (passed pace before) }
+    ensures between { (pace : ℕ) (calls : List DeviceCall) (since before : List GuardCall) → AllBring calls since → AllGuarded pace (since ++ before) → rows_scanned calls < pace
+        → commands_taken (passed pace (since ++ before)) ≤ commands_taken (passed pace before) + 1 }
+    ensures since_start { (pace : ℕ) (calls : List DeviceCall) (past : List GuardCall) → AllBring calls past → AllGuarded pace past
+        → commands_taken (passed pace past) * pace ≤ rows_scanned calls }
 {}

@@ -3,7 +3,7 @@
 ghost use Rattle.std.specs.Prelude.{◌≡◌, ◌∷◌, [], ℕ, min, List};
 ghost use Rattle.std.specs.Option.{option_map};
 ghost use Rattle.usb_device.specs.Calls.{EpCall, SetUp, Out, In, Polled, BusReset};
-ghost use Rattle.usb_device.specs.Guarding.{GuardCall, Met, Locked, Scanned};
+ghost use Rattle.usb_device.specs.Guarding.{GuardCall, Met, Locked, Scanned, Serves, ScansRows, Else, Brings};
 ghost use Rattle.usb_device.specs.ties.Guarded.{Guards};
 
 use crate::guard::{Guard, Passage};
@@ -70,13 +70,17 @@ impl<E: Endpoints> Guarded<E> {
 }
 
 impl<E: Endpoints> Endpoints for Guarded<E> {
-    ghost use Rattle.usb_device.specs.ties.Guarded.{StandsGuarded};
+    ghost use Rattle.usb_device.specs.declared.guarded.Guarded.{Guarded};
+    ghost use Rattle.usb_device.specs.ties.Guarded.{StandsGuarded, Went};
 
     ghost stands = { λ calls g. StandsGuarded E.stands calls g.guard g.behind };
+
+    ghost keeps = { λ from g. Went E.stands (Brings Serves) from g };
 
     fn setup(&mut self, packet: [u8; 8])
         ensures told { (pace : ℕ) (past : List GuardCall) → Guards E.stands pace past self.old.guard self.old.behind
             → Guards E.stands pace (Met (SetUp packet) ∷ past) self.new.guard self.new.behind }
+        ensures kept { (from : Guarded E) → Went E.stands (Brings Serves) from self.old → Went E.stands (Brings Serves) from self.new }
     {
         self.guard.setup(packet);
         self.behind.setup(packet);
@@ -85,6 +89,7 @@ impl<E: Endpoints> Endpoints for Guarded<E> {
     fn out(&mut self, packet: &[u8]) -> EpAnswer
         ensures told { (pace : ℕ) (past : List GuardCall) → Guards E.stands pace past self.old.guard self.old.behind
             → Guards E.stands pace (Met (Out packet.now result) ∷ past) self.new.guard self.new.behind }
+        ensures kept { (from : Guarded E) → Went E.stands (Brings Serves) from self.old → Went E.stands (Brings Serves) from self.new }
     {
         match self.guard.passage(packet) {
             Passage::Refuses => {
@@ -103,6 +108,7 @@ impl<E: Endpoints> Endpoints for Guarded<E> {
     fn in_packet(&mut self) -> EpAnswer
         ensures told { (pace : ℕ) (past : List GuardCall) → Guards E.stands pace past self.old.guard self.old.behind
             → Guards E.stands pace (Met (In result) ∷ past) self.new.guard self.new.behind }
+        ensures kept { (from : Guarded E) → Went E.stands (Brings Serves) from self.old → Went E.stands (Brings Serves) from self.new }
     {
         if self.guard.is_refused() {
             EpAnswer::Stall
@@ -114,6 +120,7 @@ impl<E: Endpoints> Endpoints for Guarded<E> {
     fn poll(&mut self) -> Option<Report>
         ensures told { (pace : ℕ) (past : List GuardCall) → Guards E.stands pace past self.old.guard self.old.behind
             → Guards E.stands pace (Met (Polled (option_map (λ r. r.items) result)) ∷ past) self.new.guard self.new.behind }
+        ensures kept { (from : Guarded E) → Went E.stands (Brings Serves) from self.old → Went E.stands (Brings Serves) from self.new }
     {
         self.behind.poll()
     }
@@ -121,6 +128,7 @@ impl<E: Endpoints> Endpoints for Guarded<E> {
     fn bus_reset(&mut self)
         ensures told { (pace : ℕ) (past : List GuardCall) → Guards E.stands pace past self.old.guard self.old.behind
             → Guards E.stands pace (Met BusReset ∷ past) self.new.guard self.new.behind }
+        ensures kept { (from : Guarded E) → Went E.stands (Brings Serves) from self.old → Went E.stands (Brings Serves) from self.new }
     {
         self.guard.reset();
         self.behind.bus_reset();
@@ -128,24 +136,30 @@ impl<E: Endpoints> Endpoints for Guarded<E> {
 }
 
 impl<E: Works> Works for Guarded<E> {
-    ghost works = { λ g n. E.works g.behind n.behind };
+    ghost use Rattle.usb_device.specs.ties.Guarded.{Went};
+
+    ghost works = { λ g n. E.works g.behind n.behind × Went E.Endpoints.stands (Brings Else) g n };
 
     fn work(&mut self)
         ensures made { E.works self.old.behind self.new.behind }
         ensures told { (pace : ℕ) (past : List GuardCall) → Guards E.Endpoints.stands pace past self.old.guard self.old.behind
             → Guards E.Endpoints.stands pace past self.new.guard self.new.behind }
+        ensures went { Went E.Endpoints.stands (Brings Else) self.old self.new }
     {
         self.behind.work();
     }
 }
 
 impl<E: ScansMatrix> ScansMatrix for Guarded<E> {
-    ghost scans = { λ g rows n. E.scans g.behind rows n.behind };
+    ghost use Rattle.usb_device.specs.ties.Guarded.{Went};
+
+    ghost scans = { λ g rows n. E.scans g.behind rows n.behind × Went E.Endpoints.stands (Brings ScansRows) g n };
 
     fn scan(&mut self, rows: [u16; 6])
         ensures made { E.scans self.old.behind rows self.new.behind }
         ensures told { (pace : ℕ) (past : List GuardCall) → Guards E.Endpoints.stands pace past self.old.guard self.old.behind
             → Guards E.Endpoints.stands pace (Scanned ∷ past) self.new.guard self.new.behind }
+        ensures went { Went E.Endpoints.stands (Brings ScansRows) self.old self.new }
     {
         self.guard.scan();
         self.behind.scan(rows);

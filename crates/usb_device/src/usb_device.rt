@@ -115,9 +115,10 @@ impl<'a, E: Endpoints, B: Buffers> UsbDevice<'a, E, B> {
         buffers: B,
         size: PacketSize,
     ) -> UsbDevice<'a, E, B>
-        ensures { (lent : Lent) → StandsFor lent [] layer.entry → E.stands [] behind → B.bus buffers ≡ blank false
+        ensures stands { (lent : Lent) → StandsFor lent [] layer.entry → E.stands [] behind → B.bus buffers ≡ blank false
             → (result.control ≡ Idle)
             × Layered E.stands lent [] result.device.layer result.device.behind result.device.reports (B.bus result.device.buffers) }
+        ensures holds { result.device.behind ≡ behind }
     {
         UsbDevice {
             control: ControlBuffers::new(),
@@ -141,7 +142,7 @@ impl<'a, E: Endpoints, B: Buffers> UsbDevice<'a, E, B> {
     /// What a host saw the end of is confirmed by the device behind (`laws::confirmed_on_the_bus`), and the host takes as new
     /// the reports of the device behind, each whole, in their order (`laws::reports_are_got_in_order`). Nothing is withheld.
     pub fn serve<C: Controller>(&mut self, controller: &mut C)
-        ensures { (calls : List EpCall) (lent : Lent) (past : List Event)
+        ensures runs { (calls : List EpCall) (lent : Lent) (past : List Event)
             → Runs E.stands self.old.control (C.bus controller.old) calls lent past self.old.device.layer self.old.device.behind self.old.device.reports (B.bus self.old.device.buffers)
             → (later : List EpCall) × (named : Lent) × (since : List Event)
             × Runs E.stands self.new.control (C.bus controller.new) later named since self.new.device.layer self.new.device.behind self.new.device.reports (B.bus self.new.device.buffers)
@@ -149,6 +150,7 @@ impl<'a, E: Endpoints, B: Buffers> UsbDevice<'a, E, B> {
             (B.bus self.new.device.buffers) (calls_of since)
             × Addressed (is_done self.new.control) self.new.device.layer.due (C.bus controller.new).met.reset calls later (C.address_of controller.old) (C.address_of controller.new)
             × KeptOrReset calls later }
+        ensures kept { (from : E) → E.keeps from self.old.device.behind → E.keeps from self.new.device.behind }
     {
         self.control.serve(&mut self.device, controller);
         self.settle();
@@ -159,18 +161,20 @@ impl<'a, E: Endpoints, B: Buffers> UsbDevice<'a, E, B> {
     /// The bus is suspended: the controller saw it idle for 3 ms (section 7.1.7.6). Address and configuration stay. `resumed`, a SETUP
     /// packet and a reset of the bus end it.
     pub fn suspended(&mut self)
-        ensures { (b : Bus) (calls : List EpCall) (lent : Lent) (past : List Event)
+        ensures runs { (b : Bus) (calls : List EpCall) (lent : Lent) (past : List Event)
             → Runs E.stands self.old.control b calls lent past self.old.device.layer self.old.device.behind self.old.device.reports (B.bus self.old.device.buffers)
             → Runs E.stands self.new.control b calls lent (SuspendCame ∷ past) self.new.device.layer self.new.device.behind self.new.device.reports (B.bus self.new.device.buffers) }
+        ensures behind { self.new.device.behind ≡ self.old.device.behind }
     {
         self.device.suspend();
     }
 
     /// The bus goes on: the controller saw it resume (section 7.1.7.7).
     pub fn resumed(&mut self)
-        ensures { (b : Bus) (calls : List EpCall) (lent : Lent) (past : List Event)
+        ensures runs { (b : Bus) (calls : List EpCall) (lent : Lent) (past : List Event)
             → Runs E.stands self.old.control b calls lent past self.old.device.layer self.old.device.behind self.old.device.reports (B.bus self.old.device.buffers)
             → Runs E.stands self.new.control b calls lent (ResumeCame ∷ past) self.new.device.layer self.new.device.behind self.new.device.reports (B.bus self.new.device.buffers) }
+        ensures behind { self.new.device.behind ≡ self.old.device.behind }
     {
         self.device.resume();
     }
@@ -186,6 +190,7 @@ impl<'a, E: Endpoints, B: Buffers> UsbDevice<'a, E, B> {
         ensures answer { (b : Bus) (calls : List EpCall) (lent : Lent) (past : List Event)
             → Runs E.stands self.old.control b calls lent past self.old.device.layer self.old.device.behind self.old.device.reports (B.bus self.old.device.buffers)
             → result ≡ wakes_by lent past (report_waits self.old.device.layer self.old.device.reports) }
+        ensures behind { self.new.device.behind ≡ self.old.device.behind }
     {
         self.device.wakes()
     }
@@ -208,6 +213,7 @@ impl<'a, E: Endpoints, B: Buffers> UsbDevice<'a, E, B> {
             → Layered E.stands lent past self.new.device.layer self.new.device.behind self.new.device.reports (B.bus self.new.device.buffers) }
         ensures known { is_done self.old.control ≡ false → self.new ≡ self.old }
         ensures same { self.new.control ≡ self.old.control }
+        ensures behind { self.new.device.behind ≡ self.old.device.behind }
     {
         if self.control.is_done() {
             self.device.is_done();

@@ -1,5 +1,5 @@
 -- Only ties code to its definitions: what a guard keeps of the calls, and the device behind it.
-use Rattle.std.specs.Prelude.{◌≡◌, ℕ, ◌-◌, Bool, true, false, List}
+use Rattle.std.specs.Prelude.{◌≡◌, ℕ, ◌-◌, Bool, true, false, List, ◌++◌}
 use Rattle.usb_device.specs.declared.answer.EpAnswer.{EpAnswer}
 use Rattle.usb_device.specs.declared.answer.EpAnswer.TheVariants.{Ack}
 use Rattle.usb_device.specs.declared.guard.Guard.{Guard}
@@ -42,3 +42,8 @@ StandsGuarded stands calls guard behind = (pace : ℕ) × (past : List GuardCall
 
 abbrev pub guarded_stands : {E : Type 0} → (List EpCall → E → Type 0) → List EpCall → Guarded E → Type 0
 guarded_stands stands calls g = StandsGuarded stands calls g.guard g.behind
+
+-- the device has come from there to here by such calls, on whatever it stood for
+abbrev pub Went : {E : Type 0} → (List EpCall → E → Type 0) → (List GuardCall → Type 0) → Guarded E → Guarded E → Type 0
+Went stands such from now = (pace : ℕ) (past : List GuardCall) → Guards stands pace past from.guard from.behind
+    → (since : List GuardCall) × such since × Guards stands pace (since ++ past) now.guard now.behind

@@ -12,7 +12,7 @@ returns-then-asked-eq0 g c = λ past s. ([], s, no_data (sym c.length_of-asked.e
 pub returns-in-Ok : goal.returns-in-Ok
 returns-in-Ok g c = λ past s.
     let setup = c.args.setup in
-    let r = c.receive.ensures (SetUp setup ∷ past) (c.setup.ensures past s) in
+    let r = c.receive.ensures (SetUp setup ∷ past) (c.setup.ensures.stands past s) in
     let m = subst (λ x. MatchResult x (λ bytes. Receives c.length_of-asked.result bytes.items r.0) (λ e. NotReceived e c.length_of-asked.result r.0)) c.in-Ok.is r.2 in
     let got = subst (λ (n : ℕ). Receives n c.in-Ok.bytes.items r.0) c.length_of-asked.ensures m in
     let d = c.close.ensures (r.0 ++ SetUp setup ∷ past) r.1 in (
@@ -24,7 +24,7 @@ returns-in-Ok g c = λ past s.
 pub returns-in-Err : goal.returns-in-Err
 returns-in-Err g c = λ past s.
     let setup = c.args.setup in
-    let r = c.receive.ensures (SetUp setup ∷ past) (c.setup.ensures past s) in
+    let r = c.receive.ensures (SetUp setup ∷ past) (c.setup.ensures.stands past s) in
     let m = subst (λ x. MatchResult x (λ bytes. Receives c.length_of-asked.result bytes.items r.0) (λ e. NotReceived e c.length_of-asked.result r.0)) c.in-Err.is r.2 in
     let got = subst (λ (n : ℕ). NotReceived c.in-Err.error n r.0) c.length_of-asked.ensures m in (
       r.0 ++ (SetUp setup ∷ []),

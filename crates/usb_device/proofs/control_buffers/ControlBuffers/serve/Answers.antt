@@ -6,11 +6,11 @@ use Rattle.usb_device.proofs.Linked.{goes}
 use Rattle.usb_device.proofs.Resting.{rest_goes}
 use Rattle.usb_device.proofs.control_buffers.ControlBuffers.serve.Goals as goal
 
-pub returns : goal.returns
-returns g c = λ calls s h r.
+pub returns-clause-linked : goal.returns-clause-linked
+returns-clause-linked g c = λ calls s h r.
     let w = c.waiting-met.ensures.met in
     let linked = goes w.0 c.args.self.now _ w.1 calls w.2 h in
-    let taken = c.take.ensures w.1 calls s linked w.3 (rest_goes w.0 c.args.self.now (g.C.Controller.bus c.args.controller.now) w.1 calls w.2 r) in
+    let taken = c.take.ensures.linked w.1 calls s linked w.3 (rest_goes w.0 c.args.self.now (g.C.Controller.bus c.args.controller.now) w.1 calls w.2 r) in
     let x = c.go_on.ensures.linked taken.0 taken.1 (rw w.4 taken.2) (rw w.4 taken.3) in
     let kept = kept_further w.1.met.reset calls taken.0 x.0 taken.4 x.4 in
     let S : Bool → Type 0 = λ y. StaysBy y (g.C.Controller.address_of c.args.controller.now) (g.C.Controller.address_of c.waiting-met.new.self) in

@@ -7,8 +7,8 @@ use Rattle.usb_device.proofs.Moving.{begins, behind_reset, stood, kept_behind, s
 use Rattle.usb_device.proofs.Resting.{begun_ready}
 use Rattle.usb_device.proofs.control_buffers.ControlBuffers.take.Goals as goal
 
-pub returns-in-Some : goal.returns-in-Some
-returns-in-Some g c = λ b calls s h e r.
+pub returns-in-Some-clause-linked : goal.returns-in-Some-clause-linked
+returns-in-Some-clause-linked g c = λ b calls s h e r.
     let setup = c.in-Some.setup in
     let n : b.met.setup ≡ Some setup = sym (ap (λ (m : Met). m.setup) e) ∙ c.in-Some.is in
     let t = c.first_transfer-self-inside.result in
@@ -23,17 +23,17 @@ returns-in-Some g c = λ b calls s h e r.
       same_behind b.met.reset setup calls,
     )
 
-pub returns-then-met : goal.returns-then-met
-returns-then-met g c = λ b calls s h e r.
+pub returns-then-met-clause-linked : goal.returns-then-met-clause-linked
+returns-then-met-clause-linked g c = λ b calls s h e r.
     let n : b.met.setup ≡ None = sym (ap (λ (m : Met). m.setup) e) ∙ c.in-None.is in
     let q : b.met.reset ≡ true = sym (ap (λ (m : Met). m.reset) e) ∙ c.if-met.true in
     let K : Bool → Type 0 = λ x. KeptUnless x calls (BusReset ∷ calls) in
-    (BusReset ∷ calls, c.bus_reset.ensures calls s, resets c.args.self.now b calls h q n, refl, subst K (sym q) (BusReset ∷ [], refl, refl))
+    (BusReset ∷ calls, c.bus_reset.ensures.stands calls s, resets c.args.self.now b calls h q n, refl, subst K (sym q) (BusReset ∷ [], refl, refl))
 
-pub returns-else-met : goal.returns-else-met
-returns-else-met g c = λ b calls s h e r.
+pub returns-else-met-clause-linked : goal.returns-else-met-clause-linked
+returns-else-met-clause-linked g c = λ b calls s h e r.
     let n : b.met.setup ≡ None = sym (ap (λ (m : Met). m.setup) e) ∙ c.in-None.is in
     let q : b.met.reset ≡ false = sym (ap (λ (m : Met). m.reset) e) ∙ c.if-met.false in
-    let f = c.follow.ensures b calls s h q n (sym (ap (λ (m : Met). m.out) e)) (sym (ap (λ (m : Met). m.taken) e)) (r (not_pending b.met q n)) in
+    let f = c.follow.ensures.linked b calls s h q n (sym (ap (λ (m : Met). m.out) e)) (sym (ap (λ (m : Met). m.taken) e)) (r (not_pending b.met q n)) in
     let K : Bool → Type 0 = λ x. KeptUnless x calls f.0 in
     (f.0, f.1, f.2, f.3, subst K (sym q) f.4)

@@ -5,8 +5,8 @@ use Rattle.usb_device.specs.Through.{calls_of}
 use Rattle.usb_device.proofs.Reporting.{same_reports}
 use Rattle.usb_device.proofs.device.Device.take.Goals as goal
 
-pub returns : goal.returns
-returns g c = λ calls p.
+pub returns-clause-stands : goal.returns-clause-stands
+returns-clause-stands g c = λ calls p.
     let call = Out c.args.packet.now c.out_packet.result in
     let e = c.out_packet.ensures in (
       p.0,

@@ -6,8 +6,8 @@ use Rattle.usb_device.specs.Through.{calls_of}
 use Rattle.usb_device.specs.ties.Link1.{Link1, InStep}
 use Rattle.usb_device.proofs.device.DeviceEndpoints.bus_reset.Goals as goal
 
-pub returns : goal.returns
-returns g c = λ calls p.
+pub returns-clause-stands : goal.returns-clause-stands
+returns-clause-stands g c = λ calls p.
     let e = c.bus_reset.ensures in
     let P : Bus1 → Type 0 = λ x. Link1 c.reset.new.self x (BusReset ∷ calls_of p.1) × InStep [] x in
     let q = subst P (sym c.forget.ensures) (c.reset.ensures.linked (calls_of p.1), λ _. refl) in

@@ -8,8 +8,8 @@ use Rattle.usb_device.specs.ties.Link1.{InStep}
 use Rattle.usb_device.specs.ties.Layered.{endpoint_set, with_state, states_set}
 use Rattle.usb_device.proofs.device.DeviceEndpoints.in_packet.Goals as goal
 
-pub returns : goal.returns
-returns g c = λ calls p.
+pub returns-clause-stands : goal.returns-clause-stands
+returns-clause-stands g c = λ calls p.
     let answer = c.in_packet-answer.result.0 in
     let change = c.in_packet-answer.result.1 in
     let e = c.in_packet-answer.ensures in

@@ -4,8 +4,8 @@ use Rattle.usb_device.specs.Events.{SetupCame}
 use Rattle.usb_device.specs.Through.{calls_of}
 use Rattle.usb_device.proofs.device.DeviceEndpoints.setup.Goals as goal
 
-pub returns : goal.returns
-returns g c = λ calls p.
+pub returns-clause-stands : goal.returns-clause-stands
+returns-clause-stands g c = λ calls p.
     let e = c.setup.ensures in
     let b = g.B.Buffers.bus c.args.self.now.buffers in (
       p.0,

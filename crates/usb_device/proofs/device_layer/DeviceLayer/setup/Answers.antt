@@ -7,4 +7,4 @@ pub returns-clause-stands : goal.returns-clause-stands
 returns-clause-stands g c = λ lent past h. next lent past c.args.self.now _ (SetupCame c.args.packet) h (tt) (c.begin.ensures)
 
 pub returns-clause-session : goal.returns-clause-session
-returns-clause-session g c = λ lent past h s. called g.E.Endpoints.stands _ lent past c.args.self.now (SetupCame c.args.packet) h (c.setup.ensures (session lent past) s)
+returns-clause-session g c = λ lent past h s. called g.E.Endpoints.stands _ lent past c.args.self.now (SetupCame c.args.packet) h (c.setup.ensures.stands (session lent past) s)

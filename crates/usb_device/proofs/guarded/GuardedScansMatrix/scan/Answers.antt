@@ -1,4 +1,5 @@
-use Rattle.usb_device.specs.Guarding.{passed}
+use Rattle.std.proofs.Common.{[], ◌∷◌, refl}
+use Rattle.usb_device.specs.Guarding.{Scanned, passed}
 use Rattle.usb_device.proofs.Locking.{on_scan}
 use Rattle.usb_device.proofs.guarded.GuardedScansMatrix.scan.Goals as goal
 
@@ -6,4 +7,9 @@ pub returns : goal.returns
 returns g c = record {
   made = c.scan-2.ensures.made;
   told = λ pace past s. on_scan g.E.Endpoints.stands pace past c.args.self.now.guard _ c.args.self.now.behind _ c.scan.ensures (c.scan-2.ensures.stands (passed pace past)) s;
+  went = λ pace past s. (
+    Scanned ∷ [],
+    refl,
+    on_scan g.E.Endpoints.stands pace past c.args.self.now.guard _ c.args.self.now.behind _ c.scan.ensures (c.scan-2.ensures.stands (passed pace past)) s,
+  );
 }

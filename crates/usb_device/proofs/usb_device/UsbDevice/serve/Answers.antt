@@ -12,9 +12,9 @@ use Rattle.usb_device.proofs.Resting.{rest_goes}
 use Rattle.usb_device.proofs.Addressing.{addressed}
 use Rattle.usb_device.proofs.usb_device.UsbDevice.serve.Goals as goal
 
-pub returns : goal.returns
-returns g c = λ calls lent past h.
-    let a = c.serve.ensures calls (lent, past, h.2, h.3) h.0 h.1 in
+pub returns-clause-runs : goal.returns-clause-runs
+returns-clause-runs g c = λ calls lent past h.
+    let a = c.serve.ensures.linked calls (lent, past, h.2, h.3) h.0 h.1 in
     let bus = g.C.Controller.bus c.tell.new.controller in
     let b = g.B.Buffers.bus c.serve_reports.new.self.buffers in
     let settled = c.settle.ensures.stands a.1.0 a.1.1 a.1.2 in
@@ -37,3 +37,9 @@ returns g c = λ calls lent past h.
       addressed (is_done c.settle.new.self.control) c.serve_reports.new.self.layer.due old bus calls a.0 (g.C.Controller.address_of c.args.controller.now) (g.C.Controller.address_of c.serve.new.controller) (g.C.Controller.address_of c.tell.new.controller) c.tell.ensures.told a.5,
       a.4,
     )
+
+pub returns-clause-kept : goal.returns-clause-kept
+returns-clause-kept g c = λ from k.
+    let served = c.serve.ensures.kept (record c.args.self.now.device { behind = from }) k in
+    let settled = subst (λ x. g.E.Endpoints.keeps from x) (sym c.settle.ensures.behind) served in
+    c.serve_reports.ensures.kept from settled
