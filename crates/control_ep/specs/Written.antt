@@ -1,4 +1,4 @@
--- Believed: the answer to an IN packet whose bytes are written into a buffer of 8.
+-- Believed where this crate is called: the answer to an IN packet whose bytes are written into a buffer of 8.
 use Rattle.shapes.specs.Shapes.{Bytes}
 use Rattle.std.specs.Prelude.{◌≤◌, take}
 use Rattle.control_ep.specs.declared.answer.EpAnswer.{EpAnswer}
