@@ -17,6 +17,9 @@ use wuzhikar_device::{Buffers, DeviceLayer, Identity, Keys, PacketSize, Product,
 /// SET_FEATURE of the device's remote wakeup (USB 2.0 section 9.4.9).
 const ENABLE_WAKEUP: [u8; 8] = [0, 3, 1, 0, 0, 0, 0, 0];
 
+/// How GET_DESCRIPTOR of the device begins.
+const GET_DEVICE: [u8; 4] = [0x80, 6, 0, 1];
+
 /// What a token or a packet is answered.
 #[derive(Clone, Debug, PartialEq, Eq)]
 pub enum Answer {
@@ -172,6 +175,8 @@ impl Line {
     fn came(&mut self, packet: &[u8]) {
         self.read.extend(packet);
         let setup = self.host.setup();
+        // Of another transfer nothing is handed over.
+        assert!(setup[..4] != GET_DEVICE || PRODUCT.descriptors().device.starts_with(&self.read), "{:02x?}", self.read);
         if !self.host.came(packet) {
             return;
         }
@@ -338,6 +343,23 @@ impl<'r, P: Wire, B: Buffers + Copy> Run<'r, P, B> {
             (0..3).for_each(|_| self.act(Act::Poll));
             assert_eq!(self.wire.borrow().line.known[&(1, 23)][2], 2 * u8::from(number == 1));
         }
+    }
+
+    /// A suspend that comes at this access of a round is told, so that a key wakes the host. Whether it came in the round.
+    pub fn is_suspended_at(&mut self, at: usize) -> bool {
+        self.enumerates();
+        self.transfer(ENABLE_WAKEUP, &[]);
+        self.wire.borrow_mut().comes = Some((at, |registers| {
+            registers.suspend();
+            true
+        }));
+        self.serve();
+        let came = self.wire.borrow_mut().comes.take().is_none();
+        self.serve();
+        self.presses(true);
+        self.serve();
+        assert_eq!(self.wire.borrow_mut().registers.wakes(), came, "at access {at}");
+        came
     }
 
     /// Key 0 goes down or up.
