@@ -364,6 +364,19 @@ fn a_packet_of_endpoint_1_is_taken_or_dropped() {
 }
 
 #[test]
+fn a_packet_of_endpoint_1_is_handed_over_beside_a_setup_packet() {
+    for at in 0..40 {
+        let wire = quiet();
+        let rp2040 = Rp2040::start(&wire);
+        let mut usb = Rp2040Usb(&rp2040);
+        usb.begin_anew(Endpoint1::Ready);
+        wire.borrow_mut().comes = Some((at, setup_comes));
+        usb.input_1([1].into_iter().collect());
+        assert_eq!(wire.borrow_mut().registers.input(1), Answer::Packet(false, vec![1]), "{at}");
+    }
+}
+
+#[test]
 fn a_packet_that_was_taken_turns_the_toggle() {
     for is_taken in [false, true] {
         let wire = quiet();
