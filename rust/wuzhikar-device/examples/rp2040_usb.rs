@@ -5,8 +5,9 @@
 //! tried on a chip. The tests below play its registers.
 //!
 //! A SETUP packet or a reset leaves the buffers as they are. So the interrupt, [`interrupt`], takes them back at once, and
-//! `waiting` tells of it later. The chip keeps no data toggles either: the driver does. The manual doesn't say what becomes of an
-//! OUT packet that comes again; here it is acknowledged and dropped (USB 2.0 section 8.6.4).
+//! `waiting` tells of it later. No loop can take the interrupt's place: it has some 3 µs, so keep it in RAM with what it calls.
+//! The chip keeps no data toggles either: the driver does. The manual doesn't say what becomes of an OUT packet that comes again;
+//! here it is acknowledged and dropped (USB 2.0 section 8.6.4).
 #![cfg_attr(not(test), no_std)]
 
 use core::cell::Cell;
@@ -220,7 +221,7 @@ impl<R: Registers> Controller for Rp2040Usb<'_, R> {
     fn waiting(&mut self) -> Waiting {
         let registers = &self.0.registers;
         let mut met = Waiting { reset: false, setup: None, out: None, taken: false };
-        // In a loop without the interrupt this does its work.
+        // What came since the last interrupt, or while it was off.
         registers.interrupts(false);
         interrupt(registers);
         registers.interrupts(true);

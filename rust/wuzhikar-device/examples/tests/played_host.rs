@@ -362,6 +362,16 @@ impl<'r, P: Wire, B: Buffers + Copy> Run<'r, P, B> {
         came
     }
 
+    /// Nothing more happens on the bus by itself, and a suspended bus goes on.
+    fn calms(&mut self) {
+        let mut wire = self.wire.borrow_mut();
+        let OnWire { line, registers, .. } = &mut *wire;
+        line.quiet = true;
+        if std::mem::take(&mut line.is_suspended) {
+            registers.resume();
+        }
+    }
+
     /// Key 0 goes down or up.
     pub fn presses(&mut self, down: bool) {
         (0..5).for_each(|_| self.usb.scan_rows([u16::from(down), 0, 0, 0, 0, 0]));
@@ -379,14 +389,7 @@ pub fn history<P: Wire, B: Buffers + Copy>(run: &mut Run<P, B>, numbers: &mut Nu
             _ => run.usb.work(),
         }
     }
-    {
-        let mut wire = run.wire.borrow_mut();
-        let OnWire { line, registers, .. } = &mut *wire;
-        line.quiet = true;
-        if std::mem::take(&mut line.is_suspended) {
-            registers.resume();
-        }
-    }
+    run.calms();
     run.serve();
     for _ in 0..500 {
         if run.wire.borrow().line.host.is_free() {
