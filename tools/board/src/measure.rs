@@ -2,8 +2,8 @@
 //! What calls take: the most instructions between two looks at the line, and the deepest stack.
 
 use crate::Shop;
-use crate::chip::{Chip, Order};
-use crate::host::{self, Answer, Lost};
+use crate::chip::{Chip, Lost, Order};
+use crate::host::{self, Answer};
 use crate::model::{self, Command, Numbers};
 
 /// The equal samples in a row that change a key.
