@@ -1,10 +1,11 @@
--- Believed: default codes of a maker, and a history of a keyboard with them.
-use Rattle.std.specs.Prelude.{◌≡◌, ℕ, ◌==◌, ◌&&◌, Bool, true, false, refl, if◌then◌else◌, List, [], ◌∷◌}
+-- Believed: default codes of a maker, and a history of a keyboard with them, on a blank flash.
+use Rattle.std.specs.Prelude.{◌≡◌, ℕ, ◌==◌, ◌&&◌, ◌*◌, Bool, true, false, None, refl, if◌then◌else◌, List, [], ◌∷◌, replicate}
+use Rattle.flash_model.specs.declared.TheConstants.{PAGE_BYTES}
+use Rattle.flash_model.specs.Sim.{SimValue}
 use Rattle.layers.specs.Codes.{keys, none, is_code, all_below, DefaultCodes}
 use Rattle.world.specs.declared.event.Answer.TheVariants.{EntryIs}
 use Rattle.world.specs.declared.event.Event.TheVariants.{Entry}
 use Rattle.world.specs.Kinds.{Step}
-use Rattle.promise_example.specs.Histories.{step}
 
 -- key 0 of layer 0 activates layer 1 while it is held, and every other key does nothing
 abbrev pub code_if_first : Bool → ℕ → ℕ
@@ -20,6 +21,10 @@ are_codes false = refl
 abbrev pub pad : DefaultCodes
 pad = record { at_first = λ layer. code_if_first (layer == 0); are_codes = λ layer. are_codes (layer == 0) }
 
--- on a flash that holds nothing, a look at the first entry shows its code
-abbrev pub shown_at_first : List Step
-shown_at_first = step (Entry 0 0) (EntryIs 0x5001) ∷ []
+-- a flash of blank pages, as `SimFlash::blank` makes it
+abbrev pub blank_pages : ℕ → SimValue
+blank_pages pages = record { image = replicate (PAGE_BYTES * pages) 255; armed = None; operations = 0; faults = 0 }
+
+-- on it a look at the first entry shows its code
+abbrev pub shown_at_first : ℕ → List Step
+shown_at_first pages = record { event = Entry 0 0; answer = EntryIs 0x5001; flash = blank_pages pages; refused = false } ∷ []

@@ -5,8 +5,7 @@ ghost use Rattle.layers.specs.Codes.{layers, keys, default_code};
 ghost use Rattle.layers.specs.Standard.{standard};
 ghost use Rattle.world.specs.Promise.{Promise};
 ghost use Rattle.world.specs.Stands.{Runs, room_for};
-ghost use Rattle.promise_example.specs.Histories.{blank};
-ghost use Rattle.promise_example.specs.Pad.{pad, shown_at_first};
+ghost use Rattle.promise_example.specs.Pad.{pad, blank_pages, shown_at_first};
 
 use layers::{Code, Defaults};
 use std::alloc::AllocError;
@@ -45,11 +44,11 @@ pub fn none_is_standard()
     ensures { (layer key : ℕ) → layer < layers → key < keys → default_code pad layer key ≢ default_code standard layer key }
 {}
 
-/// A look at an entry shows its code: the promise of this keyboard holds of that history, and the one of a standard
-/// keyboard does not.
+/// On a blank flash a look at an entry shows its code: the promise of this keyboard holds of that history, and the one of a
+/// standard keyboard does not.
 pub fn a_look_shows_a_code_of_the_maker()
-    ensures holds { Promise pad blank shown_at_first }
-    ensures broken { Promise standard blank shown_at_first → ⊥ }
+    ensures holds { (pages : ℕ) → Promise pad (blank_pages pages) (shown_at_first pages) }
+    ensures broken { (pages : ℕ) → Promise standard (blank_pages pages) (shown_at_first pages) → ⊥ }
 {}
 
 /// Takes events on such a keyboard, as `WorldOf::run` does: the promise holds of the history that they make longer.
