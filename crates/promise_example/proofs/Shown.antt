@@ -32,7 +32,7 @@ none_active pages = ap (newest (replicate (4096 * pages) 255)) (page_count-blank
 
 -- ---- so each entry is the default
 
-at_default : (defaults : DefaultCodes) (pages layer key : ℕ) → keymap defaults (replicate (4096 * pages) 255) layer key ≡ defaults.at_first layer key
+pub at_default : (defaults : DefaultCodes) (pages layer key : ℕ) → keymap defaults (replicate (4096 * pages) 255) layer key ≡ defaults.at_first layer key
 unfolding last_written changed commands_in entry_in entries_of
 at_default defaults pages layer key =
     let image : List ℕ = replicate (4096 * pages) 255 in
@@ -45,7 +45,7 @@ abbrev code_told : Answer → ℕ
 code_told (EntryIs code) = code
 code_told _ = 0
 
-not_both : (n : ℕ) → n ≡ 4 → 0x5001 ≡ n → ⊥
+not_both : (n : ℕ) → n ≡ 4 → 0x0005 ≡ n → ⊥
 not_both n e f = omega (arith, e, f)
 
 pub broken : (pages : ℕ) → Promise standard (blank_pages pages) (shown_at_first pages) → ⊥
