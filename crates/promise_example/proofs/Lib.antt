@@ -1,3 +1,4 @@
 pub mod Broken
 pub mod Lost
 pub mod Shown
+pub mod Typed

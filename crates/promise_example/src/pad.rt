@@ -5,14 +5,13 @@ ghost use Rattle.layers.specs.Codes.{layers, keys, default_code};
 ghost use Rattle.layers.specs.Standard.{standard};
 ghost use Rattle.world.specs.Promise.{Promise};
 ghost use Rattle.world.specs.Stands.{Runs, room_for};
-ghost use Rattle.promise_example.specs.Histories.{blank};
-ghost use Rattle.promise_example.specs.Pad.{pad, shown_at_first};
+ghost use Rattle.promise_example.specs.Pad.{pad, blank_pages, shown_at_first, read_at_first};
 
 use layers::{Code, Defaults};
 use std::alloc::AllocError;
 use world::{Answer, Event, WorldOf};
 
-/// Key 0 of layer 0 activates layer 1 while it is held, and every other key does nothing.
+/// Key 0 of layer 0 types the letter b, and every other key does nothing.
 #[derive(Clone, Copy, Debug, PartialEq, Eq)]
 pub struct Pad {}
 
@@ -20,7 +19,7 @@ impl Defaults for Pad {
     ghost defaults = { pad };
 
     fn code_at(place: usize) -> Code {
-        if place == 0 { layer_1() } else { Code::NONE }
+        if place == 0 { letter_b() } else { Code::NONE }
     }
 
     fn reset(codes: &mut [Code], start: usize, end: usize) {
@@ -30,11 +29,11 @@ impl Defaults for Pad {
     }
 }
 
-/// The code that activates layer 1.
-fn layer_1() -> Code
-    ensures { result ≡ 0x5001 }
+/// The code of the letter b.
+fn letter_b() -> Code
+    ensures { result ≡ 0x0005 }
 {
-    match Code::read(0x5001) {
+    match Code::read(0x0005) {
         Ok(code) => code,
         Err(_) => Code::NONE,
     }
@@ -45,11 +44,18 @@ pub fn none_is_standard()
     ensures { (layer key : ℕ) → layer < layers → key < keys → default_code pad layer key ≢ default_code standard layer key }
 {}
 
-/// A look at an entry shows its code: the promise of this keyboard holds of that history, and the one of a standard
-/// keyboard does not.
+/// On a blank flash a look at an entry shows its code: the promise of this keyboard holds of that history, and the one of a
+/// standard keyboard does not.
 pub fn a_look_shows_a_code_of_the_maker()
-    ensures holds { Promise pad blank shown_at_first }
-    ensures broken { Promise standard blank shown_at_first → ⊥ }
+    ensures holds { (pages : ℕ) → Promise pad (blank_pages pages) (shown_at_first pages) }
+    ensures broken { (pages : ℕ) → Promise standard (blank_pages pages) (shown_at_first pages) → ⊥ }
+{}
+
+/// The first key is down for five scans, and a host in boot protocol reads the maker's letter: the promise of this keyboard
+/// holds of that history, and the one of a standard keyboard does not.
+pub fn a_host_reads_a_code_of_the_maker()
+    ensures holds { (pages : ℕ) → Promise pad (blank_pages pages) (read_at_first pages) }
+    ensures broken { (pages : ℕ) → Promise standard (blank_pages pages) (read_at_first pages) → ⊥ }
 {}
 
 /// Takes events on such a keyboard, as `WorldOf::run` does: the promise holds of the history that they make longer.

@@ -17,7 +17,8 @@ pub trait ScansMatrix: Endpoints {
 ///
 /// While the lock is set a command is stalled before the device behind sees it, and so is the rest of its transfer. Reading
 /// goes on, and so does a command that was acknowledged before. With a pace a command is put off by NAK until so many scans
-/// have come since the one before, or since the start.
+/// have come since the one before, or since the start. Both look at bmRequestType, bRequest, wValue and the operation alone,
+/// so a packet that the device behind would stall for its wIndex, length or Report ID is put off too.
 ///
 /// ```rust
 /// # fn main() -> Result<(), Box<dyn std::error::Error>> {
