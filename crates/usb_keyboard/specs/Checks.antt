@@ -51,8 +51,8 @@ module _ (defaults : DefaultCodes) where
     pub given : WriteAnswer start past setup data_ answer
     pub only : (other : Answer) → WriteAnswer start past setup data_ other → other ≡ answer
 
--- how a write fails by this answer of its checks. One that they accept is refused for a fault of the flash alone, where it was not
--- healthy
+-- how a write fails by this answer of its checks. One that they accept is refused for a fault of the flash alone: never where it was
+-- healthy, or answered none in the call
 abbrev pub FailsBy : TransferError → Answer → Type 0 → Type 0
 FailsBy Refused (Stall why) healthy = Unit {0}
 FailsBy Refused Ack healthy = healthy → ⊥
