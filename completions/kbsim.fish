@@ -10,13 +10,13 @@ complete -c kbsim -n "__fish_seen_subcommand_from describe" -s h -l help -d 'Pri
 complete -c kbsim -n "__fish_seen_subcommand_from parse" -l from -d 'How the text says the bytes; hex where nothing is said' -r -f -a "{hex	,c	,rust	,loose	,xxd	,hexdump	,rdesc	,usbhid-dump	,hid-recorder	,bytes	,auto	}"
 complete -c kbsim -n "__fish_seen_subcommand_from parse" -l items -d 'Prints each item, up to the first fault, in place of the fields'
 complete -c kbsim -n "__fish_seen_subcommand_from parse" -l details -d 'Prints a tree of collections and items, in words'
-complete -c kbsim -n "__fish_seen_subcommand_from parse" -l json -d 'Prints an object of JSON'
+complete -c kbsim -n "__fish_seen_subcommand_from parse" -l json -d 'Prints a JSON object'
 complete -c kbsim -n "__fish_seen_subcommand_from parse" -l lenient -d 'Reads on past faults of the descriptor that Linux passes over, with a line for each'
 complete -c kbsim -n "__fish_seen_subcommand_from parse" -s h -l help -d 'Print help information (use `--help` for more detail)'
 complete -c kbsim -n "__fish_seen_subcommand_from read" -l kind -d 'The kind of the reports' -r -f -a "{input	,output	,feature	}"
 complete -c kbsim -n "__fish_seen_subcommand_from read" -l from -d 'How the descriptor\'s text says the bytes; it is told by what it looks like where nothing is said' -r -f -a "{hex	,c	,rust	,loose	,xxd	,hexdump	,rdesc	,usbhid-dump	,hid-recorder	,bytes	,auto	}"
 complete -c kbsim -n "__fish_seen_subcommand_from read" -l names -d 'Usages by their names'
-complete -c kbsim -n "__fish_seen_subcommand_from read" -l json -d 'An object of JSON a line; docs/reader.md has the schema'
+complete -c kbsim -n "__fish_seen_subcommand_from read" -l json -d 'One JSON object a line; docs/reader.md has the schema'
 complete -c kbsim -n "__fish_seen_subcommand_from read" -l changes -d 'The usages that a report presses and releases, in place of its values'
 complete -c kbsim -n "__fish_seen_subcommand_from read" -l raw -d 'The reports are bytes, and not lines'
 complete -c kbsim -n "__fish_seen_subcommand_from read" -l live -d 'DESCRIPTOR is a hidraw device, of which the descriptor and the reports are read'

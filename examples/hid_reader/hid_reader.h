@@ -1,25 +1,28 @@
 // SPDX-License-Identifier: MIT OR Apache-2.0
-/* A reader of HID report descriptors and of reports (HID 1.11, sections 5.6 and 6.2.2): first what fields there are and which
- * usages are on, then, from hidr_reader_open on, what the fields mean, the values of reports, and reports from values.
+/* A reader of HID report descriptors and of reports (HID 1.11, sections 5.6 and 6.2.2). The first calls tell what fields
+ * there are and which usages are on. Those from hidr_reader_open on tell what the fields mean, read the values of reports,
+ * and write reports.
  *
- * A call answers a status. HIDR_OK: it did what it says. Any other is a refusal: then nothing was written behind a pointer
- * (but the fault of a text, at HIDR_FAULT, and the number of what hidr_write refuses), and no handle was opened or closed.
- * Where several refusals hold, the first one of this list is told: HIDR_NULL, HIDR_LENGTH, the handle's, HIDR_OVERLAP, then
- * those that are named at the call, in that order. A call with a pointer may answer HIDR_NULL, one with a count or a length HIDR_LENGTH, one
- * with a handle HIDR_NO_HANDLE, HIDR_CLOSED and HIDR_WRONG_KIND.
+ * Each call returns a status: HIDR_OK, or a refusal. A refused call has written nothing behind a pointer (but the fault of a
+ * text, at HIDR_FAULT, and the number of what hidr_write refuses), and has opened or closed no handle. Where several refusals
+ * hold, the first one of this list is returned: HIDR_NULL, HIDR_LENGTH, the handle's, HIDR_OVERLAP, then those that are named
+ * at the call, in that order. A call with a pointer may return HIDR_NULL, one with a count or a length HIDR_LENGTH, one with
+ * a handle HIDR_NO_HANDLE, HIDR_CLOSED and HIDR_WRONG_KIND.
  *
- * Texts and reports may be any bytes. Behind a pointer that is not null have to stand as many values as its count says, as
- * ever in C; they need no alignment and may overlap (but for what HIDR_OVERLAP refuses), and no pointer is kept. A pointer may
- * be null where its count or length is 0, and that of an error, of the rest of a report and of what hidr_write refuses always.
+ * A text is the bytes of a report descriptor. Texts and reports may be any bytes. A pointer that is not null must lead to as
+ * many values as its count says. They need no alignment and may overlap (but for what HIDR_OVERLAP refuses), and no pointer
+ * is kept. A pointer may be null if its count or length is 0; `error`, `rest` and `which` may always be null.
+ * A call with `room` and a pointer `count` writes its first `room` results, and sets *count to how many there are, which
+ * may be more.
  *
- * Memory: what a call gives is written behind the caller's pointers and is the caller's, but for names that are given as a
- * pointer, which stay. Nothing is to be freed; a handle is closed by hidr_close. Where HIDR_NO_MEMORY is named, the call takes
- * memory by malloc: that of hidr_parse, of a parser and of hidr_reader_open is kept until the handle is closed, all other is
- * given back before the call ends. A call at which it is not named takes none.
+ * Memory: calls write results to the caller's memory; a name that is returned as a pointer stays valid. Nothing is to be
+ * freed; a handle is closed by hidr_close. Where HIDR_NO_MEMORY is named, the call allocates by malloc: the memory of
+ * hidr_parse, of a parser and of hidr_reader_open is kept until the handle is closed, all other is freed before the call
+ * ends. Other calls allocate nothing.
  *
- * Calls may come from any thread at any time. Those on one handle take turns; those on different handles don't wait for each
- * other, but for the moment in which a slot is taken or given back. A handle may be closed while another thread uses it:
- * that call has ended before, or is refused. Not from a signal handler, and not in a child between fork and exec. */
+ * Any thread may call at any time. Calls on one handle take turns; those on different handles don't wait for each other, but
+ * for the moment in which a slot is taken or given back. A handle may be closed while another thread uses it: that call has
+ * ended before, or is refused. Don't call from a signal handler, or in a child between fork and exec. */
 #ifndef HID_READER_H
 #define HID_READER_H
 
@@ -105,76 +108,74 @@ typedef struct hidr_found {
     uint32_t usage;
 } hidr_found;
 
-/* The descriptor of a whole text of at most 4,096 bytes: a handle, to be closed. HIDR_FAULT with the first fault of the text
- * in *error; HIDR_NO_MEMORY; HIDR_FULL. */
+/* Parses a whole text of at most 4,096 bytes, and opens a descriptor, to be closed. HIDR_FAULT with the first fault of the
+ * text in *error; HIDR_NO_MEMORY; HIDR_FULL. */
 hidr_status hidr_parse(const uint8_t *text, size_t length, hidr_descriptor *descriptor, hidr_error *error);
 
-/* A parser of a text that comes in pieces: a handle, to be finished or closed. HIDR_FULL. */
+/* Opens a parser for a text that comes in pieces, to be finished or closed. HIDR_FULL. */
 hidr_status hidr_parser_open(hidr_parser *parser);
 
 /* Takes the next piece of the text, cut wherever it may be. HIDR_FAULT with the first fault of every text that begins with
- * what was fed, in *error; HIDR_NO_MEMORY. After either of them the parser answers the same for ever. */
+ * what was fed, in *error; HIDR_NO_MEMORY. After either of them the parser always returns the same. */
 hidr_status hidr_parser_feed(hidr_parser parser, const uint8_t *piece, size_t length, hidr_error *error);
 
-/* Ends the text. The parser's handle is closed, and the descriptor has one of its own, to be closed. HIDR_FAULT with the
- * first fault of the text in *error, HIDR_NO_MEMORY: the parser is still open, to be closed, and answers the same for ever. */
+/* Ends the text, closes the parser, and opens its descriptor, to be closed. HIDR_FAULT with the first fault of the text in
+ * *error, HIDR_NO_MEMORY: then the parser is still open, to be closed, and always returns the same. */
 hidr_status hidr_parser_finish(hidr_parser parser, hidr_descriptor *descriptor, hidr_error *error);
 
-/* Closes the handle of a parser or of a descriptor, and gives its memory back. */
+/* Closes the handle of a parser, a descriptor or a reader, and frees its memory. */
 hidr_status hidr_close(uint64_t handle);
 
-/* How many fields there are: 0 to 256, of all reports together, in the order of the text. */
+/* Counts the fields of all reports together: 0 to 256. They stand in the order of the text. */
 hidr_status hidr_field_count(hidr_descriptor descriptor, size_t *count);
 
-/* Field number `field`, from 0 on. HIDR_ABSENT. */
+/* Gets field number `field`, from 0 on. HIDR_ABSENT. */
 hidr_status hidr_field_at(hidr_descriptor descriptor, size_t field, hidr_field *into);
 
-/* The usages of a field as they were declared: the first `room` ranges, and in *count how many there are, which may be more.
- * HIDR_ABSENT where there is no such field. */
+/* Gets the usages of a field, as the ranges that were declared. HIDR_ABSENT if there is no such field. */
 hidr_status hidr_ranges(hidr_descriptor descriptor, size_t field, hidr_range *into, size_t room, size_t *count);
 
-/* The usage of a place of a variable field, where the last usage serves the places that are left, or usage number `place` of
- * an array's list, both from 0 on. HIDR_ABSENT where there is no such field, or none in this place. */
+/* Gets the usage of a place of a variable field, where the last usage serves the places that are left, or usage number
+ * `place` of an array's list, both from 0 on. HIDR_ABSENT if there is no such field, or no usage at this place. */
 hidr_status hidr_usage_at(hidr_descriptor descriptor, size_t field, size_t place, uint32_t *usage);
 
-/* 1 where reports begin with a byte that is their ID, else 0. */
+/* Tells whether reports begin with an ID byte: sets *uses to 1, else to 0. */
 hidr_status hidr_uses_ids(hidr_descriptor descriptor, uint8_t *uses);
 
-/* The bytes of the report of this kind and ID (0 where none is used), its ID byte among them. HIDR_ABSENT where there is
- * none, as where `kind` is no kind. */
+/* Gets the length in bytes of the report of this kind and ID (0 where none is used), with its ID byte. HIDR_ABSENT if there
+ * is none, or `kind` is no kind. */
 hidr_status hidr_report_length(hidr_descriptor descriptor, uint8_t kind, uint8_t id, size_t *bytes);
 
-/* What an input report says: the first `room` of its usages with their values, in the order of its fields and places, and in
- * *count how many there are, which may be more. Bytes behind the report are ignored. HIDR_EMPTY_REPORT, HIDR_UNKNOWN_ID,
- * HIDR_SHORT_REPORT, HIDR_NO_MEMORY. */
+/* Reads the usages of an input report with their values, in the order of its fields and places. Bytes behind the report are
+ * ignored. HIDR_EMPTY_REPORT, HIDR_UNKNOWN_ID, HIDR_SHORT_REPORT, HIDR_NO_MEMORY. */
 hidr_status hidr_extract(hidr_descriptor descriptor, const uint8_t *report, size_t length, hidr_found *into, size_t room,
                          size_t *count);
 
-/* The usages of an input report whose value is not 0, rising, each once: the first `room`, and in *count how many there are.
- * It refuses what hidr_extract refuses. */
+/* Reads the usages of an input report whose value is not 0, in ascending order, each once. It refuses what hidr_extract
+ * refuses. */
 hidr_status hidr_pressed(hidr_descriptor descriptor, const uint8_t *report, size_t length, uint32_t *into, size_t room,
                          size_t *count);
 
 /* ---- A reader: what fields mean, values, and reports from values. What a descriptor declares, a value in its unit, the
- * values of a report and a report that is written come from a proved source; names, the value that is so much in a unit, and this
- * edge to C are tested, not proved.
- * ---- */
+ * values of a report and a report that is written come from a proved source. Names, hidr_value_of and this C interface are
+ * tested, not proved. ---- */
 
-/* The reader of a whole text of at most 4,096 bytes: a handle, to be closed. HIDR_FAULT with the first fault of the text in
- * *error; HIDR_NO_MEMORY; HIDR_FULL. */
+/* Parses a whole text of at most 4,096 bytes, and opens a reader, to be closed. HIDR_FAULT with the first fault of the text
+ * in *error; HIDR_NO_MEMORY; HIDR_FULL. */
 hidr_status hidr_reader_open(const uint8_t *text, size_t length, hidr_reader *reader, hidr_error *error);
 
-/* The same in the lenient mode of docs/reader.md. The faults that were passed over, 2, 6, 7 or 14 with their offsets: the first
- * `room`, and in *count how many there are. Where there are any, offsets of details are those of the text that was read instead. */
+/* Does the same in the lenient mode of docs/reader.md, and gets the faults that were passed over, with their offsets: 2, 6, 7
+ * or 14. If there are any, offsets of details are those of the text that was read instead. */
 hidr_status hidr_reader_open_lenient(const uint8_t *text, size_t length, hidr_reader *reader, hidr_error *error,
                                      hidr_error *passed, size_t room, size_t *count);
 
-/* No place in a list. */
+/* Stands for no field or no collection. */
 #define HIDR_NONE UINT32_MAX
 
-/* Two lists are counted, each from 0 on in the order of the text. An item is an Input, Output or Feature item that takes a bit,
- * padding among them: that is `item`, as an argument or in a value. A field is an item that is not Constant: that is `field`,
- * and `control` by HIDR_BY_FIELD. hidr_detail_of gives the item of a field, and hidr_detail.field the field of an item. */
+/* Items and fields are counted in two lists, each from 0 on in the order of the text. An item is an Input, Output or Feature
+ * item that takes a bit, padding among them: its number is `item`. A field is an item that is not Constant: its number is
+ * `field`, and `control` by HIDR_BY_FIELD. hidr_detail_of gives the item of a field, and hidr_detail.field the field of an
+ * item. */
 
 /* The bits of an Input, Output or Feature item (HID 1.11, 6.2.2.5); where one is not set it is Data, Array, Absolute, No Wrap,
  * Linear, Preferred State, no Null State, Non Volatile, Bit Field. */
@@ -207,11 +208,11 @@ typedef struct hidr_detail {
     uint8_t id;                         /* the Report ID; 0 where none is used */
 } hidr_detail;
 
-/* How many items there are, padding among them, and item number `item`, from 0 on. HIDR_ABSENT. */
+/* Get the number of items, padding among them, and item number `item`, from 0 on. HIDR_ABSENT. */
 hidr_status hidr_detail_count(hidr_reader reader, size_t *count);
 hidr_status hidr_detail_at(hidr_reader reader, size_t item, hidr_detail *into);
 
-/* The number of the item that is field number `field`. HIDR_ABSENT. */
+/* Gets the number of the item that is field number `field`. HIDR_ABSENT. */
 hidr_status hidr_detail_of(hidr_reader reader, size_t field, size_t *item);
 
 /* A collection (HID 1.11, 6.2.2.6). */
@@ -223,15 +224,14 @@ typedef struct hidr_collection {
     uint8_t has_usage; /* 1 where there is a usage */
 } hidr_collection;
 
-/* How many collections there are, and collection number `collection`, from 0 on, in order of declaration. HIDR_ABSENT. */
+/* Get the number of collections, and collection number `collection`, from 0 on, in order of declaration. HIDR_ABSENT. */
 hidr_status hidr_collection_count(hidr_reader reader, size_t *count);
 hidr_status hidr_collection_at(hidr_reader reader, size_t collection, hidr_collection *into);
 
-/* The numbers of the collections around an item, outermost first: the first `room`, and in *count how many there are, at most
- * 16. HIDR_ABSENT where there is no such item. */
+/* Gets the numbers of the collections around an item, outermost first, at most 16. HIDR_ABSENT if there is no such item. */
 hidr_status hidr_around(hidr_reader reader, size_t item, uint32_t *into, size_t room, size_t *count);
 
-/* The numbers of the Application collections, in order: the first `room`, and in *count how many there are. */
+/* Gets the numbers of the Application collections, in order. */
 hidr_status hidr_applications(hidr_reader reader, uint32_t *into, size_t room, size_t *count);
 
 /* A report: its bits, padding among them, without the ID byte, and its bytes with it. */
@@ -241,39 +241,38 @@ typedef struct hidr_report {
     uint8_t id;   /* 0 where none is used */
 } hidr_report;
 
-/* All reports, in order of their first items: the first `room`, and in *count how many there are. */
+/* Gets all reports, in order of their first items. */
 hidr_status hidr_reports(hidr_reader reader, hidr_report *into, size_t room, size_t *count);
 
-/* The same of those that have an item in an Application, innermost; one report may be of several. HIDR_ABSENT where the
- * collection with this number is none, or is not there. */
+/* Gets the reports with an item whose innermost Application is this collection; one report may be of several. HIDR_ABSENT if
+ * there is no such collection, or it is no Application. */
 hidr_status hidr_reports_of(hidr_reader reader, size_t application, hidr_report *into, size_t room, size_t *count);
 
-/* The numbers of the Application collections that a report has an item in, innermost, in order: the first `room`, and in *count
- * how many there are. HIDR_ABSENT where there is no such report. */
+/* Gets the numbers of the innermost Applications around the items of a report, in order. HIDR_ABSENT if there is no such
+ * report. */
 hidr_status hidr_applications_of(hidr_reader reader, uint8_t kind, uint8_t id, uint32_t *into, size_t room, size_t *count);
 
-/* The numbers of the items of a report, in order, padding among them: the first `room`, and in *count how many there are.
- * HIDR_ABSENT where there is no such report. */
+/* Gets the numbers of the items of a report, in order, padding among them. HIDR_ABSENT if there is no such report. */
 hidr_status hidr_report_details(hidr_reader reader, uint8_t kind, uint8_t id, uint32_t *into, size_t room, size_t *count);
 
 /* What names a control for a person (HID 1.11, 6.2.2.8). */
 enum { HIDR_STRING = 0, HIDR_DESIGNATOR = 1 };
 
-/* The strings or designators that the text gives the item at an offset, as ranges of numbers: the first `room`, and in *count
- * how many there are. A Minimum or Maximum without its other half gives none; one over the other gives a range whose first
- * number is over its last. HIDR_ABSENT where `naming` is neither; HIDR_OVERLAP of text and ranges. */
+/* Gets the strings or designators that the text gives the item at an offset, as ranges of numbers. A Minimum or Maximum
+ * without its other half gives none; one over the other gives a range whose first number is over its last. HIDR_ABSENT where
+ * `naming` is neither; HIDR_OVERLAP of text and ranges. */
 hidr_status hidr_namings(const uint8_t *text, size_t length, uint64_t offset, uint8_t naming, hidr_range *into, size_t room,
                          size_t *count);
 
-/* The exponents in an item's unit, -8 to 7, of length, mass, time, temperature, current and luminous intensity, behind `into`:
- * six numbers, all 0 where there is no unit. HIDR_ABSENT; HIDR_RESERVED_DIGIT, HIDR_NO_SYSTEM, HIDR_RESERVED_SYSTEM,
+/* Gets the exponents in an item's unit, -8 to 7, of length, mass, time, temperature, current and luminous intensity: six
+ * numbers, all 0 where there is no unit. HIDR_ABSENT; HIDR_RESERVED_DIGIT, HIDR_NO_SYSTEM, HIDR_RESERVED_SYSTEM,
  * HIDR_VENDOR_SYSTEM: the first of them that holds. */
 hidr_status hidr_unit_exponents(hidr_reader reader, size_t item, int8_t *into);
 
-/* Names, as text that ends with a NUL: as much as fits into `room` characters, the NUL among them, and in *length how long the
- * whole is without it; where room is 0 nothing is written. That of an item's unit, as "degree", of a collection's type, as
- * "Logical", and of a page, as "LED": empty where there is none. That of a usage, as "Num Lock": where none is known, its page
- * and number. HIDR_ABSENT of an item or a collection that there isn't. */
+/* Write a name as text that ends with a NUL: as much as fits into `room` characters, the NUL among them, and in *length how
+ * long the whole is without it. If room is 0 no text is written. That of an item's unit, as "degree", of a collection's type,
+ * as "Logical", and of a page, as "LED", is empty where there is none. That of a usage, as "Num Lock", is its page and number
+ * where none is known. HIDR_ABSENT if there is no such item or collection. */
 hidr_status hidr_unit_name(hidr_reader reader, size_t item, char *into, size_t room, size_t *length);
 hidr_status hidr_collection_name(hidr_reader reader, size_t collection, char *into, size_t room, size_t *length);
 hidr_status hidr_usage_name(uint32_t usage, char *into, size_t room, size_t *length);
@@ -294,22 +293,22 @@ typedef struct hidr_value {
     uint32_t item;     /* that of the field, as hidr_detail_at counts */
 } hidr_value;
 
-/* The values of a report of a kind, in the order of its fields and places: the first `room`, in *count how many there are, and
- * in *rest, where there is a place for it, how many bytes stand behind the report's end. HIDR_OVERLAP of report and values;
- * HIDR_EMPTY_REPORT, HIDR_UNKNOWN_REPORT, HIDR_SHORT_REPORT. */
+/* Reads the values of a report of a kind, in the order of its fields and places. If `rest` is not null, *rest is how many
+ * bytes stand behind the report's end. HIDR_OVERLAP of report and values; HIDR_EMPTY_REPORT, HIDR_UNKNOWN_REPORT,
+ * HIDR_SHORT_REPORT. */
 hidr_status hidr_read(hidr_reader reader, uint8_t kind, const uint8_t *report, size_t length, hidr_value *into, size_t room,
                       size_t *count, size_t *rest);
 
-/* The bytes of a field of Buffered Bytes in a report, its places one after the other, the last byte filled with 0: the first
- * `room`, and in *count how many there are. What hidr_read refuses of a report; HIDR_ABSENT where the report has no such field,
- * or it is not of Buffered Bytes; HIDR_NO_MEMORY. */
+/* Reads the bytes of a field of Buffered Bytes in a report, its places one after the other, the last byte filled with 0. It
+ * refuses what hidr_read refuses of a report; HIDR_ABSENT if the report has no such field, or it is not of Buffered Bytes;
+ * HIDR_NO_MEMORY. */
 hidr_status hidr_buffered(hidr_reader reader, uint8_t kind, const uint8_t *report, size_t length, size_t field, uint8_t *into,
                           size_t room, size_t *count);
 
-/* The usages in which two reports of a kind and ID differ, each list rising, each usage once: those that are on in `now` alone, and
- * those that are on in `before` alone. On is what an array names, and a variable field's usage whose value is not 0. The first
- * `pressed_room` and `released_room`, and behind the counts how many there are. What hidr_read refuses of `before`, then of `now`;
- * HIDR_OTHER_ID; HIDR_NO_MEMORY. */
+/* Compares two reports of a kind and ID: gets the usages that are on in `now` alone, and those that are on in `before` alone,
+ * each list in ascending order, each usage once. On is what an array names, and a variable field's usage whose value is not
+ * 0. Each list has its own room and count. It refuses what hidr_read refuses of `before`, then of `now`; HIDR_OTHER_ID;
+ * HIDR_NO_MEMORY. */
 hidr_status hidr_changes(hidr_reader reader, uint8_t kind, const uint8_t *before, size_t before_length, const uint8_t *now,
                          size_t now_length, uint32_t *pressed, size_t pressed_room, size_t *pressed_count, uint32_t *released,
                          size_t released_room, size_t *released_count);
@@ -319,24 +318,24 @@ typedef struct hidr_fraction {
     int64_t numerator, denominator, exponent;
 } hidr_fraction;
 
-/* What a value of a field is in its unit, exactly: on the line through the logical and the physical extents, also past their
- * ends. HIDR_ABSENT; HIDR_EQUAL_LIMITS, HIDR_INVERTED_LIMITS; HIDR_TOO_LARGE where it does not fit into 64 bits, as far outside
- * of extents that are very wide. */
+/* Converts a value of a field into its unit, exactly: on the line through the logical and the physical extents, also past
+ * their ends. HIDR_ABSENT; HIDR_EQUAL_LIMITS, HIDR_INVERTED_LIMITS; HIDR_TOO_LARGE where it does not fit into 64 bits, as far
+ * outside of extents that are very wide. */
 hidr_status hidr_physical(hidr_reader reader, size_t field, int64_t raw, hidr_fraction *into);
 
-/* The value within the logical extents that is just numerator / denominator in the unit, without a power of ten: hidr_physical
- * of it, times its power, is that. HIDR_ABSENT; HIDR_EQUAL_LIMITS, HIDR_INVERTED_LIMITS; HIDR_NO_STEP where there is none, or not
- * one alone, or the denominator is 0. */
+/* Finds the value within the logical extents that hidr_physical converts to exactly numerator / denominator, its power of ten
+ * counted in. HIDR_ABSENT; HIDR_EQUAL_LIMITS, HIDR_INVERTED_LIMITS; HIDR_NO_STEP where there is none, or not one alone, or
+ * the denominator is 0. */
 hidr_status hidr_value_of(hidr_reader reader, size_t field, int64_t numerator, uint64_t denominator, int64_t *raw);
 
-/* What hidr_physical gives as a decimal, cut off after so many digits behind the point, at most 18, as a text like a name's: at
- * most 63 characters. With `e` and the power of ten behind it where that is beyond 18 either way, or the whole would have more
- * than 38 digits. HIDR_ABSENT; HIDR_EQUAL_LIMITS, HIDR_INVERTED_LIMITS. */
+/* Writes what hidr_physical gives as a decimal, as a text like a name's: at most 63 characters. It is cut off after `digits`
+ * decimals, at most 18. `e` and the power of ten follow where that is beyond 18 either way, or the whole would
+ * have more than 38 digits. HIDR_ABSENT; HIDR_EQUAL_LIMITS, HIDR_INVERTED_LIMITS. */
 hidr_status hidr_decimal(hidr_reader reader, size_t field, int64_t raw, uint32_t digits, char *into, size_t room, size_t *length);
 
-/* Which control a setting is about: that which has this usage, the page in the high half, where `place` counts what in the
- * report has it, in order, from 0 on, each place of a variable field and each array whose list has it; or this place of this
- * field, as hidr_field_at counts. */
+/* How a setting names its control: by its usage, the page in the high half, or as a place of a field, as hidr_field_at
+ * counts. With a usage `place` counts, from 0 on, what has it in the report: each place of a variable field, and each array
+ * whose list has it. */
 enum { HIDR_BY_USAGE = 0, HIDR_BY_FIELD = 1 };
 
 /* A control of a report, and what it is set to. For a usage of an array 1 puts it into a place that names none, and 0 takes it
@@ -349,19 +348,20 @@ typedef struct hidr_setting {
     uint8_t null; /* 1: no value, where the field has Null State */
 } hidr_setting;
 
-/* A report of a kind and ID, 0 where none is used, with `count` controls set: its first `room` bytes, and in *length how many
- * there are, the ID byte among them. Each other bit is that of the report `onto`, of `onto_length` bytes; where that is 0 the
- * report is new: places with Null State are null where there is a value for it, places of arrays name no usage, and the rest
- * is 0. The report may be written over `onto`. The first of these, and of several settings that of the first one:
+/* Writes a report of a kind and ID, 0 where none is used, with `count` controls set: its first `room` bytes, and in *length
+ * how many there are, the ID byte among them. Each other bit is that of the report `onto`, of `onto_length` bytes; where that
+ * is 0 the report is new: places with Null State are null where there is a value for it, places of arrays name no usage, and
+ * the rest is 0. The report may be written over `onto`. The first of these, and of several settings that of the first one:
  * HIDR_NO_MEMORY for the settings, HIDR_UNKNOWN_REPORT, HIDR_OTHER_ID, HIDR_SHORT_REPORT, HIDR_NO_MEMORY for the report,
  * HIDR_NO_UNUSED with the field in *which; and with the number of the setting in *which HIDR_UNKNOWN_CONTROL, HIDR_TWICE,
  * HIDR_NO_NULL, HIDR_TOO_LARGE, HIDR_OUT_OF_RANGE; of a usage of an array HIDR_UNKNOWN_CONTROL, HIDR_NO_NULL,
- * HIDR_OUT_OF_RANGE where it is set to neither 0 nor 1, HIDR_TOO_LARGE, HIDR_OUT_OF_RANGE, HIDR_NO_ROOM where each place names
- * another usage or is set, or none can name none, HIDR_TWICE. */
+ * HIDR_OUT_OF_RANGE where it is set to neither 0 nor 1, HIDR_TOO_LARGE, HIDR_OUT_OF_RANGE, HIDR_NO_ROOM where each place
+ * names another usage or is set, or none can name none, HIDR_TWICE. */
 hidr_status hidr_write(hidr_reader reader, uint8_t kind, uint8_t id, const hidr_setting *settings, size_t count,
                        const uint8_t *onto, size_t onto_length, uint8_t *into, size_t room, size_t *length, size_t *which);
 
-/* The name of a fault, as "EndWithoutCollection", and of a status, as "Closed"; "" of another number. They stay. */
+/* Return the name of a fault, as "EndWithoutCollection", and of a status, as "Closed"; "" of another number. Names
+ * stay valid. */
 const char *hidr_fault_name(uint32_t fault);
 const char *hidr_status_name(hidr_status status);
 

@@ -8,6 +8,9 @@ import random
 SET_FEATURE = "setup 2109030300000600"
 BOOT_PROTOCOL = "setup 210b000000000000"
 
+# The equal samples in a row that change a key.
+SAMPLES = 5
+
 # Codes of each kind, and numbers that are none.
 CODES = ["0000", "0001", "0004", "0029", "00a4", "00e0", "00e7", "4001", "40e9", "43ff", "5001", "5002", "5003"]
 NO_CODES = ["0002", "0003", "00a5", "00df", "00e8", "4000", "4400", "5000", "5004", "ffff"]
@@ -225,7 +228,7 @@ class Lawful(Whole):
         """More changes than the queue of reports has room for."""
         for _ in range(self.one_of([3, 8, 9, 12])):
             self.held ^= {self.one_of([0, 1, 40, 88, self.below(96)])}
-            self.add("scans", 5, *sorted(self.held))
+            self.add("scans", SAMPLES, *sorted(self.held))
         for _ in range(self.below(12)):
             self.add("poll")
 
@@ -247,7 +250,7 @@ class Lawful(Whole):
         self.add("set", layer, 2, self.one_of(CODES))
         for _ in range(self.one_of([4, 8, 12])):
             self.held ^= {self.one_of([0, 1, 2, 2, 40])}
-            self.add("scans", 5, *sorted(self.held))
+            self.add("scans", SAMPLES, *sorted(self.held))
             self.add("poll")
 
     def events(self):

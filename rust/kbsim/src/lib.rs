@@ -1,8 +1,8 @@
-//! A simulated keyboard on a flash in memory, moved event by event, whose power can be cut wherever you like.
+//! A simulated keyboard on a flash in memory. It runs event by event, and its power can be cut at any point.
 //!
-//! [`run_script`] runs a script and prints what each line of it comes to; [`World`] is the keyboard, its flash, its host and
-//! its power switch, for a program of your own. [`parse_text`] prints the fields of a report descriptor, [`describe`] the
-//! descriptors of the keyboard. The program `kbsim` is these calls over files, and a reader of HID reports.
+//! [`run_script`] runs a script and prints the result of each line. [`World`] gives your own program the keyboard, its flash,
+//! its host and its power switch. [`parse_text`] prints the fields of a report descriptor, and [`describe`] prints the
+//! descriptors of the keyboard. The program `kbsim` runs these calls on files, and also reads HID reports.
 //!
 //! ```
 //! use kbsim::run_script;
@@ -14,8 +14,8 @@
 //! # Ok::<(), kbsim::RunError>(())
 //! ```
 //!
-//! **Exported from a proved source.** What is in the hidden module `parts` is the text of crates that are proved in Rattle
-//! (Rust with contracts), without what the prover alone reads. The proofs speak of that source. What is written by hand in
+//! **Exported from a proved source.** The hidden module `parts` holds the code of crates that are proved in Rattle
+//! (Rust with contracts), without what only the prover reads. The proofs are about that source. What is written by hand in
 //! this crate, with the program's command line, is tested and not proved.
 #![forbid(unsafe_code)]
 #![warn(missing_debug_implementations)]

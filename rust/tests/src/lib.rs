@@ -1,6 +1,6 @@
-//! What the tests share: rows of a table, and bytes as hex digits.
+//! The tests share these helpers: table rows, and bytes as hex.
 //!
-//! A row is a line `ASK = ANSWER`, or `ASK` alone where nothing is answered. Empty lines and lines that begin with `#` are none.
+//! A row is a line `ASK = ANSWER`, or `ASK` alone where nothing is answered. Empty lines and lines that begin with `#` are skipped.
 
 #![forbid(unsafe_code)]
 

@@ -5,8 +5,9 @@
 //! tried on a chip. The tests below play its registers.
 //!
 //! A SETUP packet or a reset leaves the buffers as they are. So the interrupt, [`interrupt`], takes them back at once, and
-//! `waiting` tells of it later. The chip keeps no data toggles either: the driver does. The manual doesn't say what becomes of an
-//! OUT packet that comes again; here it is acknowledged and dropped (USB 2.0 section 8.6.4).
+//! `waiting` tells of it later. No loop can take the interrupt's place: it has some 3 µs, so keep it in RAM with what it calls.
+//! The chip keeps no data toggles either: the driver does. The manual doesn't say what becomes of an OUT packet that comes again;
+//! here it is acknowledged and dropped (USB 2.0 section 8.6.4).
 #![cfg_attr(not(test), no_std)]
 
 use core::cell::Cell;
@@ -118,7 +119,8 @@ pub struct Rp2040<R> {
 impl<R: Registers> Rp2040<R> {
     /// Starts the controller, which is out of its reset, with its clock of 48 MHz on.
     pub fn start(registers: R) -> Rp2040<R> {
-        [ENDPOINT_1, CONTROL, CONTROL + 4, CONTROL + 8].iter().for_each(|place| registers.write(*place, 0));
+        // The packet memory has no reset: what endpoints were, and what stood in their buffers.
+        (ENDPOINT_1..PACKETS[IN_0]).step_by(4).for_each(|place| registers.write(place, 0));
         // To the PHY; connected by software; power is there.
         registers.write(MUXING, 1 << 0 | 1 << 3);
         registers.write(POWER, 1 << 2 | 1 << 3);
@@ -145,9 +147,10 @@ impl<R: Registers> Rp2040Usb<'_, R> {
     /// What the loop does for the bus in each of its rounds: suspend and resume, packets, and a remote wakeup.
     pub fn serve<E: Endpoints>(mut self, device: &mut UsbDevice<'_, E, Self>) {
         let changed = self.0.registers.read(RAW_INTERRUPTS) & SUSPENDED_INTERRUPT != 0;
-        let status = self.0.registers.read(SIE_STATUS) & (SUSPENDED | RESUMED);
+        // A suspend that comes in between is left to the next round.
+        let status = self.0.registers.read(SIE_STATUS) & if changed { SUSPENDED | RESUMED } else { RESUMED };
         self.0.registers.write(SIE_STATUS, status);
-        if changed && status & SUSPENDED != 0 {
+        if status & SUSPENDED != 0 {
             device.suspended();
         }
         if status & RESUMED != 0 {
@@ -171,23 +174,26 @@ impl<R: Registers> Rp2040Usb<'_, R> {
         registers.interrupts(true);
     }
 
-    /// Puts a packet into a buffer, or what it answers else.
+    /// Puts a packet into a buffer, or what it answers else, unless that is overtaken. The interrupts are off twice, for a short
+    /// time: the other buffers stay open in it, also behind a SETUP packet.
     fn put(&self, buffer: usize, word: u32, packet: &[u8]) {
-        let registers = &self.0.registers;
-        take_back(registers, &[buffer]);
+        let overtaken = if buffer == IN_1 { BUS_RESET } else { BUS_RESET | SETUP };
+        self.unless(overtaken, |registers| take_back(registers, &[buffer]));
         for (number, bytes) in packet.chunks(4).enumerate() {
             let word = bytes.iter().rev().fold(0, |word, byte| word << 8 | u32::from(*byte));
-            registers.write(PACKETS[buffer] + 4 * number, word);
+            self.0.registers.write(PACKETS[buffer] + 4 * number, word);
         }
         let word = word | if self.0.toggles[buffer].get() { DATA1 } else { 0 };
-        registers.write(CONTROL + 4 * buffer, word & !AVAILABLE);
-        if word & STALL != 0 && buffer != IN_1 {
-            let armed = registers.read(STALL_ARM);
-            registers.write(STALL_ARM, armed | 1 << buffer);
-        }
-        // The controller has another clock: all else has to stand before this bit does.
-        registers.pause();
-        registers.write(CONTROL + 4 * buffer, word);
+        self.unless(overtaken, |registers| {
+            registers.write(CONTROL + 4 * buffer, word & !AVAILABLE);
+            if word & STALL != 0 {
+                let armed = registers.read(STALL_ARM);
+                registers.write(STALL_ARM, armed | 1 << buffer);
+            }
+            // The controller has another clock: all else has to stand before this bit does.
+            registers.pause();
+            registers.write(CONTROL + 4 * buffer, word);
+        });
     }
 
     /// Whether a packet was taken from a buffer, or came into it, since this was asked before.
@@ -215,7 +221,7 @@ impl<R: Registers> Controller for Rp2040Usb<'_, R> {
     fn waiting(&mut self) -> Waiting {
         let registers = &self.0.registers;
         let mut met = Waiting { reset: false, setup: None, out: None, taken: false };
-        // In a loop without the interrupt this does its work.
+        // What came since the last interrupt, or while it was off.
         registers.interrupts(false);
         interrupt(registers);
         registers.interrupts(true);
@@ -243,19 +249,23 @@ impl<R: Registers> Controller for Rp2040Usb<'_, R> {
     }
 
     fn input_0(&mut self, answer: Input) {
-        self.unless(BUS_RESET | SETUP, |_| match answer {
+        match answer {
             Input::Nak => self.put(IN_0, 0, &[]),
             Input::Stall => self.put(IN_0, STALL, &[]),
             Input::Packet(packet) => self.put(IN_0, FULL | LAST | AVAILABLE | packet.len() as u32, &packet),
-        });
+        }
     }
 
     fn output_0(&mut self, answer: Output) {
-        self.unless(BUS_RESET | SETUP, |_| match answer {
+        let is_open = || self.0.registers.read(CONTROL + 4 * OUT_0) & AVAILABLE != 0;
+        let has_come = || self.0.registers.read(BUFFER_STATUS) & 1 << OUT_0 != 0;
+        match answer {
             Output::Nak => self.put(OUT_0, 0, &[]),
             Output::Stall => self.put(OUT_0, STALL, &[]),
+            // A packet that came since, and its length, wait for `waiting`.
+            Output::Take if is_open() || has_come() => {}
             Output::Take => self.put(OUT_0, LAST | AVAILABLE | 8, &[]),
-        });
+        }
     }
 
     fn set_address(&mut self, address: u8) {
@@ -273,20 +283,17 @@ impl<R: Registers> Buffers for Rp2040Usb<'_, R> {
     }
 
     fn begin_anew(&mut self, state: Endpoint1) {
+        self.give_up();
+        self.0.toggles[IN_1].set(false);
         self.unless(BUS_RESET, |registers| {
-            take_back(registers, &[IN_1]);
-            self.take(IN_1);
-            self.0.toggles[IN_1].set(false);
-            self.put(IN_1, if state == Endpoint1::Halted { STALL } else { 0 }, &[]);
+            registers.write(CONTROL + 4 * IN_1, if state == Endpoint1::Halted { STALL } else { 0 });
             registers.write(ENDPOINT_1, if state == Endpoint1::Off { 0 } else { ON });
         });
     }
 
     fn give_up(&mut self) {
-        self.unless(BUS_RESET, |registers| {
-            take_back(registers, &[IN_1]);
-            self.take(IN_1);
-        });
+        self.unless(BUS_RESET, |registers| take_back(registers, &[IN_1]));
+        self.take(IN_1);
     }
 
     /// The host does that by itself.
@@ -298,7 +305,7 @@ impl<R: Registers> Buffers for Rp2040Usb<'_, R> {
     }
 
     fn input_1(&mut self, packet: Report) {
-        self.unless(BUS_RESET, |_| self.put(IN_1, FULL | LAST | AVAILABLE | packet.len() as u32, &packet));
+        self.put(IN_1, FULL | LAST | AVAILABLE | packet.len() as u32, &packet);
     }
 }
 

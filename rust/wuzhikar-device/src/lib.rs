@@ -2,20 +2,20 @@
 
 //! A USB device around the keyboard core [`wuzhikar`]: what a firmware needs between the core and a USB controller.
 //!
-//! - [`UsbDevice`] is the device behind a controller that is handed packets beforehand, as nearly all are: the driver is a
+//! - [`UsbDevice`] is the device for controllers with packet buffers, as nearly all have. The driver implements
 //!   [`Controller`] for endpoint 0 and [`Buffers`] for endpoint 1.
-//! - [`DeviceLayer`] serves the standard requests of USB 2.0 chapter 9, with descriptors that a maker lends.
-//! - [`Keys`] is the keyboard on its flash, as the [`Endpoints`] behind the layer; [`Product`] makes descriptors of an
+//! - [`DeviceLayer`] serves the standard requests of USB 2.0 chapter 9, with descriptors borrowed from the maker.
+//! - [`Keys`] is the keyboard with its flash; the layer calls it as [`Endpoints`]. [`Product`] makes descriptors from an
 //!   [`Identity`].
 //! - [`UsbKeyboardOf::write`] and [`UsbKeyboardOf::read`] make whole control transfers, for a stack that keeps endpoint 0 to
 //!   itself; [`write()`] and [`read`] make them over any [`Endpoints`].
-//! - [`Device`] is the same device at the token, for controllers that ask there, and for tests. [`Device::control`] makes a
+//! - [`Device`] is the same device for tests, and for controllers that ask at each token. [`Device::control`] makes a
 //!   whole control transfer from the host's side.
 //!
 //! **What is proved.** The device layer, both buffers and what `Keys` does on the bus are exported from a proved source
-//! (`crates/usb_device`, `crates/usb_keyboard`), as the keyboard is: a control write that the host saw the end of was confirmed
-//! by the device behind the layer, so a command is stored. The host takes as new each report that SET_PROTOCOL did not drop,
-//! whole and in their order, whatever acknowledgements are lost. Written by hand, and tested, are how `Keys` starts, `Identity`,
+//! (`crates/usb_device`, `crates/usb_keyboard`), as the keyboard is. If the host saw a control write end, the device behind the
+//! layer has confirmed it, so a command is stored. The host takes as new each report that SET_PROTOCOL did not drop,
+//! whole and in order, whatever acknowledgements are lost. Written by hand, and tested, are how `Keys` starts, `Identity`,
 //! `Product`, `Device`, and the calls of `UsbDevice` that name the keyboard. `no_std`, no allocator, no unsafe code.
 //!
 //! ```

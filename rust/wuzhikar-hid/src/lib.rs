@@ -1,5 +1,5 @@
-//! What a driver asks of a HID device beside the usages that are on (HID 1.11): what each field of its reports means, the
-//! values of a report, and reports made from values. It stands on `wuzhikar-reader`.
+//! A reader of HID report descriptors for drivers (HID 1.11). It tells what each field of a report means, reads the values of
+//! reports, and makes reports from values. It builds on `wuzhikar-reader`.
 //!
 //! A [`Reader`] is made once of a report descriptor. [`Reader::read`] gives the values of a report of any kind,
 //! [`Reader::write`] makes one, [`Reader::details`] says what the fields mean, [`UsageName`] names usages, and [`usages`] has
@@ -32,7 +32,7 @@
 //! # Ok::<(), Box<dyn std::error::Error>>(())
 //! ```
 //!
-//! A usage is a number of 32 bits: the page in its high half, its ID there in the low one. So X is `0x0001_0030`, which is
+//! A usage is a 32-bit number: the usage page in the high half, the usage ID in the low half. X is `0x0001_0030`, which is
 //! [`usages::generic_desktop::X`], and button 3 `0x0009_0003`. An ID of 0 stands for no control: an Array whose places are free
 //! mostly names such a usage.
 //!
@@ -73,7 +73,7 @@
 //!
 //! # A keyboard
 //!
-//! A key is down until a later report lacks it. [`Reader::changes`] says which usages two reports of an ID differ in.
+//! A key is down until a later report lacks it. [`Reader::changes`] says in which usages two reports of an ID differ.
 //!
 //! ```
 //! use wuzhikar_hid::usages::keyboard;
@@ -129,8 +129,8 @@
 //!
 //! # A touch screen
 //!
-//! The values of one finger are those in the same Finger collection. [`Detail::inside`], the innermost collection, may be one
-//! of X and Y alone, so the Finger is looked for in [`Details::around`]. Tip Switch says whether it touches, and Contact
+//! The values of one finger are those in the same Finger collection. [`Detail::inside`], the innermost collection, may hold
+//! X and Y alone, so look for the Finger in [`Details::around`]. Tip Switch says whether it touches, and Contact
 //! Identifier which finger it is from report to report. Only so many fingers of a report are contacts as Contact Count says.
 //! A device may have other applications, so [`Reader::placed`] says which one a value belongs to.
 //!
@@ -179,13 +179,13 @@
 //! [`ReadingError`] says why. A driver drops the report, keeps its last state and reads the next one. Without Report IDs a
 //! report of another kind can't be told by its first byte.
 //!
-//! **Exported from a proved source: what a descriptor declares, and reports that are read and written.** The fields of
-//! [`Details`], its collections, its calls, the bits, extents and units of a [`Detail`], what [`namings`] gives, the value in its
-//! unit, and all that [`Reader::read`] and [`Reader::write`] do are in the hidden module `parts`, the text of crates that are proved in Rattle (Rust with
-//! contracts), as are the fields and their usages of `wuzhikar-reader`. **All else is written by hand: tested, not proved**,
-//! names among it; it is compared with a program in another language over some
-//! ten thousand descriptors. Any bytes may come: nothing panics on them. Where a call says nothing of memory, it takes memory
-//! as std does.
+//! **Exported from a proved source: what a descriptor declares, and reports that are read and written.** The fields
+//! of [`Details`], its collections, its calls, the bits, extents and units of a [`Detail`], what [`namings`] gives,
+//! the value in its unit, and all that [`Reader::read`] and [`Reader::write`] do are in the hidden module `parts`,
+//! the text of crates that are proved in Rattle (Rust with contracts), as are the fields and their usages of
+//! `wuzhikar-reader`. **All else, names included, is written by hand: tested, not proved.** Tests compare it with a
+//! program in another language over some ten thousand descriptors. Any bytes may come: nothing panics on them. Where
+//! a call says nothing of memory, it takes memory as std does.
 #![cfg_attr(not(test), no_std)]
 #![forbid(unsafe_code)]
 #![warn(missing_docs, missing_debug_implementations)]

@@ -8,12 +8,12 @@
 //! [`FlashLog::push`], [`FlashLog::rewrite`] and [`FlashLog::format`] return when all is done. The other calls leave each
 //! flash operation to [`FlashLog::step`].
 //!
-//! [`SlotFlash`] makes such a flash of a driver with write and erase units of any size, whose calls are those of
-//! `embedded-storage` ([`FlashDriver`]). For a chip with error correction take [`PairedFlash`] on a [`UnitFlash`], or on an
+//! [`SlotFlash`] turns a driver into such a flash. The driver has the calls of `embedded-storage` ([`FlashDriver`]), and
+//! write and erase units of any size. For a chip with error correction take [`PairedFlash`] on a [`UnitFlash`], or on an
 //! [`EccFlash`] of your own. [`check_driver`], run once on the chip over spare pages, names what the flash does wrong.
 //!
-//! **Exported from a proved source.** What is in the hidden module `parts` is the text of crates that are proved in Rattle
-//! (Rust with contracts), without what the prover alone reads. The proofs speak of that source, and of a flash that does
+//! **Exported from a proved source.** The hidden module `parts` holds the code of crates that are proved in Rattle
+//! (Rust with contracts), without what only the prover reads. The proofs are about that source, and a flash that does
 //! what [`NorFlash`] says of each call. What is written by hand in this crate is tested and not proved.
 #![no_std]
 #![forbid(unsafe_code)]

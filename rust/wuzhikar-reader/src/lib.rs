@@ -1,8 +1,8 @@
 //! A reader of HID report descriptors and of input reports (HID 1.11).
 //!
-//! [`parse`] reads a whole report descriptor: it gives the fields that it declares, or its first fault. A [`Parser`] takes
-//! the text in pieces, as they come off the bus. [`Items`] cuts a text into its items, whatever they say. [`extract`] reads
-//! an input report by a [`Descriptor`], and [`pressed`] makes of that the usages that are on.
+//! [`parse`] reads a whole report descriptor, and returns the declared fields or the first fault. A [`Parser`] takes the
+//! descriptor in pieces, as they come off the bus. [`Items`] splits it into items, whatever they say. [`extract`] reads an
+//! input report by a [`Descriptor`], and [`pressed`] lists the usages that are on in it.
 //!
 //! ```
 //! use wuzhikar_reader::{extract, parse, pressed};
@@ -19,11 +19,11 @@
 //! # Ok::<(), Box<dyn core::error::Error>>(())
 //! ```
 //!
-//! Nothing that is read is trusted: any bytes may come, and the time is linear in them. Memory is asked for and may be
-//! refused: each call says so.
+//! No input is trusted: it may be any bytes, and the time is linear in their number. A call that allocates returns an
+//! error when the allocation fails.
 //!
-//! **Exported from a proved source.** What is in the hidden module `parts` is the text of crates that are proved in Rattle
-//! (Rust with contracts), without what the prover alone reads. The proofs speak of that source: the fields are exactly
+//! **Exported from a proved source.** The hidden module `parts` holds the code of crates that are proved in Rattle
+//! (Rust with contracts), without what only the prover reads. The proofs are about that source: the fields are exactly
 //! those that the text declares, a refusal is its first fault, a report is read exactly as its descriptor says. What is
 //! written by hand in this crate is tested and not proved.
 #![no_std]

@@ -1,9 +1,9 @@
-//! The firmware core of a USB keyboard: four layers of 96 keys, kept on NOR flash so that an assignment which the
-//! computer was told is stored outlives every loss of power.
+//! The firmware core of a USB keyboard: four layers of 96 keys, kept in NOR flash. A key assignment that was confirmed to the
+//! computer survives every power loss.
 //!
-//! [`FlashKeyboard`] is the device with its flash; [`Keyboard`] is the device alone, which is lent its flash where it works
-//! on it. Each call is one event: a scan of the matrix, a packet of endpoint 0, a poll of endpoint 1, a step of the flash
-//! work, a bus reset. It takes no memory and never waits.
+//! [`FlashKeyboard`] is the device with its flash; [`Keyboard`] is the device alone, and borrows its flash in the calls that
+//! use it. Each call is one event: a scan of the matrix, a packet of endpoint 0, a poll of endpoint 1, a step of the flash
+//! work, a bus reset. No call allocates or waits.
 //!
 //! ```
 //! use wuzhikar::{EpAnswer, FlashFault, FlashKeyboard, NorFlash, Scan};
@@ -25,9 +25,9 @@
 //! # Ok::<(), wuzhikar::PageCount>(())
 //! ```
 //!
-//! **Exported from a proved source.** What is in the hidden module `parts` is the text of crates that are proved in Rattle
-//! (Rust with contracts), without what the prover alone reads. The proofs speak of that source. No flash and no bus is
-//! covered: a driver has to do what [`NorFlash`] says of each call. What is written by hand in this crate is tested and
+//! **Exported from a proved source.** The hidden module `parts` holds the code of crates that are proved in Rattle
+//! (Rust with contracts), without what only the prover reads. The proofs are about that source. They cover no flash
+//! and no bus: a driver has to do what [`NorFlash`] says of each call. What is written by hand in this crate is tested and
 //! not proved.
 //!
 //! [`debounce`] and [`control_ep`] can be used by themselves; the log that keeps the keymap is the crate [`wuzhikar_log`].

@@ -3,8 +3,11 @@
 
 use crate::Shop;
 use crate::chip::{Chip, Order};
-use crate::host::{self, Answer};
+use crate::host::{self, Answer, Lost};
 use crate::model::{self, Command, Numbers};
+
+/// The equal samples in a row that change a key.
+const SAMPLES: usize = 5;
 
 struct Bench {
     chip: Chip,
@@ -68,12 +71,15 @@ pub fn run(shop: &Shop) -> Answer<()> {
     bench.start("3 records", &three)?;
     bench.start("a full page beside a used one", &used)?;
     bench.row("a scan without an edge", &blank, nothing, |chip| scans(chip, &[], 20))?;
-    bench.row("a scan that presses a key", &blank, host::enumerate, |chip| scans(chip, &[0], 5))?;
+    bench.row("a scan that presses a key", &blank, host::enumerate, |chip| scans(chip, &[0], SAMPLES))?;
     bench.row(
         "a poll with its report",
         &blank,
-        |chip| host::enumerate(chip).and_then(|()| scans(chip, &[0], 5)),
-        |chip| host::poll(chip).map(drop),
+        |chip| host::enumerate(chip).and_then(|()| scans(chip, &[0], SAMPLES)),
+        |chip| match host::poll(chip)? {
+            report if report.is_empty() => Err(Lost::Dead("a poll without its report".to_owned())),
+            _ => Ok(()),
+        },
     )?;
     bench.row("address and configuration", &blank, nothing, host::enumerate)?;
     bench.row("a command with room, on 384 records", &entries, nothing, command)?;

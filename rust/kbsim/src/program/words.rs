@@ -64,7 +64,7 @@ fn parse() -> Command {
         flag("items", "Prints each item, up to the first fault, in place of the fields")
             .conflicts_with_all(["details", "json"]),
         flag("details", "Prints a tree of collections and items, in words").conflicts_with("json"),
-        flag("json", "Prints an object of JSON"),
+        flag("json", "Prints a JSON object"),
         lenient(["items", "json"]),
         text(),
     ])
@@ -73,7 +73,7 @@ fn parse() -> Command {
 fn read() -> Command {
     command("read", "Tells the values in HID reports", include_str!("help/read.txt")).args([
         flag("names", "Usages by their names"),
-        flag("json", "An object of JSON a line; docs/reader.md has the schema"),
+        flag("json", "One JSON object a line; docs/reader.md has the schema"),
         flag("changes", "The usages that a report presses and releases, in place of its values").conflicts_with("json"),
         flag("raw", "The reports are bytes, and not lines"),
         flag("live", "DESCRIPTOR is a hidraw device, of which the descriptor and the reports are read")

@@ -12,7 +12,8 @@ const USB: usize = 0x5010_0000;
 /// TIMERAWL: microseconds, counted once the watchdog gives its tick.
 const MICROSECONDS: *const u32 = 0x4005_4028 as *const u32;
 
-/// RESET, where a one is written to be cleared, RESET_DONE and the controller's bit of both.
+/// RESET, where a one is written to be set, and to be cleared; RESET_DONE, and the controller's bit of each.
+const RESET: *mut u32 = 0x4000_e000 as *mut u32;
 const UNRESET: *mut u32 = 0x4000_f000 as *mut u32;
 const RESET_DONE: *const u32 = 0x4000_c008 as *const u32;
 const USBCTRL: u32 = 1 << 24;
@@ -24,10 +25,12 @@ const ENABLE: *mut u32 = 0xe000_e100 as *mut u32;
 #[derive(Clone, Copy, Debug)]
 pub struct Chip;
 
-/// Takes the controller, whose clock of 48 MHz is on, out of its reset, and enables its interrupt.
+/// Resets the controller, whose clock of 48 MHz is on, and enables its interrupt. A reset of the processor alone leaves it on the
+/// bus, with the address that it had.
 pub fn start() -> Rp2040<Chip> {
     // SAFETY: registers that this controller alone has.
     unsafe {
+        write_volatile(RESET, USBCTRL);
         write_volatile(UNRESET, USBCTRL);
         while read_volatile(RESET_DONE) & USBCTRL == 0 {}
     }

@@ -20,6 +20,10 @@ struct Played {
     /// A cycle of the controller went by since a control word was written.
     is_idle: bool,
     woken: bool,
+    /// The state of suspend has changed, which a write to SUSPENDED clears; the bit itself says how it is.
+    is_changed: bool,
+    /// The accesses since a SETUP packet came.
+    since: usize,
 }
 
 impl Played {
@@ -46,7 +50,7 @@ impl Played {
     /// What of SIE_STATUS and of the buffers is asked for by interrupts.
     fn raw(&self) -> u32 {
         let of = |bit, interrupt| if self.word(SIE_STATUS) & bit != 0 { interrupt } else { 0 };
-        of(BUS_RESET, RESET_INTERRUPT) | of(SETUP, SETUP_INTERRUPT) | of(SUSPENDED, SUSPENDED_INTERRUPT)
+        of(BUS_RESET, RESET_INTERRUPT) | of(SETUP, SETUP_INTERRUPT) | if self.is_changed { SUSPENDED_INTERRUPT } else { 0 }
     }
 
     fn asked(&self) -> u32 {
@@ -61,6 +65,7 @@ impl Wire for Played {
         }
         *self.at(SIE_STATUS) |= SETUP;
         *self.at(STALL_ARM) = 0;
+        self.since = 0;
         true
     }
 
@@ -116,15 +121,34 @@ impl Wire for Played {
 
     fn suspend(&mut self) {
         *self.at(SIE_STATUS) |= SUSPENDED;
+        self.is_changed = true;
     }
 
     fn resume(&mut self) {
         *self.at(SIE_STATUS) &= !SUSPENDED;
         *self.at(SIE_STATUS) |= RESUMED;
+        self.is_changed = true;
     }
 
     fn wakes(&mut self) -> bool {
         std::mem::take(&mut self.woken)
+    }
+}
+
+/// The first access behind a SETUP packet at which the token behind that may be on the bus, with a processor of 48 MHz.
+const TOKEN: usize = 12;
+
+impl Played {
+    /// An access goes by: such a token is answered by NAK.
+    fn sees_tokens(&mut self) {
+        self.since += 1;
+        if self.since >= TOKEN && self.word(SIE_STATUS) & SETUP != 0 {
+            for buffer in [IN_0, OUT_0] {
+                let word = self.control(buffer);
+                let answers = word & AVAILABLE != 0 || self.is_stalled(buffer);
+                assert!(self.is_aborted(buffer) || !answers, "{word:x} behind a SETUP packet");
+            }
+        }
     }
 }
 
@@ -151,6 +175,7 @@ fn interrupts_run(wire: &Wired) {
 impl Registers for &Wired {
     fn read(&self, place: usize) -> u32 {
         access(self);
+        self.borrow_mut().registers.sees_tokens();
         let played = &self.borrow().registers;
         match place {
             RAW_INTERRUPTS => played.raw(),
@@ -164,8 +189,13 @@ impl Registers for &Wired {
     fn write(&self, place: usize, word: u32) {
         access(self);
         let played = &mut self.borrow_mut().registers;
+        played.sees_tokens();
         match place {
-            SIE_STATUS | BUFFER_STATUS => *played.at(place) &= !word,
+            SIE_STATUS => {
+                played.is_changed &= word & SUSPENDED == 0;
+                *played.at(place) &= !word | SUSPENDED;
+            }
+            BUFFER_STATUS => *played.at(place) &= !word,
             SIE_CONTROL => {
                 played.woken |= word & WAKE != 0 && played.waited >= 2;
                 *played.at(place) = word & !WAKE;
@@ -279,6 +309,22 @@ fn what_comes_at_any_access_is_told_once() {
 }
 
 #[test]
+fn an_out_packet_that_comes_while_out_is_opened_again_is_told_as_it_was() {
+    for at in 0..40 {
+        let wire = quiet();
+        let rp2040 = Rp2040::start(&wire);
+        let mut usb = Rp2040Usb(&rp2040);
+        armed(&mut usb, &inputs()[2], Output::Take);
+        wire.borrow_mut().comes = Some((at, |played| played.out(true, &[7]) == Answer::Ack));
+        usb.output_0(Output::Take);
+        let came = wire.borrow_mut().comes.take().is_none();
+        let met = [usb.waiting(), usb.waiting()];
+        let told: Vec<_> = met.iter().filter_map(|met| met.out.as_deref()).collect();
+        assert_eq!(told, if came { vec![&[7][..]] } else { vec![] }, "at access {at}");
+    }
+}
+
+#[test]
 fn a_setup_packet_before_a_reset_is_gone() {
     for is_behind in [false, true] {
         let wire = quiet();
@@ -314,6 +360,19 @@ fn a_packet_of_endpoint_1_is_taken_or_dropped() {
         assert_eq!(usb.taken_1(), 0, "{at}");
         usb.input_1([2].into_iter().collect());
         assert_eq!(wire.borrow_mut().registers.input(1), Answer::Packet(false, vec![2]), "{at}");
+    }
+}
+
+#[test]
+fn a_packet_of_endpoint_1_is_handed_over_beside_a_setup_packet() {
+    for at in 0..40 {
+        let wire = quiet();
+        let rp2040 = Rp2040::start(&wire);
+        let mut usb = Rp2040Usb(&rp2040);
+        usb.begin_anew(Endpoint1::Ready);
+        wire.borrow_mut().comes = Some((at, setup_comes));
+        usb.input_1([1].into_iter().collect());
+        assert_eq!(wire.borrow_mut().registers.input(1), Answer::Packet(false, vec![1]), "{at}");
     }
 }
 
@@ -356,6 +415,26 @@ fn a_host_enumerates_the_keyboard_sets_a_key_and_hears_it() {
     wire.borrow_mut().registers.reset();
     interrupts_run(&wire);
     assert_eq!((wire.borrow().registers.word(ADDRESS), wire.borrow().registers.word(ENDPOINT_1)), (0, 0));
+}
+
+#[test]
+fn a_suspend_at_any_access_is_told() {
+    let came = (0..100).take_while(|at| {
+        let wire = quiet();
+        let rp2040 = Rp2040::start(&wire);
+        let mut run = run(&wire, &rp2040);
+        run.serve();
+        run.is_suspended_at(*at)
+    });
+    assert!(came.count() > 3);
+}
+
+#[test]
+fn what_the_packet_memory_held_is_gone_at_the_start() {
+    let wire = quiet();
+    (ENDPOINT_1..0x100).step_by(4).for_each(|place| *wire.borrow_mut().registers.at(place) = u32::MAX);
+    Rp2040::start(&wire);
+    assert!((ENDPOINT_1..0x100).step_by(4).all(|place| wire.borrow().registers.word(place) == 0));
 }
 
 #[test]

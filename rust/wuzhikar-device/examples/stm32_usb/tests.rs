@@ -242,6 +242,17 @@ fn a_host_enumerates_the_keyboard_sets_a_key_and_hears_it() {
 }
 
 #[test]
+fn a_suspend_at_any_access_is_told() {
+    let came = (0..100).take_while(|at| {
+        let registers = RefCell::new(OnWire::quiet(Played::default()));
+        let mut run = run(&registers);
+        run.serve();
+        run.is_suspended_at(*at)
+    });
+    assert!(came.count() > 3);
+}
+
+#[test]
 fn what_the_host_saw_the_end_of_is_stored_and_no_key_sticks() {
     histories(2000, |seed| {
         let registers = RefCell::new(OnWire::new(Played::default(), seed));

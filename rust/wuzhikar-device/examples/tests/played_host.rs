@@ -17,6 +17,9 @@ use wuzhikar_device::{Buffers, DeviceLayer, Identity, Keys, PacketSize, Product,
 /// SET_FEATURE of the device's remote wakeup (USB 2.0 section 9.4.9).
 const ENABLE_WAKEUP: [u8; 8] = [0, 3, 1, 0, 0, 0, 0, 0];
 
+/// How GET_DESCRIPTOR of the device begins.
+const GET_DEVICE: [u8; 4] = [0x80, 6, 0, 1];
+
 /// What a token or a packet is answered.
 #[derive(Clone, Debug, PartialEq, Eq)]
 pub enum Answer {
@@ -172,6 +175,8 @@ impl Line {
     fn came(&mut self, packet: &[u8]) {
         self.read.extend(packet);
         let setup = self.host.setup();
+        // Of another transfer nothing is handed over.
+        assert!(setup[..4] != GET_DEVICE || PRODUCT.descriptors().device.starts_with(&self.read), "{:02x?}", self.read);
         if !self.host.came(packet) {
             return;
         }
@@ -340,6 +345,33 @@ impl<'r, P: Wire, B: Buffers + Copy> Run<'r, P, B> {
         }
     }
 
+    /// A suspend that comes at this access of a round is told, so that a key wakes the host. Whether it came in the round.
+    pub fn is_suspended_at(&mut self, at: usize) -> bool {
+        self.enumerates();
+        self.transfer(ENABLE_WAKEUP, &[]);
+        self.wire.borrow_mut().comes = Some((at, |registers| {
+            registers.suspend();
+            true
+        }));
+        self.serve();
+        let came = self.wire.borrow_mut().comes.take().is_none();
+        self.serve();
+        self.presses(true);
+        self.serve();
+        assert_eq!(self.wire.borrow_mut().registers.wakes(), came, "at access {at}");
+        came
+    }
+
+    /// Nothing more happens on the bus by itself, and a suspended bus goes on.
+    fn calms(&mut self) {
+        let mut wire = self.wire.borrow_mut();
+        let OnWire { line, registers, .. } = &mut *wire;
+        line.quiet = true;
+        if std::mem::take(&mut line.is_suspended) {
+            registers.resume();
+        }
+    }
+
     /// Key 0 goes down or up.
     pub fn presses(&mut self, down: bool) {
         (0..5).for_each(|_| self.usb.scan_rows([u16::from(down), 0, 0, 0, 0, 0]));
@@ -357,14 +389,7 @@ pub fn history<P: Wire, B: Buffers + Copy>(run: &mut Run<P, B>, numbers: &mut Nu
             _ => run.usb.work(),
         }
     }
-    {
-        let mut wire = run.wire.borrow_mut();
-        let OnWire { line, registers, .. } = &mut *wire;
-        line.quiet = true;
-        if std::mem::take(&mut line.is_suspended) {
-            registers.resume();
-        }
-    }
+    run.calms();
     run.serve();
     for _ in 0..500 {
         if run.wire.borrow().line.host.is_free() {
@@ -373,7 +398,11 @@ pub fn history<P: Wire, B: Buffers + Copy>(run: &mut Run<P, B>, numbers: &mut Nu
         let act = run.wire.borrow().line.host.due();
         run.act(act);
     }
-    run.transfer(SET_CONFIGURATION, &[]);
+    // Endpoint 1 goes on by itself where it is ready.
+    let status = run.transfer([0x82, 0, 0, 0, 0x81, 0, 2, 0], &[]);
+    if status != [0, 0] {
+        run.transfer(SET_CONFIGURATION, &[]);
+    }
     for _ in 0..30 {
         run.act(Act::Poll);
     }
@@ -381,7 +410,7 @@ pub fn history<P: Wire, B: Buffers + Copy>(run: &mut Run<P, B>, numbers: &mut Nu
         let known = run.wire.borrow().line.known.get(&(id, length)).cloned();
         let report = run.transfer([0xa1, 1, id, 1, 0, 0, length as u8, 0], &[]);
         let none = [&[id][..], &vec![0; length - 1]].concat();
-        assert!(report.is_empty() || known.unwrap_or(none) == report);
+        assert!(report.is_empty() || known.unwrap_or(none) == report, "{id} {report:?}");
     }
 }
 
