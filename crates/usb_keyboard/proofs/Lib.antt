@@ -9,5 +9,6 @@ pub mod Ending
 pub mod Reading
 pub mod Checking
 pub mod Receiving
+pub mod Faults
 pub mod Writing
 pub mod Forgotten

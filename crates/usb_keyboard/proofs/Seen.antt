@@ -9,7 +9,7 @@ use Rattle.usb_device.proofs.Pacing.{taken, between, since_start}
 use Rattle.usb_keyboard.specs.Plain.{usb_calls}
 use Rattle.usb_keyboard.proofs.Counting.{no_more, no_less, at_most_taken}
 
-equal : (a b : ℕ) → a ≤ b → b ≤ a → a ≡ b
+pub equal : (a b : ℕ) → a ≤ b → b ≤ a → a ≡ b
 equal a b l k = omega (arith, l, k)
 
 module _ (defaults : DefaultCodes) where
@@ -29,7 +29,7 @@ module _ (defaults : DefaultCodes) where
       let h = no_more defaults start later past in
       omega (arith, a, b, c, h)
 
-at_a_pace : (accepted_count taken_count pace total : ℕ) → accepted_count ≤ taken_count → taken_count * pace ≤ total → accepted_count * pace ≤ total
+pub at_a_pace : (accepted_count taken_count pace total : ℕ) → accepted_count ≤ taken_count → taken_count * pace ≤ total → accepted_count * pace ≤ total
 at_a_pace accepted_count taken_count pace total a t = grind (arith, a, t)
 
 module _ (defaults : DefaultCodes) where

@@ -16,6 +16,7 @@ use Rattle.usb_device.specs.declared.whole_transfers.Status.TheVariants.{Done, W
 use Rattle.usb_device.specs.Whole.{data_status_of, status_by, status_of}
 use Rattle.keymap_store.specs.declared.store.Work.{Work}
 use Rattle.keymap_store.specs.declared.store.Work.TheVariants as Works
+use Rattle.page_turnover.specs.Steps.{CountsAs}
 use Rattle.keyboard.specs.Acknowledged.{confirmation, NoneAcceptedWrites, IsConfirmed}
 use Rattle.keyboard.specs.Bounded.{IsInTime}
 use Rattle.keyboard.specs.Calls.{Call, SetUp, Out, In, Worked}
@@ -27,6 +28,7 @@ use Rattle.usb_keyboard.specs.Plain.{plain}
 use Rattle.usb_keyboard.specs.Whole.{put_off, data_calls, IsWritten, Fails, in_data, HasNoEffect, Stores}
 use Rattle.usb_keyboard.specs.ties.Whole.{Gives, IsStatusStage, WasInTime, NotConfirmed}
 use Rattle.usb_keyboard.proofs.Confirming.{accepted_by}
+use Rattle.usb_keyboard.proofs.Faults.{Raises, one_more}
 use Rattle.usb_keyboard.proofs.Ending.{same_transfer, ended, not_taken, none_taken}
 use Rattle.usb_keyboard.proofs.Keeping.{has_confirmed}
 
@@ -72,11 +74,12 @@ done_by steps (Answers.Stall why) e = cc
 module _ (defaults : DefaultCodes) where
   pub waited_more : (start : List ℕ) (past : List Call) (steps : List (Work × List ℕ)) (answer : Answer) (work : Work) (keyboard : KeyboardValue) (image : List ℕ) (count : ℕ) (healthy : Type 0) → status_of (plain answer) ≡ Waits
       → RunsSince defaults start (Worked work image ∷ In answer ∷ put_off steps ++ past) keyboard image → IsInTime defaults start (put_off steps ++ past) → length steps ≡ count
-      → (healthy → NoneFails (put_off steps)) → (healthy → work ≢ Works.Failed)
-      → (more : List (Work × List ℕ)) × RunsSince defaults start (put_off more ++ past) keyboard image × (length more ≡ count + 1) × WasInTime defaults start past more × (healthy → NoneFails (put_off more))
-  waited_more start past steps answer work keyboard image count healthy e r t n f w =
+      → (healthy → NoneFails (put_off steps)) → (healthy → work ≢ Works.Failed) → (operations operations_after old new newer : ℕ) → Raises steps old new
+      → CountsAs (work ≡ Works.Idle) (work ≡ Works.Failed) operations operations_after new newer
+      → (more : List (Work × List ℕ)) × RunsSince defaults start (put_off more ++ past) keyboard image × (length more ≡ count + 1) × WasInTime defaults start past more × (healthy → NoneFails (put_off more)) × Raises more old newer
+  waited_more start past steps answer work keyboard image count healthy e r t n f w operations operations_after old new newer b c =
       let P : Answer → Type 0 = λ a. RunsSince defaults start (Worked work image ∷ In a ∷ put_off steps ++ past) keyboard image in
-      ((work, image) ∷ steps, subst P (nak_is answer e) r, omega (arith, n), t, λ x. (w x, f x))
+      ((work, image) ∷ steps, subst P (nak_is answer e) r, omega (arith, n), t, (λ x. (w x, f x)), one_more steps work image operations operations_after old new newer b c)
 
 -- ---- the whole
 

@@ -1,5 +1,4 @@
--- Believed: the checks of a whole control transfer of a keyboard, in their order (USB 2.0 section 8.5.3, HID 1.11 section 7.2), and
--- how the transfer ends by them.
+-- Believed: the checks of a whole control transfer of a keyboard, in their order (docs/formats.md), and how the transfer ends by them.
 use Rattle.shapes.specs.Shapes.{Bytes}
 use Rattle.std.specs.Prelude.{◌≡◌, ◌==◌, ℕ, Bool, is_some, if◌then◌else◌, List, [], ◌∷◌, take, Result, Ok, Err}
 use Rattle.layers.specs.Codes.{DefaultCodes}
@@ -29,7 +28,8 @@ module _ (defaults : DefaultCodes) where
   ReportAnswer image busy report [] answer = answer ≡ Stall WrongStage
   ReportAnswer image busy report (byte ∷ bytes) answer = OutAnswer defaults (report_step (received_report report (byte ∷ bytes))) image busy answer
 
-  -- by the transfer that the request begins. One that reads is no write, unless it asks for no byte
+  -- by the transfer that the request begins. One that reads is no write, unless it asks for no byte. Its data are stalled. Without data
+  -- the keyboard gives the first packet of what is read, and stalls nothing: it counts as a STALL here, for the write is refused
   abbrev pub TransferAnswer : Bytes → Bool → Transfer → ℕ → Bytes → Answer → Type 0
   TransferAnswer image busy (Takes report) asked data_ answer = ReportAnswer image busy report data_ answer
   TransferAnswer image busy (Sets effect) asked data_ answer = answer ≡ without_data data_
@@ -51,8 +51,8 @@ module _ (defaults : DefaultCodes) where
     pub given : WriteAnswer start past setup data_ answer
     pub only : (other : Answer) → WriteAnswer start past setup data_ other → other ≡ answer
 
--- how a write fails by this answer of its checks. One that they accept is refused for a fault of the flash alone, where it was not
--- healthy
+-- how a write fails by this answer of its checks. One that they accept is refused for a fault of the flash alone: never where it was
+-- healthy, or answered none in the call
 abbrev pub FailsBy : TransferError → Answer → Type 0 → Type 0
 FailsBy Refused (Stall why) healthy = Unit {0}
 FailsBy Refused Ack healthy = healthy → ⊥

@@ -40,7 +40,8 @@ pub record IsWritten (setup data_ : Bytes) (since : List Call) : Type 0 where
   pub steps : List (Work × Bytes)
   pub since_is : since ≡ confirmation ∷ begun setup data_ steps
 
--- a write that the keyboard stalled: in its data, or in its status stage
+-- a write that was refused: in its data, or in its status stage. The answer there is a STALL; or, where the request reads, the first
+-- packet of what it reads, which is no answer to a write, and then nothing is stalled
 pub data IsRefused (setup data_ : Bytes) (since : List Call) : Type 0 where
   in_data : (answer : Answer) → data_status_of (plain answer) ≡ Refuses → since ≡ Out data_ answer ∷ SetUp setup ∷ [] → IsRefused setup data_ since
   in_status : (answer : Answer) (steps : List (Work × Bytes)) → status_of (plain answer) ≡ Refuses → since ≡ In answer ∷ begun setup data_ steps → IsRefused setup data_ since
@@ -62,9 +63,9 @@ pub record IsRead (setup bytes : Bytes) (since : List Call) : Type 0 where
   pub whole : AreWhole (request_of setup).length bytes packets
   pub since_is : since ≡ Out [] Ack ∷ in_calls packets ++ (SetUp setup ∷ [])
 
--- a read that was refused: no call was made, or the first IN packet was stalled
+-- a read that was refused: its request asks for no byte, and no call was made; or the first IN packet was stalled
 pub data IsUnread (setup : Bytes) (since : List Call) : Type 0 where
-  not_asked : since ≡ [] → IsUnread setup since
+  not_asked : (request_of setup).length ≡ 0 → since ≡ [] → IsUnread setup since
   stalled : (why : Why) → since ≡ In (Stall why) ∷ SetUp setup ∷ [] → IsUnread setup since
 
 module _ (defaults : DefaultCodes) where

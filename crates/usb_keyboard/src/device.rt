@@ -3,6 +3,7 @@
 ghost use Rattle.std.specs.Prelude.{◌≡◌, ◌≢◌, ◌≤◌, ◌∷◌, [], ℕ, List, length};
 ghost use Rattle.std.specs.Option.{option_map};
 ghost use Rattle.control_ep.specs.declared.answer.EpAnswer.{EpAnswer as Answer};
+ghost use Rattle.page_turnover.specs.Steps.{CountsAs};
 ghost use Rattle.keymap_store.specs.declared.store.Work.{Work};
 ghost use Rattle.usb_device.specs.Calls.{EpCall};
 ghost use Rattle.usb_device.specs.Calls as Eps;
@@ -124,6 +125,8 @@ impl<D: Defaults, K: HoldsKeyboard<D> + Drop, F: NorFlash + Drop> UsbKeyboardOf<
     pub fn step(&mut self) -> Work
         ensures told { (start : List ℕ) (past : List Call) → RunsSince D.defaults start past self.old.0 (F.image self.old.1)
             → RunsSince D.defaults start (Worked result (F.image self.new.1) ∷ past) self.new.0 (F.image self.new.1) }
+        // at most one operation is made, and a step that fails is a fault of the flash
+        ensures counts { CountsAs (result ≡ Work.Idle) (result ≡ Work.Failed) (F.operations self.old.1) (F.operations self.new.1) (F.faults self.old.1) (F.faults self.new.1) }
         // a flash that answers no fault lets no step fail
         ensures faultless { F.is_faultless self.old.1 → F.is_faultless self.new.1 × (result ≢ Work.Failed) }
     {

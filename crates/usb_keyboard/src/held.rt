@@ -4,6 +4,7 @@ ghost use Rattle.std.specs.Prelude.{◌≡◌, ◌≢◌, ◌∷◌, [], ℕ, Li
 ghost use Rattle.std.specs.Option.{option_map};
 ghost use Rattle.keyboard.specs.Calls.{Call, Scanned, SetUp, Out, In, Polled, Worked, BusReset, image_after};
 ghost use Rattle.keyboard.specs.ties.Stands.{StandsFor};
+ghost use Rattle.page_turnover.specs.Steps.{CountsAs};
 ghost use Rattle.keymap_store.specs.declared.store.Work.{Work};
 ghost use Rattle.keyboard.specs.ties.Value.{KeyboardValue, RunsOn};
 ghost use Rattle.key_reports.specs.Past.{answer_after};
@@ -62,6 +63,7 @@ pub trait HoldsKeyboard<D: Defaults> {
         ensures stands { (start : List ℕ) (past : List Call) → StandsFor D.defaults start past (held self.old) → image_after start past ≡ F.image flash.old
             → StandsFor D.defaults start (Worked result (F.image flash.new) ∷ past) (held self.new) }
         ensures runs_on { RunsOn D.defaults (F.image flash.new) (held self.new) }
+        ensures counts { CountsAs (result ≡ Work.Idle) (result ≡ Work.Failed) (F.operations flash.old) (F.operations flash.new) (F.faults flash.old) (F.faults flash.new) }
         ensures faultless { F.is_faultless flash.old → F.is_faultless flash.new × (result ≢ Work.Failed) };
 
     /// A bus reset.

@@ -14,7 +14,7 @@ ghost use Rattle.usb_device.specs.Bus1.{no_polls};
 ghost use Rattle.usb_device.specs.Calls.{EpCall};
 ghost use Rattle.usb_device.specs.Confirmed.{ConfirmedBefore, WasConfirmed};
 ghost use Rattle.usb_device.specs.Events.{Event};
-ghost use Rattle.usb_device.specs.Guarding.{GuardCall, AllGuarded, StaysLocked, calls_met, is_locked, passed, scans};
+ghost use Rattle.usb_device.specs.Guarding.{GuardCall, AllGuarded, StaysLocked, calls_met, commands_taken, is_locked, passed, scans};
 ghost use Rattle.usb_device.specs.Requests.{Lent};
 ghost use Rattle.usb_device.specs.Steps.{AllAnswered, session};
 ghost use Rattle.usb_device.specs.Through.{calls_of};
@@ -86,4 +86,21 @@ pub fn accepted_behind_a_guard()
         → length (accepted defaults start (later ++ past)) ≤ length (accepted defaults start past) + 1 }
     ensures since_start { (defaults : DefaultCodes) (pace : ℕ) (met : List GuardCall) (start : List ℕ) (past : List Call) → AllGuarded pace met → usb_calls past ≡ passed pace met
         → length (accepted defaults start past) * pace ≤ scans met }
+{}
+
+/// A keyboard accepts no more commands than are acknowledged before `usb_device::Forgetting`, which answers polls in its place.
+/// So it accepts none that `usb_device::guard_laws::lock_and_pace_on_the_whole_device` says is not acknowledged behind a lock and a
+/// pace: `calls` are then `passed pace before`, and `more` `passed pace (since ++ before)`.
+pub fn accepted_where_forgotten()
+    ensures since { (defaults : DefaultCodes) (start : List ℕ) (later past : List Call) (calls more : List EpCall) → Shows calls (usb_calls past) → Shows more (usb_calls (later ++ past))
+        → length (accepted defaults start (later ++ past)) + commands_taken calls ≤ commands_taken more + length (accepted defaults start past) }
+    // so none while the lock is set, at most one in fewer scans than the pace, and since the start at most one for each pace
+    ensures locked { (defaults : DefaultCodes) (pace : ℕ) (since before : List GuardCall) (start : List ℕ) (later past : List Call) → is_locked before ≡ true → StaysLocked since
+        → Shows (passed pace before) (usb_calls past) → Shows (passed pace (since ++ before)) (usb_calls (later ++ past))
+        → length (accepted defaults start (later ++ past)) ≡ length (accepted defaults start past) }
+    ensures paced { (defaults : DefaultCodes) (pace : ℕ) (since before : List GuardCall) (start : List ℕ) (later past : List Call) → AllGuarded pace (since ++ before) → scans since < pace
+        → Shows (passed pace before) (usb_calls past) → Shows (passed pace (since ++ before)) (usb_calls (later ++ past))
+        → length (accepted defaults start (later ++ past)) ≤ length (accepted defaults start past) + 1 }
+    ensures since_start { (defaults : DefaultCodes) (pace : ℕ) (met : List GuardCall) (start : List ℕ) (past : List Call) → AllGuarded pace met
+        → Shows (passed pace met) (usb_calls past) → length (accepted defaults start past) * pace ≤ scans met }
 {}

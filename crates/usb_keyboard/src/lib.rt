@@ -11,7 +11,7 @@
 //! command is accepted that writes the entry (`laws::seen_is_stored`, `laws::stored_until_written`). The commands accepted since
 //! are those that the host sent behind that status stage: of one command, another, and the first again, the last stays. Behind a
 //! lock and a pace the keyboard accepts no command while the lock is set, and at most one for each pace
-//! (`laws::accepted_behind_a_guard`).
+//! (`laws::accepted_behind_a_guard`), also where `usb_device::Forgetting` stands between (`laws::accepted_where_forgotten`).
 //!
 //! What `UsbDevice` says of the device behind it names no first image. So that a session began on what the power loss before
 //! it left is said by the clauses of `UsbKeyboard`, and is a premise of `laws::stored_until_written`.

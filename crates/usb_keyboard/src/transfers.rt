@@ -1,6 +1,6 @@
 //! Whole control transfers, for a stack that keeps endpoint 0 to itself.
 
-ghost use Rattle.std.specs.Prelude.{◌≡◌, ◌≢◌, ◌∷◌, ◌++◌, [], ℕ, List, Ok, Err, MatchResult};
+ghost use Rattle.std.specs.Prelude.{◌≡◌, ◌≢◌, ◌⊎◌, ◌∷◌, ◌++◌, [], ℕ, List, Ok, Err, MatchResult};
 ghost use Rattle.control_ep.specs.Requests.{request_of, transfer_of};
 ghost use Rattle.control_ep.specs.declared.answer.EpAnswer.{EpAnswer as Answer};
 ghost use Rattle.keyboard.specs.Calls.{Call, Out};
@@ -28,25 +28,27 @@ const MOST_PACKETS: usize = 13;
 impl<D: Defaults, K: HoldsKeyboard<D> + Drop, F: NorFlash + Drop> UsbKeyboardOf<D, K, F> {
     /// Makes a control write: its SETUP packet, its data, and the status stage, for which the flash work goes on.
     ///
-    /// The checks of the request and of its data decide, in their order (HID 1.11 section 7.2). `Ok` says that they are passed
+    /// The checks of the request and of its data decide, in their order (`docs/formats.md`). `Ok` says that they are passed
     /// and that the data were confirmed: so what a feature command writes is in the flash. The stack may then acknowledge the
     /// status stage, and on an error it stalls it. `Busy` says that another command works: nothing was taken, and the same
-    /// write may be made later. `Refused` says that a check is not passed, and nothing was taken; or that the command failed
-    /// for a fault of the flash. On a flash that answers no fault each write that passes the checks ends by `Ok`. `Unfinished`
-    /// never comes.
+    /// write may be made later. `Refused` says that a check is not passed or that the request reads, and nothing was taken; or
+    /// that the command failed for a fault of the flash. Where the flash answers no fault in this call, `Ok` comes exactly where
+    /// the request reads no byte, and it and its data pass the checks. `Unfinished` never comes.
     ///
-    /// It knows no lock and no pace. `usb_device::Guarded` stands before a keyboard on the bus, and not before this call: a
-    /// stack asks its maker's lock before it calls.
+    /// It knows no lock and no pace, and lets no host forget a report. `usb_device::Guarded` and `usb_device::Forgetting` stand
+    /// before a keyboard on the bus, and not before this call: a stack asks its maker's lock before it calls, or calls the
+    /// function `usb_device::write` on `Guarded`.
     pub fn write(&mut self, setup: [u8; 8], bytes: &[u8]) -> Result<(), TransferError>
         // its calls, and what they stored
         ensures calls { (start : List ℕ) (past : List Call) → RunsSince D.defaults start past self.old.0 (F.image self.old.1)
             → (since : List Call) × RunsSince D.defaults start (since ++ past) self.new.0 (F.image self.new.1)
             × MatchResult result (λ _. IsWritten setup bytes.now since × Stores D.defaults start (since ++ past) setup bytes.now)
             (λ e. Fails e setup bytes.now since × HasNoEffect D.defaults start past since) }
-        // it ends as the checks of its request and of its data say, and on a healthy flash each that they accept ends by Ok
+        // it ends as the checks of its request and of its data say. Each that they accept ends by Ok where no fault of the flash came
+        // in this call, and on a flash that answers none
         ensures checked { (start : List ℕ) (past : List Call) → RunsSince D.defaults start past self.old.0 (F.image self.old.1)
             → (answer : Answer) × IsChecked D.defaults start past setup bytes.now answer
-            × MatchResult result (λ _. answer ≡ Answer.Ack) (λ e. FailsBy e answer (F.is_faultless self.old.1)) }
+            × MatchResult result (λ _. answer ≡ Answer.Ack) (λ e. FailsBy e answer ((F.faults self.new.1 ≡ F.faults self.old.1) ⊎ F.is_faultless self.old.1)) }
         // a healthy flash stays so
         ensures faultless { F.is_faultless self.old.1 → F.is_faultless self.new.1 }
     {
@@ -76,7 +78,7 @@ impl<D: Defaults, K: HoldsKeyboard<D> + Drop, F: NorFlash + Drop> UsbKeyboardOf<
         ensures calls { (start : List ℕ) (past : List Call) → RunsSince D.defaults start past self.old.0 (F.image self.old.1)
             → (since : List Call) × RunsSince D.defaults start (since ++ past) self.new.0 (F.image self.new.1)
             × MatchResult result (λ _. IsStatusStage since) (λ e. NotConfirmed D.defaults start past e since)
-            × (F.is_faultless self.old.1 → NoneFails since) }
+            × ((F.faults self.new.1 ≡ F.faults self.old.1) ⊎ F.is_faultless self.old.1 → NoneFails since) }
         ensures faultless { F.is_faultless self.old.1 → F.is_faultless self.new.1 }
     {
         for _asked in 0..MOST_ASKED {

@@ -10,7 +10,7 @@
 //! The guarantee: a feature command that the host saw the end of is in the flash, also behind every power loss, until a later
 //! command is accepted that writes the entry. The commands accepted since
 //! are those that the host sent behind that status stage: of one command, another, and the first again, the last stays. Behind a
-//! lock and a pace the keyboard accepts no command while the lock is set, and at most one for each pace.
+//! lock and a pace the keyboard accepts no command while the lock is set, and at most one for each pace, also where `Forgetting` stands between.
 //!
 //! What `UsbDevice` says of the device behind it names no first image. So that a session began on what the power loss before
 //! it left is said by the clauses of `UsbKeyboard`, and is a premise of the guarantee.

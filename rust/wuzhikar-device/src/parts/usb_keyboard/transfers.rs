@@ -18,15 +18,16 @@ const MOST_PACKETS: usize = 13;
 impl<D: Defaults, K: HoldsKeyboard<D>, F: NorFlash> UsbKeyboardOf<D, K, F> {
     /// Makes a control write: its SETUP packet, its data, and the status stage, for which the flash work goes on.
     ///
-    /// The checks of the request and of its data decide, in their order (HID 1.11 section 7.2). `Ok` says that they are passed
+    /// The checks of the request and of its data decide, in their order (`docs/formats.md`). `Ok` says that they are passed
     /// and that the data were confirmed: so what a feature command writes is in the flash. The stack may then acknowledge the
     /// status stage, and on an error it stalls it. `Busy` says that another command works: nothing was taken, and the same
-    /// write may be made later. `Refused` says that a check is not passed, and nothing was taken; or that the command failed
-    /// for a fault of the flash. On a flash that answers no fault each write that passes the checks ends by `Ok`. `Unfinished`
-    /// never comes.
+    /// write may be made later. `Refused` says that a check is not passed or that the request reads, and nothing was taken; or
+    /// that the command failed for a fault of the flash. Where the flash answers no fault in this call, `Ok` comes exactly where
+    /// the request reads no byte, and it and its data pass the checks. `Unfinished` never comes.
     ///
-    /// It knows no lock and no pace. `Guarded` stands before a keyboard on the bus, and not before this call: a
-    /// stack asks its maker's lock before it calls.
+    /// It knows no lock and no pace, and lets no host forget a report. `Guarded` and `Forgetting` stand
+    /// before a keyboard on the bus, and not before this call: a stack asks its maker's lock before it calls, or calls the
+    /// function `write` on `Guarded`.
     pub fn write(&mut self, setup: [u8; 8], bytes: &[u8]) -> Result<(), TransferError> {
         self.setup(setup);
         match self.give(bytes) {

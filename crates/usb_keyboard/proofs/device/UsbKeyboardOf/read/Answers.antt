@@ -11,7 +11,7 @@ use Rattle.usb_keyboard.proofs.device.UsbKeyboardOf.read.Goals as goal
 
 pub returns-then-asked-eq0 : goal.returns-then-asked-eq0
 returns-then-asked-eq0 g c = record {
-  calls = λ start past r. ([], r, not_asked refl);
+  calls = λ start past r. ([], r, not_asked (sym c.length_of-asked.ensures ∙ c.if-asked-eq0.true) refl);
   answer = λ start past r.
       nothing_asked (transfer_of (request_of c.args.setup) (view_after g.D.Defaults.defaults start past)) (request_of c.args.setup).length (sym c.length_of-asked.ensures ∙ c.if-asked-eq0.true);
   flash = refl;
