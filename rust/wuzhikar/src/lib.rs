@@ -101,5 +101,7 @@ pub mod debounce {
 /// assert!(matches!(endpoint.in_packet(), (EpAnswer::Packet(_), Effect::Nothing)));
 /// ```
 pub mod control_ep {
-    pub use crate::parts::control_ep::{ControlEp, DeviceReports, DeviceView, Effect, EpAnswer, InAnswer, OutStep, Verdict, Why};
+    pub use crate::parts::control_ep::{
+        ControlEp, DeviceReports, DeviceView, Effect, EpAnswer, InAnswer, OutStep, Verdict, Why,
+    };
 }
