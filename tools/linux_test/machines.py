@@ -53,7 +53,10 @@ class Keyboard(NamedTuple):
         ours, theirs = socket.socketpair()
         with ours, theirs:
             streams = f'exec "$@" <&{ours.fileno()} >&{ours.fileno()} 2>&1'
-            with running(["sh", "-c", streams, "-", *self.command, "--image", image, "guest", path], (ours.fileno(),)):
+            # Not sh, whose redirections take file descriptors of one digit alone.
+            with running(["bash", "-c", streams, "-", *self.command, "--image", image, "guest", path], (ours.fileno(),)):
+                # The line ends with the keyboard.
+                ours.close()
                 # What it says when it is there would be echoed by a terminal that is not set yet.
                 while theirs.recv(1) not in (b"\n", b""):
                     pass
